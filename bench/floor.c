@@ -1,7 +1,7 @@
-// The least that a relay does, for measurements: the dialogues, writes and syncs of relayd in the same turns, with fixed
-// replies and records of the same size, and nothing else. It judges nothing, knows no timeout and keeps no book. What
-// it takes is what any relay takes that answers a client after two syncs and holds a dialogue of five turns for each
-// message that it hands on.
+// The least that a relay does, for measurements: the dialogues, writes and syncs of relayd in the same turns, with
+// fixed replies and records of the same size, and nothing else. It judges nothing, knows no timeout and keeps no book.
+// What it takes is what any relay takes that answers a client after two syncs and holds a dialogue of five turns for
+// each message that it hands on.
 //
 //   floor init  PORT HOP FILE
 //   floor serve PORT HOP FILE [--rounds ROUNDS]
@@ -20,8 +20,8 @@
 #include <sys/socket.h>
 #include <unistd.h>
 
-// The octets of a record before its content, those of its time stamp line among them, and of an outcome's record. The last octet
-// of a record is the gate of the next.
+// The octets of a record before its content, those of its time stamp line among them, and of an outcome's record. The
+// last octet of a record is the gate of the next.
 #define HEAD 173
 #define STAMP 118
 #define OUTCOME 43
@@ -146,8 +146,8 @@ static void hand_on(long number, char *record, size_t length)
 		fail("the output failed");
 }
 
-// Reads a client's connection until this text has come; where it ends, counted from the first octet that is held, and 0 where
-// the client hangs up.
+// Reads a client's connection until this text has come; where it ends, counted from the first octet that is held, and 0
+// where the client hangs up.
 static size_t await(const char *text)
 {
 	size_t length = strlen(text), looked = 0;
@@ -160,8 +160,8 @@ static size_t await(const char *text)
 	return (size_t)(found - client.held) + length;
 }
 
-// Takes a content behind its time stamp line into a record, and adds that. The record's length is answered; 0 where the client
-// hangs up.
+// Takes a content behind its time stamp line into a record, and adds that. The record's length is answered; 0 where the
+// client hangs up.
 static size_t take_content(char *record)
 {
 	size_t length = await("\r\n.\r\n");

@@ -190,8 +190,8 @@ class Bench:
         return seconds, relay
 
     def side_by_side(self, workers, count, size):
-        """Seconds of so many messages at each of so many connections, which are served side by side, to the last reply of
-        them all; and how much longer the slowest of them took than the median. The relay is killed then."""
+        """Seconds of so many messages at each of so many connections, which are served side by side, to the last reply
+        of them all; and how much longer the slowest of them took than the median. The relay is killed then."""
         relay = self.new_relay(9)
         process = relay.start("--workers", str(workers))
         _, seconds, spread = hand_in_side_by_side(self.folder, relay.port, workers, count, size)
@@ -211,8 +211,8 @@ class Bench:
         return seconds, spread
 
     def run_passing_on(self, sessions, count, size):
-        """Seconds of so many messages at each of so many connections, from the first octet to where `run` has handed all of
-        them on to a sink, at as many connections at a time as Postfix makes."""
+        """Seconds of so many messages at each of so many connections, from the first octet to where `run` has handed
+        all of them on to a sink, at as many connections at a time as Postfix makes."""
         amount = sessions * count
         sink = Sink(self.folder, amount)
         relay = self.new_relay(sink.port, sessions_per_client=64, attempts_per_hop=20)
@@ -251,8 +251,8 @@ class Bench:
         return ended - begun
 
     def bounded(self, size):
-        """Seconds of MANY messages that come AT_ONCE at a connection and are handed on after it, and the most octets that
-        both files of the spool had meanwhile."""
+        """Seconds of MANY messages that come AT_ONCE at a connection and are handed on after it, and the most octets
+        that both files of the spool had meanwhile."""
         sink = Sink(self.folder, MANY)
         relay, rounds, most, ended = self.new_relay(sink.port), MANY // AT_ONCE, 0, threading.Event()
 
@@ -335,8 +335,8 @@ def tell(name, figure, unit, *ratios):
 
 
 def tell_beside(bench, name, amount, unit, measure, bare, label, postfix=None):
-    """Measures the relay, bare syncs, and the floor and Postfix where they are to be had, in interleaved runs. A ratio is the
-    median of the runs' own: a disk that is slower for a while is so for both."""
+    """Measures the relay, bare syncs, and the floor and Postfix where they are to be had, in interleaved runs. A ratio
+    is the median of the runs' own: a disk that is slower for a while is so for both."""
     floor = bench.floor
     measures = [lambda: measure(bench), bare]
     measures += [lambda: measure(floor)] if floor else []

@@ -35,8 +35,8 @@ median() {
     sort -n | awk '{ at[NR] = $1 } END { print at[int((NR + 1) / 2)] }'
 }
 
-# measure NAME UNIT COUNT FILE WC-OPTION LINES COMMAND..: COUNT units of work in FILE, whose answer has LINES lines. `wc`
-# reads the same file, or the one that `against` names.
+# measure NAME UNIT COUNT FILE WC-OPTION LINES COMMAND..: COUNT units of work in FILE, whose answer has LINES lines.
+# `wc` reads the same file, or the one that `against` names.
 measure() {
     local name=$1 unit=$2 count=$3 file=$4 option=$5 lines=$6
     shift 6
@@ -138,10 +138,14 @@ sessions() {
     small_messages 100000 > "$room/small"
     noops 1000000 > "$room/noops"
     full_transactions 5000 > "$room/recipients"
-    measure "session: mail data that is refused" octets "$(file_size "$room/refused")" "$room/refused" -l 7 "$relayd" session
-    measure "session: 60 messages of 1 MiB that are kept" octets "$(file_size "$room/kept")" "$room/kept" -l 243 "$relayd" session
-    measure "session: 60 messages of 16 chunks that are kept" octets "$(file_size "$room/chunks")" "$room/chunks" -c 1146 "$relayd" session
-    measure "session: 3,052 chunks, refused after 16" octets "$(file_size "$room/refused_chunks")" "$room/refused_chunks" -c 3060 "$relayd" session
+    measure "session: mail data that is refused" octets "$(file_size "$room/refused")" "$room/refused" -l 7 \
+        "$relayd" session
+    measure "session: 60 messages of 1 MiB that are kept" octets "$(file_size "$room/kept")" "$room/kept" -l 243 \
+        "$relayd" session
+    measure "session: 60 messages of 16 chunks that are kept" octets "$(file_size "$room/chunks")" \
+        "$room/chunks" -c 1146 "$relayd" session
+    measure "session: 3,052 chunks, refused after 16" octets "$(file_size "$room/refused_chunks")" \
+        "$room/refused_chunks" -c 3060 "$relayd" session
     measure "session: 100,000 small messages" messages 100000 "$room/small" -l 400003 "$relayd" session
     measure "session: 1,000,000 pipelined NOOPs" commands 1000000 "$room/noops" -l 1000002 "$relayd" session
     measure "session: 500,000 RCPTs with all parameters" commands 500000 "$room/recipients" -l 510006 "$relayd" session
@@ -152,7 +156,8 @@ texts() {
     # A content of 16 MB, of which every fourth line begins with a period.
     content_with_periods 52632 > "$room/content"
     copies "$room/content"
-    against=$room/content.20 measure "library: a dot text that is written" octets "$(file_size "$room/content.20")" "$room/content" -l 1 "${bench[@]}" dots 20
+    against=$room/content.20 measure "library: a dot text that is written" octets "$(file_size "$room/content.20")" \
+        "$room/content" -l 1 "${bench[@]}" dots 20
 }
 
 # Attempts with the replies of a next hop in memory.
@@ -161,8 +166,10 @@ attempts() {
     copies "$room/content"
     # A text that doesn't end in CR LF.
     head -c -1 "$room/content" > "$room/chunk"
-    against=$room/content.20 measure "library: an attempt that hands a text on by DATA" octets "$(file_size "$room/content.20")" "$room/content" -l 1 "${bench[@]}" attempts 20
-    against=$room/content.20 measure "library: an attempt that hands a text on by BDAT" octets "$(file_size "$room/content.20")" "$room/chunk" -c 1 "${bench[@]}" attempts 20
+    against=$room/content.20 measure "library: an attempt that hands a text on by DATA" octets \
+        "$(file_size "$room/content.20")" "$room/content" -l 1 "${bench[@]}" attempts 20
+    against=$room/content.20 measure "library: an attempt that hands a text on by BDAT" octets \
+        "$(file_size "$room/content.20")" "$room/chunk" -c 1 "${bench[@]}" attempts 20
     printf 'Subject: x\r\n\r\ny\r\n' > "$room/mail"
     runs=3 compare "library: 100,000 attempts of one recipient" attempts 100000 \
         "${bench[*]} attempts 100000 < $room/mail" "sleep 2" "two seconds"
@@ -174,8 +181,10 @@ reports() {
     mail_lines 13797 > "$room/stored"
     boundary_lines 55739 > "$room/boundaries"
     copies "$room/stored"
-    against=$room/stored.20 measure "library: a report that returns 1 MiB" octets "$(file_size "$room/stored.20")" "$room/stored" -l 1 "${bench[@]}" reports 20
-    against=$room/stored.20 measure "library: the same, full of boundaries" octets "$(file_size "$room/stored.20")" "$room/boundaries" -l 1 "${bench[@]}" reports 20
+    against=$room/stored.20 measure "library: a report that returns 1 MiB" octets "$(file_size "$room/stored.20")" \
+        "$room/stored" -l 1 "${bench[@]}" reports 20
+    against=$room/stored.20 measure "library: the same, full of boundaries" octets "$(file_size "$room/stored.20")" \
+        "$room/boundaries" -l 1 "${bench[@]}" reports 20
     compare "library: the same, beside one without a boundary" reports 20 \
         "${bench[*]} reports 20 < $room/boundaries" "${bench[*]} reports 20 < $room/stored" "a report that returns 1 MiB"
 }
@@ -210,7 +219,8 @@ bare_syncs() {
 }
 
 books() {
-    compare "library: 100,000 messages into a book, and out" messages 100000 "${bench[*]} drain 100000" "${bench[*]} fill 100000" "filling alone"
+    compare "library: 100,000 messages into a book, and out" messages 100000 "${bench[*]} drain 100000" \
+        "${bench[*]} fill 100000" "filling alone"
     octets_of 1024 > "$room/text"
     held "library: 100,000 messages held in a book" fill 100000 "$room/text" 1024 "a message, beside 1,024 of text"
     # A record of 1 MiB, which is decoded 200 times, and as many octets for `cat`.
@@ -268,8 +278,8 @@ full_node() {
     fi
 }
 
-# The work of a node: what there is to do, attempts that begin and are lost, and the queue of the full file on its way to a
-# next hop in memory, from a fresh copy each time.
+# The work of a node: what there is to do, attempts that begin and are lost, and the queue of the full file on its way
+# to a next hop in memory, from a fresh copy each time.
 queues() {
     full_node
     among "node: what is due, 10 of 10,000 queued messages" answers 200000 works node few "10 of 100 queued"

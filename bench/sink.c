@@ -1,5 +1,5 @@
-// A next hop for measurements: answers every command well, up to 32 connections side by side, until so many contents have
-// come. It writes its port as a line, and ends after the last content.
+// A next hop for measurements: answers every command well, up to 32 connections side by side, until so many contents
+// have come. It writes its port as a line, and ends after the last content.
 //
 //   sink COUNT
 #define _GNU_SOURCE

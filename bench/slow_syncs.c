@@ -1,4 +1,5 @@
-// A device whose syncs take longer: each fdatasync and fsync takes SYNC_WAIT microseconds more. bench/load.py builds it.
+// A device whose syncs take longer: each fdatasync and fsync takes SYNC_WAIT microseconds more. bench/load.py builds
+// it.
 #define _GNU_SOURCE
 #include <dlfcn.h>
 #include <errno.h>

@@ -1,7 +1,7 @@
 #!/usr/bin/env bash
-# Applies changes to a book once for each allocation of the program, which is refused. Where the book refuses a change for
-# it, the program applies the change again, and each later row is to come out as if nothing had happened; else it says that
-# memory ran out, ends with status 1, and has written a beginning of the rows.
+# Applies changes to a book once for each allocation of the program, which is refused. Where the book refuses a change
+# for it, the program applies the change again, and each later row is to come out as if nothing had happened; else it
+# says that memory ran out, ends with status 1, and has written a beginning of the rows.
 #
 #   tests/book_without_memory.sh crates/relay_rows_tests/out/relay_rows_tests
 set -euo pipefail

@@ -40,7 +40,8 @@ class Field:
         self.relay.environment.update(LD_PRELOAD=str(shim), HELD=str(MOMENT))
 
     def waiting(self):
-        """A spool with a message of two recipients, one of which is due, since its hop comes back, and one of which waits."""
+        """A spool with a message of two recipients, one of which is due, since its hop comes back, and one of which
+        waits."""
         self.relay.forget()
         self.relay.run("init")
         self.relay.environment["HELD"] = str(MOMENT - 3600)
@@ -159,8 +160,8 @@ def compacted(field, closed):
 
 
 def with_each_set(field, run):
-    """Runs a subcommand with each set of streams closed. The spool that it leaves is that of all open; where standard output is
-    closed, `serve` and `push` end after their first work."""
+    """Runs a subcommand with each set of streams closed. The spool that it leaves is that of all open; where standard
+    output is closed, `serve` and `push` end after their first work."""
     spools = {}
     for closed in SETS:
         try:

@@ -2,8 +2,8 @@
 // names, and lets some fail: the sync of the number in FAILED_SYNC, the write of the number in FULL_WRITE for want of
 // space, and the write of the number in HALF_WRITE does half. They are counted from 1, and a folder's syncs aren't, nor
 // what is done with the file that keeps room beside a spool. Where HEAD_WRITE is set, the first write of the gate of a
-// head fails: it was done where that says "done". While the file that FAILED_ROOM names is there, all fails that is done
-// with the file that keeps room.
+// head fails: it was done where that says "done". While the file that FAILED_ROOM names is there, all fails that is
+// done with the file that keeps room.
 #define _GNU_SOURCE
 #include <errno.h>
 #include <fcntl.h>

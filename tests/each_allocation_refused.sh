@@ -1,7 +1,7 @@
 #!/usr/bin/env bash
 # Holds dialogues once for each allocation of the program, which is refused: either all goes well all the same, or the
-# program says so, ends with status 1, and has written a beginning of the replies. A disk in memory that can't grow is a device
-# that failed.
+# program says so, ends with status 1, and has written a beginning of the replies. A disk in memory that can't grow is a
+# device that failed.
 #
 #   tests/each_allocation_refused.sh build/relayd
 set -euo pipefail

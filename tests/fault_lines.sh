@@ -1,6 +1,7 @@
 #!/usr/bin/env bash
-# The faults of `init` and `list` over files, in the order in which they are looked for: what comes of each on standard error,
-# and its status. Nothing is written to standard output then. After them, what `list` writes of a message.
+# The faults of `init` and `list` over files, in the order in which they are looked for, and those of the subcommands
+# that lock the spool: the lines of each on standard error, and its status. Nothing is written to standard output then.
+# After them, what `list` writes of a message.
 #
 #   tests/fault_lines.sh build/relayd
 set -euo pipefail
@@ -20,7 +21,8 @@ fi
 chmod 777 "$room"
 cd "$room"
 
-# refused STATUS LINE WORD..: the program is run by these words.
+faults=0
+# refused STATUS LINES WORD..: the program is run by these words.
 refused() {
     local wanted=$1 line=$2 status=0
     shift 2
@@ -29,6 +31,7 @@ refused() {
         echo "relayd $*: status $status and $(cat out err), and not $wanted and $line" >&2
         exit 1
     fi
+    faults=$((faults + wanted))
 }
 
 # configuration SPOOL: one that is good.
@@ -93,6 +96,24 @@ if [ -e relay.spool ]; then
     echo "list has made a spool" >&2
     exit 1
 fi
+# Nor do the subcommands that lock a spool make one; in a folder that isn't there none can be.
+mkdir empty
+chmod 777 empty
+configuration empty/relay.spool
+for word in push serve compact; do
+    refused 1 'relayd: spool NotASpool' "$word" --config relayd.toml
+done
+refused 1 $'relayd: spool NotASpool\nrelayd: run "relayd init --config relayd.toml" once' run --quiet --config relayd.toml
+if [ -n "$(ls -A empty)" ]; then
+    echo "a spool was made where there was none: $(ls -A empty)" >&2
+    exit 1
+fi
+configuration folder/missing/relay.spool
+for word in push serve compact 'run --quiet'; do
+    # shellcheck disable=SC2086
+    refused 1 'relayd: device' $word --config relayd.toml
+done
+configuration relay.spool
 # A spool is made once, for its owner alone.
 refused 0 '' init --config relayd.toml
 refused 0 '' list --config relayd.toml
@@ -101,9 +122,9 @@ if [ "$(stat -c '%a %s' relay.spool)" != '600 18' ]; then
     echo "the spool has the mode and size $(stat -c '%a %s' relay.spool)" >&2
     exit 1
 fi
-# A message of the first moment, from <a@example.org> to <b@example.org>, as its record stands in a spool by hand: an open
-# gate and the record's 57 octets; its kind and its moment; MAIL's path, and neither RET nor ENVID; one recipient, its
-# path, and neither NOTIFY nor ORCPT; the stored text, which is a line of one letter.
+# A message of the first moment, from <a@example.org> to <b@example.org>, as its record stands in a spool by hand: an
+# open gate and the record's 57 octets; its kind and its moment; MAIL's path, and neither RET nor ENVID; one recipient,
+# its path, and neither NOTIFY nor ORCPT; the stored text, which is a line of one letter.
 moment='\x00\x00\x00\x00\x00\x00\x00\x00'
 mail='\x00\x0f<a@example.org>\x00\x00\x00'
 rcpt='\x01\x00\x0f<b@example.org>\x00\x00\x00'
@@ -120,4 +141,4 @@ if [ "$("${as[@]}" "$relayd" list --config relayd.toml)" != '1 0 <b@example.org>
     echo "relayd list doesn't list what it can't write" >&2
     exit 1
 fi
-echo "faults of init and list: 17 refused, each by its line, and a message listed"
+echo "faults over files: $faults, each by its lines, and a message listed"

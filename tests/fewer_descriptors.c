@@ -1,6 +1,6 @@
-// Lets the program that it is preloaded into open no descriptor from DESCRIPTORS on, once it has asked for the time of day, sets
-// its clock forward by LATER seconds, and divides its sleeps by 10. Each sleep stands in milliseconds, a line each, in the
-// file that SLEEPS names.
+// Lets the program that it is preloaded into open no descriptor from DESCRIPTORS on, once it has asked for the time of
+// day, sets its clock forward by LATER seconds, and divides its sleeps by 10. Each sleep stands in milliseconds, a line
+// each, in the file that SLEEPS names.
 #define _GNU_SOURCE
 #include <fcntl.h>
 #include <stdio.h>

@@ -1,8 +1,8 @@
 #!/usr/bin/env bash
-# Gives a relay three messages at once, once for each allocation of the program, which is refused. Either the program says
-# that memory ran out before or after that, and ends with status 1; or there was no memory for the answers; or the disk in
-# memory couldn't grow, and the node is stopped; or each message was queued, and its client told so, or its connection is
-# gone, and as many changes were made as were queued, each with its note: the program has looked at that.
+# Gives a relay three messages at once, once for each allocation of the program, which is refused. Either the program
+# says that memory ran out before or after that, and ends with status 1; or there was no memory for the answers; or the
+# disk in memory couldn't grow, and the node is stopped; or each message was queued, and its client told so, or its
+# connection is gone, and as many changes were made as were queued, each with its note: the program has looked at that.
 #
 #   tests/groups_without_memory.sh crates/relay_node_tests/out/relay_node_tests
 set -euo pipefail

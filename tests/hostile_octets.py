@@ -108,7 +108,8 @@ def replies_that_are_none(program, folder):
 
 
 def a_spool_that_is_cut(program, folder):
-    """A spool with one message is damaged at each size below its own, and no spool at all below the size of an empty one."""
+    """A spool with one message is damaged at each size below its own, and no spool at all below the size of an empty
+    one."""
     relay = Relay(program, folder / "cut", {"example.org": ("next.example", 1)})
     relay.run("init")
     with relay.serving():

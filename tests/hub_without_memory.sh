@@ -1,9 +1,9 @@
 #!/usr/bin/env bash
-# Runs a small round of two links, each with two messages, once for each allocation of the program, which is refused, and
-# once for each thread that it asks for, which isn't given. Either the program says that memory ran out where no round
-# ran, and ends with status 1; or the round didn't begin, and its links are there; or it ended, and the program has seen
-# that the receipts agree with the node, that each link has a receipt for each message that it answered as queued, and for
-# one more at most where it ended by a fault, and that a link without a thread has written nothing.
+# Runs a small round of two links, each with two messages, once for each allocation of the program, which is refused,
+# and once for each thread that it asks for, which isn't given. Either the program says that memory ran out where no
+# round ran, and ends with status 1; or the round didn't begin, and its links are there; or it ended, and the program
+# has seen that the receipts agree with the node, that each link has a receipt for each message that it answered as
+# queued, and for one more at most where it ended by a fault, and that a link without a thread has written nothing.
 #
 #   tests/hub_without_memory.sh crates/relay_node_tests/out/relay_node_tests
 set -euo pipefail
@@ -22,7 +22,8 @@ fail() {
 
 declare -A met
 
-# Runs the small round with the n-th refused, for each n, and counts what came of it, by its line, or by `none` for status 1.
+# Runs the small round with the n-th refused, for each n, and counts what came of it, by its line, or by `none` for
+# status 1.
 refuse_each() {
     what=$1
     shim=$2

@@ -1,8 +1,8 @@
-"""Postfix, Exim and OpenSMTPD, and HAProxy before other servers, each in a root of its own that ends with it: an overlay of an unpacked package over
-this machine's files, in name spaces of its own for mounts and processes.
+"""Postfix, Exim and OpenSMTPD, and HAProxy before other servers, each in a root of its own that ends with it: an
+overlay of an unpacked package over this machine's files, in name spaces of its own for mounts and processes.
 
-Each takes mail from 127.0.0.1, sends mail for out.example to one port and mail for in.example to another, and
-refuses the recipient refused@in.example.
+Each takes mail from 127.0.0.1, sends mail for out.example to one port and mail for in.example to another, and refuses
+the recipient refused@in.example.
 """
 import os
 import pathlib

@@ -1,5 +1,5 @@
-// Lets the program that it is preloaded into read standard input an octet at a call, and write three at most to standard
-// output. After as many octets as READ_CUT or WRITE_CUT says such a call fails once, with the number in FAULT.
+// Lets the program that it is preloaded into read standard input an octet at a call, and write three at most to
+// standard output. After as many octets as READ_CUT or WRITE_CUT says such a call fails once, with the number in FAULT.
 #define _GNU_SOURCE
 #include <errno.h>
 #include <stdlib.h>

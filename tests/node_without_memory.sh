@@ -1,9 +1,9 @@
 #!/usr/bin/env bash
 # Runs a node once for each allocation of the program, which is refused: with two sessions, whose mail comes as lines or
 # in chunks, with an attempt whose three places go three ways in one change with a report, and with a spool that is
-# written anew. Either the program says that it couldn't begin, and ends with status 1; or the call that met the refusal is answered so, its session or attempt is gone, no change was made for it,
-# and what is done after it comes as if nothing had been; or the disk couldn't grow, which counts as a device that
-# failed, and the node is stopped.
+# written anew. Either the program says that it couldn't begin, and ends with status 1; or the call that met the refusal
+# is answered so, its session or attempt is gone, no change was made for it, and what is done after it comes as if
+# nothing had been; or the disk couldn't grow, which counts as a device that failed, and the node is stopped.
 #
 #   tests/node_without_memory.sh crates/relay_node_tests/out/relay_node_tests
 set -euo pipefail
@@ -89,7 +89,8 @@ two_sessions sessions "69 octets used, 104 out"
 two_sessions chunks "98 octets used, 154 out"
 taken="69 octets used, 104 out"
 
-# An attempt: the change of its end leaves the place that may be tried later, and the report, which is the second message.
+# An attempt: the change of its end leaves the place that may be tried later, and the report, which is the second
+# message.
 places() { echo "message 1: 3 places"; }
 ended() { echo "attempt 0: 73 octets used, 239 out, change 2, close false"; }
 attempt() { echo "attempt 0: $1"; }
@@ -125,8 +126,8 @@ echo "node_without_memory: $total allocations refused in turn: ${met[begin]} bef
 # A spool that is written anew twice after a message, and the session that goes on after that.
 "$program" compactions > "$room/whole"
 read -r _ before after < "$room/whole"
-# The one body has a next number and a count, and a message its number, where its record has none; and of its place that it
-# is held, how often it was tried, whether it was reported as delayed, and when it is due.
+# The one body has a next number and a count, and a message its number, where its record has none; and of its place that
+# it is held, how often it was tried, whether it was reported as delayed, and when it is due.
 [ "$after" -eq $((before + 12 + 8 + 11)) ]
 anew() { echo "compact: $before $after"; }
 again() { echo "compact: $after $after"; }

@@ -189,7 +189,8 @@ def too_many_attempts(program):
 
 
 def no_route(program):
-    """A place whose domain only the other node has a route for isn't taken; a report whose domain none has is given up."""
+    """A place whose domain only the other node has a route for isn't taken; a report whose domain none has is given
+    up."""
     played(program, [
         ("connect a", GREETED.format(1, "a")),
         (r"send 1 EHLO x\r\nMAIL FROM:<s@nowhere.example>\r\nRCPT TO:<r@nowhere.example>\r\nRCPT TO:<r@b.example>\r\n", "ok"),
@@ -257,7 +258,8 @@ def faults(program):
 
 
 def compactions(program):
-    """A spool that is written anew between any two lines changes nothing else of what is seen; each new spool has 36 octets."""
+    """A spool that is written anew between any two lines changes nothing else of what is seen; each new spool has 36
+    octets."""
     line = "compact {0}\n"
     same("new nodes", run(program, b"compact a\ncompact b\ncompact a\n"),
          (0, b"compact a size 36\ncompact b size 36\ncompact a size 36\n", b""))
@@ -287,8 +289,8 @@ def networks(program):
 
 
 def attempt(play, node, other):
-    """The first attempt of a node, whose hop is another node, to its end: the node that refused the content, if it did, and how
-    many carries it took."""
+    """The first attempt of a node, whose hop is another node, to its end: the node that refused the content, if it did,
+    and how many carries it took."""
     link, refused, carries = play.say(f"give {node}").split()[-1], None, 0
     for turn in range(40):
         reader = (node, other)[turn % 2]
@@ -302,7 +304,8 @@ def attempt(play, node, other):
 
 
 def circle(program, nodes):
-    """A message for `loop.example`: 100 accepts by the nodes in turn, then 554 by the next one, the end and its report."""
+    """A message for `loop.example`: 100 accepts by the nodes in turn, then 554 by the next one, the end and its
+    report."""
     began = time.monotonic()
     with Play(program) as play:
         if nodes != 2:

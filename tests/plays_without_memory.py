@@ -60,8 +60,8 @@ AGAIN = [
 
 
 def ending(script):
-    """Stops each node of a script, and asks what they have. Twice: a node that can't be opened for want of memory is down until
-    its next stop, and `marks` leaves it out."""
+    """Stops each node of a script, and asks what they have. Twice: a node that can't be opened for want of memory is
+    down until its next stop, and `marks` leaves it out."""
     stops = "".join(f"stop {node} 0 0\n" for node in nodes_of(script.decode().splitlines()))
     return f"{stops}marks\nledger\n".encode() * 2
 
@@ -107,7 +107,8 @@ def a_node_that_is_down(program, shim, mark):
 
 
 def a_carry_without_memory(program, shim, mark):
-    """Refuses each allocation in turn, and holds the plays in which a carry of a whole message met it to what may come."""
+    """Refuses each allocation in turn, and holds the plays in which a carry of a whole message met it to what may
+    come."""
     lines = [*(line for line, _ in BEFORE[:2]), "carry 1 b 1000", "marks", "ledger", "carry 1 b 1000", "connect b"]
     script, opened, greeted = "".join(f"{line}\n" for line in lines).encode(), seen(BEFORE[:2]), GREETED.format(2, "b")
     whole, none = BEFORE[2][1], "refused NoLink"

@@ -75,8 +75,8 @@ class Play:
 
 
 def told_at_once(program, events, messages, places):
-    """What each event prints, and what answers a question after them, of a play whose lines are all told at once, in which a
-    node has so many messages at most, of so many places."""
+    """What each event prints, and what answers a question after them, of a play whose lines are all told at once, in
+    which a node has so many messages at most, of so many places."""
     questions = ["ledger", "marks"]
     questions += [f"{word} {node} {number} {place}" for word in ("copies", "lost") for node in nodes_of(events)
                   for number in range(1, messages + 1) for place in range(places)]
@@ -95,8 +95,8 @@ def told_at_once(program, events, messages, places):
 
 
 class Link:
-    """A link as its lines showed it: its ends (outside is None), the work that it was opened for, and what is still to be
-    written at its outer end."""
+    """A link as its lines showed it: its ends (outside is None), the work that it was opened for, and what is still to
+    be written at its outer end."""
 
     def __init__(self, client, server, work=None):
         self.client, self.server, self.work = client, server, work
@@ -167,8 +167,8 @@ class Judge:
                 self.few_copies(node, number, place, copies, lost)
 
     def read(self, ledger):
-        """The messages of a ledger, reports among them, each with its places and its link; and the places that left. A place
-        is told as delayed once, and before it leaves."""
+        """The messages of a ledger, reports among them, each with its places and its link; and the places that left. A
+        place is told as delayed once, and before it leaves."""
         taken, left, delayed = {}, {}, set()
         for line in ledger:
             accept, gone, late = ACCEPT.fullmatch(line), LEFT.fullmatch(line), DELAYED.fullmatch(line)
@@ -202,7 +202,8 @@ class Judge:
             self.require("250" in link.codes, f"{one} was handed on, on link {number}, and outside said {link.codes}")
 
     def few_copies(self, node, number, place, copies, lost):
-        """There is one copy, and one more for each reply that was lost, at most; and only a link that has ended loses one."""
+        """There is one copy, and one more for each reply that was lost, at most; and only a link that has ended loses
+        one."""
         tried = [link for link in self.links.values() if link.work == (node, number)]
         broken = sum(link.ended != "by a reply" and not (link.whole and not link.ended) for link in tried)
         self.require(copies <= min(1 + lost, len(tried)) and lost <= broken,

@@ -101,7 +101,8 @@ class Relay:
         return ended.stdout.decode().splitlines(), ended.stderr.decode().splitlines()
 
     def refused(self, *words):
-        """The status and the fault line of a subcommand, which prints nothing but findings in its configuration else."""
+        """The status and the fault line of a subcommand, which prints nothing but findings in its configuration
+        else."""
         ended = self.ended(PATIENCE, *words)
         same(f"relayd {' '.join(words)} prints", ended.stdout, b"")
         lines = [line for line in ended.stderr.decode().splitlines() if not line.startswith(f"{self.file}:")]

@@ -66,8 +66,8 @@ def plain(text):
 
 
 def action_of(kind, notify, waited):
-    """What is reported of a place that has waited so long: a failure unless NOTIFY leaves it out, what was taken without
-    DSN where NOTIFY has SUCCESS, and what is late and stays where it has DELAY."""
+    """What is reported of a place that has waited so long: a failure unless NOTIFY leaves it out, what was taken
+    without DSN where NOTIFY has SUCCESS, and what is late and stays where it has DELAY."""
     if kind == 2:
         return "relayed" if notify & 2 else None
     if kind == 4 and waited < PATIENCE:

@@ -1,7 +1,7 @@
-// Sets the clocks of the program that it is preloaded into. The file that SHIFT names holds the seconds by which the wall
-// clock is set, and the file that ADVANCE names those by which both clocks are ahead; they are read whenever a clock is
-// asked for. The monotonic clock goes FASTER times as fast, and waits for events are that much shorter; with ADVANCE
-// none lasts longer than 10 ms, so that the program sees that its clocks have moved.
+// Sets the clocks of the program that it is preloaded into. The file that SHIFT names holds the seconds by which the
+// wall clock is set, and the file that ADVANCE names those by which both clocks are ahead; they are read whenever a
+// clock is asked for. The monotonic clock goes FASTER times as fast, and waits for events are that much shorter; with
+// ADVANCE none lasts longer than 10 ms, so that the program sees that its clocks have moved.
 #define _GNU_SOURCE
 #include <fcntl.h>
 #include <stdlib.h>

@@ -29,8 +29,8 @@ CONTENT = int(os.environ.get("CONTENT", 1 << 20))
 AWAY = 63
 # How many messages are in one piece, and the piece's next hop's domain.
 AT_ONCE = 20
-# How many messages come before all of them have to be out: what waits at once takes memory of which an allocator doesn't
-# give all back, more or less of it by how far the next hop is behind.
+# How many messages come before all of them have to be out: what waits at once takes memory of which an allocator
+# doesn't give all back, more or less of it by how far the next hop is behind.
 WAVE = 2000
 # What a 250 may wait for while all that is due is listed, in seconds.
 LISTING = 0.02 * TIMES

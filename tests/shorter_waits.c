@@ -1,5 +1,6 @@
-// Divides how long a socket waits to read and to write in the program that it is preloaded into by 300, or by what SHORTER
-// says, and adds each as it was asked for, in seconds, to the file that WAITS names. Where LATER is set, its clock is set forward by so many seconds.
+// Divides how long a socket waits to read and to write in the program that it is preloaded into by 300, or by what
+// SHORTER says, and adds each as it was asked for, in seconds, to the file that WAITS names. Where LATER is set, its
+// clock is set forward by so many seconds.
 #define _GNU_SOURCE
 #include <stdio.h>
 #include <stdlib.h>

@@ -1,8 +1,8 @@
-"""The two files of a spool, read by the layout of docs/ alone, and the snapshot of what they hold: written anew here, so
-that what the program writes is compared with something that isn't its own.
+"""The two files of a spool, read by the layout of docs/ alone, and the snapshot of what they hold: written anew here,
+so that what the program writes is compared with something that isn't its own.
 
-A file is the octets `RELAYQ01`, a gate, a generation of 8 octets and a chain: a gate, a length of 4 octets, a body, and so
-on, up to the first gate that isn't 1.
+A file is the octets `RELAYQ01`, a gate, a generation of 8 octets and a chain: a gate, a length of 4 octets, a body, and
+so on, up to the first gate that isn't 1.
 """
 import dataclasses
 import struct

@@ -1,6 +1,6 @@
 #!/usr/bin/env bash
-# Takes steps on a spool in two files, with the calls that it makes of the device written down by a shim, which lets some
-# fail: what the program answers, which calls it made in which order, and what the files hold then.
+# Takes steps on a spool in two files, with the calls that it makes of the device written down by a shim, which lets
+# some fail: what the program answers, which calls it made in which order, and what the files hold then.
 #
 #   tests/spool_on_a_file.sh crates/relay_rows_tests/out/relay_rows_tests
 set -euo pipefail

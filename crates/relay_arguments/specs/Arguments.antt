@@ -169,7 +169,7 @@ pub data Asked : Type 0 where
   AskedServe : Text → ℕ → ℕ → Bool → Asked
   AskedPush : Text → Bool → Asked
 
--- the file behind `--config`; the argument reader refuses words without one
+-- the file of `--config`; the argument reader refuses words without one
 abbrev pub config_in : List Row → Text
 config_in rows = unwrap_or (first_of (codes "config") rows) []
 
@@ -219,20 +219,39 @@ list_asked rows =
 abbrev pub message_number_in : List Row → ℕ
 message_number_in rows = option_map_or (number_of 18446744073709551615) (first_of (codes "number") rows) 1
 
+-- `show`: a message, and whether its text alone
+abbrev pub show_asked : List Row → Asked
+show_asked rows = AskedShow (config_or_default_in rows) (message_number_in rows) (is_given_in (codes "raw") rows)
+
+-- `status`: a table, or metrics
+abbrev pub status_asked : List Row → Asked
+status_asked rows = AskedStatus (config_or_default_in rows) (is_given_in (codes "prometheus") rows)
+
+-- `check`: all of the configuration, or the next hop of one address
+abbrev pub check_asked : List Row → Asked
+check_asked rows = AskedCheck (config_or_default_in rows) (first_of (codes "route") rows)
+
+abbrev pub run_asked : List Row → Asked
+run_asked rows = AskedRun (config_or_default_in rows) (is_given_in (codes "quiet") rows)
+
+abbrev pub serve_asked : List Row → Asked
+serve_asked rows = AskedServe (config_in rows) (rounds_in rows) (workers_in rows) (is_given_in (codes "log") rows)
+
+abbrev pub push_asked : List Row → Asked
+push_asked rows = AskedPush (config_in rows) (is_given_in (codes "log") rows)
+
+-- what the subcommand of this name asks for
 abbrev pub asked_by : Text → List Row → Asked
 asked_by name rows =
     if bytes_eq name (codes "init") then AskedInit (config_in rows)
     else if bytes_eq name (codes "list") then list_asked rows
-    else if bytes_eq name (codes "show")
-    then AskedShow (config_or_default_in rows) (message_number_in rows) (is_given_in (codes "raw") rows)
-    else if bytes_eq name (codes "status")
-    then AskedStatus (config_or_default_in rows) (is_given_in (codes "prometheus") rows)
+    else if bytes_eq name (codes "show") then show_asked rows
+    else if bytes_eq name (codes "status") then status_asked rows
     else if bytes_eq name (codes "compact") then AskedCompact (config_in rows)
-    else if bytes_eq name (codes "check") then AskedCheck (config_or_default_in rows) (first_of (codes "route") rows)
-    else if bytes_eq name (codes "run") then AskedRun (config_or_default_in rows) (is_given_in (codes "quiet") rows)
-    else if bytes_eq name (codes "serve")
-    then AskedServe (config_in rows) (rounds_in rows) (workers_in rows) (is_given_in (codes "log") rows)
-    else if bytes_eq name (codes "push") then AskedPush (config_in rows) (is_given_in (codes "log") rows)
+    else if bytes_eq name (codes "check") then check_asked rows
+    else if bytes_eq name (codes "run") then run_asked rows
+    else if bytes_eq name (codes "serve") then serve_asked rows
+    else if bytes_eq name (codes "push") then push_asked rows
     else if bytes_eq name (codes "play") then AskedPlay
     else AskedSession
 

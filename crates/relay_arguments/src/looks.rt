@@ -4,10 +4,10 @@ ghost use Rattle.std.specs.Option.{option_copied};
 ghost use Rattle.clap.specs.Words.{app_of, first_of, found_of, rows_of, rule_of};
 ghost use Rattle.relay_arguments.specs.Arguments.{asked, is_plain, list_asked, listing, message_number_in};
 ghost use Rattle.relay_arguments.specs.Arguments.{number_rule, option_rule, reporting, rows_asked_in, rows_value};
-ghost use Rattle.relay_arguments.specs.Arguments.{showing, switch_rule, with_forms};
+ghost use Rattle.relay_arguments.specs.Arguments.{show_asked, showing, status_asked, switch_rule, with_forms};
 
 use crate::grammar::{with_default_file, with_file};
-use crate::words::{Subcommand, config, is_given, number_of};
+use crate::words::{Subcommand, config, config_or_default, is_given, number_of};
 use clap::builder::ValueParser;
 use clap::{Arg, ArgAction, ArgMatches, Command};
 use std::alloc::{AllocError, Global};
@@ -40,6 +40,27 @@ pub(crate) fn list_asked<'a>(matches: &ArgMatches<'a>) -> Subcommand<'a>
     }
 }
 
+/// What `show` asks for.
+pub(crate) fn show_asked<'a>(matches: &ArgMatches<'a>) -> Subcommand<'a>
+    ensures { asked result ≡ show_asked (rows_of (found_of matches.now)) }
+{
+    Subcommand::Show {
+        file: config_or_default(matches),
+        number: message_number(matches),
+        raw: is_given(matches, "raw"),
+    }
+}
+
+/// What `status` asks for.
+pub(crate) fn status_asked<'a>(matches: &ArgMatches<'a>) -> Subcommand<'a>
+    ensures { asked result ≡ status_asked (rows_of (found_of matches.now)) }
+{
+    Subcommand::Status {
+        file: config_or_default(matches),
+        prometheus: is_given(matches, "prometheus"),
+    }
+}
+
 /// Which recipients are listed, and how.
 fn rows_asked<'a>(matches: &ArgMatches<'a>) -> Listing<'a>
     ensures { rows_value result ≡ rows_asked_in (rows_of (found_of matches.now)) }
@@ -64,7 +85,7 @@ fn is_plain(listing: &Listing<'_>) -> bool
         && listing.older.is_none()
 }
 
-/// The text behind an option, where it was given.
+/// The text of an option, where it was given.
 fn text_of<'a>(matches: &ArgMatches<'a>, option: &str) -> Option<&'a str>
     ensures { option_copied result ≡ first_of option.now (rows_of (found_of matches.now)) }
 {
@@ -72,7 +93,7 @@ fn text_of<'a>(matches: &ArgMatches<'a>, option: &str) -> Option<&'a str>
 }
 
 /// The number of the message that is asked for; the argument reader refuses words without one.
-pub(crate) fn message_number(matches: &ArgMatches<'_>) -> u64
+fn message_number(matches: &ArgMatches<'_>) -> u64
     ensures { result ≡ message_number_in (rows_of (found_of matches.now)) }
 {
     match matches.get_str("number") {

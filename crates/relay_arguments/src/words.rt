@@ -1,11 +1,12 @@
 ghost use Rattle.std.specs.Prelude.{◌≡◌, ◌≤◌, codes, map, option_map, IfOk};
 ghost use Rattle.clap.specs.Words.{FailsBy, first_of, found_of, rows_of, subcommand_rows_of};
 ghost use Rattle.relay_arguments.specs.Arguments.{WordsAreTaken, asked, asked_by, asked_in, asked_of, config_in};
-ghost use Rattle.relay_arguments.specs.Arguments.{config_or_default_in, faults_in, is_given_in, number_of};
-ghost use Rattle.relay_arguments.specs.Arguments.{rounds_in, workers_in};
+ghost use Rattle.relay_arguments.specs.Arguments.{check_asked, config_or_default_in, faults_in, is_given_in};
+ghost use Rattle.relay_arguments.specs.Arguments.{number_of, push_asked, rounds_in, run_asked, serve_asked};
+ghost use Rattle.relay_arguments.specs.Arguments.{workers_in};
 
 use crate::grammar::program;
-use crate::looks::{Listing, list_asked, message_number};
+use crate::looks::{Listing, list_asked, show_asked, status_asked};
 use clap::{ArgMatches, Error};
 use std::alloc::Global;
 use std::convert::AsStr;
@@ -53,14 +54,14 @@ pub enum Subcommand<'a> {
         /// The address whose next hop is asked for, in place of the check.
         route: Option<&'a str>,
     },
-    /// Clients are served and mail is handed on, until the process is ended.
+    /// Clients are served and mail is forwarded, until the process is stopped.
     Run {
         /// The file of the configuration.
         file: &'a str,
         /// Whether standard error says nothing of what was done.
         quiet: bool,
     },
-    /// Clients are served in rounds, and their mail is handed on behind each.
+    /// Clients are served in rounds, and their mail is forwarded after each.
     Serve {
         /// The file of the configuration.
         file: &'a str,
@@ -71,7 +72,7 @@ pub enum Subcommand<'a> {
         /// Whether standard error says what was done.
         log: bool,
     },
-    /// What is due is handed on.
+    /// Due mail is forwarded.
     Push {
         /// The file of the configuration.
         file: &'a str,
@@ -89,9 +90,8 @@ pub(crate) const MOST_ROUNDS: u64 = 1_000_000;
 /// The most connections of one round.
 pub(crate) const MOST_WORKERS: u64 = 64;
 
-/// The subcommand that the words name, the program's own name first, and the file behind its
-/// `--config`. An error has a text for the user: of what is wrong with the words, or the help that
-/// they ask for.
+/// Reads the subcommand that the words name, the program's own name first, and the file of its `--config`. An error
+/// has a text for the user: what is wrong with the words, or the help that they ask for.
 pub fn arguments<'a, S: AsStr>(alloc: Global, words: &'a [S]) -> Result<Subcommand<'a>, Error>
     ensures faults { FailsBy (faults_in (map S.text words.now)) result }
     ensures asked { IfOk result (λ subcommand. asked subcommand ≡ asked_in (map S.text words.now)) }
@@ -119,40 +119,19 @@ fn named<'a>(name: &str, matches: &ArgMatches<'a>) -> Subcommand<'a>
     } else if name == "list" {
         list_asked(matches)
     } else if name == "show" {
-        Subcommand::Show {
-            file: config_or_default(matches),
-            number: message_number(matches),
-            raw: is_given(matches, "raw"),
-        }
+        show_asked(matches)
     } else if name == "status" {
-        Subcommand::Status {
-            file: config_or_default(matches),
-            prometheus: is_given(matches, "prometheus"),
-        }
+        status_asked(matches)
     } else if name == "compact" {
         Subcommand::Compact(config(matches))
     } else if name == "check" {
-        Subcommand::Check {
-            file: config_or_default(matches),
-            route: route(matches),
-        }
+        check_asked(matches)
     } else if name == "run" {
-        Subcommand::Run {
-            file: config_or_default(matches),
-            quiet: is_given(matches, "quiet"),
-        }
+        run_asked(matches)
     } else if name == "serve" {
-        Subcommand::Serve {
-            file: config(matches),
-            rounds: rounds(matches),
-            workers: workers(matches),
-            log: is_given(matches, "log"),
-        }
+        serve_asked(matches)
     } else if name == "push" {
-        Subcommand::Push {
-            file: config(matches),
-            log: is_given(matches, "log"),
-        }
+        push_asked(matches)
     } else if name == "play" {
         Subcommand::Play
     } else {
@@ -160,23 +139,66 @@ fn named<'a>(name: &str, matches: &ArgMatches<'a>) -> Subcommand<'a>
     }
 }
 
-/// The file behind `--config`, which the argument reader asks for.
+/// What `check` asks for.
+fn check_asked<'a>(matches: &ArgMatches<'a>) -> Subcommand<'a>
+    ensures { asked result ≡ check_asked (rows_of (found_of matches.now)) }
+{
+    Subcommand::Check {
+        file: config_or_default(matches),
+        route: route(matches),
+    }
+}
+
+/// What `run` asks for.
+fn run_asked<'a>(matches: &ArgMatches<'a>) -> Subcommand<'a>
+    ensures { asked result ≡ run_asked (rows_of (found_of matches.now)) }
+{
+    Subcommand::Run {
+        file: config_or_default(matches),
+        quiet: is_given(matches, "quiet"),
+    }
+}
+
+/// What `serve` asks for.
+fn serve_asked<'a>(matches: &ArgMatches<'a>) -> Subcommand<'a>
+    ensures { asked result ≡ serve_asked (rows_of (found_of matches.now)) }
+{
+    Subcommand::Serve {
+        file: config(matches),
+        rounds: rounds(matches),
+        workers: workers(matches),
+        log: is_given(matches, "log"),
+    }
+}
+
+/// What `push` asks for.
+fn push_asked<'a>(matches: &ArgMatches<'a>) -> Subcommand<'a>
+    ensures { asked result ≡ push_asked (rows_of (found_of matches.now)) }
+{
+    Subcommand::Push {
+        file: config(matches),
+        log: is_given(matches, "log"),
+    }
+}
+
+/// The file of `--config`, which the argument reader requires.
 pub(crate) fn config<'a>(matches: &ArgMatches<'a>) -> &'a str
     ensures { result.now ≡ config_in (rows_of (found_of matches.now)) }
 {
     matches.get_str("config").unwrap_or("")
 }
 
-/// The file behind `--config`, or the default one.
+/// The file of `--config`, or the default one.
 pub(crate) fn config_or_default<'a>(matches: &ArgMatches<'a>) -> &'a str
     ensures { result.now ≡ config_or_default_in (rows_of (found_of matches.now)) }
 {
     matches.get_str("config").unwrap_or(DEFAULT_CONFIG)
 }
 
-/// The address behind `--route`, where it was given.
+/// The address of `--route`, where it was given.
 fn route<'a>(matches: &ArgMatches<'a>) -> Option<&'a str>
-    ensures { option_map (λ address. address.now) result ≡ first_of (codes "route") (rows_of (found_of matches.now)) }
+    ensures { option_map (λ address. address.now) result
+        ≡ first_of (codes "route") (rows_of (found_of matches.now)) }
 {
     matches.get_str("route")
 }

@@ -1,5 +1,5 @@
--- What the relay has for each client of the table behind a call on several pieces, whose answers are still to be taken.
-use Rattle.std.proofs.Common.{◌≡◌, ◌≢◌, ◌⊎◌, inl, inr, ℕ, ◌==◌, ◌≤◌, ◌<◌, ◌^◌, Bool, true, false, List, [], ◌∷◌, ◌++◌, Option, None, Some, Box, Result, Ok, Err, length, map, refl, sym, ap, ◌∙◌, subst, append_assoc, append-nil, arith}
+-- What the relay has for each client of the table after a call on several pieces, whose answers are still to be taken.
+use Rattle.std.proofs.Common.{◌≡◌, ◌≢◌, ◌⊎◌, inl, inr, ℕ, ◌==◌, ◌≤◌, ◌<◌, ◌^◌, Bool, true, false, List, [], ◌∷◌, ◌++◌, Option, None, Some, Box, Result, Ok, Err, length, map, take, refl, sym, ap, ◌∙◌, subst, append_assoc, append-nil, arith}
 use Rattle.std.specs.Prelude.{if◌then◌else◌}
 use Rattle.std.specs.List.{AllByRecursion, zip}
 use Rattle.std.proofs.lemmas.Bool.{cases_eq, cases_lt}
@@ -7,11 +7,10 @@ use Rattle.std.proofs.lemmas.Bool.Decides.{nat_tests}
 use Rattle.std.proofs.lemmas.List.Elements.{recursion_from_All}
 use Rattle.std.specs.Global.{Global}
 use Rattle.relay_disk.specs.Device.{DiskWords}
-use Rattle.relay_disk.specs.File.{file_words}
-use Rattle.relay_disk.specs.declared.file.FileDisk.{FileDisk}
 use Rattle.relay_slots.specs.Slots.{slot_at}
 use Rattle.relay_spool.specs.Image.{room_of}
-use Rattle.relay_server.specs.Dialogue.{Said}
+use Rattle.relay_server.specs.Dialogue.{IsDialogue, Said}
+use Rattle.relay_server.specs.Setup.{Setup, setup_of_config}
 use Rattle.relay_book.specs.declared.change.Change.{Change}
 use Rattle.relay_records.specs.Records.{Keeps}
 use Rattle.relay_records.specs.Staged.{Row, no_row}
@@ -25,15 +24,19 @@ use Rattle.relay_loop.specs.Clients.{GoesOn, IsUnknown}
 use Rattle.relay_loop.specs.GroupPieces.{AnswersBy, AnswersEach, AnswersOne, AreOfOthers, IsLaden, RefusesOne, unread}
 use Rattle.relay_loop.specs.GroupReplies.{RepliesEach}
 use Rattle.relay_loop.specs.Groups.{AnswersAll, ReadsAll}
-use Rattle.relay_loop.specs.Outboxes.{unwritten_at}
+use Rattle.relay_loop.specs.Outboxes.{octets_of, unwritten_at}
 use Rattle.relay_loop.specs.Relay.{RelayState}
+use Rattle.relay_connections.specs.Carried.{Carries, Setting}
 use Rattle.relay_connections.specs.Hearing.{HearOwn, IsOwn, session_of}
-use Rattle.relay_connections.specs.Served.{ActsOn, AreApart, AreServed, HasAnswered, HasAnsweredOr, HasLast, HasSession, HaveAnswered, Serves, address_of, answer_to}
+use Rattle.relay_connections.specs.Served.{ActsOn, AreApart, AreServed, HasAnswered, HasAnsweredOr, HasHeard, HasSession, HaveAnswered, IsUnused, Serves, address_of, answer_to}
+use Rattle.relay_connections.specs.Share.{lines_length, share_of}
+use Rattle.relay_connections.specs.declared.channel.Channel.{Channel}
 use Rattle.relay_connections.specs.declared.client.Client.{Client}
+use Rattle.relay_connections.proofs.CarriedLemmas.{carries_more}
 use Rattle.relay_connections.specs.declared.hearing.Hearing.{Hearing}
 use Rattle.relay_connections.proofs.DistinctLemmas.{AreDistinct, IsNoneOf, are_distinct}
 use Rattle.relay_connections.proofs.ExchangeLemmas.{some_is_not_none}
-use Rattle.relay_connections.proofs.ServedLemmas.{serves_later}
+use Rattle.relay_connections.proofs.ServedLemmas.{serves_later, session_later}
 
 -- a row is laden, or isn't
 laden_or_not : (row : Row) → IsLaden row ⊎ (IsLaden row → ⊥)
@@ -88,6 +91,9 @@ are_of_others : (number : ℕ) (pieces : List Piece) → IsNoneOf number (map se
 are_of_others number [] none = tt
 are_of_others number (piece ∷ pieces) (apart, none) = (apart, are_of_others number pieces none)
 
+record KeepsConfig {D : Type 0} (old new : RelayState D) : Type 0 where
+  pub config : new.node.config ≡ old.node.config
+
 -- nothing of a number is different but for changes that are pending more
 record LeavesAlone {D : Type 0} (number : ℕ) (pending : List Change) (old new : RelayState D) (all : List Change) : Type 0 where
   pub seat : slot_at new.node.seats number ≡ slot_at old.node.seats number
@@ -96,22 +102,33 @@ record LeavesAlone {D : Type 0} (number : ℕ) (pending : List Change) (old new 
   pub added : List Change
   pub grows : all ≡ pending ++ added
 
-module _ {D S : Type 0} (changes pending all : List Change) (number : ℕ) (old new : RelayState D) (so : LeavesAlone number pending old new all)
+module _ {D S : Type 0} (remaining contents : S → Option (List ℕ)) (setting : Setting) (changes pending all : List Change) (number : ℕ) (old new : RelayState D) (so : LeavesAlone number pending old new all)
     (slot : Option (Box (Client S) Global)) where
-  serves_alone : Serves (changes ++ pending) old number slot → Serves (changes ++ all) new number slot
+  serves_alone : Serves remaining contents (changes ++ pending) setting old number slot → Serves remaining contents (changes ++ all) setting new number slot
   serves_alone serves =
-      subst (λ (list : List Change). Serves list new number slot) (append_assoc changes pending so.added ∙ ap (λ (list : List Change). changes ++ list) (sym so.grows))
-      (serves_later (changes ++ pending) so.added old new number slot so.seat so.connection so.config serves)
+      subst (λ (list : List Change). Serves remaining contents list setting new number slot) (append_assoc changes pending so.added ∙ ap (λ (list : List Change). changes ++ list) (sym so.grows))
+      (serves_later remaining contents setting (changes ++ pending) so.added old new number slot so.seat so.connection so.config serves)
 
-  last_alone : (last : Option (List ℕ)) → HasLast (changes ++ pending) old number slot last → HasLast (changes ++ all) new number slot last
-  last_alone None serves = serves_alone serves
-  last_alone (Some last) unused = record { connection = so.connection ∙ unused.connection; seat = so.seat ∙ unused.seat }
+  unused_alone : IsUnused old number → IsUnused new number
+  unused_alone unused = record { connection = so.connection ∙ unused.connection; seat = so.seat ∙ unused.seat }
 
-  answered_alone : (answer : Result Heard NodeFault) → HasAnswered (changes ++ pending) old number slot answer → HasAnswered (changes ++ all) new number slot answer
-  answered_alone (Err fault) unused = record { connection = so.connection ∙ unused.connection; seat = so.seat ∙ unused.seat }
-  answered_alone (Ok heard) has = last_alone heard.last has
+  session_alone : (heard : ℕ) (address : List ℕ) (channel : Channel S) → HasSession remaining contents (changes ++ pending) setting old number heard address channel
+      → HasSession remaining contents (changes ++ all) setting new number heard address channel
+  session_alone heard address channel session =
+      subst (λ (list : List Change). HasSession remaining contents list setting new number heard address channel) (append_assoc changes pending so.added ∙ ap (λ (list : List Change). changes ++ list) (sym so.grows))
+      (session_later remaining contents setting (changes ++ pending) so.added old new number heard address channel so.seat so.connection so.config session)
 
-  or_alone : (answer : Option (Result Heard NodeFault)) → HasAnsweredOr (changes ++ pending) old number slot answer → HasAnsweredOr (changes ++ all) new number slot answer
+  heard_alone : (its : Option (Box (Client S) Global)) (heard : ℕ) (last : Option (List ℕ)) → HasHeard remaining contents (changes ++ pending) setting old number its heard last
+      → HasHeard remaining contents (changes ++ all) setting new number its heard last
+  heard_alone None heard last unused = unused_alone unused
+  heard_alone (Some client) heard None session = session_alone heard (address_of client.value) client.value.channel session
+  heard_alone (Some client) heard (Some last) ended = record { unused = unused_alone ended.unused; ends = ended.ends }
+
+  answered_alone : (answer : Result Heard NodeFault) → HasAnswered remaining contents (changes ++ pending) setting old number slot answer → HasAnswered remaining contents (changes ++ all) setting new number slot answer
+  answered_alone (Err fault) unused = unused_alone unused
+  answered_alone (Ok heard) has = heard_alone slot heard.used heard.last has
+
+  or_alone : (answer : Option (Result Heard NodeFault)) → HasAnsweredOr remaining contents (changes ++ pending) setting old number slot answer → HasAnsweredOr remaining contents (changes ++ all) setting new number slot answer
   or_alone None serves = serves_alone serves
   or_alone (Some answer) has = answered_alone answer has
 
@@ -136,6 +153,13 @@ module _ {D : Type 0} (honest : Type 0) (words : DiskWords D) (changes : List Ch
         grows = so.grows ∙ append_assoc pending more so.added;
       }
 
+  -- pieces leave the configuration
+  keeps_config : (pieces : List Piece) (answers : List (Result Heard NodeFault)) (pending : List Change) (old : RelayState D) (row : Row) (new : RelayState D) (left : Row) (all : List Change)
+      → AnswersEach honest words changes at pieces answers pending old row new left all → KeepsConfig old new
+  keeps_config [] answers pending old row new left all (none, same, unmoved, is) = record { config = ap (λ (s : RelayState D). s.node.config) same }
+  keeps_config (piece ∷ pieces) answers pending old row new left all (answer, rest, is, mid, between, more, one, each) =
+      record { config = (keeps_config pieces rest (pending ++ more) mid between new left all each).config ∙ one.only.config }
+
   -- replies of next hops
   replies_alone : (number : ℕ) (replies : List ReplyPiece) (answers : List (Result Answered NodeFault)) (pending : List Change) (old : RelayState D) (row : Row) (new : RelayState D) (left : Row) (all : List Change)
       → RepliesEach honest words changes at replies answers pending old row new left all → LeavesAlone number pending old new all
@@ -156,10 +180,11 @@ module _ {D : Type 0} (honest : Type 0) (words : DiskWords D) (changes : List Ch
         grows = so.grows ∙ append_assoc pending more so.added;
       }
 
-module _ {D S : Type 0} (honest : Type 0) (words : DiskWords D) (changes : List Change) (at : ℕ) where
+module _ {D S : Type 0} (honest : Type 0) (words : DiskWords D) (remaining contents : S → Option (List ℕ)) (changes : List Change) (setting : Setting) (at : ℕ) where
   -- a piece of a client that was talked to
   module _ (pending : List Change) (piece : Piece) (old mid : RelayState D) (row between : Row) (more : List Change) (client : Box (Client S) Global)
-      (session : HasSession (changes ++ pending) old piece.session (address_of client.value)) where
+      (own : piece.octets.now ≡ share_of client.value.channel.block) (setup : setup_of_config mid.node.config ≡ setting.setup)
+      (session : HasSession remaining contents (changes ++ pending) setting old piece.session 0 (address_of client.value) client.value.channel) where
     is_known : IsUnknown old piece.session → ⊥
     is_known (inl none) = some_is_not_none session.has_said.talks.connection none
     is_known (inr none) = some_is_not_none session.has_said.talks.seat.at none
@@ -175,12 +200,42 @@ module _ {D S : Type 0} (honest : Type 0) (words : DiskWords D) (changes : List 
     no_seat (Open cause) by = absurd by.leaves
     no_seat Full by = by.leaves.0.gone.session
 
-    by_last : (later : Said) (last : Option (List ℕ)) → GoesOn (changes ++ (pending ++ more)) mid piece.session (address_of client.value) later session.has_said.written last
-        → HasLast (changes ++ (pending ++ more)) mid piece.session (Some client) last
-    by_last later None talks = record { said = later; has_said = record { written = session.has_said.written; talks = talks } }
-    by_last later (Some last) left = record { connection = left.connection; seat = left.seat }
+    -- nothing of what was said waited
+    all_written : unwritten_at old.clients piece.session ≡ [] → session.said.output ≡ session.has_said.written
+    all_written drained =
+        session.has_said.talks.output ∙ ap (λ (waiting : List ℕ). session.has_said.written ++ waiting) (sym (ap octets_of session.has_said.talks.connection) ∙ drained)
+        ∙ append-nil session.has_said.written
 
-    unheard : (heard : Heard) → heard ≡ unread → mid ≡ old → HasLast (changes ++ (pending ++ more)) mid piece.session (Some client) heard.last
+    -- what is said now is carried
+    carries_now : (heard : Heard) (later : Said) (left : List ℕ) → unwritten_at old.clients piece.session ≡ [] → heard.used ≤ length piece.octets.now
+        → later.input ≡ session.said.input ++ take heard.used piece.octets.now → later.output ≡ session.has_said.written ++ left
+        → Carries remaining contents (setting.beginnings piece.session) heard.used client.value.channel later left
+    carries_now heard later left drained within input output =
+        carries_more remaining contents (setting.beginnings piece.session) client.value.channel session.said later (unwritten_at old.clients piece.session) left heard.used
+        (lines_length 256 client.value.channel.block) (subst (λ (octets : List ℕ). heard.used ≤ length octets) own within)
+        (input ∙ ap (λ (octets : List ℕ). session.said.input ++ take heard.used octets) own) drained
+        (output ∙ ap (λ (written : List ℕ). written ++ left) (sym (all_written drained))) session.carries
+
+    by_last : (heard : Heard) (later : Said) (last : Option (List ℕ)) → unwritten_at old.clients piece.session ≡ [] → heard.used ≤ length piece.octets.now
+        → later.input ≡ session.said.input ++ take heard.used piece.octets.now
+        → GoesOn (changes ++ (pending ++ more)) mid piece.session (address_of client.value) later session.has_said.written last
+        → HasHeard remaining contents (changes ++ (pending ++ more)) setting mid piece.session (Some client) heard.used last
+    by_last heard later None drained within input talks = record {
+      said = later;
+      has_said = record { written = session.has_said.written; talks = talks };
+      carries = carries_now heard later (unwritten_at mid.clients piece.session) drained within input
+          (talks.output ∙ ap (λ (waiting : List ℕ). session.has_said.written ++ waiting) (sym (ap octets_of talks.connection)));
+    }
+    by_last heard later (Some last) drained within input left = record {
+      unused = record { connection = left.connection; seat = left.seat };
+      ends = record {
+        said = later;
+        dialogue = subst (λ (setup : Setup). IsDialogue setup later) setup left.closed.dialogue;
+        carries = inl (carries_now heard later last drained within input left.output);
+      };
+    }
+
+    unheard : (heard : Heard) → heard ≡ unread → mid ≡ old → HasHeard remaining contents (changes ++ (pending ++ more)) setting mid piece.session (Some client) heard.used heard.last
     unheard heard nothing same =
         let still : LeavesAlone piece.session pending old mid (pending ++ more) = record {
           seat = ap (λ (s : RelayState D). slot_at s.node.seats piece.session) same;
@@ -189,57 +244,59 @@ module _ {D S : Type 0} (honest : Type 0) (words : DiskWords D) (changes : List 
           added = more;
           grows = refl;
         } in
-        subst (λ (last : Option (List ℕ)). HasLast (changes ++ (pending ++ more)) mid piece.session (Some client) last) (sym (ap (λ (h : Heard). h.last) nothing))
-        (serves_alone changes pending (pending ++ more) piece.session old mid still (Some client) session)
+        subst (λ (h : Heard). HasHeard remaining contents (changes ++ (pending ++ more)) setting mid piece.session (Some client) h.used h.last) (sym nothing)
+        (session_alone remaining contents setting changes pending (pending ++ more) piece.session old mid still (Some client) 0 (address_of client.value) client.value.channel session)
 
     answered_by : (answer : Result Heard NodeFault) → AnswersBy honest words changes at pending piece old row mid between more answer
-        → HasAnswered (changes ++ (pending ++ more)) mid piece.session (Some client) answer
+        → HasAnswered remaining contents (changes ++ (pending ++ more)) setting mid piece.session (Some client) answer
     answered_by (Err fault) by = record { connection = by.gone; seat = no_seat fault by }
     answered_by (Ok heard) by = where_waits (none_or_some (unwritten_at old.clients piece.session)) (laden_or_not row) where
       where_waits : (unwritten_at old.clients piece.session ≡ []) ⊎ (unwritten_at old.clients piece.session ≢ []) → IsLaden row ⊎ (IsLaden row → ⊥)
-          → HasLast (changes ++ (pending ++ more)) mid piece.session (Some client) heard.last
+          → HasHeard remaining contents (changes ++ (pending ++ more)) setting mid piece.session (Some client) heard.used heard.last
       where_waits (inr waits) laden = let so = by.unread (inl waits) in unheard heard so.0 so.1
       where_waits (inl drained) (inl laden) = let so = by.unread (inr laden) in unheard heard so.0 so.1
       where_waits (inl drained) (inr light) =
           let reads = by.reads drained light (address_of client.value) session.said session.has_said.written session.has_said.talks in
-          by_last reads.later heard.last reads.goes_on
+          by_last heard reads.later heard.last drained by.within reads.input reads.goes_on
 
   -- pieces of clients that were served, one of each at most
   module _ (clients : List (Option (Box (Client S) Global))) (number : ℕ) where
     -- the first piece is the number's
     module _ (piece : Piece) (pieces : List Piece) (answer : Result Heard NodeFault) (rest : List (Result Heard NodeFault)) (pending : List Change) (old mid new : RelayState D) (row between left : Row) (more all : List Change)
         (own : IsOwn clients piece) (none : IsNoneOf piece.session (map session_of pieces)) (one : AnswersOne honest words changes at pending piece old row mid between more answer)
-        (each : AnswersEach honest words changes at pieces rest (pending ++ more) mid between new left all) (same : piece.session ≡ number) (serves : Serves (changes ++ pending) old number (slot_at clients number)) where
-      pub answered_here : HasAnswered (changes ++ all) new number (slot_at clients number) answer
+        (each : AnswersEach honest words changes at pieces rest (pending ++ more) mid between new left all) (same : piece.session ≡ number) (setup : setup_of_config old.node.config ≡ setting.setup)
+        (serves : Serves remaining contents (changes ++ pending) setting old number (slot_at clients number)) where
+      pub answered_here : HasAnswered remaining contents (changes ++ all) setting new number (slot_at clients number) answer
       answered_here =
-          let session = subst (λ (slot : Option (Box (Client S) Global)). Serves (changes ++ pending) old piece.session slot) own.there
-          (subst (λ (n : ℕ). Serves (changes ++ pending) old n (slot_at clients n)) (sym same) serves) in
-          let first = answered_by pending piece old mid row between more own.client session answer one.by in
+          let session = subst (λ (slot : Option (Box (Client S) Global)). Serves remaining contents (changes ++ pending) setting old piece.session slot) own.there
+          (subst (λ (n : ℕ). Serves remaining contents (changes ++ pending) setting old n (slot_at clients n)) (sym same) serves) in
+          let first = answered_by pending piece old mid row between more own.client own.octets (ap setup_of_config one.only.config ∙ setup) session answer one.by in
           let so = leaves_alone honest words changes at piece.session pieces rest (pending ++ more) mid between new left all (are_of_others piece.session pieces none) each in
-          subst (λ (n : ℕ). HasAnswered (changes ++ all) new n (slot_at clients n) answer) same
-          (subst (λ (slot : Option (Box (Client S) Global)). HasAnswered (changes ++ all) new piece.session slot answer) (sym own.there)
-          (answered_alone changes (pending ++ more) all piece.session mid new so (Some own.client) answer first))
+          subst (λ (n : ℕ). HasAnswered remaining contents (changes ++ all) setting new n (slot_at clients n) answer) same
+          (subst (λ (slot : Option (Box (Client S) Global)). HasAnswered remaining contents (changes ++ all) setting new piece.session slot answer) (sym own.there)
+          (answered_alone remaining contents setting changes (pending ++ more) all piece.session mid new so (Some own.client) answer first))
 
     each_answered : (pieces : List Piece) (answers : List (Result Heard NodeFault)) (pending : List Change) (old : RelayState D) (row : Row) (new : RelayState D) (left : Row) (all : List Change)
         → AllByRecursion (IsOwn clients) pieces → AreDistinct (map session_of pieces) → AnswersEach honest words changes at pieces answers pending old row new left all
-        → Serves (changes ++ pending) old number (slot_at clients number)
-        → HasAnsweredOr (changes ++ all) new number (slot_at clients number) (answer_to number (zip (map session_of pieces) answers))
-    each_answered [] answers pending old row new left all own distinct (none, same, unmoved, is) serves =
-        subst (λ (list : List Change). Serves (changes ++ list) new number (slot_at clients number)) (sym is)
-        (subst (λ (s : RelayState D). Serves (changes ++ pending) s number (slot_at clients number)) (sym same) serves)
-    each_answered (piece ∷ pieces) answers pending old row new left all (own, owns) (none, distinct) (answer, rest, is, mid, between, more, one, each) serves =
-        subst (λ (list : List (Result Heard NodeFault)). HasAnsweredOr (changes ++ all) new number (slot_at clients number) (answer_to number (zip (piece.session ∷ map session_of pieces) list))) (sym is)
-        (by (λ on. each_answered pieces rest (pending ++ more) mid between new left all owns distinct each on) (cases_eq piece.session number))
+        → setup_of_config old.node.config ≡ setting.setup
+        → Serves remaining contents (changes ++ pending) setting old number (slot_at clients number)
+        → HasAnsweredOr remaining contents (changes ++ all) setting new number (slot_at clients number) (answer_to number (zip (map session_of pieces) answers))
+    each_answered [] answers pending old row new left all own distinct (none, same, unmoved, is) setup serves =
+        subst (λ (list : List Change). Serves remaining contents (changes ++ list) setting new number (slot_at clients number)) (sym is)
+        (subst (λ (s : RelayState D). Serves remaining contents (changes ++ pending) setting s number (slot_at clients number)) (sym same) serves)
+    each_answered (piece ∷ pieces) answers pending old row new left all (own, owns) (none, distinct) (answer, rest, is, mid, between, more, one, each) setup serves =
+        subst (λ (list : List (Result Heard NodeFault)). HasAnsweredOr remaining contents (changes ++ all) setting new number (slot_at clients number) (answer_to number (zip (piece.session ∷ map session_of pieces) list))) (sym is)
+        (by (λ on. each_answered pieces rest (pending ++ more) mid between new left all owns distinct each (ap setup_of_config one.only.config ∙ setup) on) (cases_eq piece.session number))
       where
         Has : Option (Result Heard NodeFault) → Type 0
-        Has answer = HasAnsweredOr (changes ++ all) new number (slot_at clients number) answer
+        Has answer = HasAnsweredOr remaining contents (changes ++ all) setting new number (slot_at clients number) answer
 
-        by : (Serves (changes ++ (pending ++ more)) mid number (slot_at clients number) → HasAnsweredOr (changes ++ all) new number (slot_at clients number) (answer_to number (zip (map session_of pieces) rest)))
+        by : (Serves remaining contents (changes ++ (pending ++ more)) setting mid number (slot_at clients number) → HasAnsweredOr remaining contents (changes ++ all) setting new number (slot_at clients number) (answer_to number (zip (map session_of pieces) rest)))
             → (piece.session ≡ number) ⊎ (piece.session ≡ number → ⊥)
-            → HasAnsweredOr (changes ++ all) new number (slot_at clients number) (answer_to number (zip (piece.session ∷ map session_of pieces) (answer ∷ rest)))
+            → HasAnsweredOr remaining contents (changes ++ all) setting new number (slot_at clients number) (answer_to number (zip (piece.session ∷ map session_of pieces) (answer ∷ rest)))
         by next (inl same) =
-            subst (λ (to : Option (Result Heard NodeFault)). HasAnsweredOr (changes ++ all) new number (slot_at clients number) to) (sym (answer_here piece.session number (map session_of pieces) answer rest same))
-            (answered_here piece pieces answer rest pending old mid new row between left more all own none one each same serves)
+            subst (λ (to : Option (Result Heard NodeFault)). HasAnsweredOr remaining contents (changes ++ all) setting new number (slot_at clients number) to) (sym (answer_here piece.session number (map session_of pieces) answer rest same))
+            (answered_here piece pieces answer rest pending old mid new row between left more all own none one each same setup serves)
         by next (inr apart) =
             let still : LeavesAlone number pending old mid (pending ++ more) = record {
               seat = one.only.seats number (λ is. apart (sym is));
@@ -248,8 +305,8 @@ module _ {D S : Type 0} (honest : Type 0) (words : DiskWords D) (changes : List 
               added = more;
               grows = refl;
             } in
-            subst (λ (to : Option (Result Heard NodeFault)). HasAnsweredOr (changes ++ all) new number (slot_at clients number) to) (sym (answer_passed piece.session number answer (zip (map session_of pieces) rest) apart))
-            (next (serves_alone changes pending (pending ++ more) number old mid still (slot_at clients number) serves))
+            subst (λ (to : Option (Result Heard NodeFault)). HasAnsweredOr remaining contents (changes ++ all) setting new number (slot_at clients number) to) (sym (answer_passed piece.session number answer (zip (map session_of pieces) rest) apart))
+            (next (serves_alone remaining contents setting changes pending (pending ++ more) number old mid still (slot_at clients number) serves))
 
 -- an own piece of the slots that stand is one of the table
 own_of : {S : Type 0} (standing clients : List (Option (Box (Client S) Global))) → ((number : ℕ) → slot_at standing number ≡ slot_at clients number)
@@ -261,31 +318,33 @@ own_of standing clients same (piece ∷ pieces) (own, owns) = (
 )
 
 -- the changes that are pending behind the call, and what the relay has for each client behind it
-pub record HaveAnsweredBehind {S : Type 0} (changes : List Change) (clients : List (Option (Box (Client S) Global))) (relay : RelayState FileDisk) (answers : List (ℕ × Result Heard NodeFault)) : Type 0 where
+pub record HaveAnsweredBehind {D S : Type 0} (honest : Type 0) (words : DiskWords D) (remaining contents : S → Option (List ℕ)) (changes : List Change) (setting : Setting)
+    (clients : List (Option (Box (Client S) Global))) (relay : RelayState D) (answers : List (ℕ × Result Heard NodeFault)) : Type 0 where
   pub pending : List Change
-  pub answered : HaveAnswered (changes ++ pending) clients relay answers
+  pub answered : HaveAnswered honest words remaining contents (changes ++ pending) setting clients relay answers
 
-pub hears_answered : {S : Type 0} (changes : List Change) (clients standing : List (Option (Box (Client S) Global))) (first : ℕ) (replies : List ReplyPiece) (at : ℕ) (old new : RelayState FileDisk) (hearing : Hearing)
-    → ((number : ℕ) → slot_at standing number ≡ slot_at clients number) → AreServed changes clients old → HearOwn standing first replies at old new hearing
-    → HaveAnsweredBehind changes clients new (zip hearing.sessions.items hearing.heard.items)
-hears_answered changes clients standing first replies at old new hearing same served hears = record {
+pub hears_answered : {D S : Type 0} (honest : Type 0) (words : DiskWords D) (remaining contents : S → Option (List ℕ)) (changes : List Change) (setting : Setting) (clients standing : List (Option (Box (Client S) Global))) (first : ℕ) (replies : List ReplyPiece) (at : ℕ) (old new : RelayState D) (hearing : Hearing)
+    → ((number : ℕ) → slot_at standing number ≡ slot_at clients number) → AreServed honest words remaining contents changes setting clients old → HearOwn honest words standing first replies at old new hearing
+    → HaveAnsweredBehind honest words remaining contents changes setting clients new (zip hearing.sessions.items hearing.heard.items)
+hears_answered honest words remaining contents changes setting clients standing first replies at old new hearing same served hears = record {
   pending = all.pending;
   answered = record {
     keeps = all.settles.keeps;
+    setup_is = ap setup_of_config (all.config ∙ replied.config ∙ heard.config) ∙ served.setup_is;
     apart = are_apart hearing.sessions.items hearing.heard.items (subst AreDistinct (sym hears.each) (are_distinct standing first));
     each = λ number.
-        subst (λ (pairs : List (ℕ × Result Heard NodeFault)). HasAnsweredOr (changes ++ all.pending) new number (slot_at clients number) (answer_to number pairs)) pairs_are
-        (or_alone changes a.staged all.pending number a.between new (behind number) (slot_at clients number)
+        subst (λ (pairs : List (ℕ × Result Heard NodeFault)). HasAnsweredOr remaining contents (changes ++ all.pending) setting new number (slot_at clients number) (answer_to number pairs)) pairs_are
+        (or_alone remaining contents setting changes a.staged all.pending number a.between new (behind number) (slot_at clients number)
         (answer_to number (zip (map session_of hears.pieces) hears.group.heard.items))
-        (each_answered ⊥ file_words changes at clients number hears.pieces hears.group.heard.items [] old no_row a.between a.beside a.staged owns distinct a.pieces_each
-        (subst (λ (list : List Change). Serves list old number (slot_at clients number)) (sym (append-nil changes)) (served.each number))));
+        (each_answered honest words remaining contents changes setting at clients number hears.pieces hears.group.heard.items [] old no_row a.between a.beside a.staged owns distinct a.pieces_each served.setup_is
+        (subst (λ (list : List Change). Serves remaining contents list setting old number (slot_at clients number)) (sym (append-nil changes)) (served.each number))));
   };
 }
   where
-    all : ReadsAll ⊥ file_words changes at hears.pieces replies old new hears.group
+    all : ReadsAll honest words changes at hears.pieces replies old new hears.group
     all = hears.reads changes served.keeps
 
-    a : AnswersAll ⊥ file_words changes at hears.pieces replies hears.group.heard.items hears.group.answered.items old all.before all.row all.pending
+    a : AnswersAll honest words changes at hears.pieces replies hears.group.heard.items hears.group.answered.items old all.before all.row all.pending
     a = all.answers
 
     owns : AllByRecursion (IsOwn clients) hears.pieces
@@ -299,9 +358,15 @@ hears_answered changes clients standing first replies at old new hearing same se
         ap (λ (sessions : List ℕ). zip sessions hears.group.heard.items) (sym hears.sessions)
         ∙ ap (λ heard. zip hearing.sessions.items heard.items) hears.heard
 
+    replied : LeavesAlone 0 a.staged a.between all.before all.pending
+    replied = replies_alone honest words changes at 0 replies hears.group.answered.items a.staged a.between a.beside all.before all.row all.pending a.replies_each
+
+    heard : KeepsConfig old a.between
+    heard = keeps_config honest words changes at hears.pieces hears.group.heard.items [] old no_row a.between a.beside a.staged a.pieces_each
+
     behind : (number : ℕ) → LeavesAlone number a.staged a.between new all.pending
     behind number =
-        let so = replies_alone ⊥ file_words changes at number replies hears.group.answered.items a.staged a.between a.beside all.before all.row all.pending a.replies_each in
+        let so = replies_alone honest words changes at number replies hears.group.answered.items a.staged a.between a.beside all.before all.row all.pending a.replies_each in
         record {
           seat = ap (λ seats. slot_at seats number) all.seats ∙ so.seat;
           connection = ap (λ clients. slot_at clients number) all.clients ∙ so.connection;
@@ -310,12 +375,19 @@ hears_answered changes clients standing first replies at old new hearing same se
           grows = so.grows;
         }
 
+-- the first of these answers
+pub answer_first : (session : ℕ) (answer : Result Heard NodeFault) (rest : List (ℕ × Result Heard NodeFault)) → answer_to session ((session, answer) ∷ rest) ≡ Some answer
+answer_first session answer rest =
+    let test : (session == session) ≡ true = grind (arith, nat_tests) in
+    chosen (session == session) (Some answer) (answer_to session rest) test
+
 -- an answer was taken, and the others are still to be
-pub answered_on : {S : Type 0} (changes : List Change) (clients later : List (Option (Box (Client S) Global))) (before after : RelayState FileDisk) (session : ℕ) (answer : Result Heard NodeFault) (rest : List (ℕ × Result Heard NodeFault))
-    → HaveAnswered changes clients before ((session, answer) ∷ rest) → ActsOn session clients later before after
-    → (HasAnswered changes before session (slot_at clients session) answer → Serves changes after session (slot_at later session)) → HaveAnswered changes later after rest
-answered_on changes clients later before after session answer rest have acts serves = record {
-  keeps = subst (λ records. Keeps ⊥ file_words records changes) (sym acts.rest.records) have.keeps;
+pub answered_on : {D S : Type 0} (honest : Type 0) (words : DiskWords D) (remaining contents : S → Option (List ℕ)) (changes : List Change) (setting : Setting) (clients later : List (Option (Box (Client S) Global))) (before after : RelayState D) (session : ℕ) (answer : Result Heard NodeFault) (rest : List (ℕ × Result Heard NodeFault))
+    → HaveAnswered honest words remaining contents changes setting clients before ((session, answer) ∷ rest) → ActsOn session clients later before after
+    → Serves remaining contents changes setting after session (slot_at later session) → HaveAnswered honest words remaining contents changes setting later after rest
+answered_on honest words remaining contents changes setting clients later before after session answer rest have acts serves = record {
+  keeps = subst (λ records. Keeps honest words records changes) (sym acts.rest.records) have.keeps;
+  setup_is = ap setup_of_config acts.rest.only.config ∙ have.setup_is;
   apart = have.apart.1;
   each = λ number. by number (cases_eq session number);
 }
@@ -329,29 +401,23 @@ answered_on changes clients later before after session answer rest have acts ser
       grows = refl;
     }
 
-    first : answer_to session ((session, answer) ∷ rest) ≡ Some answer
-    first =
-        let test : (session == session) ≡ true = grind (arith, nat_tests) in
-        chosen (session == session) (Some answer) (answer_to session rest) test
-
-    by : (number : ℕ) → (session ≡ number) ⊎ (session ≡ number → ⊥) → HasAnsweredOr changes after number (slot_at later number) (answer_to number rest)
+    by : (number : ℕ) → (session ≡ number) ⊎ (session ≡ number → ⊥) → HasAnsweredOr remaining contents changes setting after number (slot_at later number) (answer_to number rest)
     by number (inl same) =
-        let here = serves (subst (λ (to : Option (Result Heard NodeFault)). HasAnsweredOr changes before session (slot_at clients session) to) first (have.each session)) in
-        subst (λ (n : ℕ). HasAnsweredOr changes after n (slot_at later n) (answer_to n rest)) same
-        (subst (λ (to : Option (Result Heard NodeFault)). HasAnsweredOr changes after session (slot_at later session) to) (sym have.apart.0) here)
+        subst (λ (n : ℕ). HasAnsweredOr remaining contents changes setting after n (slot_at later n) (answer_to n rest)) same
+        (subst (λ (to : Option (Result Heard NodeFault)). HasAnsweredOr remaining contents changes setting after session (slot_at later session) to) (sym have.apart.0) serves)
     by number (inr apart) =
-        let had = subst (λ (to : Option (Result Heard NodeFault)). HasAnsweredOr changes before number (slot_at clients number) to) (answer_passed session number answer rest apart) (have.each number) in
-        subst (λ (slot : Option (Box (Client _) Global)). HasAnsweredOr changes after number slot (answer_to number rest)) (sym (acts.clients number (λ is. apart (sym is))))
-        (subst (λ (list : List Change). HasAnsweredOr list after number (slot_at clients number) (answer_to number rest)) (append-nil changes)
-        (or_alone changes [] [] number before after (still number apart) (slot_at clients number) (answer_to number rest)
-        (subst (λ (list : List Change). HasAnsweredOr list before number (slot_at clients number) (answer_to number rest)) (sym (append-nil changes)) had)))
+        let had = subst (λ (to : Option (Result Heard NodeFault)). HasAnsweredOr remaining contents changes setting before number (slot_at clients number) to) (answer_passed session number answer rest apart) (have.each number) in
+        subst (λ (slot : Option (Box (Client _) Global)). HasAnsweredOr remaining contents changes setting after number slot (answer_to number rest)) (sym (acts.clients number (λ is. apart (sym is))))
+        (subst (λ (list : List Change). HasAnsweredOr remaining contents list setting after number (slot_at clients number) (answer_to number rest)) (append-nil changes)
+        (or_alone remaining contents setting changes [] [] number before after (still number apart) (slot_at clients number) (answer_to number rest)
+        (subst (λ (list : List Change). HasAnsweredOr remaining contents list setting before number (slot_at clients number) (answer_to number rest)) (sym (append-nil changes)) had)))
 
 -- all answers were taken
-pub answered_end : {S : Type 0} (changes : List Change) (clients : List (Option (Box (Client S) Global))) (relay : RelayState FileDisk) (sessions : List ℕ) (answers : List (Result Heard NodeFault)) → (sessions ≡ []) ⊎ (answers ≡ [])
-    → HaveAnswered changes clients relay (zip sessions answers) → AreServed changes clients relay
-answered_end changes clients relay sessions answers none have =
-    let all : HaveAnswered changes clients relay [] = subst (λ (list : List (ℕ × Result Heard NodeFault)). HaveAnswered changes clients relay list) (empty sessions answers none) have in
-    record { keeps = all.keeps; each = all.each }
+pub answered_end : {D S : Type 0} (honest : Type 0) (words : DiskWords D) (remaining contents : S → Option (List ℕ)) (changes : List Change) (setting : Setting) (clients : List (Option (Box (Client S) Global))) (relay : RelayState D) (sessions : List ℕ) (answers : List (Result Heard NodeFault)) → (sessions ≡ []) ⊎ (answers ≡ [])
+    → HaveAnswered honest words remaining contents changes setting clients relay (zip sessions answers) → AreServed honest words remaining contents changes setting clients relay
+answered_end honest words remaining contents changes setting clients relay sessions answers none have =
+    let all : HaveAnswered honest words remaining contents changes setting clients relay [] = subst (λ (list : List (ℕ × Result Heard NodeFault)). HaveAnswered honest words remaining contents changes setting clients relay list) (empty sessions answers none) have in
+    record { keeps = all.keeps; setup_is = all.setup_is; each = all.each }
   where
     empty : (sessions : List ℕ) (answers : List (Result Heard NodeFault)) → (sessions ≡ []) ⊎ (answers ≡ []) → zip sessions answers ≡ []
     empty [] answers none = refl

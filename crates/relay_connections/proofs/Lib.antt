@@ -1,4 +1,6 @@
 mod BlockLemmas
+mod KnownLemmas
+mod CarriedLemmas
 mod ExchangeLemmas
 mod MatchedLemmas
 mod ServedLemmas

@@ -4,12 +4,14 @@ use Rattle.std.specs.Global.{Global}
 use Rattle.std.specs.Net.Addr.{ipv4_octets}
 use Rattle.std.specs.Net.Socket.{v4_ip}
 use Rattle.relay_slots.specs.Slots.{OthersStay, slot_at}
+use Rattle.relay_node.specs.Node.{NodeState, RefusesToConnect}
 use Rattle.relay_loop.specs.Relay.{RelayState}
 use Rattle.relay_connections.specs.declared.client.Client.{Client}
 use Rattle.relay_slots.specs.Slots.{IsLeastFree}
 use Rattle.relay_loop.specs.Relay.{OnlyClient}
 use Rattle.relay_records.specs.declared.fault.NodeFault.{NodeFault}
 use Rattle.relay_records.specs.declared.fault.NodeFault.TheVariants.{Stopped}
+use Rattle.relay_records.specs.declared.fault.NodeFault.TheVariants as fault
 use Rattle.std.specs.declared.net.socket_addr.SocketAddrV4.{SocketAddrV4}
 use Rattle.relay_connections.proofs.ExchangeLemmas.{some_is_not_none}
 use Rattle.relay_connections.proofs.LeftLemmas.{same_value}
@@ -24,6 +26,18 @@ same_or_not (suc one) (suc other) = by (same_or_not one other) where
   by : (one ≡ other) ⊎ (one ≢ other) → (suc one ≡ suc other) ⊎ (suc one ≢ suc other)
   by (inl same) = inl (ap suc same)
   by (inr apart) = inr (λ e. apart (omega (arith, e)))
+
+-- a node that refuses a session is as it was
+pub refused_same : {D : Type 0} (old new : NodeState D) (fault : NodeFault) → RefusesToConnect old new fault → new ≡ old
+refused_same old new fault.NoMemory same = same
+refused_same old new fault.Stopped same = same
+refused_same old new fault.Unknown same = absurd same
+refused_same old new fault.TooMany same = same
+refused_same old new fault.NotDue same = absurd same
+refused_same old new fault.Busy same = absurd same
+refused_same old new (fault.Open cause) same = absurd same
+refused_same old new fault.Full same = absurd same
+refused_same old new fault.NoSecond same = absurd same
 
 module _ {S D : Type 0} where
   -- what is true of this number, and of all others, is true of all
@@ -53,6 +67,19 @@ module _ {S D : Type 0} where
     connection = ap is_some connection ∙ sym (ap is_some none);
     session = ap is_some seat ∙ sym (ap is_some none);
     peer = λ client there. absurd (some_is_not_none there none);
+  }
+
+  -- a relay whose node and connections are as before has the clients that it had
+  pub stays_matched : (clients : List (Option (Box (Client S) Global))) (old new : RelayState D) → new.clients ≡ old.clients → new.node ≡ old.node → AreMatched clients old → AreMatched clients new
+  stays_matched clients old new same node matched = λ at.
+      still_matched clients clients old new at (matched at) refl (ap (λ table. slot_at table at) same) (ap (λ (state : NodeState D). slot_at state.seats at) node)
+
+  -- nobody was opened
+  pub nobody_opened : (peer : SocketAddrV4) (clients : List (Option (Box (Client S) Global))) (old new : RelayState D) → new.clients ≡ old.clients → new.node ≡ old.node → AreMatched clients old → Opens peer clients clients new
+  nobody_opened peer clients old new same node matched = record {
+    matched = stays_matched clients old new same node matched;
+    others = λ number there. refl;
+    opened = λ number client none there. absurd (some_is_not_none there none);
   }
 
   module _ (peer : SocketAddrV4) (clients : List (Option (Box (Client S) Global))) (old mid new : RelayState D) (session : ℕ) (waiting : List ℕ)

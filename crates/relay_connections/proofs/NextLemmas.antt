@@ -1,80 +1,137 @@
 -- What the relay has of a client, whose connection is to become this.
-use Rattle.std.proofs.Common.{◌≡◌, ◌≢◌, ◌↔◌, inr, ℕ, Bool, true, false, List, [], ◌∷◌, Option, None, Some, Box, Result, Ok, Err, IfOk, IsTrue, refl, sym, ap, ◌∙◌, subst}
+use Rattle.std.proofs.Common.{◌≡◌, ◌≢◌, ◌↔◌, inr, ℕ, Bool, false, List, [], ◌∷◌, Option, None, Some, Box, Result, Ok, Err, IfOk, IsTrue, refl, sym, ap, ◌∙◌, subst}
 use Rattle.std.specs.Global.{Global}
 use Rattle.relay_book.specs.declared.change.Change.{Change}
 use Rattle.relay_records.specs.declared.fault.NodeFault.{NodeFault}
 use Rattle.relay_loop.specs.declared.clients.Heard.{Heard}
 use Rattle.relay_loop.specs.Relay.{RelayState}
-use Rattle.relay_connections.specs.Channel.{held_of}
-use Rattle.relay_connections.specs.Exchange.{OnlyOutbox}
-use Rattle.relay_connections.specs.Served.{HasAnswered, HasNext, HasSession, IsUnused, Serves, StaysOrEnds, StaysSaid, address_of}
+use Rattle.relay_loop.specs.Closing.{closing_of}
+use Rattle.relay_loop.specs.declared.closing.Closing.TheVariants.{Timeout}
+use Rattle.relay_loop.specs.Outboxes.{octets_of, unwritten_at}
+use Rattle.relay_server.specs.Setup.{Setup}
+use Rattle.relay_connections.specs.Carried.{Carries, CarriesLast, Setting}
+use Rattle.relay_connections.specs.Channel.{KeepsOutput, held_of}
+use Rattle.relay_connections.specs.Exchange.{HandsAndReads, IsHanded, IsRead, Uses}
+use Rattle.relay_connections.specs.Matched.{IsFreed}
+use Rattle.relay_connections.proofs.CarriedLemmas.{carries_on, keeps_output, last_on, uses_heard}
+use Rattle.relay_connections.proofs.ServedLemmas.{dialogue_of, frees, rest_of_outbox, works_on}
+use Rattle.relay_connections.specs.Served.{HasAnswered, HasEnded, HasHeard, HasNext, HasSession, IsUnused, Serves, StaysOrEnds, StaysSaid, WorksWith, address_of}
 use Rattle.relay_connections.specs.Sessions.{EndsLate, IsCutOff}
 use Rattle.relay_connections.specs.declared.channel.Channel.{Channel}
 use Rattle.relay_connections.specs.declared.client.Client.{Client}
 use Rattle.relay_connections.specs.declared.client.Next.{Next}
 use Rattle.relay_connections.specs.declared.client.Next.TheVariants.{Stays, Leaves, Gone}
 
-module _ {D S : Type 0} (changes : List Change) (relay : RelayState D) (number : ℕ) where
+module _ {D S : Type 0} (remaining contents : S → Option (List ℕ)) (changes : List Change) (setting : Setting) (relay : RelayState D) (number : ℕ) where
   -- it stays, and stands in the slot
   pub next_stays : (client : Box (Client S) Global) (slot : Option (Box (Client S) Global)) (next : Next) → next ≡ Stays → slot ≡ Some client
-      → HasNext changes relay number (address_of client.value) next → Serves changes relay number slot
+      → HasNext remaining contents changes setting relay number (address_of client.value) client.value.channel next → Serves remaining contents changes setting relay number slot
   next_stays client slot next is there has =
-      subst (λ (slot : Option (Box (Client S) Global)). Serves changes relay number slot) (sym there)
-      (subst (λ (next : Next). HasNext changes relay number (address_of client.value) next) is has)
+      subst (λ (slot : Option (Box (Client S) Global)). Serves remaining contents changes setting relay number slot) (sym there)
+      (subst (λ (next : Next). HasNext remaining contents changes setting relay number (address_of client.value) client.value.channel next) is has)
 
   -- it leaves, and the slot is free
-  pub next_leaves : (address : List ℕ) (slot : Option (Box (Client S) Global)) (next : Next) (last : List ℕ) → next ≡ Leaves last → slot ≡ None → HasNext changes relay number address next → Serves changes relay number slot
-  next_leaves address slot next last is free has =
-      subst (λ (slot : Option (Box (Client S) Global)). Serves changes relay number slot) (sym free)
-      (subst (λ (next : Next). HasNext changes relay number address next) is has)
+  pub next_leaves : (address : List ℕ) (channel : Channel S) (slot : Option (Box (Client S) Global)) (next : Next) (last : List ℕ) → next ≡ Leaves last → slot ≡ None
+      → HasNext remaining contents changes setting relay number address channel next
+      → Serves remaining contents changes setting relay number slot × CarriesLast remaining contents setting.setup (setting.beginnings number) 0 channel last
+  next_leaves address channel slot next last is free has =
+      let ended = subst (λ (next : Next). HasNext remaining contents changes setting relay number address channel next) is has in
+      (subst (λ (slot : Option (Box (Client S) Global)). Serves remaining contents changes setting relay number slot) (sym free) ended.unused, ended.ends)
 
   -- it is gone, and the slot is free
-  pub next_gone : (address : List ℕ) (slot : Option (Box (Client S) Global)) (next : Next) → next ≡ Gone → slot ≡ None → HasNext changes relay number address next → Serves changes relay number slot
-  next_gone address slot next is free has =
-      subst (λ (slot : Option (Box (Client S) Global)). Serves changes relay number slot) (sym free)
-      (subst (λ (next : Next). HasNext changes relay number address next) is has)
+  pub next_gone : (address : List ℕ) (channel : Channel S) (slot : Option (Box (Client S) Global)) (next : Next) → next ≡ Gone → slot ≡ None
+      → HasNext remaining contents changes setting relay number address channel next → Serves remaining contents changes setting relay number slot
+  next_gone address channel slot next is free has =
+      subst (λ (slot : Option (Box (Client S) Global)). Serves remaining contents changes setting relay number slot) (sym free)
+      (subst (λ (next : Next). HasNext remaining contents changes setting relay number address channel next) is has)
 
--- what came of octets of a client, and what was made of it
-module _ {D S : Type 0} (changes : List Change) (old new : RelayState D) (number : ℕ) (client : Box (Client S) Global) (heard : Result Heard NodeFault) (next : Next)
-    (stays : (one : Heard) → heard ≡ Ok one → one.last ≡ None → next ≡ Stays) (said : (one : Heard) → heard ≡ Ok one → one.last ≡ None → StaysSaid number old new)
-    (leaves : (one : Heard) (last : List ℕ) → heard ≡ Ok one → one.last ≡ Some last → (next ≡ Leaves last) × (new ≡ old))
+-- the answer to octets of a client, and what was made of it
+module _ {D S : Type 0} (remaining contents : S → Option (List ℕ)) (changes : List Change) (setting : Setting) (old new : RelayState D) (number : ℕ) (client : Box (Client S) Global) (after : Channel S)
+    (heard : Result Heard NodeFault) (next : Next)
+    (uses : (one : Heard) → heard ≡ Ok one → Uses remaining one.used client.value.channel after)
+    (stays : (one : Heard) → heard ≡ Ok one → one.last ≡ None → (next ≡ Stays) × IsHanded remaining contents number old new client.value.channel after)
+    (said : (one : Heard) → heard ≡ Ok one → one.last ≡ None → StaysSaid number old new)
+    (leaves : (one : Heard) (last : List ℕ) → heard ≡ Ok one → one.last ≡ Some last → (next ≡ Leaves last) × (new ≡ old) × KeepsOutput remaining contents client.value.channel after)
     (gone : (fault : NodeFault) → heard ≡ Err fault → (next ≡ Gone) × (new ≡ old)) where
-  pub answer_next : HasAnswered changes old number (Some client) heard → HasNext changes new number (address_of client.value) next
+  pub answer_next : HasAnswered remaining contents changes setting old number (Some client) heard
+      → HasNext remaining contents changes setting new number (address_of client.value) after next
   answer_next has = by heard refl has where
+    address : List ℕ
+    address = address_of client.value
+
+    before : Channel S
+    before = client.value.channel
+
     unused : new ≡ old → IsUnused old number → IsUnused new number
     unused same was = subst (λ (relay : RelayState D). IsUnused relay number) (sym same) was
 
-    by_last : (one : Heard) → heard ≡ Ok one → (last : Option (List ℕ)) → one.last ≡ last → HasAnswered changes old number (Some client) (Ok one) → HasNext changes new number (address_of client.value) next
-    by_last one is None none answered =
-        let session : HasSession changes old number (address_of client.value) = rw none at answered in
-        let later : HasSession changes new number (address_of client.value) = record {
+    by_last : (one : Heard) → heard ≡ Ok one → (last : Option (List ℕ)) → one.last ≡ last → HasHeard remaining contents changes setting old number (Some client) one.used last
+        → HasNext remaining contents changes setting new number address after next
+    by_last one is None none session =
+        let so = stays one is none in
+        let later : HasSession remaining contents changes setting new number 0 address after = record {
           said = session.said;
-          has_said = said one is none changes (address_of client.value) session.said session.has_said;
+          has_said = said one is none changes address session.said session.has_said;
+          carries = carries_on remaining contents (setting.beginnings number) one.used 0 before after session.said (unwritten_at old.clients number) (unwritten_at new.clients number)
+              (uses_heard remaining contents one.used before after (uses one is)) so.1.said session.carries;
         } in
-        subst (λ (next : Next). HasNext changes new number (address_of client.value) next) (sym (stays one is none)) later
-    by_last one is (Some last) some answered =
-        let was : IsUnused old number = rw some at answered in
+        subst (λ (next : Next). HasNext remaining contents changes setting new number address after next) (sym so.0) later
+    by_last one is (Some last) some ended =
         let so = leaves one last is some in
-        subst (λ (next : Next). HasNext changes new number (address_of client.value) next) (sym so.0) (unused so.1 was)
+        let later : HasEnded remaining contents changes setting new number 0 after last = record {
+          unused = unused so.1 ended.unused;
+          ends = last_on remaining contents setting.setup (setting.beginnings number) one.used 0 before after last (uses_heard remaining contents one.used before after (uses one is))
+              (λ waiting. keeps_output remaining contents before after waiting so.2) ended.ends;
+        } in
+        subst (λ (next : Next). HasNext remaining contents changes setting new number address after next) (sym so.0) later
 
-    by : (its : Result Heard NodeFault) → heard ≡ its → HasAnswered changes old number (Some client) its → HasNext changes new number (address_of client.value) next
+    by : (its : Result Heard NodeFault) → heard ≡ its → HasAnswered remaining contents changes setting old number (Some client) its
+        → HasNext remaining contents changes setting new number address after next
     by (Ok one) is answered = by_last one is one.last refl answered
     by (Err fault) is was =
         let so = gone fault is in
-        subst (λ (next : Next). HasNext changes new number (address_of client.value) next) (sym so.0) (unused so.1 was)
+        subst (λ (next : Next). HasNext remaining contents changes setting new number address after next) (sym so.0) (unused so.1 was)
 
-  pub answer_live : ((one : Heard) → heard ≡ Ok one → one.last ≡ None → OnlyOutbox number old new) → old.node.records.spool.live ≡ true → new.node.records.spool.live ≡ true
-  answer_live handed live = by heard refl where
-    same_live : new ≡ old → new.node.records.spool.live ≡ true
-    same_live same = ap (λ (relay : RelayState D). relay.node.records.spool.live) same ∙ live
+  pub answer_works : WorksWith setting.setup old → WorksWith setting.setup new
+  answer_works works = by heard refl where
+    same : new ≡ old → WorksWith setting.setup new
+    same is = subst (λ (relay : RelayState D). WorksWith setting.setup relay) (sym is) works
 
-    by_last : (one : Heard) → heard ≡ Ok one → (last : Option (List ℕ)) → one.last ≡ last → new.node.records.spool.live ≡ true
-    by_last one is None none = let so = handed one is none in ap (λ node. node.records.spool.live) so.node ∙ live
-    by_last one is (Some last) some = let so = leaves one last is some in same_live so.1
+    by_last : (one : Heard) → heard ≡ Ok one → (last : Option (List ℕ)) → one.last ≡ last → WorksWith setting.setup new
+    by_last one is None none = works_on setting.setup number old new (rest_of_outbox number old new ((stays one is none).1.outbox)) works
+    by_last one is (Some last) some = same ((leaves one last is some).1)
 
-    by : (its : Result Heard NodeFault) → heard ≡ its → new.node.records.spool.live ≡ true
+    by : (its : Result Heard NodeFault) → heard ≡ its → WorksWith setting.setup new
     by (Ok one) is = by_last one is one.last refl
-    by (Err fault) is = let so = gone fault is in same_live so.1
+    by (Err fault) is = same ((gone fault is).1)
+
+-- a client that is late
+module _ {D S : Type 0} (remaining contents : S → Option (List ℕ)) (changes : List Change) (setting : Setting) (old new : RelayState D) (number : ℕ) (address : List ℕ) (channel : Channel S)
+    (works : WorksWith setting.setup old) (session : HasSession remaining contents changes setting old number 0 address channel) (freed : IsFreed number old new) where
+  unused_late : IsUnused new number
+  unused_late = frees changes old new number address session.said works.live session.has_said freed
+
+  -- it takes nothing
+  pub gone_late : (result : Result Next NodeFault) → IfOk result (λ next. next ≡ Gone) → IfOk result (HasNext remaining contents changes setting new number address channel)
+  gone_late (Ok next) is = subst (λ (next : Next). HasNext remaining contents changes setting new number address channel next) (sym is) unused_late
+  gone_late (Err fault) is = tt
+
+  -- it is told so
+  pub cut_late : (result : Result Next NodeFault) → IfOk result (IsCutOff old number) → IfOk result (HasNext remaining contents changes setting new number address channel)
+  cut_late (Ok Stays) cut = absurd cut
+  cut_late (Ok (Leaves last)) (none, line) = record {
+    unused = unused_late;
+    ends = record {
+      said = session.said;
+      dialogue = dialogue_of changes setting.setup old number address session.said works.setup_is session.has_said;
+      carries = inr (
+        subst (λ (waiting : List ℕ). Carries remaining contents (setting.beginnings number) 0 channel session.said waiting) (ap octets_of none) session.carries,
+        line ∙ ap (λ (setup : Setup). closing_of setup.host Timeout) works.setup_is,
+      );
+    };
+  }
+  cut_late (Ok Gone) cut = unused_late
+  cut_late (Err fault) cut = tt
 
 pub nothing_held : (octets : List ℕ) (is : Bool) → IsTrue is ↔ (octets ≢ []) → is ≡ false → octets ≡ []
 nothing_held [] is tells none = refl
@@ -88,7 +145,32 @@ told_late old number channel next (Ok (Leaves last)) held is cut = inr (is, (hel
 told_late old number channel next (Ok Gone) held is cut = inr (is, tt)
 told_late old number channel next (Err fault) held is cut = tt
 
+-- nobody stands under the number
+module _ {D S : Type 0} (remaining contents : S → Option (List ℕ)) (changes : List Change) (setting : Setting) (relay : RelayState D) (number : ℕ) where
+  pub serves_none : (taken slot later : Option (Box (Client S) Global)) → taken ≡ slot → ((value : Box (Client S) Global) → taken ≡ Some value → ⊥) → later ≡ None
+      → Serves remaining contents changes setting relay number slot → Serves remaining contents changes setting relay number later
+  serves_none None slot later is nothing free serves =
+      subst (λ (slot : Option (Box (Client S) Global)). Serves remaining contents changes setting relay number slot) (sym free)
+      (subst (λ (slot : Option (Box (Client S) Global)). Serves remaining contents changes setting relay number slot) (sym is) serves)
+  serves_none (Some client) slot later is nothing free serves = absurd (nothing client refl)
+
+  unused_none : (heard : Result Heard NodeFault) → HasAnswered remaining contents changes setting relay number None heard → IsUnused relay number
+  unused_none (Ok heard) unused = unused
+  unused_none (Err fault) unused = unused
+
+  pub answered_none : (heard : Result Heard NodeFault) (taken slot later : Option (Box (Client S) Global)) → taken ≡ slot → ((value : Box (Client S) Global) → taken ≡ Some value → ⊥) → later ≡ None
+      → HasAnswered remaining contents changes setting relay number slot heard → Serves remaining contents changes setting relay number later
+  answered_none heard None slot later is nothing free answered =
+      subst (λ (slot : Option (Box (Client S) Global)). Serves remaining contents changes setting relay number slot) (sym free)
+      (unused_none heard (subst (λ (slot : Option (Box (Client S) Global)). HasAnswered remaining contents changes setting relay number slot heard) (sym is) answered))
+  answered_none heard (Some client) slot later is nothing free answered = absurd (nothing client refl)
+
 -- a client that is to be heard
+pub read_none : {D S : Type 0} (remaining contents : S → Option (List ℕ)) (number : ℕ) (old new : RelayState D) (before after : Channel S) (next : Option Next)
+    → IsRead remaining contents number old new before after next → ((value : Next) → next ≡ Some value → ⊥) → HandsAndReads remaining contents number old new before after
+read_none remaining contents number old new before after None read nothing = read.0
+read_none remaining contents number old new before after (Some next) read nothing = absurd (nothing next refl)
+
 pub stays_none : {D : Type 0} (number : ℕ) (old new : RelayState D) (next : Option Next) → StaysOrEnds number old new next → ((value : Next) → next ≡ Some value → ⊥) → StaysSaid number old new
 stays_none number old new None stays nothing = stays
 stays_none number old new (Some next) stays nothing = absurd (nothing next refl)

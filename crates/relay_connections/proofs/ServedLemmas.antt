@@ -5,23 +5,31 @@ use Rattle.std.specs.Global.{Global}
 use Rattle.std.specs.Net.Addr.{ipv4_octets}
 use Rattle.std.specs.Net.Socket.{v4_ip}
 use Rattle.std.specs.declared.net.socket_addr.SocketAddrV4.{SocketAddrV4}
-use Rattle.relay_disk.specs.File.{file_words}
-use Rattle.relay_disk.specs.declared.file.FileDisk.{FileDisk}
+use Rattle.relay_disk.specs.Device.{DiskWords}
 use Rattle.relay_slots.specs.Slots.{IsLeastFree, OthersStay, slot_at}
 use Rattle.relay_book.specs.declared.change.Change.{Change}
 use Rattle.relay_records.specs.Records.{Keeps}
-use Rattle.relay_server.specs.Dialogue.{Said}
+use Rattle.relay_server.specs.Dialogue.{IsDialogue, Said}
+use Rattle.relay_server.specs.Setup.{Setup, setup_of_config}
+use Rattle.relay_node.specs.Node.{NodeState}
 use Rattle.relay_loop.specs.Clients.{TalksTo}
+use Rattle.relay_loop.specs.Outboxes.{octets_of, unwritten_at}
 use Rattle.relay_loop.specs.Relay.{OnlyClient, RelayState}
-use Rattle.relay_loop.proofs.Theorems.{talks_stay}
-use Rattle.relay_connections.specs.Exchange.{IsRead, OnlyOutbox}
+use Rattle.relay_loop.proofs.Theorems.{talks_are_dialogues, talks_stay}
+use Rattle.relay_connections.specs.Carried.{Begins, Carries, Setting, beginning_of, beginning_or}
+use Rattle.relay_connections.specs.Channel.{KeepsOctets}
+use Rattle.relay_connections.specs.Exchange.{HandsAndReads, IsRead, OnlyOutbox}
 use Rattle.relay_connections.specs.Matched.{IsFreed, IsMatched}
-use Rattle.relay_connections.specs.Served.{ActsOn, AreServed, AreServedBehind, FreeAreServed, HasNext, HasSession, IsUnused, LeavesRest, ServedAreMatched, Serves, StaysOrEnds, StaysSaid, address_of}
+use Rattle.relay_connections.specs.Readiness.{IsStill}
+use Rattle.relay_connections.specs.Served.{ActsOn, AreServed, AreServedBehind, FreeAreServed, HasNext, HasSaid, HasSession, IsUnused, LeavesRest, NotedAreServed, ServedAreMatched, Serves, StaysOrEnds, StaysSaid, WorksWith, address_of, opened}
+use Rattle.std.specs.Io.KnownBytes.{append_known, prepend_known}
 use Rattle.relay_connections.specs.Sessions.{EndsAlone}
 use Rattle.relay_connections.specs.declared.channel.Channel.{Channel}
 use Rattle.relay_connections.specs.declared.client.Client.{Client}
 use Rattle.relay_connections.specs.declared.client.Next.{Next}
 use Rattle.relay_connections.specs.declared.client.Next.TheVariants.{Stays, Leaves, Gone}
+use Rattle.relay_connections.proofs.CarriedLemmas.{carries_first, carries_on}
+use Rattle.relay_connections.proofs.KnownLemmas.{keeps_same}
 use Rattle.relay_connections.proofs.ExchangeLemmas.{ends_on, some_is_not_none}
 use Rattle.relay_connections.proofs.LeftLemmas.{same_value}
 use Rattle.relay_connections.proofs.TableLemmas.{free_at}
@@ -31,37 +39,50 @@ stands_still None new same stands none = stands refl
 stands_still (Some value) None same stands none = absurd (cc same)
 stands_still (Some value) (Some other) same stands none = absurd (cc none)
 
-module _ {D S : Type 0} where
+-- what a session has said is a dialogue
+pub dialogue_of : {D : Type 0} (changes : List Change) (setup : Setup) (relay : RelayState D) (number : ℕ) (address : List ℕ) (said : Said) → setup_of_config relay.node.config ≡ setup
+    → HasSaid changes relay number address said → IsDialogue setup said
+dialogue_of changes setup relay number address said same has =
+    subst (λ (setup : Setup). IsDialogue setup said) same ((talks_are_dialogues changes relay number address said has.written has.talks).0)
+
+module _ {D S : Type 0} (remaining contents : S → Option (List ℕ)) (setting : Setting) where
   -- more changes were made, and nothing of this number is different
+  pub session_later : (changes added : List Change) (old new : RelayState D) (number heard : ℕ) (address : List ℕ) (channel : Channel S)
+      → slot_at new.node.seats number ≡ slot_at old.node.seats number → slot_at new.clients number ≡ slot_at old.clients number → new.node.config ≡ old.node.config
+      → HasSession remaining contents changes setting old number heard address channel → HasSession remaining contents (changes ++ added) setting new number heard address channel
+  session_later changes added old new number heard address channel seats clients config session = record {
+    said = session.said;
+    has_said = record {
+      written = session.has_said.written;
+      talks = talks_stay changes added old new number address session.said session.has_said.written seats clients config session.has_said.talks;
+    };
+    carries = subst (λ (waiting : List ℕ). Carries remaining contents (setting.beginnings number) heard channel session.said waiting) (sym (ap octets_of clients)) session.carries;
+  }
+
   pub serves_later : (changes added : List Change) (old new : RelayState D) (number : ℕ) (slot : Option (Box (Client S) Global))
-      → slot_at new.node.seats number ≡ slot_at old.node.seats number → slot_at new.clients number ≡ slot_at old.clients number
-      → new.node.config ≡ old.node.config → Serves changes old number slot → Serves (changes ++ added) new number slot
+      → slot_at new.node.seats number ≡ slot_at old.node.seats number → slot_at new.clients number ≡ slot_at old.clients number → new.node.config ≡ old.node.config
+      → Serves remaining contents changes setting old number slot → Serves remaining contents (changes ++ added) setting new number slot
   serves_later changes added old new number None seats clients config unused = record {
     connection = clients ∙ unused.connection;
     seat = seats ∙ unused.seat;
   }
-  serves_later changes added old new number (Some client) seats clients config session = record {
-    said = session.said;
-    has_said = record {
-      written = session.has_said.written;
-      talks = talks_stay changes added old new number (address_of client.value) session.said session.has_said.written seats clients config session.has_said.talks;
-    };
-  }
+  serves_later changes added old new number (Some client) seats clients config session =
+      session_later changes added old new number 0 (address_of client.value) client.value.channel seats clients config session
 
   -- no change was made
   pub serves_still : (changes : List Change) (old new : RelayState D) (number : ℕ) (slot : Option (Box (Client S) Global))
-      → slot_at new.node.seats number ≡ slot_at old.node.seats number → slot_at new.clients number ≡ slot_at old.clients number
-      → new.node.config ≡ old.node.config → Serves changes old number slot → Serves changes new number slot
+      → slot_at new.node.seats number ≡ slot_at old.node.seats number → slot_at new.clients number ≡ slot_at old.clients number → new.node.config ≡ old.node.config
+      → Serves remaining contents changes setting old number slot → Serves remaining contents changes setting new number slot
   serves_still changes old new number slot seats clients config serves =
-      subst (λ (list : List Change). Serves list new number slot) (append-nil changes) (serves_later changes [] old new number slot seats clients config serves)
+      subst (λ (list : List Change). Serves remaining contents list setting new number slot) (append-nil changes) (serves_later changes [] old new number slot seats clients config serves)
 
 module _ {D : Type 0} where
   -- a session that is ended leaves nothing
-  pub frees : (changes : List Change) (old new : RelayState D) (number : ℕ) (address : List ℕ) → old.node.records.spool.live ≡ true
-      → HasSession changes old number address → IsFreed number old new → IsUnused new number
-  frees changes old new number address live session freed = record {
+  pub frees : (changes : List Change) (old new : RelayState D) (number : ℕ) (address : List ℕ) (said : Said) → old.node.records.spool.live ≡ true
+      → HasSaid changes old number address said → IsFreed number old new → IsUnused new number
+  frees changes old new number address said live has freed = record {
     connection = freed.ended.gone;
-    seat = freed.seat live (some_is_not_none session.has_said.talks.connection) (some_is_not_none session.has_said.talks.seat.at);
+    seat = freed.seat live (some_is_not_none has.talks.connection) (some_is_not_none has.talks.seat.at);
   }
 
   -- so does one that is ended behind octets that were handed over
@@ -101,15 +122,36 @@ module _ {D : Type 0} where
     records = second.records ∙ first.records;
   }
 
-  -- whatever is to become of the connection
-  pub next_has : (changes : List Change) (old new : RelayState D) (number : ℕ) (address : List ℕ) (next : Next) → old.node.records.spool.live ≡ true
-      → HasSession changes old number address → StaysOrEnds number old new (Some next) → HasNext changes new number address next
-  next_has changes old new number address Stays live session stays = record {
+  -- what the sessions work with stays
+  pub works_on : (setup : Setup) (number : ℕ) (old new : RelayState D) → LeavesRest number old new → WorksWith setup old → WorksWith setup new
+  works_on setup number old new rest works = record {
+    live = ap (λ records. records.spool.live) rest.records ∙ works.live;
+    setup_is = ap setup_of_config rest.only.config ∙ works.setup_is;
+  }
+
+-- whatever is to become of the connection
+module _ {D S : Type 0} (remaining contents : S → Option (List ℕ)) (changes : List Change) (setting : Setting) (old new : RelayState D) (number : ℕ) (address : List ℕ) (before after : Channel S)
+    (session : HasSession remaining contents changes setting old number 0 address before) where
+  pub session_reads : StaysSaid number old new → HandsAndReads remaining contents number old new before after → HasSession remaining contents changes setting new number 0 address after
+  session_reads stays read = record {
     said = session.said;
     has_said = stays changes address session.said session.has_said;
+    carries = carries_on remaining contents (setting.beginnings number) 0 0 before after session.said (unwritten_at old.clients number) (unwritten_at new.clients number)
+        read.input read.handed.said session.carries;
   }
-  next_has changes old new number address (Leaves last) live session freed = frees changes old new number address live session freed
-  next_has changes old new number address Gone live session freed = frees changes old new number address live session freed
+
+  pub next_has : (next : Next) → WorksWith setting.setup old → StaysOrEnds number old new (Some next) → IsRead remaining contents number old new before after (Some next)
+      → HasNext remaining contents changes setting new number address after next
+  next_has Stays works stays read = session_reads stays read
+  next_has (Leaves last) works freed read = record {
+    unused = frees changes old new number address session.said works.live session.has_said freed;
+    ends = record {
+      said = session.said;
+      dialogue = dialogue_of changes setting.setup old number address session.said works.setup_is session.has_said;
+      carries = inl (carries_on remaining contents (setting.beginnings number) 0 0 before after session.said (unwritten_at old.clients number) last read.input read.said session.carries);
+    };
+  }
+  next_has Gone works freed read = frees changes old new number address session.said works.live session.has_said freed
 
 -- a read of a client leaves the rest
 pub read_rest : {D S : Type 0} (remaining contents : S → Option (List ℕ)) (number : ℕ) (old new : RelayState D) (before after : Channel S) (next : Option Next)
@@ -119,38 +161,76 @@ read_rest remaining contents number old new before after (Some Stays) read = res
 read_rest remaining contents number old new before after (Some (Leaves last)) read = rest_of_end number old new read.ended
 read_rest remaining contents number old new before after (Some Gone) read = rest_of_end number old new read
 
-module _ {S : Type 0} (changes : List Change) where
+module _ {D S : Type 0} (honest : Type 0) (words : DiskWords D) (remaining contents : S → Option (List ℕ)) (changes : List Change) (setting : Setting) where
+  pub served_works : (clients : List (Option (Box (Client S) Global))) (relay : RelayState D) → AreServed honest words remaining contents changes setting clients relay → WorksWith setting.setup relay
+  served_works clients relay served = record { live = served.keeps.live; setup_is = served.setup_is }
+
   -- a call on one client leaves all served, where it leaves that one served
-  pub served_on : (clients later : List (Option (Box (Client S) Global))) (before after : RelayState FileDisk) (number : ℕ) → AreServed changes clients before
-      → ActsOn number clients later before after → Serves changes after number (slot_at later number) → AreServed changes later after
+  pub served_on : (clients later : List (Option (Box (Client S) Global))) (before after : RelayState D) (number : ℕ) → AreServed honest words remaining contents changes setting clients before
+      → ActsOn number clients later before after → Serves remaining contents changes setting after number (slot_at later number)
+      → AreServed honest words remaining contents changes setting later after
   served_on clients later before after number served acts here = record {
-    keeps = subst (λ records. Keeps ⊥ file_words records changes) (sym acts.rest.records) served.keeps;
+    keeps = subst (λ records. Keeps honest words records changes) (sym acts.rest.records) served.keeps;
+    setup_is = ap setup_of_config acts.rest.only.config ∙ served.setup_is;
     each = λ other. by other (cases_eq other number);
   }
     where
-      by : (other : ℕ) → (other ≡ number) ⊎ (other ≡ number → ⊥) → Serves changes after other (slot_at later other)
-      by other (inl same) = subst (λ (at : ℕ). Serves changes after at (slot_at later at)) (sym same) here
+      by : (other : ℕ) → (other ≡ number) ⊎ (other ≡ number → ⊥) → Serves remaining contents changes setting after other (slot_at later other)
+      by other (inl same) = subst (λ (at : ℕ). Serves remaining contents changes setting after at (slot_at later at)) (sym same) here
       by other (inr apart) =
-          subst (λ slot. Serves changes after other slot) (sym (acts.clients other apart))
-          (serves_still changes before after other (slot_at clients other) (acts.rest.only.seats other apart) (acts.rest.only.clients other apart) acts.rest.only.config (served.each other))
+          subst (λ slot. Serves remaining contents changes setting after other slot) (sym (acts.clients other apart))
+          (serves_still remaining contents setting changes before after other (slot_at clients other) (acts.rest.only.seats other apart) (acts.rest.only.clients other apart) acts.rest.only.config (served.each other))
 
   -- what is served behind changes is served behind more
-  pub served_behind : (added : List Change) (clients : List (Option (Box (Client S) Global))) (relay : RelayState FileDisk)
-      → AreServedBehind (changes ++ added) clients relay → AreServedBehind changes clients relay
+  pub served_behind : (added : List Change) (clients : List (Option (Box (Client S) Global))) (relay : RelayState D)
+      → AreServedBehind honest words remaining contents (changes ++ added) setting clients relay → AreServedBehind honest words remaining contents changes setting clients relay
   served_behind added clients relay behind = record {
     added = added ++ behind.added;
-    served = subst (λ (list : List Change). AreServed list clients relay) (append_assoc changes added behind.added) behind.served;
+    served = subst (λ (list : List Change). AreServed honest words remaining contents list setting clients relay) (append_assoc changes added behind.added) behind.served;
   }
 
-  pub served_at_once : (clients : List (Option (Box (Client S) Global))) (relay : RelayState FileDisk) → AreServed changes clients relay → AreServedBehind changes clients relay
+  pub served_at_once : (clients : List (Option (Box (Client S) Global))) (relay : RelayState D) → AreServed honest words remaining contents changes setting clients relay
+      → AreServedBehind honest words remaining contents changes setting clients relay
   served_at_once clients relay served = record {
     added = [];
-    served = subst (λ (list : List Change). AreServed list clients relay) (sym (append-nil changes)) served;
+    served = subst (λ (list : List Change). AreServed honest words remaining contents list setting clients relay) (sym (append-nil changes)) served;
   }
 
-pub served_are_matched : {S : Type 0} → ServedAreMatched S
-served_are_matched changes clients relay served number = by (slot_at clients number) refl (served.each number) where
-  by : (slot : Option (Box (Client _) Global)) → slot_at clients number ≡ slot → Serves changes relay number slot → IsMatched clients relay number
+  -- a relay whose node and connections are as before serves the clients that it served
+  pub still_served : (clients : List (Option (Box (Client S) Global))) (old new : RelayState D) → new.clients ≡ old.clients → new.node ≡ old.node
+      → AreServed honest words remaining contents changes setting clients old → AreServed honest words remaining contents changes setting clients new
+  still_served clients old new same node served = record {
+    keeps = subst (λ (state : NodeState D). Keeps honest words state.records changes) (sym node) served.keeps;
+    setup_is = ap (λ (state : NodeState D). setup_of_config state.config) node ∙ served.setup_is;
+    each = λ number.
+        serves_still remaining contents setting changes old new number (slot_at clients number) (ap (λ (state : NodeState D). slot_at state.seats number) node) (ap (λ table. slot_at table number) same)
+        (ap (λ (state : NodeState D). state.config) node) (served.each number);
+  }
+
+  -- nobody was opened
+  pub none_opened : (stream : S) (clients : List (Option (Box (Client S) Global))) (relay : RelayState D) → AreServed honest words remaining contents changes setting clients relay
+      → AreServed honest words remaining contents changes (opened remaining contents setting clients stream) clients relay
+  none_opened stream clients relay served = record {
+    keeps = served.keeps;
+    setup_is = served.setup_is;
+    each = λ number. by number (slot_at clients number) refl (served.each number);
+  }
+    where
+      by : (number : ℕ) (slot : Option (Box (Client S) Global)) → slot_at clients number ≡ slot → Serves remaining contents changes setting relay number slot
+          → Serves remaining contents changes (opened remaining contents setting clients stream) relay number (slot_at clients number)
+      by number None there unused = subst (λ (slot : Option (Box (Client S) Global)). Serves remaining contents changes (opened remaining contents setting clients stream) relay number slot) (sym there) unused
+      by number (Some client) there session =
+          subst (λ (slot : Option (Box (Client S) Global)). Serves remaining contents changes (opened remaining contents setting clients stream) relay number slot) (sym there)
+          (record {
+            said = session.said;
+            has_said = session.has_said;
+            carries = subst (λ beginning. Carries remaining contents beginning 0 client.value.channel session.said (unwritten_at relay.clients number))
+                (ap (λ (slot : Option (Box (Client S) Global)). beginning_or remaining contents slot (setting.beginnings number) stream) (sym there)) session.carries;
+          })
+
+pub served_are_matched : {D S : Type 0} (honest : Type 0) (words : DiskWords D) (remaining contents : S → Option (List ℕ)) → ServedAreMatched honest words remaining contents
+served_are_matched honest words remaining contents changes setting clients relay served number = by (slot_at clients number) refl (served.each number) where
+  by : (slot : Option (Box (Client _) Global)) → slot_at clients number ≡ slot → Serves remaining contents changes setting relay number slot → IsMatched clients relay number
   by None there unused = record {
     connection = ap is_some unused.connection ∙ ap is_some (sym there);
     session = ap is_some unused.seat ∙ ap is_some (sym there);
@@ -168,41 +248,88 @@ served_are_matched changes clients relay served number = by (slot_at clients num
         };
       }
 
-pub free_are_served : {S : Type 0} → FreeAreServed S
-free_are_served changes clients relay keeps free connections seats = record {
+pub free_are_served : {D S : Type 0} (honest : Type 0) (words : DiskWords D) (remaining contents : S → Option (List ℕ)) → FreeAreServed honest words remaining contents
+free_are_served honest words remaining contents changes setting clients relay keeps setup free connections seats = record {
   keeps = keeps;
+  setup_is = setup;
   each = λ number.
-      subst (λ slot. Serves changes relay number slot) (sym (free_at clients free number))
+      subst (λ slot. Serves remaining contents changes setting relay number slot) (sym (free_at clients free number))
       (record { connection = free_at relay.clients connections number; seat = free_at relay.node.seats seats number });
 }
 
+-- the system told what a connection may be ready for
+pub noted_are_served : {D S : Type 0} (honest : Type 0) (words : DiskWords D) (remaining contents : S → Option (List ℕ)) → NotedAreServed honest words remaining contents
+noted_are_served honest words remaining contents changes setting old new relay number noted served = record {
+  keeps = served.keeps;
+  setup_is = served.setup_is;
+  each = λ other. by other (cases_eq other number);
+}
+  where
+    carried : (before after : Channel _) (said : Said) (waiting : List ℕ) → KeepsOctets before after
+        → Carries remaining contents (setting.beginnings number) 0 before said waiting → Carries remaining contents (setting.beginnings number) 0 after said waiting
+    carried before after said waiting keeps carries =
+        carries_on remaining contents (setting.beginnings number) 0 0 before after said waiting waiting
+        (keeps_same (prepend_known before.block (remaining before.stream)) (prepend_known after.block (remaining after.stream))
+        (ap (λ (unread : List ℕ). prepend_known unread (remaining before.stream)) (sym keeps.unread) ∙ ap (λ stream. prepend_known after.block (remaining stream)) (sym keeps.stream)))
+        (keeps_same (append_known (append_known (contents before.stream) before.held) waiting) (append_known (append_known (contents after.stream) after.held) waiting)
+        (ap (λ (held : List ℕ). append_known (append_known (contents before.stream) held) waiting) (sym keeps.held)
+        ∙ ap (λ stream. append_known (append_known (contents stream) after.held) waiting) (sym keeps.stream)))
+        carries
+
+    still : (one other : Option (Box (Client _) Global)) → IsStill one other → Serves remaining contents changes setting relay number one → Serves remaining contents changes setting relay number other
+    still None other same serves = subst (λ slot. Serves remaining contents changes setting relay number slot) (sym same) serves
+    still (Some client) None same serves = absurd same
+    still (Some client) (Some later) (peer, octets) session = record {
+      said = session.said;
+      has_said = subst (λ (at : SocketAddrV4). HasSaid changes relay number (ipv4_octets (v4_ip at)) session.said) (sym peer) session.has_said;
+      carries = carried client.value.channel later.value.channel session.said (unwritten_at relay.clients number) octets session.carries;
+    }
+
+    by : (other : ℕ) → (other ≡ number) ⊎ (other ≡ number → ⊥) → Serves remaining contents changes setting relay other (slot_at new other)
+    by other (inl same) =
+        subst (λ (at : ℕ). Serves remaining contents changes setting relay at (slot_at new at)) (sym same) (still (slot_at old number) (slot_at new number) noted.still (served.each number))
+    by other (inr apart) = subst (λ slot. Serves remaining contents changes setting relay other slot) (sym (noted.others other apart)) (served.each other)
+
 -- a session was opened for a client
-module _ {S : Type 0} (changes : List Change) (peer : SocketAddrV4) (clients : List (Option (Box (Client S) Global))) (old mid new : RelayState FileDisk) (session : ℕ) (said : Said)
+module _ {D S : Type 0} (honest : Type 0) (words : DiskWords D) (remaining contents : S → Option (List ℕ)) (changes : List Change) (setting : Setting) (peer : SocketAddrV4) (stream : S)
+    (clients : List (Option (Box (Client S) Global))) (old mid new : RelayState D) (session : ℕ) (said : Said)
     (talks : TalksTo changes mid session (ipv4_octets (v4_ip peer)) said []) (free : IsLeastFree old.node.seats session) (only : OnlyClient old mid session) (records : mid.node.records ≡ old.node.records)
-    (served : AreServed changes clients old) where
+    (served : AreServed honest words remaining contents changes setting clients old) where
   none_before : slot_at clients session ≡ None
   none_before = by (slot_at clients session) refl (served.each session) where
-    by : (slot : Option (Box (Client S) Global)) → slot_at clients session ≡ slot → Serves changes old session slot → slot_at clients session ≡ None
+    by : (slot : Option (Box (Client S) Global)) → slot_at clients session ≡ slot → Serves remaining contents changes setting old session slot → slot_at clients session ≡ None
     by None there unused = there
     by (Some client) there has = absurd (some_is_not_none has.has_said.talks.seat.at free.free)
 
+  abbrev after : Setting
+  after = opened remaining contents setting clients stream
+
+  as_before : AreServed honest words remaining contents changes after clients old
+  as_before = none_opened honest words remaining contents changes setting stream clients old served
+
   -- it is ended again
-  pub opens_freed : IsFreed session mid new → AreServed changes clients new
+  pub opens_freed : IsFreed session mid new → AreServed honest words remaining contents changes after clients new
   opens_freed freed =
-      served_on changes clients clients old new session served
+      served_on honest words remaining contents changes after clients clients old new session as_before
       (record { clients = λ other apart. refl; rest = rest_on session old mid new (record { only = only; records = records }) (rest_of_end session mid new freed.ended) })
-      (subst (λ (slot : Option (Box (Client S) Global)). Serves changes new session slot) (sym none_before)
-      (frees changes mid new session (ipv4_octets (v4_ip peer)) (ap (λ records. records.spool.live) records ∙ served.keeps.live) (record { said = said; has_said = record { written = []; talks = talks } }) freed))
+      (subst (λ (slot : Option (Box (Client S) Global)). Serves remaining contents changes after new session slot) (sym none_before)
+      (frees changes mid new session (ipv4_octets (v4_ip peer)) said (ap (λ records. records.spool.live) records ∙ served.keeps.live) (record { written = []; talks = talks }) freed))
 
   -- its client stands
-  pub opens_one : (later : List (Option (Box (Client S) Global))) (client : Box (Client S) Global) → client.value.peer ≡ peer → OnlyOutbox session mid new → StaysSaid session mid new
-      → slot_at later session ≡ Some client → OthersStay clients later session → AreServed changes later new
-  opens_one later client same outbox stays there others =
-      let first : HasSession changes new session (ipv4_octets (v4_ip peer)) = record {
-        said = said;
-        has_said = stays changes (ipv4_octets (v4_ip peer)) said (record { written = []; talks = talks });
-      } in
-      served_on changes clients later old new session served
+  pub opens_one : (later : List (Option (Box (Client S) Global))) (client : Box (Client S) Global) (output : List ℕ) → client.value.peer ≡ peer → OnlyOutbox session mid new → StaysSaid session mid new
+      → slot_at later session ≡ Some client → OthersStay clients later session → said.input ≡ [] → said.output ≡ output
+      → Begins remaining contents stream output client.value.channel (unwritten_at new.clients session)
+      → AreServed honest words remaining contents changes after later new
+  opens_one later client output same outbox stays there others none greeting begins =
+      let first : HasSaid changes new session (ipv4_octets (v4_ip peer)) said = stays changes (ipv4_octets (v4_ip peer)) said (record { written = []; talks = talks }) in
+      let begun : Carries remaining contents (beginning_of remaining contents stream) 0 client.value.channel said (unwritten_at new.clients session) =
+      carries_first remaining contents stream client.value.channel said output (unwritten_at new.clients session) none greeting begins in
+      served_on honest words remaining contents changes after clients later old new session as_before
       (record { clients = others; rest = rest_on session old mid new (record { only = only; records = records }) (rest_of_outbox session mid new outbox) })
-      (subst (λ (slot : Option (Box (Client S) Global)). Serves changes new session slot) (sym there)
-      (subst (λ (at : SocketAddrV4). HasSession changes new session (ipv4_octets (v4_ip at))) (sym same) first))
+      (subst (λ (slot : Option (Box (Client S) Global)). Serves remaining contents changes after new session slot) (sym there)
+      (record {
+        said = said;
+        has_said = subst (λ (at : SocketAddrV4). HasSaid changes new session (ipv4_octets (v4_ip at)) said) (sym same) first;
+        carries = subst (λ beginning. Carries remaining contents beginning 0 client.value.channel said (unwritten_at new.clients session))
+            (ap (λ (slot : Option (Box (Client S) Global)). beginning_or remaining contents slot (setting.beginnings session) stream) (sym none_before)) begun;
+      }))

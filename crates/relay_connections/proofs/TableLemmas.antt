@@ -1,9 +1,10 @@
 -- What holds of the slots behind the last of a table.
-use Rattle.std.proofs.Common.{◌≡◌, ◌⊎◌, inl, inr, ℕ, ◌+◌, ◌-◌, ◌<◌, zero, suc, Bool, true, false, List, [], ◌∷◌, length, drop, drop-cons, drop_of_length-le, add-one, ◌≤◌, Option, None, Some, is_some, refl, sym, ap, ◌∙◌, subst, arith, if◌then◌else◌}
+use Rattle.std.proofs.Common.{◌≡◌, ◌≢◌, ◌⊎◌, inl, inr, ℕ, ◌+◌, ◌-◌, ◌<◌, zero, suc, Bool, true, false, List, [], ◌∷◌, length, drop, drop-cons, drop_of_length-le, add-one, ◌≤◌, Option, None, Some, is_some, refl, sym, ap, ◌∙◌, subst, arith, if◌then◌else◌}
 use Rattle.std.proofs.Math.Nat.{eq-or-lt_of_le}
 use Rattle.std.proofs.lemmas.Bool.{cases_eq}
 use Rattle.relay_slots.specs.Slots.{AreFree, OthersStay, slot_at}
 use Rattle.relay_connections.specs.Table.{AreFreeFrom, count_of_such, is_such}
+use Rattle.relay_connections.proofs.LeftLemmas.{below_or_behind, none_behind}
 
 -- in a free table nothing stands anywhere
 pub free_at : {A : Type 0} (slots : List (Option A)) → AreFree slots → (number : ℕ) → slot_at slots number ≡ None
@@ -77,3 +78,82 @@ free_more old new next before here others number below = by (cases_eq number nex
   by : (number ≡ next) ⊎ (number ≡ next → ⊥) → slot_at new number ≡ None
   by (inl same) = subst (λ (at : ℕ). slot_at new at ≡ None) (sym same) here
   by (inr apart) = others number apart ∙ before number (omega (arith, below, apart))
+
+-- how many such ones stand in a slot
+abbrev one_of : {A : Type 0} → (A → Bool) → Option A → ℕ
+one_of such slot = if is_such such slot then 1 else 0
+
+suc_apart : (other number : ℕ) → other ≢ number → suc other ≢ suc number
+suc_apart other number apart same = apart (omega (arith, same))
+
+zero_apart : (other : ℕ) → suc other ≢ zero
+zero_apart other same = absurd (omega (arith, same))
+
+-- where all other slots hold the same, the counts differ by what stands in the one
+pub changed_count : {A : Type 0} (such : A → Bool) (old new : List (Option A)) (number : ℕ) → OthersStay old new number
+    → count_of_such such new + one_of such (slot_at old number) ≡ count_of_such such old + one_of such (slot_at new number)
+changed_count such [] [] number others = refl
+changed_count such [] (slot ∷ new) zero others =
+    let rest : count_of_such such new ≡ 0 = same_count such new [] (λ other. others (suc other) (zero_apart other)) in
+    omega (arith, rest)
+changed_count such [] (slot ∷ new) (suc number) others =
+    let here : one_of such slot ≡ 0 = ap (one_of such) (others zero (λ same. absurd (omega (arith, same)))) in
+    let rest = changed_count such [] new number (λ other apart. others (suc other) (suc_apart other number apart)) in
+    omega (arith, here, rest)
+changed_count such (slot ∷ old) [] zero others =
+    let rest : 0 ≡ count_of_such such old = same_count such [] old (λ other. others (suc other) (zero_apart other)) in
+    omega (arith, rest)
+changed_count such (slot ∷ old) [] (suc number) others =
+    let here : 0 ≡ one_of such slot = ap (one_of such) (others zero (λ same. absurd (omega (arith, same)))) in
+    let rest = changed_count such old [] number (λ other apart. others (suc other) (suc_apart other number apart)) in
+    omega (arith, here, rest)
+changed_count such (slot ∷ old) (value ∷ new) zero others =
+    let rest : count_of_such such new ≡ count_of_such such old = same_count such new old (λ other. others (suc other) (zero_apart other)) in
+    omega (arith, rest)
+changed_count such (slot ∷ old) (value ∷ new) (suc number) others =
+    let here : one_of such value ≡ one_of such slot = ap (one_of such) (others zero (λ same. absurd (omega (arith, same)))) in
+    let rest = changed_count such old new number (λ other apart. others (suc other) (suc_apart other number apart)) in
+    omega (arith, here, rest)
+
+-- one goes from a slot
+pub count_less : {A : Type 0} (old new : List (Option A)) (number : ℕ) (value : A) → slot_at old number ≡ Some value → slot_at new number ≡ None → OthersStay old new number
+    → 1 + count_of_such (λ (value : A). true) new ≡ count_of_such (λ (value : A). true) old
+count_less old new number value there gone others =
+    let changed = changed_count (λ (value : _). true) old new number others in
+    let was : one_of (λ (value : _). true) (slot_at old number) ≡ 1 = ap (one_of (λ (value : _). true)) there in
+    let is : one_of (λ (value : _). true) (slot_at new number) ≡ 0 = ap (one_of (λ (value : _). true)) gone in
+    omega (arith, changed, was, is)
+
+-- another takes its place
+pub count_same : {A : Type 0} (old new : List (Option A)) (number : ℕ) (value later : A) → slot_at old number ≡ Some value → slot_at new number ≡ Some later → OthersStay old new number
+    → 0 + count_of_such (λ (value : A). true) new ≡ count_of_such (λ (value : A). true) old
+count_same old new number value later there stands others =
+    let changed = changed_count (λ (value : _). true) old new number others in
+    let was : one_of (λ (value : _). true) (slot_at old number) ≡ 1 = ap (one_of (λ (value : _). true)) there in
+    let is : one_of (λ (value : _). true) (slot_at new number) ≡ 1 = ap (one_of (λ (value : _). true)) stands in
+    omega (arith, changed, was, is)
+
+-- slots that are changed one by one, from the first on
+module _ {A : Type 0} (Becomes : Option A → Option A → Type 0) (first old new : List (Option A)) (next : ℕ) (left : (number : ℕ) → next ≤ number → slot_at old number ≡ slot_at first number)
+    (others : OthersStay old new next) where
+  pub done_more : ((number : ℕ) → number < next → Becomes (slot_at first number) (slot_at old number)) → Becomes (slot_at old next) (slot_at new next)
+      → (number : ℕ) → number < next + 1 → Becomes (slot_at first number) (slot_at new number)
+  done_more before here number below = by (cases_eq number next) where
+    by : (number ≡ next) ⊎ (number ≡ next → ⊥) → Becomes (slot_at first number) (slot_at new number)
+    by (inl same) =
+        subst (λ (at : ℕ). Becomes (slot_at first at) (slot_at new at)) (sym same) (subst (λ (slot : Option A). Becomes slot (slot_at new next)) (left next (omega arith)) here)
+    by (inr apart) = subst (λ (slot : Option A). Becomes (slot_at first number) slot) (sym (others number apart)) (before number (omega (arith, below, apart)))
+
+  pub left_more : (number : ℕ) → next + 1 ≤ number → slot_at new number ≡ slot_at first number
+  left_more number past = others number (λ same. absurd (omega (arith, same, past))) ∙ left number (omega (arith, past))
+
+-- all slots were changed that hold something
+pub all_done : {A : Type 0} (Becomes : Option A → Option A → Type 0) (standing first last : List (Option A)) (next : ℕ) → ((number : ℕ) → slot_at standing number ≡ slot_at first number) → length standing ≤ next
+    → ((number : ℕ) → number < next → Becomes (slot_at first number) (slot_at last number)) → ((number : ℕ) → next ≤ number → slot_at last number ≡ slot_at first number) → Becomes None None
+    → (number : ℕ) → Becomes (slot_at first number) (slot_at last number)
+all_done Becomes standing first last next same passed before left none number = by (below_or_behind number next) where
+  by : (number < next) ⊎ (next ≤ number) → Becomes (slot_at first number) (slot_at last number)
+  by (inl below) = before number below
+  by (inr past) =
+      let free : slot_at first number ≡ None = sym (same number) ∙ none_behind standing number (omega (arith, passed, past)) in
+      subst (λ (slot : Option _). Becomes slot (slot_at last number)) (sym free) (subst (λ (slot : Option _). Becomes None slot) (sym (left number past ∙ free)) none)

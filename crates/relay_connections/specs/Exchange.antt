@@ -41,11 +41,12 @@ module _ {D S : Type 0} (remaining contents : S → Option (List ℕ)) (session 
     pub input : Keeps (input_left remaining contents before) (input_left remaining contents after)
     pub ends : IsEndTrue remaining contents before → IsEndTrue remaining contents after
 
-  -- The session has ended since its connection has, behind all that was read of it. What it has said and its client
+  -- The session has ended since its connection has, after all that was read of it. What it has said and its client
   -- hasn't got yet are its last octets.
   pub record LeavesBehindEnd (old new : RelayState D) (before after : Channel S) (last : List ℕ) : Type 0 where
     pub ended : EndsAlone session old new
     pub said : Keeps (said_by old before) (append_known (output_of remaining contents after) last)
+    pub input : Keeps (input_left remaining contents before) (input_left remaining contents after)
     pub unread : unread_of after ≡ []
     pub over : after.end ≢ None
     pub ends : IsEndTrue remaining contents before → IsEndTrue remaining contents after

@@ -4,8 +4,7 @@ use Rattle.std.specs.Prelude.{◌≡◌, ℕ, zero, suc, ◌+◌, ◌%◌, Bool,
 use Rattle.std.specs.Prelude.{length, map}
 use Rattle.std.specs.Global.{Global}
 use Rattle.std.specs.List.{filter}
-use Rattle.relay_disk.specs.File.{file_words}
-use Rattle.relay_disk.specs.declared.file.FileDisk.{FileDisk}
+use Rattle.relay_disk.specs.Device.{DiskWords}
 use Rattle.relay_slots.specs.Slots.{slot_at}
 use Rattle.relay_book.specs.declared.change.Change.{Change}
 use Rattle.relay_records.specs.Records.{Keeps}
@@ -28,7 +27,7 @@ hears (Some client) = client.value.hears
 abbrev pub hears_at : {S : Type 0} → List (Option (Box (Client S) Global)) → ℕ → Bool
 hears_at clients number = hears (slot_at clients number)
 
--- so many numbers of slots, of which there are this many: one behind another from this one on, and 0 behind the last
+-- so many numbers of slots, of which there are this many: one after another from this one on, and 0 after the last
 abbrev pub turned : ℕ → ℕ → ℕ → List ℕ
 turned slots number zero = []
 turned slots number (suc count) = number % slots ∷ turned slots (number + 1) count
@@ -46,10 +45,11 @@ pub record IsOwn {S : Type 0} (clients : List (Option (Box (Client S) Global))) 
 abbrev pub session_of : Piece → ℕ
 session_of piece = piece.session
 
--- Each session that has something to hear has heard octets of its own client, all of them in one call, and what came of
--- that stands at its place; and so have attempts these replies, in the same call.
-pub record HearOwn {S : Type 0} (clients : List (Option (Box (Client S) Global))) (first : ℕ)
-    (replies : List ReplyPiece) (at : ℕ) (old new : RelayState FileDisk) (hearing : Hearing) : Type 0 where
+-- Each session that has something to hear has heard octets of its own client, all of them in one call, and its answer
+-- stands at its place; and so have attempts these replies, in the same call.
+pub record HearOwn {D S : Type 0} (honest : Type 0) (words : DiskWords D)
+    (clients : List (Option (Box (Client S) Global))) (first : ℕ) (replies : List ReplyPiece) (at : ℕ)
+    (old new : RelayState D) (hearing : Hearing) : Type 0 where
   pub pieces : List Piece
   pub own : All (IsOwn clients) pieces
   pub sessions : hearing.sessions.items ≡ map session_of pieces
@@ -58,5 +58,5 @@ pub record HearOwn {S : Type 0} (clients : List (Option (Box (Client S) Global))
   pub heard : group.heard ≡ hearing.heard
   pub answered : group.answered ≡ hearing.replies.answered
   pub notes : group.notes ≡ hearing.replies.notes
-  pub reads : (changes : List Change) → Keeps ⊥ file_words old.node.records changes
-      → ReadsAll ⊥ file_words changes at pieces replies old new group
+  pub reads : (changes : List Change) → Keeps honest words old.node.records changes
+      → ReadsAll honest words changes at pieces replies old new group

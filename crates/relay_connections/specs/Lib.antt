@@ -2,6 +2,7 @@ pub mod Table
 pub mod Channel
 pub mod Sessions
 pub mod Exchange
+pub mod Carried
 pub mod Matched
 pub mod Served
 pub mod Readiness

@@ -30,7 +30,7 @@ pub record IsMatched {S D : Type 0} (clients : List (Option (Box (Client S) Glob
 abbrev pub AreMatched : {S D : Type 0} → List (Option (Box (Client S) Global)) → RelayState D → Type 0
 AreMatched clients relay = (number : ℕ) → IsMatched clients relay number
 
--- At most one client more stands behind the call, which is this peer; all others are as before.
+-- At most one client more stands after the call, which is this peer; all others are as before.
 pub record Opens {S D : Type 0} (peer : SocketAddrV4) (old new : List (Option (Box (Client S) Global)))
     (relay : RelayState D) : Type 0 where
   pub matched : AreMatched new relay

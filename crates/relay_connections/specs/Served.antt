@@ -1,21 +1,25 @@
--- What the relay has for each client of the table: the session of the client's number, to which it talks. Under a number
--- without a client it has no session, and no connection.
-use Rattle.std.specs.Prelude.{◌≡◌, ℕ, ◌==◌, List, [], ◌∷◌, ◌++◌, Option, None, Some, Result, Ok, Err, Box}
+-- What the relay has for each client of the table: the session of the client's number, to which it talks, and whose
+-- dialogue the client's connection carries. Under a number without a client it has no session, and no connection.
+use Rattle.std.specs.Prelude.{◌≡◌, true, ℕ, ◌==◌, List, [], ◌∷◌, ◌++◌, Option, None, Some, Result, Ok, Err, Box}
 use Rattle.std.specs.Prelude.{if◌then◌else◌}
 use Rattle.std.specs.Global.{Global}
 use Rattle.std.specs.Net.Addr.{ipv4_octets}
 use Rattle.std.specs.Net.Socket.{v4_ip}
-use Rattle.relay_disk.specs.File.{file_words}
-use Rattle.relay_disk.specs.declared.file.FileDisk.{FileDisk}
+use Rattle.relay_disk.specs.Device.{DiskWords}
 use Rattle.relay_slots.specs.Slots.{AreFree, OthersStay, slot_at}
 use Rattle.relay_server.specs.Dialogue.{Said}
+use Rattle.relay_server.specs.Setup.{Setup, setup_of_config}
 use Rattle.relay_book.specs.declared.change.Change.{Change}
 use Rattle.relay_records.specs.Records.{Keeps}
 use Rattle.relay_records.specs.declared.fault.NodeFault.{NodeFault}
 use Rattle.relay_loop.specs.Clients.{TalksTo}
 use Rattle.relay_loop.specs.declared.clients.Heard.{Heard}
+use Rattle.relay_loop.specs.Outboxes.{unwritten_at}
 use Rattle.relay_loop.specs.Relay.{OnlyClient, RelayState}
+use Rattle.relay_connections.specs.Carried.{Carries, CarriesLast, Setting, beginning_or}
 use Rattle.relay_connections.specs.Matched.{AreMatched, IsFreed}
+use Rattle.relay_connections.specs.Readiness.{IsNoted}
+use Rattle.relay_connections.specs.declared.channel.Channel.{Channel}
 use Rattle.relay_connections.specs.declared.client.Client.{Client}
 use Rattle.relay_connections.specs.declared.client.Next.{Next}
 use Rattle.relay_connections.specs.declared.client.Next.TheVariants.{Stays, Leaves, Gone}
@@ -31,34 +35,59 @@ pub record HasSaid {D : Type 0} (changes : List Change) (relay : RelayState D) (
   pub written : List ℕ
   pub talks : TalksTo changes relay number address said written
 
--- the relay has a session of this number, whose client is at this address
-pub record HasSession {D : Type 0} (changes : List Change) (relay : RelayState D) (number : ℕ) (address : List ℕ)
-    : Type 0 where
-  pub said : Said
-  pub has_said : HasSaid changes relay number address said
-
 -- the relay has no session of this number, and no connection
 pub record IsUnused {D : Type 0} (relay : RelayState D) (number : ℕ) : Type 0 where
   pub connection : slot_at relay.clients number ≡ None
   pub seat : slot_at relay.node.seats number ≡ None
 
--- what the relay has under a number, where this client stands under it, or none
-abbrev pub Serves
-    : {D S : Type 0} → List Change → RelayState D → ℕ → Option (Box (Client S) Global) → Type 0
-Serves changes relay number None = IsUnused relay number
-Serves changes relay number (Some client) = HasSession changes relay number (address_of client.value)
+-- the node is live, and its sessions work with this
+pub record WorksWith {D : Type 0} (setup : Setup) (relay : RelayState D) : Type 0 where
+  pub live : relay.node.records.spool.live ≡ true
+  pub setup_is : setup_of_config relay.node.config ≡ setup
 
--- so it is of all numbers, and the node keeps these changes
-pub record AreServed {S : Type 0} (changes : List Change) (clients : List (Option (Box (Client S) Global)))
-    (relay : RelayState FileDisk) : Type 0 where
-  pub keeps : Keeps ⊥ file_words relay.node.records changes
-  pub each : (number : ℕ) → Serves changes relay number (slot_at clients number)
+-- The words below are of what is known of the streams of clients, and of a relay whose node keeps these changes.
+module _ {D S : Type 0} (remaining contents : S → Option (List ℕ)) (changes : List Change) (setting : Setting)
+    (relay : RelayState D) (number : ℕ) where
+  -- The relay has a session of the number, whose client is at this address, and this connection carries its dialogue.
+  -- So many octets of what was read of that were heard already.
+  pub record HasSession (heard : ℕ) (address : List ℕ) (channel : Channel S) : Type 0 where
+    pub said : Said
+    pub has_said : HasSaid changes relay number address said
+    pub carries : Carries remaining contents (setting.beginnings number) heard channel said
+        (unwritten_at relay.clients number)
 
--- so it is behind more changes
-pub record AreServedBehind {S : Type 0} (changes : List Change) (clients : List (Option (Box (Client S) Global)))
-    (relay : RelayState FileDisk) : Type 0 where
-  pub added : List Change
-  pub served : AreServed (changes ++ added) clients relay
+  -- the relay has no session of the number any more, and the last octets of its dialogue go by this connection
+  pub record HasEnded (heard : ℕ) (channel : Channel S) (last : List ℕ) : Type 0 where
+    pub unused : IsUnused relay number
+    pub ends : CarriesLast remaining contents setting.setup (setting.beginnings number) heard channel last
+
+  -- what the relay has under the number, where this client stands under it, or none
+  abbrev pub Serves : Option (Box (Client S) Global) → Type 0
+  Serves None = IsUnused relay number
+  Serves (Some client) = HasSession 0 (address_of client.value) client.value.channel
+
+  -- where the connection of a client at this address is to become this, the relay has its session still, or nothing of
+  -- it any more
+  abbrev pub HasNext : List ℕ → Channel S → Next → Type 0
+  HasNext address channel Stays = HasSession 0 address channel
+  HasNext address channel (Leaves last) = HasEnded 0 channel last
+  HasNext address channel Gone = IsUnused relay number
+
+  -- so it is by the last octets of a session that has heard so many octets
+  abbrev pub HasHeard : Option (Box (Client S) Global) → ℕ → Option (List ℕ) → Type 0
+  HasHeard None heard last = IsUnused relay number
+  HasHeard (Some client) heard None = HasSession heard (address_of client.value) client.value.channel
+  HasHeard (Some client) heard (Some last) = HasEnded heard client.value.channel last
+
+  -- after this answer to octets of a client the relay has this of it
+  abbrev pub HasAnswered : Option (Box (Client S) Global) → Result Heard NodeFault → Type 0
+  HasAnswered slot (Ok heard) = HasHeard slot heard.used heard.last
+  HasAnswered slot (Err fault) = IsUnused relay number
+
+  -- so it is where there is such an answer, and else the client is served
+  abbrev pub HasAnsweredOr : Option (Box (Client S) Global) → Option (Result Heard NodeFault) → Type 0
+  HasAnsweredOr slot None = Serves slot
+  HasAnsweredOr slot (Some answer) = HasAnswered slot answer
 
 -- no change was made, and all other sessions and connections are as before, and the attempts, theirs, and the
 -- configuration
@@ -84,33 +113,6 @@ StaysOrEnds number old new (Some Stays) = StaysSaid number old new
 StaysOrEnds number old new (Some (Leaves last)) = IsFreed number old new
 StaysOrEnds number old new (Some Gone) = IsFreed number old new
 
--- where the connection of a client at this address is to become this, the relay has its session still, or nothing of it
--- any more
-abbrev pub HasNext : {D : Type 0} → List Change → RelayState D → ℕ → List ℕ → Next → Type 0
-HasNext changes relay number address Stays = HasSession changes relay number address
-HasNext changes relay number address (Leaves last) = IsUnused relay number
-HasNext changes relay number address Gone = IsUnused relay number
-
--- so it is by the last octets of a session
-abbrev pub HasLast
-    : {D S : Type 0} → List Change → RelayState D → ℕ → Option (Box (Client S) Global) → Option (List ℕ) → Type 0
-HasLast changes relay number slot None = Serves changes relay number slot
-HasLast changes relay number slot (Some last) = IsUnused relay number
-
--- behind this answer to octets of a client the relay has this of it
-abbrev pub HasAnswered
-    : {D S : Type 0} → List Change → RelayState D → ℕ → Option (Box (Client S) Global) → Result Heard NodeFault
-    → Type 0
-HasAnswered changes relay number slot (Ok heard) = HasLast changes relay number slot heard.last
-HasAnswered changes relay number slot (Err fault) = IsUnused relay number
-
--- so it is where there is such an answer, and else the client is served
-abbrev pub HasAnsweredOr
-    : {D S : Type 0} → List Change → RelayState D → ℕ → Option (Box (Client S) Global)
-    → Option (Result Heard NodeFault) → Type 0
-HasAnsweredOr changes relay number slot None = Serves changes relay number slot
-HasAnsweredOr changes relay number slot (Some answer) = HasAnswered changes relay number slot answer
-
 -- the answer to octets of the client of a number, where one is among these
 abbrev pub answer_to : ℕ → List (ℕ × Result Heard NodeFault) → Option (Result Heard NodeFault)
 answer_to number [] = None
@@ -121,23 +123,57 @@ abbrev pub AreApart : List (ℕ × Result Heard NodeFault) → Type 0
 AreApart [] = Unit {0}
 AreApart (one ∷ answers) = (answer_to one.0 answers ≡ None) × AreApart answers
 
--- so it is of all numbers, where these answers are still to be taken
-pub record HaveAnswered {S : Type 0} (changes : List Change) (clients : List (Option (Box (Client S) Global)))
-    (relay : RelayState FileDisk) (answers : List (ℕ × Result Heard NodeFault)) : Type 0 where
-  pub keeps : Keeps ⊥ file_words relay.node.records changes
-  pub apart : AreApart answers
-  pub each : (number : ℕ)
-      → HasAnsweredOr changes relay number (slot_at clients number) (answer_to number answers)
+-- the setting once a connection with this stream was opened
+abbrev pub opened
+    : {S : Type 0} → (S → Option (List ℕ)) → (S → Option (List ℕ)) → Setting → List (Option (Box (Client S) Global)) → S
+    → Setting
+opened remaining contents setting clients stream = record {
+  setup = setting.setup;
+  beginnings = λ number.
+      beginning_or remaining contents (slot_at clients number) (setting.beginnings number) stream;
+}
 
--- A client that is served has its session and its connection under its own number, and is the session's peer.
-abbrev pub ServedAreMatched : Type 0 → Type 0
-ServedAreMatched S =
-    (changes : List Change) (clients : List (Option (Box (Client S) Global))) (relay : RelayState FileDisk)
-    → AreServed changes clients relay → AreMatched clients relay
+-- The words below are of the clients of a relay, by number.
+module _ {D S : Type 0} (honest : Type 0) (words : DiskWords D) (remaining contents : S → Option (List ℕ)) where
+  -- each client is served, and the node keeps these changes
+  pub record AreServed (changes : List Change) (setting : Setting) (clients : List (Option (Box (Client S) Global)))
+      (relay : RelayState D) : Type 0 where
+    pub keeps : Keeps honest words relay.node.records changes
+    pub setup_is : setup_of_config relay.node.config ≡ setting.setup
+    pub each : (number : ℕ) → Serves remaining contents changes setting relay number (slot_at clients number)
 
--- A relay that has just begun serves the clients of a free table.
-abbrev pub FreeAreServed : Type 0 → Type 0
-FreeAreServed S =
-    (changes : List Change) (clients : List (Option (Box (Client S) Global))) (relay : RelayState FileDisk)
-    → Keeps ⊥ file_words relay.node.records changes → AreFree clients → AreFree relay.clients
-    → AreFree relay.node.seats → AreServed changes clients relay
+  -- so it is after more changes
+  pub record AreServedBehind (changes : List Change) (setting : Setting)
+      (clients : List (Option (Box (Client S) Global))) (relay : RelayState D) : Type 0 where
+    pub added : List Change
+    pub served : AreServed (changes ++ added) setting clients relay
+
+  -- each client is served, but where one of these answers is still to be taken
+  pub record HaveAnswered (changes : List Change) (setting : Setting) (clients : List (Option (Box (Client S) Global)))
+      (relay : RelayState D) (answers : List (ℕ × Result Heard NodeFault)) : Type 0 where
+    pub keeps : Keeps honest words relay.node.records changes
+    pub setup_is : setup_of_config relay.node.config ≡ setting.setup
+    pub apart : AreApart answers
+    pub each : (number : ℕ) → HasAnsweredOr remaining contents changes setting relay number
+        (slot_at clients number) (answer_to number answers)
+
+  -- A client that is served has its session and its connection under its own number, and is the session's peer.
+  abbrev pub ServedAreMatched : Type 0
+  ServedAreMatched =
+      (changes : List Change) (setting : Setting) (clients : List (Option (Box (Client S) Global)))
+      (relay : RelayState D) → AreServed changes setting clients relay → AreMatched clients relay
+
+  -- A relay that has just begun serves the clients of a free table.
+  abbrev pub FreeAreServed : Type 0
+  FreeAreServed =
+      (changes : List Change) (setting : Setting) (clients : List (Option (Box (Client S) Global)))
+      (relay : RelayState D)
+      → Keeps honest words relay.node.records changes → setup_of_config relay.node.config ≡ setting.setup
+      → AreFree clients → AreFree relay.clients → AreFree relay.node.seats → AreServed changes setting clients relay
+
+  -- Clients are served as before where the system tells what the connection of one may be ready for.
+  abbrev pub NotedAreServed : Type 0
+  NotedAreServed =
+      (changes : List Change) (setting : Setting) (old new : List (Option (Box (Client S) Global)))
+      (relay : RelayState D) (number : ℕ)
+      → IsNoted number old new → AreServed changes setting old relay → AreServed changes setting new relay

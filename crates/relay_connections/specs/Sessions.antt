@@ -28,7 +28,7 @@ IsTold host Stays = ⊥
 IsTold host (Leaves last) = last ≡ closing_of host Timeout
 IsTold host Gone = Unit {0}
 
--- it is told so only where nothing waited, so that the line stands behind whole replies
+-- it is told so only where nothing waited, so that the line comes after whole replies
 abbrev pub IsCutOff : {D : Type 0} → RelayState D → ℕ → Next → Type 0
 IsCutOff old session Stays = ⊥
 IsCutOff old session (Leaves last) =

@@ -11,7 +11,7 @@ use crate::channel::{Channel, End};
 use crate::clocks::Now;
 use crate::ending::{drop_session, end_session};
 use crate::stream::Stream;
-use relay_disk::FileDisk;
+use relay_disk::Disk;
 use relay_log::Log;
 use relay_loop::{Heard, Outbox, Relay};
 use relay_node::NodeFault;
@@ -149,9 +149,9 @@ impl<S: Stream> Client<S> {
     }
 
     /// Writes what waits for it as far as that goes at once.
-    pub(crate) fn flush(
+    pub(crate) fn flush<D: Disk>(
         &mut self,
-        relay: &mut Relay<FileDisk>,
+        relay: &mut Relay<D>,
         session: usize,
         timeout: u64,
         now: &Now,
@@ -168,9 +168,9 @@ impl<S: Stream> Client<S> {
     }
 
     /// Writes what waits for it once. It tells whether some of that is done with.
-    fn write(
+    fn write<D: Disk>(
         &mut self,
-        relay: &mut Relay<FileDisk>,
+        relay: &mut Relay<D>,
         session: usize,
         timeout: u64,
         now: &Now,
@@ -189,7 +189,7 @@ impl<S: Stream> Client<S> {
     }
 
     /// Whether octets wait to be written to it.
-    fn waits(&self, relay: &Relay<FileDisk>, session: usize) -> bool
+    fn waits<D: Disk>(&self, relay: &Relay<D>, session: usize) -> bool
         ensures { held_of self.now.channel ≡ [] → unwritten_at relay.now.clients session ≡ []
             → result ≡ false }
     {
@@ -197,7 +197,7 @@ impl<S: Stream> Client<S> {
     }
 
     /// Whether something can be done with it at once.
-    pub(crate) fn is_ready(&self, relay: &Relay<FileDisk>, session: usize) -> bool
+    pub(crate) fn is_ready<D: Disk>(&self, relay: &Relay<D>, session: usize) -> bool
         ensures { unread_of self.now.channel ≢ [] → held_of self.now.channel ≡ []
             → unwritten_at relay.now.clients session ≡ [] → result ≡ true }
     {
@@ -206,7 +206,7 @@ impl<S: Stream> Client<S> {
 
     /// Holds what waits for it back, where more of what was read is heard at this turn: what that leads to goes in the
     /// same write. Where it is too much to be held, it is written at once as far as that goes.
-    fn hold(&mut self, relay: &mut Relay<FileDisk>, session: usize, timeout: u64, now: &Now)
+    fn hold<D: Disk>(&mut self, relay: &mut Relay<D>, session: usize, timeout: u64, now: &Now)
         ensures hands { Hands S.remaining S.contents session relay.old relay.new self.old.channel self.new.channel }
         ensures said { StaysSaid session relay.old relay.new }
         ensures peer { self.new.peer ≡ self.old.peer }
@@ -219,7 +219,7 @@ impl<S: Stream> Client<S> {
     }
 
     /// Holds what waits for it back, and tells whether.
-    fn hold_back(&mut self, relay: &mut Relay<FileDisk>, session: usize) -> bool
+    fn hold_back<D: Disk>(&mut self, relay: &mut Relay<D>, session: usize) -> bool
         ensures hands { Hands S.remaining S.contents session relay.old relay.new self.old.channel self.new.channel }
         ensures said { StaysSaid session relay.old relay.new }
         ensures same { result ≡ false → (self.new ≡ self.old) × (relay.new ≡ relay.old) }
@@ -245,9 +245,9 @@ impl<S: Stream> Client<S> {
 
     /// Writes what waits, and reads a block where nothing waits any more and all of the last one is used. It tells what
     /// becomes of the connection, unless there are octets for its session to hear.
-    pub(crate) fn read(
+    pub(crate) fn read<D: Disk>(
         &mut self,
-        relay: &mut Relay<FileDisk>,
+        relay: &mut Relay<D>,
         session: usize,
         timeout: u64,
         now: &Now,
@@ -279,7 +279,7 @@ impl<S: Stream> Client<S> {
     }
 
     /// Whether it has octets for its session to hear, which may do so.
-    pub(crate) fn has_more(&self, relay: &Relay<FileDisk>, session: usize) -> bool {
+    pub(crate) fn has_more<D: Disk>(&self, relay: &Relay<D>, session: usize) -> bool {
         !self.channel.is_used() && relay.to_client(session).is_empty()
     }
 
@@ -304,9 +304,9 @@ impl<S: Stream> Client<S> {
 
     /// Takes what its session has said to the octets that were read, and writes that at once as far as that goes, or
     /// `holds` it back where more of them is heard at this turn.
-    pub(crate) fn answer(
+    pub(crate) fn answer<D: Disk>(
         &mut self,
-        relay: &mut Relay<FileDisk>,
+        relay: &mut Relay<D>,
         session: usize,
         heard: Result<Heard, NodeFault>,
         holds: bool,
@@ -346,11 +346,11 @@ impl<S: Stream> Client<S> {
             self.has_accepted = true;
             tell_accepted(relay, self.peer, number, log);
         }
-        let replies = match &last {
-            Some(outbox) => outbox.as_slice(),
-            None => relay.to_client(session),
+        let was_full = match &last {
+            Some(outbox) => tells_full(outbox.as_slice()),
+            None => tells_full(relay.to_client(session)),
         };
-        intake.was_full = intake.was_full || tells_full(replies);
+        intake.was_full = intake.was_full || was_full;
         match last {
             Some(outbox) => return Ok(Next::Leaves(outbox)),
             None if holds => self.hold(relay, session, timeout, now),
@@ -361,8 +361,8 @@ impl<S: Stream> Client<S> {
 }
 
 /// Tells of the mail that was accepted as the message of a number.
-fn tell_accepted(
-    relay: &Relay<FileDisk>,
+fn tell_accepted<D: Disk>(
+    relay: &Relay<D>,
     peer: SocketAddrV4,
     number: u64,
     log: &mut Log<'_, Vec<u8>>,

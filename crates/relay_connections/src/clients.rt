@@ -1,14 +1,14 @@
-ghost use Rattle.std.specs.Prelude.{◌≡◌, ◌≢◌, ◌≤◌, ◌<◌, ◌↔◌, ℕ, List, None, IfErr, IfOk, IsTrue, true};
+ghost use Rattle.std.specs.Prelude.{◌≡◌, ◌≢◌, ◌≤◌, ◌<◌, ◌↔◌, ℕ, List, None, IfErr, IfOk, IfSome, IsTrue, true};
 ghost use Rattle.std.specs.Net.Addr.{ipv4_octets};
 ghost use Rattle.relay_book.specs.declared.change.Change.{Change};
-ghost use Rattle.relay_disk.specs.declared.file.FileDisk.{FileDisk};
-ghost use Rattle.relay_loop.specs.Relay.{RelayState};
+ghost use Rattle.relay_loop.specs.Outboxes.{unwritten_at};
 ghost use Rattle.relay_slots.specs.Slots.{AreFree, slot_at};
 ghost use Rattle.relay_slots.specs.declared.slots.TheConstants.{SLOT_COUNT};
+ghost use Rattle.relay_connections.specs.Carried.{Begins, Setting};
 ghost use Rattle.relay_connections.specs.Matched.{AreMatched, IsGreeted, Opens};
 ghost use Rattle.relay_connections.specs.Readiness.{IsLeftClient, IsNoted, clients_of};
 ghost use Rattle.relay_connections.specs.Room.{HasRoom, is_at};
-ghost use Rattle.relay_connections.specs.Served.{AreServed, StaysSaid};
+ghost use Rattle.relay_connections.specs.Served.{AreServed, StaysSaid, opened};
 ghost use Rattle.relay_connections.specs.Table.{count_of_such, is_such};
 
 use crate::channel::{Channel, Readiness};
@@ -18,7 +18,7 @@ use crate::ending::dismiss;
 use crate::stream::Stream;
 use crate::table::Table;
 use mio::net::TcpStream;
-use relay_disk::FileDisk;
+use relay_disk::Disk;
 use relay_limits::Limits;
 use relay_loop::Relay;
 use relay_node::NodeFault;
@@ -103,18 +103,20 @@ impl<S: Stream + Drop> Clients<S> {
 
     /// Opens a session for a client, and greets it. Where the system or the node has no room for it, it is closed
     /// unheard. Only a device that failed is a fault.
-    pub fn open(
+    pub fn open<D: Disk>(
         &mut self,
         registry: &S::Registry,
-        relay: &mut Relay<FileDisk>,
+        relay: &mut Relay<D>,
         stream: S,
         peer: SocketAddrV4,
         now: &Now,
     ) -> Result<(), NodeFault>
         ensures opens { AreMatched (clients_of self.old) relay.old
             → Opens peer (clients_of self.old) (clients_of self.new) relay.new }
-        ensures served { (changes : List Change) → AreServed changes (clients_of self.old) relay.old
-            → IfOk result (λ _. AreServed changes (clients_of self.new) relay.new) }
+        ensures served { (changes : List Change) (setting : Setting)
+            → AreServed D.honest D.words S.remaining S.contents changes setting (clients_of self.old) relay.old
+            → IfOk result (λ _. AreServed D.honest D.words S.remaining S.contents changes
+            (opened S.remaining S.contents setting (clients_of self.old) stream) (clients_of self.new) relay.new) }
         ensures fault { IfErr result (λ fault. fault ≡ NodeFault.Stopped) }
     {
         let session = match relay.accept(peer.ip().octets()) {
@@ -130,10 +132,10 @@ impl<S: Stream + Drop> Clients<S> {
 
     /// Greets the client of a session that was opened for it. Where the system doesn't tell of its connection, or
     /// memory runs out, the session is ended.
-    fn greet(
+    fn greet<D: Disk>(
         &self,
         registry: &S::Registry,
-        relay: &mut Relay<FileDisk>,
+        relay: &mut Relay<D>,
         session: usize,
         stream: S,
         peer: SocketAddrV4,
@@ -141,6 +143,8 @@ impl<S: Stream + Drop> Clients<S> {
     ) -> Option<Box<Client<S>>>
         ensures greeted { IsGreeted session peer relay.old relay.new result }
         ensures said { result ≢ None → StaysSaid session relay.old relay.new }
+        ensures begins { IfSome result (λ client. Begins S.remaining S.contents stream
+            (unwritten_at relay.old.clients session) client.value.channel (unwritten_at relay.new.clients session)) }
     {
         let mut stream = stream;
         // Replies are written whole, and wait for no more.
@@ -162,8 +166,6 @@ impl<S: Stream + Drop> Clients<S> {
     /// The system tells what the connection of a number may be ready for.
     pub fn note(&mut self, number: usize, ready: Readiness)
         ensures noted { IsNoted number (clients_of self.old) (clients_of self.new) }
-        ensures served { (changes : List Change) (relay : RelayState FileDisk)
-            → AreServed changes (clients_of self.old) relay → AreServed changes (clients_of self.new) relay }
     {
         if let Some(taken) = self.clients.take(number) {
             let mut client = taken;
@@ -185,7 +187,7 @@ impl<S: Stream + Drop> Clients<S> {
     }
 
     /// Whether one is left with something to be done at once.
-    pub fn is_ready(&self, relay: &Relay<FileDisk>) -> bool
+    pub fn is_ready<D: Disk>(&self, relay: &Relay<D>) -> bool
         ensures { (number : ℕ) → IsLeftClient (clients_of self.now) relay.now number → result ≡ true }
     {
         for (number, slot) in self.clients.standing().iter().enumerate() {

@@ -4,13 +4,13 @@ ghost use Rattle.relay_connections.specs.Matched.{IsFreed};
 ghost use Rattle.relay_connections.specs.Sessions.{EndsAlone, IsCutOff, IsTold, LeavesWithAll};
 
 use crate::client::Next;
-use relay_disk::FileDisk;
+use relay_disk::Disk;
 use relay_loop::{Closing, Outbox, Relay, closing_line};
 use relay_node::NodeFault;
 use std::alloc::Global;
 
 /// Ends the session of a client whose input has come to its end. What waits is still written.
-pub(crate) fn end_session(relay: &mut Relay<FileDisk>, session: usize) -> Result<Next, NodeFault>
+pub(crate) fn end_session<D: Disk>(relay: &mut Relay<D>, session: usize) -> Result<Next, NodeFault>
     ensures ends { EndsAlone session relay.old relay.new }
     ensures freed { IsFreed session relay.old relay.new }
     ensures next { IfOk result (LeavesWithAll relay.old session) }
@@ -25,7 +25,7 @@ pub(crate) fn end_session(relay: &mut Relay<FileDisk>, session: usize) -> Result
 }
 
 /// Ends the session of a client that can't be served.
-pub(crate) fn dismiss(relay: &mut Relay<FileDisk>, session: usize)
+pub(crate) fn dismiss<D: Disk>(relay: &mut Relay<D>, session: usize)
     ensures { IsFreed session relay.old relay.new }
 {
     match relay.end_client(session) {
@@ -36,7 +36,7 @@ pub(crate) fn dismiss(relay: &mut Relay<FileDisk>, session: usize)
 }
 
 /// Ends the session of a client whose connection is broken.
-pub(crate) fn drop_session(relay: &mut Relay<FileDisk>, session: usize) -> Result<Next, NodeFault>
+pub(crate) fn drop_session<D: Disk>(relay: &mut Relay<D>, session: usize) -> Result<Next, NodeFault>
     ensures ends { EndsAlone session relay.old relay.new }
     ensures freed { IsFreed session relay.old relay.new }
     ensures next { IfOk result (λ next. next ≡ Next.Gone) }
@@ -51,9 +51,9 @@ pub(crate) fn drop_session(relay: &mut Relay<FileDisk>, session: usize) -> Resul
 
 /// Ends the session of a client that is late. It is told so where it has taken all that was written before; else it
 /// takes nothing, and is told nothing more.
-pub(crate) fn cut_off(
+pub(crate) fn cut_off<D: Disk>(
     alloc: Global,
-    relay: &mut Relay<FileDisk>,
+    relay: &mut Relay<D>,
     session: usize,
 ) -> Result<Next, NodeFault>
     ensures ends { EndsAlone session relay.old relay.new }
@@ -70,7 +70,7 @@ pub(crate) fn cut_off(
 }
 
 /// The last octets of a client that is late.
-fn farewell(alloc: Global, relay: &Relay<FileDisk>) -> Next
+fn farewell<D: Disk>(alloc: Global, relay: &Relay<D>) -> Next
     ensures { IsTold relay.now.node.config.host result }
 {
     match closing_line(alloc, &relay.node().config().host, Closing::Timeout) {

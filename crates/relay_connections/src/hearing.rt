@@ -8,7 +8,7 @@ use crate::client::Client;
 use crate::clocks::Now;
 use crate::share::share;
 use crate::stream::Stream;
-use relay_disk::FileDisk;
+use relay_disk::Disk;
 use relay_loop::{Answered, Group, Heard, Piece, Relay, ReplyPiece};
 use relay_node::{NodeFault, Noted};
 use std::alloc::{AllocError, Global};
@@ -37,17 +37,17 @@ pub struct Replied {
 /// Lets all sessions that have something to hear do so in one call, the first of them first, and behind them the
 /// attempts of next hops that have replied, so that the mail they bring and the outcomes of attempts come into the
 /// spool behind one pair of syncs. It answers nothing where no memory is left for that; nothing was heard then.
-pub(crate) fn hear_all<S: Stream>(
+pub(crate) fn hear_all<S: Stream, D: Disk>(
     alloc: Global,
     clients: &[Option<Box<Client<S>>>],
     first: usize,
     replies: &[ReplyPiece<'_>],
-    relay: &mut Relay<FileDisk>,
+    relay: &mut Relay<D>,
     now: &Now,
 ) -> Result<Option<Hearing>, NodeFault>
     requires { first < 64 }
     ensures own { IfOk result (λ hearing. IfSome hearing
-        (HearOwn clients.now first replies.now now.now.moment relay.old relay.new)) }
+        (HearOwn D.honest D.words clients.now first replies.now now.now.moment relay.old relay.new)) }
     ensures none { result ≡ Ok None → relay.new ≡ relay.old }
     ensures fault { IfErr result (λ fault. fault ≡ NodeFault.Stopped) }
 {

@@ -1,12 +1,13 @@
 //! Connections whose session or attempt has ended: their last octets are written, and what the peer still sends is
 //! read and dropped for a moment, since the system else resets the connection, and the last octets with it.
-ghost use Rattle.std.specs.Prelude.{◌≡◌, ◌≤◌, ◌<◌, ◌↔◌, [], ℕ, None, IfOk, IsTrue, false, true};
+ghost use Rattle.std.specs.Prelude.{◌≡◌, ◌≤◌, ◌<◌, ◌+◌, ◌⊎◌, ◌↔◌, ℕ, None, IfOk, IsTrue, false, true};
+ghost use Rattle.std.specs.Prelude.{if◌then◌else◌};
 ghost use Rattle.relay_slots.specs.Slots.{AreFree, OthersStay, slot_at};
 ghost use Rattle.relay_slots.specs.declared.slots.TheConstants.{SLOT_COUNT};
 ghost use Rattle.relay_connections.specs.Channel.{held_of};
 ghost use Rattle.relay_connections.specs.declared.leaving.TheConstants.{MOST_STRANGERS};
-ghost use Rattle.relay_connections.specs.Leaving.{IsOneOf, MayTake, Stays, StaysOrCloses};
-ghost use Rattle.relay_connections.specs.Leaving.{goes_to, leavers_of, whole_output};
+ghost use Rattle.relay_connections.specs.Leaving.{GoesOn, HasGone, IsOneOf, IsOver, MayTake, Stays, StaysOrCloses};
+ghost use Rattle.relay_connections.specs.Leaving.{goes_to, leavers_of, read_until, whole_output};
 ghost use Rattle.relay_connections.specs.Table.{count_of, count_of_such, is_such};
 
 use crate::channel::{Channel, End, Readiness};
@@ -18,7 +19,7 @@ use relay_loop::Outbox;
 use relay_slots::SLOT_COUNT;
 use std::alloc::{AllocError, Global};
 
-/// How many seconds a connection is read behind its last octets.
+/// How many seconds a connection is read after its last octets.
 const DRAIN_SECONDS: u64 = 1;
 
 /// Where so many connections are leaving, one that had no session is closed at once.
@@ -101,7 +102,7 @@ impl<S: Stream + Drop> Leaving<S> {
 
     /// Takes a connection with its last octets, and the number of the place that it goes to, where it goes to a next
     /// hop. The octets are written at once as far as they go. Where 64 are leaving already, or no memory is left, it is
-    /// closed behind that.
+    /// closed after that.
     pub fn take(
         &mut self,
         registry: &S::Registry,
@@ -176,32 +177,42 @@ impl<S: Stream + Drop> Leaving<S> {
         }
     }
 
-    /// Serves each of them once: writes what goes, or reads a block and drops it. It tells how many were closed.
-    pub fn serve(&mut self, now: &Now) -> usize {
-        let mut closed: usize = 0;
-        for number in 0..self.leavers.standing().len() {
-            if holds(self.leavers.standing(), number) && !self.serve_one(number, now) {
-                closed = closed.saturating_add(1);
+    /// Serves each of them once: writes what goes, or reads a block and drops it. Returns how many were closed, since
+    /// their last octets have gone, or failed, or their time is over.
+    pub fn serve(&mut self, now: &Now) -> usize
+        ensures each { (number : ℕ) → StaysOrCloses S.remaining S.contents now.now.tick
+            (slot_at (leavers_of self.old) number) (slot_at (leavers_of self.new) number) }
+        ensures count { result + count_of (leavers_of self.new) ≡ count_of (leavers_of self.old) }
+    {
+        let mut closed = 0;
+        let count = self.leavers.standing().len();
+        for number in 0..count {
+            if self.serve_one(number, now) {
+                closed += 1;
             }
         }
         closed
     }
 
-    /// Serves the connection of a number. It tells whether that stays.
+    /// Serves the connection of a number, if there is one. Returns whether it was closed.
     fn serve_one(&mut self, number: usize, now: &Now) -> bool
-        ensures stays { StaysOrCloses S.remaining S.contents (slot_at (leavers_of self.old) number)
+        ensures stays { StaysOrCloses S.remaining S.contents now.now.tick (slot_at (leavers_of self.old) number)
             (slot_at (leavers_of self.new) number) }
         ensures others { OthersStay (leavers_of self.old) (leavers_of self.new) number }
+        ensures count { (if result then 1 else 0) + count_of (leavers_of self.new) ≡ count_of (leavers_of self.old) }
     {
+        if !holds(self.leavers.standing(), number) {
+            return false;
+        }
         let Some(taken) = self.leavers.take(number) else {
             return false;
         };
         let mut leaver = taken;
-        let stays = leaver.serve(now);
-        if stays {
+        if leaver.serve(now) {
             self.leavers.put(number, leaver);
+            return false;
         }
-        stays
+        true
     }
 
     /// Whether one is left with something to be done at once.
@@ -236,8 +247,10 @@ impl<S: Stream> Leaver<S> {
         ensures one { IsOneOf S.remaining S.contents self.old.place (whole_output S.remaining S.contents self.old)
             self.new }
         ensures shut { self.old.is_shut ≡ false → self.new.is_shut ≡ true
-            → (self.new.outbox ≡ []) × (held_of self.new.channel ≡ []) }
+            → HasGone self.new }
         ensures silent { self.old.is_shut ≡ true → self.new ≡ self.old }
+        ensures time { (self.new.deadline ≡ self.old.deadline)
+            ⊎ (HasGone self.new × (self.new.deadline ≡ read_until now.now.tick)) }
     {
         if self.is_shut {
             return;
@@ -246,42 +259,57 @@ impl<S: Stream> Leaver<S> {
         if count <= self.outbox.as_slice().len() {
             self.outbox.wrote(count);
         }
-        if self.outbox.is_empty() && !self.channel.is_holding() {
+        if self.has_gone() {
             self.channel.shut_down();
             self.is_shut = true;
             self.deadline = now.behind(DRAIN_SECONDS);
         }
     }
 
-    /// Writes what goes, or reads a block and drops it. It tells whether the connection stays.
+    /// Writes what goes, or reads a block and drops it. Returns whether the connection stays.
     fn serve(&mut self, now: &Now) -> bool
-        ensures { IsOneOf S.remaining S.contents self.old.place (whole_output S.remaining S.contents self.old)
-            self.new }
+        ensures goes_on { GoesOn S.remaining S.contents now.now.tick self.old self.new }
+        ensures over { result ≡ false → IsOver now.now.tick self.new }
+        ensures time { result ≡ true → now.now.tick < self.new.deadline }
     {
         self.write(now);
         if self.is_shut {
             self.drain();
         }
-        let is_over = self.is_over();
-        let deadline = self.deadline;
-        !is_over && now.tick < deadline
+        !self.is_over(now.tick)
     }
 
     fn drain(&mut self)
-        ensures { IsOneOf S.remaining S.contents self.old.place (whole_output S.remaining S.contents self.old)
+        ensures one { IsOneOf S.remaining S.contents self.old.place (whole_output S.remaining S.contents self.old)
             self.new }
+        ensures outbox { self.new.outbox ≡ self.old.outbox }
+        ensures held { held_of self.new.channel ≡ held_of self.old.channel }
+        ensures deadline { self.new.deadline ≡ self.old.deadline }
     {
         self.channel.fill();
         let count = self.channel.piece().len();
         self.channel.used(count);
     }
 
-    /// Whether nothing is left to be done: the connection is broken, or all was written and read.
-    fn is_over(&self) -> bool {
+    /// Whether nothing is left to be done: the connection is broken, or all was written and read, or its time is over.
+    fn is_over(&self, tick: u64) -> bool
+        ensures over { result ≡ true → IsOver tick self.now }
+        ensures time { result ≡ false → tick < self.now.deadline }
+    {
+        if self.deadline <= tick {
+            return true;
+        }
         match self.channel.end() {
             Some(End::Broken) => true,
-            Some(End::Input) => self.is_shut,
+            Some(End::Input) => self.has_gone(),
             None => false,
         }
+    }
+
+    /// Whether its last octets have gone, and nothing is held.
+    fn has_gone(&self) -> bool
+        ensures { IsTrue result ↔ HasGone self.now }
+    {
+        self.outbox.is_empty() && !self.channel.is_holding()
     }
 }

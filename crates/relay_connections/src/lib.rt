@@ -10,6 +10,7 @@ mod clocks;
 mod ending;
 mod hearing;
 mod held;
+pub mod laws;
 mod leaving;
 mod refusals;
 mod scripted;

@@ -1,13 +1,15 @@
-//! A turn of the clients: what was read of them is heard by their sessions, all in one call, and what these say to it is
-//! written.
+//! A turn of the clients: what was read of them is heard by their sessions, all in one call, and what these say to it
+//! is written.
 ghost use Rattle.std.specs.List.{zip};
-ghost use Rattle.std.specs.Prelude.{◌≡◌, ◌<◌, List, None, IfErr, IfOk, true};
+ghost use Rattle.std.specs.Prelude.{◌≡◌, ◌<◌, List, None, IfErr, IfOk};
 ghost use Rattle.relay_book.specs.declared.change.Change.{Change};
 ghost use Rattle.relay_slots.specs.Slots.{slot_at};
 ghost use Rattle.relay_slots.specs.declared.slots.TheConstants.{SLOT_COUNT};
+ghost use Rattle.relay_connections.specs.Carried.{Setting};
+ghost use Rattle.relay_connections.specs.Leaving.{ClientsJoin, leavers_of};
 ghost use Rattle.relay_connections.specs.Readiness.{clients_of};
 ghost use Rattle.relay_connections.specs.Served.{ActsOn, AreServed, AreServedBehind, HasAnswered, HasNext};
-ghost use Rattle.relay_connections.specs.Served.{HaveAnswered, LeavesRest, Serves, address_of};
+ghost use Rattle.relay_connections.specs.Served.{HaveAnswered, LeavesRest, Serves, WorksWith, address_of};
 ghost use Rattle.relay_connections.specs.Sessions.{EndsLate};
 
 use crate::client::{Client, Intake, Next};
@@ -18,7 +20,7 @@ use crate::hearing::{Answer, Hearing, Replied, client_at, hear_all};
 use crate::leaving::Leaving;
 use crate::stream::Stream;
 use crate::table::{holds, turned};
-use relay_disk::FileDisk;
+use relay_disk::Disk;
 use relay_log::Log;
 use relay_loop::{Relay, ReplyPiece};
 use relay_node::NodeFault;
@@ -34,17 +36,20 @@ impl<S: Stream + Drop> Clients<S> {
     /// both lead to goes out in one write. Attempts hear the replies of their next hops in the first of these calls,
     /// and what came of them comes back, unless no memory was left for that: then nothing was heard. Only a device
     /// that failed is a fault.
-    pub fn serve(
+    pub fn serve<D: Disk>(
         &mut self,
         registry: &S::Registry,
-        relay: &mut Relay<FileDisk>,
+        relay: &mut Relay<D>,
         replies: &[ReplyPiece<'_>],
         leaving: &mut Leaving<S>,
         now: &Now,
         log: &mut Log<'_, Vec<u8>>,
     ) -> Result<(Intake, Option<Replied>), NodeFault>
-        ensures served { (changes : List Change) → AreServed changes (clients_of self.old) relay.old
-            → IfOk result (λ _. AreServedBehind changes (clients_of self.new) relay.new) }
+        ensures served { (changes : List Change) (setting : Setting)
+            → AreServed D.honest D.words S.remaining S.contents changes setting (clients_of self.old) relay.old
+            → IfOk result (λ _. AreServedBehind D.honest D.words S.remaining S.contents changes setting
+            (clients_of self.new) relay.new
+            × ClientsJoin S.remaining S.contents setting (leavers_of leaving.old) (leavers_of leaving.new)) }
         ensures fault { IfErr result (λ fault. fault ≡ NodeFault.Stopped) }
     {
         let mut intake = Intake {
@@ -74,18 +79,21 @@ impl<S: Stream + Drop> Clients<S> {
         Ok((intake, replied))
     }
 
-    /// Reads of each of them, where nothing is to be written. It tells whether a session has something to hear.
-    fn read_each(
+    /// Reads of each of them, where nothing is to be written. Returns whether a session has something to hear.
+    fn read_each<D: Disk>(
         &mut self,
         registry: &S::Registry,
-        relay: &mut Relay<FileDisk>,
+        relay: &mut Relay<D>,
         leaving: &mut Leaving<S>,
         now: &Now,
         intake: &mut Intake,
         log: &mut Log<'_, Vec<u8>>,
     ) -> Result<bool, NodeFault>
-        ensures served { (changes : List Change) → AreServed changes (clients_of self.old) relay.old
-            → IfOk result (λ _. AreServed changes (clients_of self.new) relay.new) }
+        ensures served { (changes : List Change) (setting : Setting)
+            → AreServed D.honest D.words S.remaining S.contents changes setting (clients_of self.old) relay.old
+            → IfOk result (λ _. AreServed D.honest D.words S.remaining S.contents changes setting
+            (clients_of self.new) relay.new
+            × ClientsJoin S.remaining S.contents setting (leavers_of leaving.old) (leavers_of leaving.new)) }
         ensures fault { IfErr result (λ fault. fault ≡ NodeFault.Stopped) }
     {
         let mut hears = false;
@@ -100,20 +108,23 @@ impl<S: Stream + Drop> Clients<S> {
     }
 
     /// Lets all sessions that have something to hear do so, with the replies of next hops, and writes what they say, or
-    /// `holds` it back where they have more to hear. It tells whether one has, and what came of the replies.
-    fn hear(
+    /// `holds` it back where they have more to hear. Returns whether one has, and the answers to the replies.
+    fn hear<D: Disk>(
         &mut self,
         holds: bool,
         registry: &S::Registry,
-        relay: &mut Relay<FileDisk>,
+        relay: &mut Relay<D>,
         replies: &[ReplyPiece<'_>],
         leaving: &mut Leaving<S>,
         now: &Now,
         intake: &mut Intake,
         log: &mut Log<'_, Vec<u8>>,
     ) -> Result<(bool, Option<Replied>), NodeFault>
-        ensures served { (changes : List Change) → AreServed changes (clients_of self.old) relay.old
-            → IfOk result (λ _. AreServedBehind changes (clients_of self.new) relay.new) }
+        ensures served { (changes : List Change) (setting : Setting)
+            → AreServed D.honest D.words S.remaining S.contents changes setting (clients_of self.old) relay.old
+            → IfOk result (λ _. AreServedBehind D.honest D.words S.remaining S.contents changes setting
+            (clients_of self.new) relay.new
+            × ClientsJoin S.remaining S.contents setting (leavers_of leaving.old) (leavers_of leaving.new)) }
         ensures fault { IfErr result (λ fault. fault ≡ NodeFault.Stopped) }
     {
         let clients = self.clients.standing();
@@ -135,22 +146,25 @@ impl<S: Stream + Drop> Clients<S> {
         Ok((hears, Some(replies)))
     }
 
-    /// Takes what came of the octets of these clients. It tells whether the session of one has more to hear.
-    fn answer_each(
+    /// Takes the answers to octets of these clients. Returns whether the session of one has more to hear.
+    fn answer_each<D: Disk>(
         &mut self,
         sessions: Vec<usize>,
         heard: Vec<Answer>,
         holds: bool,
         registry: &S::Registry,
-        relay: &mut Relay<FileDisk>,
+        relay: &mut Relay<D>,
         leaving: &mut Leaving<S>,
         now: &Now,
         intake: &mut Intake,
         log: &mut Log<'_, Vec<u8>>,
     ) -> Result<bool, NodeFault>
-        ensures served { (changes : List Change)
-            → HaveAnswered changes (clients_of self.old) relay.old (zip sessions.items heard.items)
-            → IfOk result (λ _. AreServed changes (clients_of self.new) relay.new) }
+        ensures served { (changes : List Change) (setting : Setting)
+            → HaveAnswered D.honest D.words S.remaining S.contents changes setting (clients_of self.old) relay.old
+            (zip sessions.items heard.items)
+            → IfOk result (λ _. AreServed D.honest D.words S.remaining S.contents changes setting
+            (clients_of self.new) relay.new
+            × ClientsJoin S.remaining S.contents setting (leavers_of leaving.old) (leavers_of leaving.new)) }
         ensures fault { IfErr result (λ fault. fault ≡ NodeFault.Stopped) }
     {
         let mut hears = false;
@@ -162,12 +176,12 @@ impl<S: Stream + Drop> Clients<S> {
         Ok(hears)
     }
 
-    /// Reads of the client of a number. It tells whether its session has something to hear.
-    fn read_one(
+    /// Reads of the client of a number. Returns whether its session has something to hear.
+    fn read_one<D: Disk>(
         &mut self,
         number: usize,
         registry: &S::Registry,
-        relay: &mut Relay<FileDisk>,
+        relay: &mut Relay<D>,
         leaving: &mut Leaving<S>,
         now: &Now,
         intake: &mut Intake,
@@ -175,9 +189,11 @@ impl<S: Stream + Drop> Clients<S> {
     ) -> Result<bool, NodeFault>
         ensures only { IfOk result (λ _. ActsOn number (clients_of self.old) (clients_of self.new)
             relay.old relay.new) }
-        ensures serves { (changes : List Change) → relay.old.node.records.spool.live ≡ true
-            → Serves changes relay.old number (slot_at (clients_of self.old) number)
-            → IfOk result (λ _. Serves changes relay.new number (slot_at (clients_of self.new) number)) }
+        ensures serves { (changes : List Change) (setting : Setting) → WorksWith setting.setup relay.old
+            → Serves S.remaining S.contents changes setting relay.old number (slot_at (clients_of self.old) number)
+            → IfOk result (λ _. Serves S.remaining S.contents changes setting relay.new number
+            (slot_at (clients_of self.new) number)
+            × ClientsJoin S.remaining S.contents setting (leavers_of leaving.old) (leavers_of leaving.new)) }
         ensures fault { IfErr result (λ fault. fault ≡ NodeFault.Stopped) }
     {
         let Some(taken) = self.clients.take(number) else {
@@ -196,14 +212,14 @@ impl<S: Stream + Drop> Clients<S> {
         Ok(false)
     }
 
-    /// Takes what came of the octets of the client of a number. It tells whether its session has more to hear.
-    fn answer_one(
+    /// Takes the answer to octets of the client of a number. Returns whether its session has more to hear.
+    fn answer_one<D: Disk>(
         &mut self,
         number: usize,
         heard: Answer,
         holds: bool,
         registry: &S::Registry,
-        relay: &mut Relay<FileDisk>,
+        relay: &mut Relay<D>,
         leaving: &mut Leaving<S>,
         now: &Now,
         intake: &mut Intake,
@@ -211,9 +227,12 @@ impl<S: Stream + Drop> Clients<S> {
     ) -> Result<bool, NodeFault>
         ensures only { IfOk result (λ _. ActsOn number (clients_of self.old) (clients_of self.new)
             relay.old relay.new) }
-        ensures serves { (changes : List Change) → relay.old.node.records.spool.live ≡ true
-            → HasAnswered changes relay.old number (slot_at (clients_of self.old) number) heard
-            → IfOk result (λ _. Serves changes relay.new number (slot_at (clients_of self.new) number)) }
+        ensures serves { (changes : List Change) (setting : Setting) → WorksWith setting.setup relay.old
+            → HasAnswered S.remaining S.contents changes setting relay.old number
+            (slot_at (clients_of self.old) number) heard
+            → IfOk result (λ _. Serves S.remaining S.contents changes setting relay.new number
+            (slot_at (clients_of self.new) number)
+            × ClientsJoin S.remaining S.contents setting (leavers_of leaving.old) (leavers_of leaving.new)) }
         ensures fault { IfErr result (λ fault. fault ≡ NodeFault.Stopped) }
     {
         let Some(taken) = self.clients.take(number) else {
@@ -230,13 +249,15 @@ impl<S: Stream + Drop> Clients<S> {
     }
 
     /// Closes the first of those whose sessions have something to hear, since no memory is left.
-    fn give_one_up(
+    fn give_one_up<D: Disk>(
         &mut self,
-        relay: &mut Relay<FileDisk>,
+        relay: &mut Relay<D>,
         intake: &mut Intake,
     ) -> Result<(), NodeFault>
-        ensures served { (changes : List Change) → AreServed changes (clients_of self.old) relay.old
-            → IfOk result (λ _. AreServed changes (clients_of self.new) relay.new) }
+        ensures served { (changes : List Change) (setting : Setting)
+            → AreServed D.honest D.words S.remaining S.contents changes setting (clients_of self.old) relay.old
+            → IfOk result (λ _. AreServed D.honest D.words S.remaining S.contents changes setting
+            (clients_of self.new) relay.new) }
         ensures fault { IfErr result (λ fault. fault ≡ NodeFault.Stopped) }
     {
         let count = self.clients.standing().len();
@@ -255,14 +276,14 @@ impl<S: Stream + Drop> Clients<S> {
         Ok(())
     }
 
-    /// Puts a client where it belongs behind a turn. One that is late is cut off.
-    fn settle(
+    /// Puts a client where it belongs after a turn. One that is late is cut off.
+    fn settle<D: Disk>(
         &mut self,
         number: usize,
         client: Box<Client<S>>,
         next: Next,
         registry: &S::Registry,
-        relay: &mut Relay<FileDisk>,
+        relay: &mut Relay<D>,
         leaving: &mut Leaving<S>,
         now: &Now,
         intake: &mut Intake,
@@ -270,9 +291,13 @@ impl<S: Stream + Drop> Clients<S> {
     ) -> Result<(), NodeFault>
         ensures only { IfOk result (λ _. ActsOn number (clients_of self.old) (clients_of self.new)
             relay.old relay.new) }
-        ensures serves { (changes : List Change) → relay.old.node.records.spool.live ≡ true → number < SLOT_COUNT
-            → slot_at (clients_of self.old) number ≡ None → HasNext changes relay.old number (address_of client.value) next
-            → IfOk result (λ _. Serves changes relay.new number (slot_at (clients_of self.new) number)) }
+        ensures serves { (changes : List Change) (setting : Setting) → WorksWith setting.setup relay.old
+            → number < SLOT_COUNT → slot_at (clients_of self.old) number ≡ None
+            → HasNext S.remaining S.contents changes setting relay.old number (address_of client.value)
+            client.value.channel next
+            → IfOk result (λ _. Serves S.remaining S.contents changes setting relay.new number
+            (slot_at (clients_of self.new) number)
+            × ClientsJoin S.remaining S.contents setting (leavers_of leaving.old) (leavers_of leaving.new)) }
         ensures fault { IfErr result (λ fault. fault ≡ NodeFault.Stopped) }
     {
         let next = self.cut_off_late(number, &client, next, relay, now, log)?;
@@ -287,20 +312,22 @@ impl<S: Stream + Drop> Clients<S> {
         Ok(())
     }
 
-    /// Cuts a client off that stays and is late. It tells what becomes of the client's connection then.
-    fn cut_off_late(
+    /// Cuts a client off that stays and is late. Returns what becomes of the client's connection then.
+    fn cut_off_late<D: Disk>(
         &self,
         number: usize,
         client: &Client<S>,
         next: Next,
-        relay: &mut Relay<FileDisk>,
+        relay: &mut Relay<D>,
         now: &Now,
         log: &mut Log<'_, Vec<u8>>,
     ) -> Result<Next, NodeFault>
         ensures rest { IfOk result (λ _. LeavesRest number relay.old relay.new) }
-        ensures next { (changes : List Change) → relay.old.node.records.spool.live ≡ true
-            → HasNext changes relay.old number (address_of client.now) next
-            → IfOk result (HasNext changes relay.new number (address_of client.now)) }
+        ensures next { (changes : List Change) (setting : Setting) → WorksWith setting.setup relay.old
+            → HasNext S.remaining S.contents changes setting relay.old number (address_of client.now)
+            client.now.channel next
+            → IfOk result (HasNext S.remaining S.contents changes setting relay.new number (address_of client.now)
+            client.now.channel) }
         ensures told { IfOk result (EndsLate relay.old number client.now.channel next) }
         ensures fault { IfErr result (λ fault. fault ≡ NodeFault.Stopped) }
     {

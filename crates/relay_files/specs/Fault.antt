@@ -1,6 +1,6 @@
 -- Why a run ends with status 1: what the faults of the crates below are to a run, and which errors are the system's
 -- own.
-use Rattle.std.specs.Prelude.{◌≡◌, ◌⊎◌, ℤ, pos, Option, Some}
+use Rattle.std.specs.Prelude.{◌≡◌, ◌⊎◌, ℕ, ℤ, pos, List, codes, Option, None, Some}
 use Rattle.relay_spool.specs.declared.fault.SpoolFault.{SpoolFault}
 use Rattle.relay_spool.specs.declared.fault.SpoolFault.TheVariants as spool_fault
 use Rattle.relay_routes.specs.declared.fault.ConfigFault.{ConfigFault}
@@ -15,7 +15,8 @@ use Rattle.relay_links.specs.declared.fault.LinkFault.TheVariants as link_fault
 use Rattle.relay_files.specs.declared.fault.Fault.{Fault}
 use Rattle.relay_files.specs.declared.fault.Fault.TheVariants.{Config, Limit as BadLimit, NotASpool, Damaged, NotEmpty}
 use Rattle.relay_files.specs.declared.fault.Fault.TheVariants.{Full}
-use Rattle.relay_files.specs.declared.fault.Fault.TheVariants.{NoSecond, BadRecord, Device, NoMemory, Input, Output}
+use Rattle.relay_files.specs.declared.fault.Fault.TheVariants.{NoSecond, BadRecord, Device, Locked, NoMemory, Input}
+use Rattle.relay_files.specs.declared.fault.Fault.TheVariants.{Output}
 
 -- want of memory is one fault, wherever it comes
 abbrev pub fault_of_config : ConfigFault → Fault
@@ -65,3 +66,8 @@ fault_of_link link_fault.Device = Device
 abbrev pub IsWantOfSockets : Option ℤ → Type 0
 IsWantOfSockets code =
     (code ≡ Some (pos 24)) ⊎ (code ≡ Some (pos 23)) ⊎ (code ≡ Some (pos 12)) ⊎ (code ≡ Some (pos 105))
+
+-- profile: a spool that another process holds has the text of a file that can't be opened, and this line after it
+abbrev pub advice_on : Fault → Option (List ℕ)
+advice_on Locked = Some (codes "another relayd holds the spool: stop it, or wait until it ends")
+advice_on _ = None

@@ -1,6 +1,7 @@
 ghost use Rattle.std.specs.Prelude.{◌≡◌, ◌≢◌, ◌↔◌, IsTrue};
 ghost use Rattle.std.specs.IoError.{error_kind, raw_os_error};
-ghost use Rattle.relay_files.specs.Fault.{IsWantOfSockets};
+ghost use Rattle.std.specs.Option.{option_copied};
+ghost use Rattle.relay_files.specs.Fault.{IsWantOfSockets, advice_on};
 
 use relay_limits::Limit;
 use relay_links::LinkFault;
@@ -17,7 +18,7 @@ const ENFILE: i32 = 23;
 /// Linux's error where there is no room for a socket's buffers.
 const ENOBUFS: i32 = 105;
 
-/// Why a run ends with status 1. Its text stands behind `relayd: `.
+/// Why a run ends with status 1. Its text follows `relayd: `.
 #[derive(Clone, Copy, Debug, PartialEq, Eq, Error)]
 pub enum Fault {
     /// The configuration file says nothing that can be run by.
@@ -48,6 +49,10 @@ pub enum Fault {
     /// The spool's file can't be opened, or its device failed.
     #[error("device")]
     Device,
+    /// Another process holds the lock of the spool's file. The text is that of a file that can't be opened;
+    /// [`Fault::advice`] says more.
+    #[error("device")]
+    Locked,
     /// Memory ran out.
     #[error("no memory")]
     NoMemory,
@@ -89,6 +94,16 @@ impl Fault {
         ensures other { error_kind error.now ≢ ErrorKind.OutOfMemory → result ≡ Fault.Output }
     {
         Fault::unless_memory(error, Fault::Output)
+    }
+
+    /// Returns what to do about the fault, where that isn't plain from its text: a line to print after it.
+    pub fn advice(self) -> Option<&'static str>
+        ensures { option_copied result ≡ advice_on self }
+    {
+        match self {
+            Fault::Locked => Some("another relayd holds the spool: stop it, or wait until it ends"),
+            _ => None,
+        }
     }
 
     fn unless_memory(error: &io::Error, other: Fault) -> Self

@@ -1,15 +1,17 @@
-//! The files of a relay: its configuration, and the spool that this names, which is made, opened, listed and written
-//! anew; and why a run ends.
+//! The files of a relay: its configuration, and the spool that it names, which is made, opened, listed and compacted;
+//! and why a run ends.
 #![tactic(auto)]
 
 mod compacting;
 mod fault;
 mod line_writer;
 mod listing;
+mod opening;
 mod settings;
 
 pub use compacting::compact;
 pub use fault::{Fault, is_want_of_sockets};
-pub use line_writer::gathering;
+pub use line_writer::{gathering, write_out};
 pub use listing::{init, list};
+pub use opening::open_to_read;
 pub use settings::{configuration, configuration_text, configurations, locked_node};

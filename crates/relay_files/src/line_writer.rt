@@ -1,13 +1,14 @@
-//! A writer that hands a line on whole.
-ghost use Rattle.std.specs.Prelude.{◌≡◌, [], IfErr, IfOk};
+//! Writers of whole lines and of whole texts.
+ghost use Rattle.std.specs.Prelude.{◌≡◌, [], IfErr, IfOk, OnOk};
 ghost use Rattle.std.specs.Io.Buffered.{writer_buffer};
+ghost use Rattle.std.specs.Io.KnownBytes.{Appends};
 
 use crate::fault::Fault;
 use std::alloc::Global;
-use std::io::{BufWriter, Write};
+use std::io::{self, BufWriter, Write};
 
-/// A writer that gathers what it is given up to 8,192 octets, or until it is flushed: a line that is flushed when it
-/// stands is one write, and needs no memory. It fails where memory runs out.
+/// Returns a writer that gathers up to 8,192 octets, or until it is flushed: a line that is flushed once it is complete
+/// is one write, and needs no memory. It fails where memory runs out.
 pub fn gathering<W: Write>(alloc: Global, writer: &mut W) -> Result<BufWriter<&mut W>, Fault>
     ensures empty { IfOk result (λ gathering. writer_buffer gathering ≡ []) }
     ensures err { IfErr result (λ fault. fault ≡ Fault.NoMemory) }
@@ -16,4 +17,22 @@ pub fn gathering<W: Write>(alloc: Global, writer: &mut W) -> Result<BufWriter<&m
         Ok(gathering) => Ok(gathering),
         Err(_) => Err(Fault::NoMemory),
     }
+}
+
+/// Writes octets whole, and flushes the writer.
+pub fn write_out<W: Write>(writer: &mut W, octets: &[u8]) -> Result<(), Fault>
+    ensures { OnOk result (Appends (W.contents writer.old) (W.contents writer.new) octets.now) }
+{
+    match write_and_flush(writer, octets) {
+        Ok(()) => Ok(()),
+        Err(error) => Err(Fault::of_output(&error)),
+    }
+}
+
+fn write_and_flush<W: Write>(writer: &mut W, octets: &[u8]) -> io::Result<()>
+    ensures { OnOk result (Appends (W.contents writer.old) (W.contents writer.new) octets.now) }
+{
+    writer.write_all(octets)?;
+    writer.flush()?;
+    Ok(())
 }

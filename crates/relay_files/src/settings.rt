@@ -1,5 +1,5 @@
-//! What a configuration file says, and the spool that it names.
-ghost use Rattle.std.specs.Prelude.{◌≡◌, ℕ, true, List, IfOk, Ok};
+//! A configuration file, and the spool that it names.
+ghost use Rattle.std.specs.Prelude.{◌≡◌, ◌↔◌, ℕ, false, true, List, IfOk, IsOk, IsTrue, Err, Ok};
 ghost use Rattle.relay_node.specs.Node.{IsIdle};
 ghost use Rattle.relay_routes.specs.Config.{ReadsConfig};
 
@@ -8,8 +8,9 @@ use relay_disk::{Disks, FileDisk};
 use relay_node::Node;
 use relay_routes::Config;
 use std::alloc::{AllocError, Global};
-use std::fs::File;
+use std::fs::{self, File};
 use std::io;
+use std::path::Path;
 use std::rt::Files;
 
 /// The configuration in the file at this path: what a text says. Faults are looked for in this order: the file, its
@@ -113,30 +114,62 @@ fn unless_device(disk: io::Result<FileDisk>) -> Result<FileDisk, Fault> {
     }
 }
 
-/// The files of the spool, both taken for this process alone. Where another process has taken one, that is as if it
-/// couldn't be opened.
+/// The files of the spool, both locked for this process. Where the spool was never made, no file is made either: that
+/// is as if the first were empty.
 fn locked_spool_files<F: Files<File = File>>(
     alloc: Global,
     files: &F,
     config: &Config,
 ) -> Result<Disks<FileDisk>, Fault> {
+    let first = config.spool.as_str();
+    if is_absent(
+        fs::exists(files, first),
+        fs::exists(files, folder_of(first)),
+    ) {
+        return Err(Fault::NotASpool);
+    }
     let disks = spool_files(alloc, files, config)?;
     lock(&disks.first)?;
     lock(&disks.second)?;
     Ok(disks)
 }
 
-/// Takes a file for this process alone.
+/// Whether a file is missing from a folder that is there, by what was found at their paths. Where that can't be known,
+/// opening the file tells why.
+fn is_absent(file: io::Result<bool>, folder: io::Result<bool>) -> bool
+    ensures { IsTrue result ↔ ((file ≡ Ok false) × (folder ≡ Ok true)) }
+{
+    matches!((file, folder), (Ok(false), Ok(true)))
+}
+
+/// The folder of the file at this path.
+fn folder_of(path: &str) -> &str {
+    match Path::new(path).parent() {
+        Some(folder) if !folder.as_str().is_empty() => folder.as_str(),
+        _ => ".",
+    }
+}
+
+/// Locks a file for this process.
 fn lock(disk: &FileDisk) -> Result<(), Fault> {
-    match disk.try_lock() {
+    unless_locked(disk.try_lock())
+}
+
+/// The fault of a lock that wasn't taken: another process holds it, or the file's device failed.
+fn unless_locked(taken: io::Result<bool>) -> Result<(), Fault>
+    ensures taken { IsOk result ↔ (taken ≡ Ok true) }
+    ensures locked { (result ≡ Err Fault.Locked) ↔ (taken ≡ Ok false) }
+{
+    match taken {
         Ok(true) => Ok(()),
-        Ok(false) => Err(Fault::Device),
+        Ok(false) => Err(Fault::Locked),
         Err(error) => Err(Fault::of_device(&error)),
     }
 }
 
-/// The node of the spool that the configuration names, whose files are taken for this process alone. It is live and
-/// idle, by this configuration. Faults are looked for in this order: the files, their locks, what they hold.
+/// The node of the spool that the configuration names, whose files are locked for this process. It is live and idle, by
+/// this configuration. Faults are looked for in this order: the files, their locks ([`Fault::Locked`]), what they hold.
+/// Where the first file is absent, the fault is [`Fault::NotASpool`], and no file is made.
 pub fn locked_node<F: Files<File = File>>(
     alloc: Global,
     files: &F,

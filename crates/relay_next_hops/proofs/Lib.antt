@@ -5,3 +5,6 @@ mod HearingLemmas
 mod OrderLemmas
 mod ListingLemmas
 mod OverdueLemmas
+mod StartLemmas
+mod TurnLemmas
+mod CountLemmas

@@ -1,58 +1,195 @@
--- How the places of a message are gone over, place by place.
-use Rattle.std.proofs.Common.{◌≡◌, ◌⊎◌, inl, inr, ℕ, ◌+◌, ◌<◌, ◌≤◌, suc, Bool, true, false, List, [], ◌∷◌, ◌++◌, length, drop, get_or, refl, sym, ap, subst, ◌∙◌, if◌then◌else◌, add-one, arith}
+-- What is listed stays so, place by place and message by message.
+use Rattle.std.proofs.Common.{◌≡◌, ◌≢◌, ◌⊎◌, inl, inr, ℕ, ◌+◌, ◌<◌, ◌≤◌, zero, suc, eqb, Bool, true, false, List, [], ◌∷◌, ◌++◌, length, drop, MatchOption, Option, None, Some, refl, sym, ap, subst, ◌∙◌, add-one, arith, if◌then◌else◌}
+use Rattle.std.specs.Prelude.{◌||◌, ◌&&◌, bytes_eq, slice_get, slice_index_or, slice_set}
+use Rattle.std.specs.List.{list_any}
+use Rattle.std.specs.Option.{option_map_or}
 use Rattle.std.proofs.lemmas.Bool.{cases_lt, false≢true}
-use Rattle.std.proofs.lemmas.List.{drop_all, drop_more}
+use Rattle.std.proofs.lemmas.Bool.Decides.{eqb_tells}
+use Rattle.std.proofs.lemmas.Slice.Eq.{bytes_eq-Decides}
+use Rattle.std.proofs.lemmas.List.Folds.{list_any-append}
+use Rattle.std.specs.declared.net.socket_addr.SocketAddrV4.{SocketAddrV4}
+use Rattle.relay_envelope.specs.declared.envelope.Recipient.{Recipient}
+use Rattle.relay_routes.specs.Routes.{RouteTable}
+use Rattle.relay_routes.specs.declared.hop.Hop.{Hop as NextHop}
+use Rattle.relay_book.specs.Queue.{message_of}
+use Rattle.relay_book.specs.declared.message.Message.{Message}
 use Rattle.relay_book.specs.declared.message.Place.{Place}
-use Rattle.relay_attempts.specs.Hops.{is_any, is_stranded_at, places_where}
 use Rattle.relay_node.specs.Node.{NodeState}
-use Rattle.relay_next_hops.specs.Lanes.{AreListedFrom, IsListedUnroutable, KeepsListed}
+use Rattle.relay_next_hops.specs.Lanes.{IsListedUnroutable, KeepsCounts, ListsMore, tasks_at}
+use Rattle.relay_next_hops.specs.Listing.{ArePlacesListed, AreListedFrom, HasConnection, IsListed, IsListedFor, IsPlaceListed, KeepsListed, Waits, is_for, route_of}
+use Rattle.relay_next_hops.specs.declared.hop.Hop.{Hop}
+use Rattle.relay_next_hops.specs.declared.lane.Lane.{Lane}
+use Rattle.relay_next_hops.specs.declared.lane.Task.{Task}
 use Rattle.relay_next_hops.specs.declared.lanes.Lanes.{Lanes}
 
-module _ (test : ℕ → Place → Bool) (places : List Place) (index : ℕ) where
-  -- whether a place passes that wasn't gone over yet
-  abbrev pub is_left : ℕ → Bool
-  is_left from = is_any (places_where test from (drop from places))
+-- one that passes stays among more
+pub any_front : {A : Type 0} (p : A → Bool) (xs ys : List A) → list_any p xs ≡ true → list_any p (xs ++ ys) ≡ true
+any_front p xs ys passes = list_any-append p xs ys ∙ ap (λ passes. passes || list_any p ys) passes
 
-  -- the next place passes, or one behind it does
-  pub left_next : (place : Place) → index < length places → place ≡ get_or places index place → is_left index ≡ (if test index place then true else is_left (index + 1))
-  left_next place low is =
-      ap (λ (places : List Place). is_any (places_where test index places)) (drop_more places index place low ∙ ap (λ (first : Place). first ∷ drop (index + 1) places) (sym is))
-      ∙ by (test index place)
-      ∙ ap (λ (next : ℕ). if test index place then true else is_any (places_where test next (drop (index + 1) places))) (sym (add-one index))
-    where
-      by : (passes : Bool) → is_any ((if passes then index ∷ [] else []) ++ places_where test (suc index) (drop (index + 1) places)) ≡ (if passes then true else is_any (places_where test (suc index) (drop (index + 1) places)))
-      by true = refl
-      by false = refl
+or_last : (b : Bool) → (b || true) ≡ true
+or_last true = refl
+or_last false = refl
 
-  -- the next place passes, or one is left behind it
-  pub left_on : (place : Place) → index < length places → place ≡ get_or places index place → is_left index ≡ true → (test index place ≡ true) ⊎ (is_left (index + 1) ≡ true)
-  left_on place low is left = by (test index place) refl (sym (left_next place low is) ∙ left) where
-    by : (passes : Bool) → test index place ≡ passes → (if passes then true else is_left (index + 1)) ≡ true → (test index place ≡ true) ⊎ (is_left (index + 1) ≡ true)
-    by true is left = inl is
-    by false is left = inr left
+-- the last passes
+pub any_last : {A : Type 0} (p : A → Bool) (xs : List A) (x : A) → p x ≡ true → list_any p (xs ++ x ∷ []) ≡ true
+any_last p xs x passes =
+    list_any-append p xs (x ∷ []) ∙ ap (λ passes. list_any p xs || (passes || false)) passes ∙ or_last (list_any p xs)
 
-  -- what is listed stays so, and one that passes is listed
-  pub listed_next : (Old New : Type 0) (place : Place) → index < length places → place ≡ get_or places index place → (Old → New) → (test index place ≡ true → New) → Old ⊎ (is_left index ≡ true) → New ⊎ (is_left (index + 1) ≡ true)
-  listed_next Old New place low is keeps passes (inl listed) = inl (keeps listed)
-  listed_next Old New place low is keeps passes (inr left) = by (left_on place low is left) where
-    by : (test index place ≡ true) ⊎ (is_left (index + 1) ≡ true) → New ⊎ (is_left (index + 1) ≡ true)
-    by (inl passed) = inl (passes passed)
-    by (inr behind) = inr behind
+-- what is found in a list where one was set
+pub get_own : {A : Type 0} (xs : List A) (n : ℕ) (x before : A) → slice_get xs n ≡ Some before → slice_get (slice_set xs n x) n ≡ Some x
+get_own [] n x before there = absurd (cc there)
+get_own (y ∷ ys) zero x before there = refl
+get_own (y ∷ ys) (suc n) x before there = get_own ys n x before there
 
-  -- behind the last place none is left
-  none_left : length places ≤ index → is_left index ≡ false
-  none_left past = ap (λ (places : List Place). is_any (places_where test index places)) (drop_all index places past)
+pub get_beside : {A : Type 0} (xs : List A) (n : ℕ) (x : A) (other : ℕ) → other ≢ n → slice_get (slice_set xs n x) other ≡ slice_get xs other
+get_beside [] n x other apart = refl
+get_beside (y ∷ ys) zero x zero apart = absurd (apart refl)
+get_beside (y ∷ ys) zero x (suc other) apart = refl
+get_beside (y ∷ ys) (suc n) x zero apart = refl
+get_beside (y ∷ ys) (suc n) x (suc other) apart = get_beside ys n x other (λ same. apart (ap suc same))
 
-  -- where one was left, it has passed
-  pub has_passed : {Passed : Type 0} → length places ≤ index → Passed ⊎ (is_left index ≡ true) → Passed
-  has_passed past (inl passed) = passed
-  has_passed past (inr left) = absurd (false≢true (sym (none_left past) ∙ left))
+pub get_at : {A : Type 0} (xs : List A) (n : ℕ) (other : A) → n < length xs → slice_get xs n ≡ Some (slice_index_or xs n other)
+get_at [] n other low = absurd (omega (arith, low))
+get_at (x ∷ xs) zero other low = refl
+get_at (x ∷ xs) (suc n) other low = get_at xs n other (omega (arith, low))
 
--- one more message was looked at
-pub listed_more : {D : Type 0} (node : NodeState D) (first number : ℕ) (old new : Lanes) → AreListedFrom node first number old → KeepsListed old new → (is_stranded_at node.config.routes node.records.queue.messages number ≡ true → IsListedUnroutable number new) → AreListedFrom node first (number + 1) new
-listed_more node first number old new before keeps own other from below stranded = by (cases_lt other number) where
-  by : (other < number) ⊎ (number ≤ other) → IsListedUnroutable other new
-  by (inl low) = keeps other (before other from low stranded)
-  by (inr high) = subst (λ number. IsListedUnroutable number new) same (own (subst (λ number. is_stranded_at node.config.routes node.records.queue.messages number ≡ true) (sym same) stranded)) where
-    same : number ≡ other
-    same = omega (arith, below, high)
+-- what is found at the head of what is left
+pub get_dropped : {A : Type 0} (xs : List A) (n : ℕ) (x : A) (ys : List A) → drop n xs ≡ x ∷ ys → slice_get xs n ≡ Some x
+get_dropped [] zero x ys is = absurd (cc is)
+get_dropped [] (suc n) x ys is = absurd (cc is)
+get_dropped (first ∷ xs) zero x ys is = cc is
+get_dropped (first ∷ xs) (suc n) x ys is = get_dropped xs n x ys is
+
+pub left_dropped : {A : Type 0} (xs : List A) (n : ℕ) (x : A) (ys : List A) → drop n xs ≡ x ∷ ys → ys ≡ drop (suc n) xs
+left_dropped [] zero x ys is = absurd (cc is)
+left_dropped [] (suc n) x ys is = absurd (cc is)
+left_dropped (first ∷ xs) zero x ys is = cc is
+left_dropped (first ∷ xs) (suc n) x ys is = left_dropped xs n x ys is
+
+-- a lane without a task that is added changes no lane's tasks
+pub tasks_pushed : (lanes : List Lane) (lane : Lane) → lane.tasks.items ≡ [] → (number : ℕ) → option_map_or (λ (lane : Lane). lane.tasks.items) (slice_get (lanes ++ lane ∷ []) number) [] ≡ option_map_or (λ (lane : Lane). lane.tasks.items) (slice_get lanes number) []
+tasks_pushed [] lane none zero = none
+tasks_pushed [] lane none (suc number) = refl
+tasks_pushed (first ∷ lanes) lane none zero = refl
+tasks_pushed (first ∷ lanes) lane none (suc number) = tasks_pushed lanes lane none number
+
+-- nor does one that may have been added
+pub tasks_grown : (lanes new : List Lane) (lane : Lane) (ok : Bool) → lane.tasks.items ≡ [] → new ≡ (if ok then lanes ++ lane ∷ [] else lanes) → (number : ℕ) → option_map_or (λ (lane : Lane). lane.tasks.items) (slice_get new number) [] ≡ option_map_or (λ (lane : Lane). lane.tasks.items) (slice_get lanes number) []
+tasks_grown lanes new lane true none is number = ap (λ (lanes : List Lane). option_map_or (λ (lane : Lane). lane.tasks.items) (slice_get lanes number) []) is ∙ tasks_pushed lanes lane none number
+tasks_grown lanes new lane false none is number = ap (λ (lanes : List Lane). option_map_or (λ (lane : Lane). lane.tasks.items) (slice_get lanes number) []) is
+
+-- where a lane has a task more, what waited still does
+pub set_waits : (p : Task → Bool) (lanes : List Lane) (number : ℕ) (before after : Lane) → before ≡ slice_index_or lanes number before → (list_any p before.tasks.items ≡ true → list_any p after.tasks.items ≡ true) → (lane : ℕ) → list_any p (option_map_or (λ (lane : Lane). lane.tasks.items) (slice_get lanes lane) []) ≡ true → list_any p (option_map_or (λ (lane : Lane). lane.tasks.items) (slice_get (slice_set lanes number after) lane) []) ≡ true
+set_waits p [] number before after is more lane waits = waits
+set_waits p (first ∷ lanes) zero before after is more zero waits = more (subst (λ (lane : Lane). list_any p lane.tasks.items ≡ true) (sym is) waits)
+set_waits p (first ∷ lanes) zero before after is more (suc lane) waits = waits
+set_waits p (first ∷ lanes) (suc number) before after is more zero waits = waits
+set_waits p (first ∷ lanes) (suc number) before after is more (suc lane) waits = set_waits p lanes number before after is more lane waits
+
+pub set_own : (p : Task → Bool) (lanes : List Lane) (number : ℕ) (after : Lane) → number < length lanes → list_any p after.tasks.items ≡ true → list_any p (option_map_or (λ (lane : Lane). lane.tasks.items) (slice_get (slice_set lanes number after) number) []) ≡ true
+set_own p [] number after low waits = absurd (omega (arith, low))
+set_own p (first ∷ lanes) zero after low waits = waits
+set_own p (first ∷ lanes) (suc number) after low waits = set_own p lanes number after (omega (arith, low)) waits
+
+-- a task that may have been added leaves those that are there
+pub pushed_more : (p : Task → Bool) (pushed : Bool) (old new : List Task) (task : Task) → (pushed ≡ true → new ≡ old ++ task ∷ []) → (pushed ≡ false → new ≡ old) → list_any p old ≡ true → list_any p new ≡ true
+pushed_more p true old new task added same waits = ap (list_any p) (added refl) ∙ any_front p old (task ∷ []) waits
+pushed_more p false old new task added same waits = ap (list_any p) (same refl) ∙ waits
+
+-- a task is for its own message and next hop
+pub is_own : (message : ℕ) (name hop : List ℕ) → hop ≡ name → is_for message name (record { message = message; hop = hop }) ≡ true
+is_own message name hop same = by (eqb_tells message message) where
+  by : ((eqb message message ≡ true) × (message ≡ message)) ⊎ ((eqb message message ≡ false) × (message ≢ message)) → is_for message name (record { message = message; hop = hop }) ≡ true
+  by (inl own) = ap (λ same. same && bytes_eq hop name) own.0 ∙ ap (λ hop. bytes_eq hop name) same ∙ (bytes_eq-Decides name name).1 refl
+  by (inr apart) = absurd (apart.1 refl)
+
+-- a match on what is there, and on what isn't
+pub match_some : {A : Type 0} (none : Type 0) (some : A → Type 0) (found : Option A) (x : A) → Some x ≡ found → some x → MatchOption found none some
+match_some {A = A} none some found x is holds = subst (λ (found : Option A). MatchOption found none some) is holds
+
+pub match_none : {A : Type 0} (none : Type 0) (some : A → Type 0) (found : Option A) → None ≡ found → none → MatchOption found none some
+match_none {A = A} none some found is holds = subst (λ (found : Option A). MatchOption found none some) is holds
+
+same_found : {A : Type 0} (found : Option A) (one other : A) → found ≡ Some one → found ≡ Some other → one ≡ other
+same_found found one other is also = cc (sym is ∙ also)
+
+-- Lanes keep what they had, and may have more.
+module _ (old new : Lanes) (more : ListsMore old new) (kept : KeepsListed old new) where
+  pub for_kept : (hops : List (Option Hop)) (message : ℕ) (name : List ℕ) (at : SocketAddrV4) → IsListedFor hops message name at old → IsListedFor hops message name at new
+  for_kept hops message name at (inl turn) = inl (turn.0, more.places turn.0 at turn.1, by turn.2) where
+    by : Waits message name old turn.0 ⊎ HasConnection hops message name turn.0 → Waits message name new turn.0 ⊎ HasConnection hops message name turn.0
+    by (inl waits) = inl (kept.tasks message turn.0 name waits)
+    by (inr has) = inr has
+  for_kept hops message name at (inr stale) = inr (kept.stale stale)
+
+  pub place_kept : (hops : List (Option Hop)) (moment : ℕ) (table : RouteTable) (message : ℕ) (recipients : List Recipient) (index : ℕ) (place : Place) → IsPlaceListed hops moment table message recipients index place old → IsPlaceListed hops moment table message recipients index place new
+  place_kept hops moment table message recipients index place listed held = by (route_of table recipients index) (listed held) where
+    by : (hop : Option NextHop) → MatchOption hop (IsListedUnroutable message old) (λ hop. place.due ≤ moment → IsListedFor hops message hop.name hop.at old) → MatchOption hop (IsListedUnroutable message new) (λ hop. place.due ≤ moment → IsListedFor hops message hop.name hop.at new)
+    by None listed = kept.unroutable message listed
+    by (Some hop) listed = λ due. for_kept hops message hop.name hop.at (listed due)
+
+  pub places_kept : (hops : List (Option Hop)) (moment : ℕ) (table : RouteTable) (message : ℕ) (recipients : List Recipient) (places : List Place) (count : ℕ) → ArePlacesListed hops moment table message recipients places count old → ArePlacesListed hops moment table message recipients places count new
+  places_kept hops moment table message recipients places count listed index place low there =
+      place_kept hops moment table message recipients index place (listed index place low there)
+
+  -- one place more is listed
+  pub places_next : (hops : List (Option Hop)) (moment : ℕ) (table : RouteTable) (message : ℕ) (recipients : List Recipient) (places : List Place) (index : ℕ) (place : Place) → slice_get places index ≡ Some place → ArePlacesListed hops moment table message recipients places index old → IsPlaceListed hops moment table message recipients index place new → ArePlacesListed hops moment table message recipients places (index + 1) new
+  places_next hops moment table message recipients places index place is before own other standing below there = by (cases_lt other index) where
+    by : (other < index) ⊎ (index ≤ other) → IsPlaceListed hops moment table message recipients other standing new
+    by (inl low) = place_kept hops moment table message recipients other standing (before other standing low there)
+    by (inr high) = subst (λ (other : ℕ). IsPlaceListed hops moment table message recipients other standing new) same (subst (λ (place : Place). IsPlaceListed hops moment table message recipients index place new) (same_found (slice_get places index) place standing is (ap (slice_get places) same ∙ there)) own) where
+      same : index ≡ other
+      same = omega (arith, below, high)
+
+  pub message_kept : {D : Type 0} (hops : List (Option Hop)) (moment : ℕ) (node : NodeState D) (number : ℕ) → IsListed hops moment node number old → IsListed hops moment node number new
+  message_kept hops moment node number listed = by (message_of node.records.queue.messages number) listed where
+    by : (message : Option Message) → MatchOption message (Unit {0}) (λ message. ArePlacesListed hops moment node.config.routes number message.accept.envelope.recipients message.places (length message.places) old) → MatchOption message (Unit {0}) (λ message. ArePlacesListed hops moment node.config.routes number message.accept.envelope.recipients message.places (length message.places) new)
+    by None listed = tt
+    by (Some message) listed = places_kept hops moment node.config.routes number message.accept.envelope.recipients message.places (length message.places) listed
+
+  -- one message more is listed
+  pub messages_next : {D : Type 0} (hops : List (Option Hop)) (moment : ℕ) (node : NodeState D) (first number : ℕ) → AreListedFrom hops moment node first number old → IsListed hops moment node number new → AreListedFrom hops moment node first (number + 1) new
+  messages_next hops moment node first number before own other from below = by (cases_lt other number) where
+    by : (other < number) ⊎ (number ≤ other) → IsListed hops moment node other new
+    by (inl low) = message_kept hops moment node other (before other from low)
+    by (inr high) = subst (λ (other : ℕ). IsListed hops moment node other new) same own where
+      same : number ≡ other
+      same = omega (arith, below, high)
+
+  -- and one of a walk
+  pub walk_next : {D : Type 0} (hops : List (Option Hop)) (moment : ℕ) (node : NodeState D) (walk : List ℕ) (size number : ℕ) → slice_get walk size ≡ Some number → ((step other : ℕ) → step < size → slice_get walk step ≡ Some other → IsListed hops moment node other old) → IsListed hops moment node number new → (step other : ℕ) → step < size + 1 → slice_get walk step ≡ Some other → IsListed hops moment node other new
+  walk_next hops moment node walk size number is before own step other below there = by (cases_lt step size) where
+    by : (step < size) ⊎ (size ≤ step) → IsListed hops moment node other new
+    by (inl low) = message_kept hops moment node other (before step other low there)
+    by (inr high) = subst (λ (other : ℕ). IsListed hops moment node other new) (same_found (slice_get walk size) number other is (ap (slice_get walk) same ∙ there)) own where
+      same : size ≡ step
+      same = omega (arith, below, high)
+
+-- what two changes after one another keep
+pub more_then : (old between new : Lanes) → ListsMore old between → ListsMore between new → ListsMore old new
+more_then old between new one other = record {
+  places = λ number place there. other.places number place (one.places number place there);
+  runs = λ number. other.runs number ∙ one.runs number;
+}
+
+pub kept_then : (old between new : Lanes) → KeepsListed old between → KeepsListed between new → KeepsListed old new
+kept_then old between new one other = record {
+  tasks = λ message lane name waits. other.tasks message lane name (one.tasks message lane name waits);
+  unroutable = λ message listed. other.unroutable message (one.unroutable message listed);
+  stale = λ stale. other.stale (one.stale stale);
+}
+
+-- lanes whose places and counts stay have no fewer
+pub more_of : (old new : Lanes) → KeepsCounts old new → ListsMore old new
+more_of old new counts = record {
+  places = λ number place there. ap (λ places. slice_get places number) counts.places ∙ there;
+  runs = counts.runs;
+}
+
+-- where all lanes have the same tasks, the same is listed
+pub kept_of : (old new : Lanes) → ((lane : ℕ) → tasks_at new lane ≡ tasks_at old lane) → ((message : ℕ) → IsListedUnroutable message old → IsListedUnroutable message new) → (old.is_stale ≡ true → new.is_stale ≡ true) → KeepsListed old new
+kept_of old new tasks unroutable stale = record {
+  tasks = λ message lane name waits. ap (list_any (is_for message name)) (tasks lane) ∙ waits;
+  unroutable = unroutable;
+  stale = stale;
+}

@@ -1,5 +1,5 @@
 -- The last tasks of a lane, which weren't checked, and the first of them that passes a test.
-use Rattle.std.proofs.Common.{◌≡◌, ℕ, zero, suc, ◌+◌, ◌-◌, ◌<◌, min, cond, Bool, true, false, List, [], ◌∷◌, ◌++◌, length, take, drop, refl, sym, ap, ◌∙◌, arith, find, option_map, option_to_list, slice_get, Option, Some, None, IfSome}
+use Rattle.std.proofs.Common.{◌≡◌, ℕ, zero, suc, ◌+◌, ◌-◌, ◌<◌, ◌≤◌, min, cond, Bool, true, false, List, [], ◌∷◌, ◌++◌, length, length-append, take, drop, refl, sym, ap, ◌∙◌, arith, find, option_map, option_to_list, slice_get, Option, Some, None, IfSome}
 use Rattle.std.proofs.lemmas.List.{drop-drop, drop_min, take-append-drop}
 use Rattle.std.specs.Option.{option_map_or}
 use Rattle.relay_next_hops.specs.declared.lane.Lane.{Lane}
@@ -70,6 +70,21 @@ parts_of (Some lane) = sym (take-append-drop (length lane.tasks.items - lane.unc
 -- the tasks of a lane are those that were checked and those that weren't
 pub tasks_parts : (lanes : Lanes) (number : ℕ) → tasks_at lanes number ≡ checked_at lanes number ++ unchecked_at lanes number
 tasks_parts lanes number = parts_of (slice_get lanes.lanes.items number)
+
+-- of no tasks none passes
+pub find_none : {A : Type 0} (test : A → Bool) (n : ℕ) → find test (take n []) ≡ None
+find_none test zero = refl
+find_none test (suc n) = refl
+
+-- Where one may be taken, there are no more than before.
+pub takes_fewer : (taken : Option Task) (lane : ℕ) (old between new : Lanes) → tasks_at between lane ≡ tasks_at old lane
+    → unchecked_at between lane ≡ option_to_list taken ++ unchecked_at new lane
+    → checked_at new lane ≡ checked_at between lane → length (tasks_at new lane) ≤ length (tasks_at old lane)
+takes_fewer taken lane old between new same split front =
+    let after : length (tasks_at new lane) ≡ length (checked_at new lane) + length (unchecked_at new lane) = ap length (tasks_parts new lane) ∙ length-append (checked_at new lane) (unchecked_at new lane) in
+    let before : length (tasks_at between lane) ≡ length (checked_at between lane) + length (unchecked_at between lane) = ap length (tasks_parts between lane) ∙ length-append (checked_at between lane) (unchecked_at between lane) in
+    let parts : length (unchecked_at between lane) ≡ length (option_to_list taken) + length (unchecked_at new lane) = ap length split ∙ length-append (option_to_list taken) (unchecked_at new lane) in
+    omega (arith, after, before, parts, ap length front, ap length same)
 
 -- Where the first that wasn't checked is taken, the others stay in their order.
 pub takes_out : (taken : Option Task) (lane : ℕ) (old between new : Lanes) → tasks_at between lane ≡ tasks_at old lane

@@ -1,9 +1,9 @@
 -- A lane's count is the number of its connections to next hops that are being made, or whose attempts run.
-use Rattle.std.specs.Prelude.{◌≡◌, ◌+◌, ◌==◌, ℕ, Bool, List, Option, None, if◌then◌else◌}
+use Rattle.std.specs.Prelude.{◌≡◌, ◌+◌, ◌==◌, ℕ, Bool, not, List, Option, None, if◌then◌else◌}
 use Rattle.relay_slots.specs.Slots.{slot_at}
 use Rattle.relay_limits.specs.declared.pace.Pace.{Pace}
 use Rattle.relay_connections.specs.Table.{count_of_such}
-use Rattle.relay_next_hops.specs.Paces.{running_at}
+use Rattle.relay_next_hops.specs.Paces.{has_answered_at, running_at}
 use Rattle.relay_next_hops.specs.declared.hop.Hop.{Hop}
 
 -- the connection is one of this lane
@@ -18,3 +18,11 @@ CountsMatch hops paces = (lane : ℕ) → running_at paces lane ≡ count_of_suc
 abbrev pub CountsMatchWith : Hop → List (Option Hop) → List Pace → Type 0
 CountsMatchWith hop hops paces =
     (lane : ℕ) → running_at paces lane ≡ (if is_in lane hop then 1 else 0) + count_of_such (is_in lane) hops
+
+-- a connection whose next hop hasn't said anything since its place was left alone last, or since the relay began
+abbrev pub is_unanswered : List Pace → Hop → Bool
+is_unanswered paces hop = not (has_answered_at paces hop.aim.lane)
+
+-- how many such connections stand
+abbrev pub unanswered_of : List (Option Hop) → List Pace → ℕ
+unanswered_of hops paces = count_of_such (is_unanswered paces) hops

@@ -1,15 +1,13 @@
 -- What is due at the next hops, by lanes: the place of each, how many of its attempts run, and its tasks.
-use Rattle.std.specs.Prelude.{◌≡◌, ◌⊎◌, ◌==◌, ◌<◌, ◌≤◌, ℕ, true, List, [], ◌∷◌, Option, None, Some, Contains}
+use Rattle.std.specs.Prelude.{◌≡◌, ◌≢◌, ◌⊎◌, ◌==◌, ◌+◌, ℕ, false, true, List, [], ◌∷◌, Option, None, Some, Contains}
 use Rattle.std.specs.Prelude.{option_map, slice_get}
 use Rattle.std.specs.List.{list_any}
 use Rattle.std.specs.Option.{option_map_or}
 use Rattle.std.specs.declared.net.socket_addr.SocketAddrV4.{SocketAddrV4}
-use Rattle.relay_attempts.specs.Hops.{is_stranded_at}
-use Rattle.relay_node.specs.Node.{NodeState}
 use Rattle.relay_next_hops.specs.declared.lane.Task.{Task}
 use Rattle.relay_next_hops.specs.declared.lanes.Lanes.{Lanes}
 use Rattle.relay_next_hops.specs.declared.next_hops.NextHops.{NextHops}
-use Rattle.relay_next_hops.specs.Paces.{RunAsBefore}
+use Rattle.relay_next_hops.specs.Paces.{RunAsBefore, has_answered_at}
 
 -- the tick at which something is due that isn't listed, as the node has told
 abbrev pub next_due_of : NextHops → ℕ
@@ -53,15 +51,6 @@ pub record ListsMore (old new : Lanes) : Type 0 where
 abbrev pub IsListedUnroutable : ℕ → Lanes → Type 0
 IsListedUnroutable message lanes = Contains lanes.unroutable.items message ⊎ (lanes.is_stale ≡ true)
 
--- each message from one number on, and before another, that has a held place without a hop, is listed so
-abbrev pub AreListedFrom : {D : Type 0} → NodeState D → ℕ → ℕ → Lanes → Type 0
-AreListedFrom node first next lanes = (number : ℕ) → first ≤ number → number < next
-    → is_stranded_at node.config.routes node.records.queue.messages number ≡ true → IsListedUnroutable number lanes
-
--- each message that waits to be given up still does, or all that is due is to be listed anew
-abbrev pub KeepsListed : Lanes → Lanes → Type 0
-KeepsListed old new = (message : ℕ) → IsListedUnroutable message old → IsListedUnroutable message new
-
 -- The task is the first of its lane again. Where it isn't, its message is listed anyway, or all that is due is, or
 -- there is no such lane.
 abbrev pub IsPutBack : ℕ → Task → Lanes → Lanes → Type 0
@@ -70,3 +59,24 @@ IsPutBack lane task old new =
     ⊎ (list_any (λ message. message == task.message) old.queued.left ≡ true)
     ⊎ (new.is_stale ≡ true)
     ⊎ (slice_get old.lanes.items lane ≡ None)
+
+-- of so many lanes this is the one that comes so many places after the first, where lane 0 comes after the last
+abbrev pub IsNth : ℕ → ℕ → ℕ → ℕ → Type 0
+IsNth first count step lane = (first + step ≡ lane) ⊎ (first + step ≡ lane + count)
+
+-- A call for one lane: each other keeps its tasks and its pace, no next hop counts as one that has answered which
+-- didn't before, and lanes that were open stay so.
+pub record OnlyLane (lane : ℕ) (old new : Lanes) : Type 0 where
+  pub most : new.most ≡ old.most
+  pub tasks : (other : ℕ) → other ≢ lane → tasks_at new other ≡ tasks_at old other
+  pub paces : (other : ℕ) → other ≢ lane → slice_get new.paces other ≡ slice_get old.paces other
+  pub silent : has_answered_at old.paces lane ≡ false → has_answered_at new.paces lane ≡ false
+  pub opened : new.is_open ≡ old.is_open
+
+-- nothing may be begun that couldn't be before
+abbrev pub closed : Lanes → Lanes
+closed lanes = record lanes { is_open = false }
+
+-- this lane is looked at first, and the next room is kept for one that waits
+abbrev pub turned_to : ℕ → Option ℕ → Lanes → Lanes
+turned_to first waiting lanes = record lanes { first = first; waiting = waiting }

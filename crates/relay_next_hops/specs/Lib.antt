@@ -1,6 +1,7 @@
 pub mod Places
 pub mod Paces
 pub mod Lanes
+pub mod Listing
 pub mod Errands
 pub mod Counts
 pub mod Hearing

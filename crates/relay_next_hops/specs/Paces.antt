@@ -1,5 +1,5 @@
 -- The paces of lanes by number, and how many attempts of each run.
-use Rattle.std.specs.Prelude.{◌≡◌, ◌≢◌, ℕ, ◌+◌, ◌-◌, ◌^◌, min, max, List, Option, None, Some, MatchOption}
+use Rattle.std.specs.Prelude.{◌≡◌, ◌≢◌, ℕ, ◌+◌, ◌-◌, ◌^◌, min, max, Bool, false, List, Option, None, Some, MatchOption}
 use Rattle.std.specs.Prelude.{option_map, slice_get, slice_set}
 use Rattle.std.specs.Option.{option_map_or}
 use Rattle.relay_limits.specs.declared.pace.Pace.{Pace}
@@ -59,3 +59,7 @@ pub record RunsOneMore (lane : ℕ) (old new : List Pace) : Type 0 where
 pub record RunsOneLess (lane : ℕ) (old new : List Pace) : Type 0 where
   pub own : running_at new lane ≡ running_at old lane - 1
   pub others : (number : ℕ) → number ≢ lane → running_at new number ≡ running_at old number
+
+-- the next hop of the lane of a number has said something since its place was left alone last, or since the relay began
+abbrev pub has_answered_at : List Pace → ℕ → Bool
+has_answered_at paces number = option_map_or (λ pace. pace.has_answered) (slice_get paces number) false

@@ -1,5 +1,6 @@
 -- What comes of tasks: connections that begin for them, and messages that are lost or given up without one.
-use Rattle.std.specs.Prelude.{◌≡◌, ◌⊎◌, ℕ, Bool, true, false, List, Option, None, Some}
+use Rattle.std.specs.Prelude.{◌≡◌, ◌⊎◌, ◌<◌, ◌≤◌, ◌+◌, ℕ, Bool, true, false, List, [], ◌∷◌, Option}
+use Rattle.std.specs.Prelude.{None, Some, length}
 use Rattle.relay_disk.specs.File.{file_words}
 use Rattle.relay_disk.specs.declared.file.FileDisk.{FileDisk}
 use Rattle.relay_routes.specs.Routes.{place_of}
@@ -8,15 +9,25 @@ use Rattle.relay_attempts.specs.Outcomes.{EndsUnroutable, RefusesToGiveUp}
 use Rattle.relay_loop.specs.Relay.{RelayState}
 use Rattle.relay_connections.specs.declared.clocks.Now.{Now}
 use Rattle.relay_limits.specs.declared.pace.Pace.{Pace}
+use Rattle.relay_slots.specs.Slots.{IsFull, IsLeastFree}
+use Rattle.relay_slots.specs.declared.slots.TheConstants.{SLOT_COUNT}
+use Rattle.relay_next_hops.specs.Counts.{unanswered_of}
 use Rattle.relay_next_hops.specs.Errands.{PutsFor}
-use Rattle.relay_next_hops.specs.Lanes.{IsPutBack, KeepsCounts, KeepsPlaces}
+use Rattle.relay_next_hops.specs.Lanes.{IsPutBack, KeepsCounts, KeepsPlaces, tasks_at}
 use Rattle.relay_next_hops.specs.Losses.{EndsLost, TakesNote}
-use Rattle.relay_next_hops.specs.Paces.{RunsOneMore}
+use Rattle.relay_next_hops.specs.Spares.{held_of}
+use Rattle.relay_next_hops.specs.Paces.{MayBeginAt, RunsOneMore, has_answered_at}
 use Rattle.relay_next_hops.specs.declared.errand.Aim.{Aim}
 use Rattle.relay_next_hops.specs.declared.errand.Errand.{Errand}
 use Rattle.relay_next_hops.specs.declared.hop.Hop.{Hop}
 use Rattle.relay_next_hops.specs.declared.lane.Task.{Task}
 use Rattle.relay_next_hops.specs.declared.lanes.Lanes.{Lanes}
+use Rattle.relay_next_hops.specs.declared.spares.Spares.{Spares}
+use Rattle.relay_next_hops.specs.declared.starting.TheConstants.{MOST_UNANSWERED}
+use Rattle.relay_next_hops.specs.declared.starting.Begun.{Begun}
+use Rattle.relay_next_hops.specs.declared.starting.Begun.TheVariants.{AllDone, Crowded, HasMore, Full, Wanting}
+use Rattle.relay_next_hops.specs.declared.starting.Step.{Step}
+use Rattle.relay_next_hops.specs.declared.starting.Step.TheVariants.{Left, Back, Over, NoRoom, NoSlot}
 use Rattle.relay_next_hops.specs.declared.starting.Tried.{Tried}
 use Rattle.relay_next_hops.specs.declared.starting.Tried.TheVariants.{Connects, Wants, Fails, HasNoPlace}
 
@@ -75,3 +86,83 @@ IsGivenUp at message old new lanes false =
     ⊎ RefusesToGiveUp file_words old.node.config.host old.node.config.routes message at old.node.records
     new.node.records NotDue
     ⊎ (lanes.is_stale ≡ true)
+
+-- No more may begin for a lane: its pace lets none begin, or no task is left, or its next hop hasn't said anything yet,
+-- as the next hops of so many connections that there is no room for it.
+abbrev pub IsDone : ℕ → List (Option Hop) → Lanes → ℕ → Type 0
+IsDone tick hops lanes lane = MayBeginAt lanes.most tick lanes.paces lane
+    → (tasks_at lanes lane ≡ [])
+    ⊎ ((has_answered_at lanes.paces lane ≡ false) × (MOST_UNANSWERED ≤ unanswered_of hops lanes.paces))
+
+-- As many tasks of a lane have left it as may at a turn. One that is put back for want of a descriptor takes one of
+-- those that were kept.
+abbrev pub IsTriedOut : ℕ → Lanes → Lanes → ℕ → Type 0
+IsTriedOut spares old new lane = length (tasks_at new lane) + SLOT_COUNT ≤ length (tasks_at old lane) + spares
+
+-- a task is put back where the system has no descriptor for its connection
+abbrev pub back_of : Tried → ℕ
+back_of Connects = 0
+back_of Wants = 1
+back_of Fails = 0
+back_of HasNoPlace = 0
+
+-- what has come of the next task of a lane, where it was tried with this end
+abbrev pub step_after : Tried → Step
+step_after Connects = Left
+step_after Wants = Back
+step_after Fails = Left
+step_after HasNoPlace = Left
+
+-- The next task of a lane was tried, since one more may begin, and its next hop has answered or there is room among
+-- those that haven't.
+pub record TriesNext (now : Now) (lane : ℕ) (hops_old hops_new : List (Option Hop)) (lanes_old lanes_new : Lanes)
+    (old new : RelayState FileDisk) (tried : Tried)
+    : Type 0 where
+  pub number : ℕ
+  pub task : Task
+  pub between : Lanes
+  pub may : MayBeginAt lanes_old.most now.tick lanes_old.paces lane
+  pub room : has_answered_at lanes_old.paces lane ≡ false → unanswered_of hops_old lanes_old.paces < MOST_UNANSWERED
+  pub free : IsLeastFree hops_old number
+  pub first : tasks_at lanes_old lane ≡ task ∷ tasks_at between lane
+  pub runs : between.paces ≡ lanes_old.paces
+  pub comes : IsTried now lane number task hops_old hops_new between lanes_new old new tried
+
+-- what has come of the next task of a lane
+abbrev pub IsStep : Now → ℕ → List (Option Hop) → List (Option Hop) → Lanes → Lanes → RelayState FileDisk
+    → RelayState FileDisk → Step → Type 0
+IsStep now lane hops_old hops_new lanes_old lanes_new old new Left =
+    (tried : Tried) × TriesNext now lane hops_old hops_new lanes_old lanes_new old new tried
+    × (length (tasks_at lanes_new lane) + 1 ≤ length (tasks_at lanes_old lane))
+IsStep now lane hops_old hops_new lanes_old lanes_new old new Back =
+    TriesNext now lane hops_old hops_new lanes_old lanes_new old new Wants
+    × (length (tasks_at lanes_new lane) ≤ length (tasks_at lanes_old lane))
+IsStep now lane hops_old hops_new lanes_old lanes_new old new Over = IsDone now.tick hops_new lanes_new lane
+IsStep now lane hops_old hops_new lanes_old lanes_new old new NoRoom = IsDone now.tick hops_new lanes_new lane
+IsStep now lane hops_old hops_new lanes_old lanes_new old new NoSlot = IsFull hops_new
+
+-- Where a step is the last of a lane, this is how far it has come with the lane. A task that was put back takes one of
+-- the descriptors that are kept, of which there were and are so many.
+abbrev pub IsEndOf : Step → ℕ → ℕ → Option Begun → Type 0
+IsEndOf Left old new begun = (begun ≡ None) × (new ≡ old)
+IsEndOf Back old new begun =
+    ((begun ≡ None) × (new + 1 ≡ old)) ⊎ ((begun ≡ Some Wanting) × (old ≡ 0) × (new ≡ 0))
+IsEndOf Over old new begun = (begun ≡ Some AllDone) × (new ≡ old)
+IsEndOf NoRoom old new begun = (begun ≡ Some Crowded) × (new ≡ old)
+IsEndOf NoSlot old new begun = (begun ≡ Some Full) × (new ≡ old)
+
+-- no lane can go on, or another can
+abbrev pub IsStoppedBy : Begun → Bool → Type 0
+IsStoppedBy AllDone stops = stops ≡ false
+IsStoppedBy Crowded stops = stops ≡ false
+IsStoppedBy HasMore stops = stops ≡ false
+IsStoppedBy Full stops = stops ≡ true
+IsStoppedBy Wanting stops = stops ≡ true
+
+-- how far it has come with a lane
+abbrev pub IsBegun : ℕ → ℕ → Lanes → List (Option Hop) → Lanes → Spares → ℕ → Begun → Type 0
+IsBegun tick kept old hops new spares lane AllDone = IsDone tick hops new lane
+IsBegun tick kept old hops new spares lane Crowded = IsDone tick hops new lane
+IsBegun tick kept old hops new spares lane HasMore = IsTriedOut kept old new lane
+IsBegun tick kept old hops new spares lane Full = IsFull hops
+IsBegun tick kept old hops new spares lane Wanting = held_of spares ≡ 0

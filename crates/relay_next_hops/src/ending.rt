@@ -1,6 +1,6 @@
 //! What is left to be done where the connection to a next hop has ended.
 ghost use Rattle.std.specs.Prelude.{◌≡◌, None, Ok, OnOk, false, true};
-ghost use Rattle.relay_next_hops.specs.Lanes.{KeepsCounts, KeepsPlaces};
+ghost use Rattle.relay_next_hops.specs.Lanes.{KeepsCounts, KeepsPlaces, OnlyLane};
 ghost use Rattle.relay_next_hops.specs.Losses.{EndsLost, IsRecordedOrRefused, Loses, LosesAttempt, LosesNot};
 ghost use Rattle.relay_next_hops.specs.Losses.{RefusesLoss, StartsAndLoses, StartsNothing};
 ghost use Rattle.relay_next_hops.specs.Paces.{RunsOneLess};
@@ -115,6 +115,8 @@ pub(crate) fn lose(
 ) -> Result<(), Fault>
     ensures lost { OnOk result (EndsLost now.now errand lanes.old.paces relay.old relay.new) }
     ensures counts { KeepsCounts lanes.old lanes.new }
+    ensures only { OnlyLane errand.aim.lane lanes.old lanes.new }
+    ensures tasks { lanes.new.lanes ≡ lanes.old.lanes }
     ensures config { relay.new.node.config ≡ relay.old.node.config }
 {
     if errand.attempt.is_none() && lanes.is_held(errand.aim.lane, now) {
@@ -183,6 +185,8 @@ fn record_and_note(
 /// Leaves the place of a lane alone.
 fn hold(lanes: &mut Lanes, lane: usize, log: &mut Log<'_, Vec<u8>>, now: &Now)
     ensures counts { KeepsCounts lanes.old lanes.new }
+    ensures only { OnlyLane lane lanes.old lanes.new }
+    ensures tasks { lanes.new.lanes ≡ lanes.old.lanes }
 {
     if let Some(seconds) = lanes.hold(lane, now) {
         if let Some(at) = lanes.place_of(lane) {

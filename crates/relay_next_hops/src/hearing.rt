@@ -6,7 +6,6 @@ ghost use Rattle.relay_next_hops.specs.Errands.{AreAimed};
 ghost use Rattle.relay_next_hops.specs.Hearing.{AnswersEach, AnswersOne, WasLeft, hearing_at, order_of, replies_of};
 ghost use Rattle.relay_next_hops.specs.Hearing.{reply_at, told_of};
 
-use crate::ending::conclude;
 use crate::errand::Course;
 use crate::hops::Hops;
 use crate::lanes::Lanes;
@@ -176,10 +175,15 @@ impl Hops {
             → OnOk result (CountsMatch self.new.hops lanes.new.paces) }
         ensures aimed { (routes : List Route) → AreAimed routes self.old.hops → AreAimed routes self.new.hops }
     {
-        match self.first_hearing() {
-            Some(number) => self.drop_one(number, registry, relay, lanes, leaving, now, log),
-            None => Ok(false),
-        }
+        let Some(number) = self.first_hearing() else {
+            return Ok(false);
+        };
+        let Some(hop) = self.hops.take(number) else {
+            return Ok(false);
+        };
+        let lost = Course::Lost(Loss::Cut);
+        self.settle(number, hop, lost, registry, relay, lanes, leaving, now, log)?;
+        Ok(true)
     }
 
     /// The number of the first connection whose attempt may hear something.
@@ -193,30 +197,6 @@ impl Hops {
             }
         }
         None
-    }
-
-    /// Gives the connection of a number up. It tells whether there was one.
-    fn drop_one(
-        &mut self,
-        number: usize,
-        registry: &Registry,
-        relay: &mut Relay<FileDisk>,
-        lanes: &mut Lanes,
-        leaving: &mut Leaving,
-        now: &Now,
-        log: &mut Log<'_, Vec<u8>>,
-    ) -> Result<bool, Fault>
-        ensures counts { CountsMatch self.old.hops lanes.old.paces
-            → OnOk result (CountsMatch self.new.hops lanes.new.paces) }
-        ensures aimed { (routes : List Route) → AreAimed routes self.old.hops → AreAimed routes self.new.hops }
-    {
-        let Some(hop) = self.hops.take(number) else {
-            return Ok(false);
-        };
-        let ended = hop.into_parts();
-        let lost = Course::Lost(Loss::Cut);
-        conclude(registry, relay, lanes, leaving, ended, lost, now, log)?;
-        Ok(true)
     }
 }
 

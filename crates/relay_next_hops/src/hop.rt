@@ -129,7 +129,10 @@ impl Hop {
     }
 
     /// Whether it is for this message and next hop, in this lane.
-    pub(crate) fn is_for(&self, message: u64, lane: usize, name: &HostName) -> bool {
+    pub(crate) fn is_for(&self, message: u64, lane: usize, name: &HostName) -> bool
+        ensures { result ≡ true → (self.now.message ≡ message) × (self.now.aim.lane ≡ lane)
+            × (self.now.name ≡ name.now) }
+    {
         self.message == message && self.aim.lane == lane && self.name.as_slice() == name.as_slice()
     }
 

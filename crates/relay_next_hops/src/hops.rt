@@ -1,11 +1,12 @@
 ghost use Rattle.std.specs.Prelude.{◌≡◌, ◌<◌, ◌≤◌, ℕ, IfErr, IfOk, List, MatchOption, None, OnOk, length, true};
 ghost use Rattle.relay_routes.specs.Routes.{Route};
 ghost use Rattle.relay_slots.specs.Slots.{AreFree, IsFull, IsLeastFree, OthersStay, slot_at};
-ghost use Rattle.relay_connections.specs.Table.{count_of};
+ghost use Rattle.relay_connections.specs.Table.{count_of, is_such};
 ghost use Rattle.relay_limits.specs.declared.pace.Pace.{Pace};
-ghost use Rattle.relay_next_hops.specs.Counts.{CountsMatch, CountsMatchWith};
+ghost use Rattle.relay_next_hops.specs.Counts.{CountsMatch, CountsMatchWith, is_unanswered, unanswered_of};
 ghost use Rattle.relay_next_hops.specs.Errands.{AreAimed, IsAimed, PutsFor, left_of};
 ghost use Rattle.relay_next_hops.specs.Lanes.{KeepsCounts};
+ghost use Rattle.relay_next_hops.specs.Listing.{HasConnection};
 ghost use Rattle.relay_next_hops.specs.Readiness.{IsLeftHop};
 
 use crate::ending::conclude;
@@ -74,7 +75,9 @@ impl Hops {
     }
 
     /// Whether a connection for this message and next hop, in this lane, is being made or stands.
-    pub(crate) fn is_tried(&self, message: u64, lane: usize, name: &HostName) -> bool {
+    pub(crate) fn is_tried(&self, message: u64, lane: usize, name: &HostName) -> bool
+        ensures { result ≡ true → HasConnection self.now.hops message name.now lane }
+    {
         for slot in self.hops.standing() {
             if let Some(hop) = slot {
                 if hop.is_for(message, lane, name) {
@@ -98,11 +101,17 @@ impl Hops {
     }
 
     /// How many connections stand to next hops that haven't said anything yet.
-    pub(crate) fn count_unanswered(&self, lanes: &Lanes) -> usize {
-        let standing = self.hops.standing().iter().flatten();
-        standing
-            .filter(|hop| !lanes.has_answered(hop.aim.lane))
-            .count()
+    pub(crate) fn count_unanswered(&self, lanes: &Lanes) -> usize
+        ensures { result ≡ unanswered_of self.now.hops lanes.now.paces }
+    {
+        let standing = self.hops.standing();
+        let mut count = 0;
+        for number in 0..standing.len() {
+            if is_unanswered(&standing[number], lanes) {
+                count += 1;
+            }
+        }
+        count
     }
 
     /// Closes all connections.
@@ -294,6 +303,16 @@ fn connecting<N: Net>(
     channel.awaits_writing();
     channel.register(registry, token)?;
     Ok(channel)
+}
+
+/// Whether a connection stands in a slot whose next hop hasn't said anything yet.
+fn is_unanswered(slot: &Option<Hop>, lanes: &Lanes) -> bool
+    ensures { result ≡ is_such (is_unanswered lanes.now.paces) slot.now }
+{
+    match slot {
+        Some(hop) => !lanes.has_answered(hop.aim.lane),
+        None => false,
+    }
 }
 
 /// Takes note where the next hop of a connection has said something for the first time.

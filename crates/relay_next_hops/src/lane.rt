@@ -1,6 +1,8 @@
 //! What is due for the next hops at one place.
-ghost use Rattle.std.specs.Prelude.{◌≡◌, ◌↔◌, ◌-◌, [], ◌∷◌, ◌++◌, IsTrue, None, drop, false, length, option_to_list};
+ghost use Rattle.std.specs.Prelude.{◌≡◌, ◌↔◌, ◌-◌, [], ◌∷◌, ◌++◌, IsTrue, None, drop, false, length, option_to_list, true};
+ghost use Rattle.std.specs.List.{list_any};
 ghost use Rattle.relay_next_hops.specs.Lanes.{first_message};
+ghost use Rattle.relay_next_hops.specs.Listing.{is_for};
 ghost use Rattle.relay_next_hops.specs.Overdue.{checked_of, unchecked_of};
 
 use relay_routes::HostName;
@@ -95,8 +97,10 @@ impl Lane {
         self.tasks.is_empty()
     }
 
-    /// Whether a message is due for this next hop, behind all others.
-    pub(crate) fn ends_with(&self, message: u64, hop: &HostName) -> bool {
+    /// Whether a message is due for this next hop, after all others.
+    pub(crate) fn ends_with(&self, message: u64, hop: &HostName) -> bool
+        ensures { result ≡ true → list_any (is_for message hop.now) self.now.tasks.items ≡ true }
+    {
         self.tasks
             .iter()
             .rev()

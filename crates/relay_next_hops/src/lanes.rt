@@ -1,9 +1,10 @@
 //! What is due, by the places of the next hops, and which of it may be begun.
-ghost use Rattle.std.specs.Prelude.{◌≡◌, ◌≤◌, ◌↔◌, ◌++◌, [], IfSome, IsTrue, None};
-ghost use Rattle.std.specs.Prelude.{option_to_list, slice_get, true};
+ghost use Rattle.std.specs.Prelude.{◌≡◌, ◌+◌, ◌≤◌, ◌↔◌, ◌++◌, [], IfSome, IsTrue, None};
+ghost use Rattle.std.specs.Prelude.{false, length, option_to_list, slice_get, true};
 ghost use Rattle.relay_next_hops.specs.Lanes.{IsNew, IsPutBack, KeepsCounts, KeepsPlaces};
-ghost use Rattle.relay_next_hops.specs.Lanes.{tasks_at};
+ghost use Rattle.relay_next_hops.specs.Lanes.{OnlyLane, closed, tasks_at};
 ghost use Rattle.relay_next_hops.specs.Paces.{HasLane, IsHeldAt, MayBeginAt, RunsOneLess, RunsOneMore};
+ghost use Rattle.relay_next_hops.specs.Paces.{has_answered_at};
 
 use crate::errand::Aim;
 use crate::lane::{Lane, Task};
@@ -56,6 +57,8 @@ pub(crate) struct Lanes {
     pub(crate) next_hold_end: u64,
     /// Which lane is looked at first.
     pub(crate) first: usize,
+    /// The lane that the next room among those is for whose next hops haven't said anything yet, where one waits.
+    pub(crate) waiting: Option<usize>,
 }
 
 // Written out, so that what drops them calls this, and doesn't look into each.
@@ -82,6 +85,7 @@ impl Drop for Lanes {
             next_due: _,
             next_hold_end: _,
             first: _,
+            waiting: _,
         } = self;
     }
 }
@@ -112,6 +116,7 @@ impl Lanes {
             next_due: u64::MAX,
             next_hold_end: u64::MAX,
             first: 0,
+            waiting: None,
         }
     }
 
@@ -123,39 +128,35 @@ impl Lanes {
     }
 
     /// Whether something may be begun that couldn't be before.
-    pub(crate) fn is_open(&self) -> bool {
+    pub(crate) fn is_open(&self) -> bool
+        ensures { result ≡ self.now.is_open }
+    {
         self.is_open
     }
 
     /// All was begun that may be.
     pub(crate) fn close(&mut self)
         ensures counts { KeepsCounts self.old self.new }
+        ensures rest { self.new ≡ closed self.old }
     {
         self.is_open = false;
     }
 
     /// How many lanes there are.
-    pub(crate) fn len(&self) -> usize {
+    pub(crate) fn len(&self) -> usize
+        ensures { result ≡ length self.now.lanes.items }
+    {
         self.lanes.len()
     }
 
-    /// The lane that is looked at so many places behind the first.
-    pub(crate) fn nth(&self, step: usize) -> usize {
-        let number = self.first.saturating_add(step);
-        if number < self.lanes.len() {
-            number
-        } else {
-            number.saturating_sub(self.lanes.len())
-        }
-    }
-
-    /// Begins with the next lane from now on.
-    pub(crate) fn turn(&mut self)
-        ensures counts { KeepsCounts self.old self.new }
+    /// Whether a lane has a task, and one more of its connections may be begun.
+    pub(crate) fn may_begin(&self, number: usize, now: &Now) -> bool
+        ensures { result ≡ false → MayBeginAt self.now.most now.now.tick self.now.paces number
+            → tasks_at self.now number ≡ [] }
     {
-        self.first = self.first.saturating_add(1);
-        if self.lanes.len() <= self.first {
-            self.first = 0;
+        match self.lanes.get(number) {
+            Some(lane) => !lane.is_empty() && self.paces.may_begin(number, self.most, now.tick),
+            None => false,
         }
     }
 
@@ -167,6 +168,7 @@ impl Lanes {
             → tasks_at self.old number ≡ [] }
         ensures counts { KeepsCounts self.old self.new }
         ensures paces { self.new.paces ≡ self.old.paces }
+        ensures only { OnlyLane number self.old self.new }
     {
         if self.paces.may_begin(number, self.most, now.tick) {
             self.pop(number)
@@ -181,6 +183,7 @@ impl Lanes {
         ensures none { result ≡ None → tasks_at self.old number ≡ [] }
         ensures counts { KeepsCounts self.old self.new }
         ensures paces { self.new.paces ≡ self.old.paces }
+        ensures only { OnlyLane number self.old self.new }
     {
         match self.lanes.get_mut(number) {
             Some(lane) => lane.pop(),
@@ -192,6 +195,8 @@ impl Lanes {
     pub(crate) fn put_back(&mut self, number: usize, task: Task)
         ensures back { IsPutBack number task self.old self.new }
         ensures counts { KeepsCounts self.old self.new }
+        ensures only { OnlyLane number self.old self.new }
+        ensures added { length (tasks_at self.new number) ≤ length (tasks_at self.old number) + 1 }
     {
         if self.queued.is_to_come(task.message) {
             return;
@@ -239,6 +244,8 @@ impl Lanes {
     pub(crate) fn began(&mut self, number: usize)
         ensures runs { HasLane self.old.paces number → RunsOneMore number self.old.paces self.new.paces }
         ensures places { KeepsPlaces self.old self.new }
+        ensures only { OnlyLane number self.old self.new }
+        ensures tasks { self.new.lanes ≡ self.old.lanes }
     {
         self.paces.began(number);
     }
@@ -302,7 +309,9 @@ impl Lanes {
     }
 
     /// Whether the next hop of a lane has said something since it was left alone last.
-    pub(crate) fn has_answered(&self, number: usize) -> bool {
+    pub(crate) fn has_answered(&self, number: usize) -> bool
+        ensures { result ≡ has_answered_at self.now.paces number }
+    {
         match self.paces.get(number) {
             Some(pace) => pace.has_answered(),
             None => false,
@@ -335,6 +344,8 @@ impl Lanes {
     /// Leaves the place of a lane alone, and tells for how many seconds, unless it is already.
     pub(crate) fn hold(&mut self, number: usize, now: &Now) -> Option<u64>
         ensures counts { KeepsCounts self.old self.new }
+        ensures only { OnlyLane number self.old self.new }
+        ensures tasks { self.new.lanes ≡ self.old.lanes }
     {
         if self.is_held(number, now) {
             return None;

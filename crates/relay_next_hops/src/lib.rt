@@ -4,6 +4,7 @@
 mod answering;
 mod ending;
 mod errand;
+mod giving_up;
 mod hearing;
 mod hop;
 mod hops;
@@ -19,6 +20,7 @@ mod places;
 mod sorting;
 mod spares;
 mod starting;
+mod turning;
 
 pub use next_hops::NextHops;
 pub use spares::Spares;

@@ -7,8 +7,9 @@
 //! then, but for the next hops to which a connection for it is being made or stands. Before that nothing of it is
 //! listed: what a next hop turns away of it isn't put back. Each that comes later is listed when it comes, and the
 //! walk passes it by.
-ghost use Rattle.std.specs.Prelude.{◌≡◌};
-ghost use Rattle.relay_next_hops.specs.Lanes.{KeepsCounts, KeepsListed, ListsMore};
+ghost use Rattle.std.specs.Prelude.{◌≡◌, ◌<◌, OnOk, true};
+ghost use Rattle.relay_next_hops.specs.Lanes.{KeepsCounts, ListsMore};
+ghost use Rattle.relay_next_hops.specs.Listing.{AreListedFrom, IsListed, KeepsListed, ListsPart};
 
 use crate::hops::Hops;
 use crate::lanes::Lanes;
@@ -44,17 +45,32 @@ impl Lanes {
         relay: &Relay<FileDisk>,
         hops: &Hops,
         now: &Now,
-    ) -> Result<(), Fault> {
+    ) -> Result<(), Fault>
+        ensures more { ListsMore self.old self.new }
+        ensures part { self.old.is_listing ≡ true
+            → OnOk result (ListsPart hops.now.hops now.now.moment relay.now.node self.old self.new) }
+    {
         self.take_new(relay, hops, now);
         self.note_time(hops, now);
         if !self.is_listing && (!self.is_stale || now.tick < self.next_listing) {
             return Ok(());
         }
         let begun = tick_of(clock);
-        if self.is_listing || self.begin_listing(relay, now)? {
-            self.list_part(relay, hops, now);
-        }
+        self.list_more(relay, hops, now)?;
         self.end_part(begun, tick_of(clock));
+        Ok(())
+    }
+
+    /// Lists a part of all that is due, of which it may be the first. Want of memory leaves it for the next time.
+    fn list_more(&mut self, relay: &Relay<FileDisk>, hops: &Hops, now: &Now) -> Result<(), Fault>
+        ensures more { ListsMore self.old self.new }
+        ensures part { self.old.is_listing ≡ true
+            → OnOk result (ListsPart hops.now.hops now.now.moment relay.now.node self.old self.new) }
+    {
+        if !self.is_listing && !self.begin_listing(relay, now)? {
+            return Ok(());
+        }
+        self.list_part(relay, hops, now);
         Ok(())
     }
 
@@ -67,6 +83,9 @@ impl Lanes {
         now: &Now,
     ) -> Result<(), Fault>
         ensures more { ListsMore self.old self.new }
+        ensures kept { KeepsListed self.old self.new }
+        ensures listed { 0 < self.old.next_number → AreListedFrom hops.now.hops now.now.moment relay.now.node
+            self.old.next_number relay.now.node.records.queue.next self.new }
     {
         self.is_fresh = self.take_new(relay, hops, now);
         if self.is_listing || self.is_stale || !self.is_unsure || self.has_waiting(hops) {
@@ -85,6 +104,18 @@ impl Lanes {
     /// Takes note that a minute is over, that something is due, or that a place isn't left alone any more.
     fn note_time(&mut self, hops: &Hops, now: &Now)
         ensures counts { KeepsCounts self.old self.new }
+        ensures kept { KeepsListed self.old self.new }
+        ensures walk { (self.new.queued ≡ self.old.queued) × (self.new.is_listing ≡ self.old.is_listing) }
+    {
+        self.note_due(hops, now);
+        self.note_hold_end(now);
+    }
+
+    /// Takes note that a minute is over, or that something is due.
+    fn note_due(&mut self, hops: &Hops, now: &Now)
+        ensures counts { KeepsCounts self.old self.new }
+        ensures kept { KeepsListed self.old self.new }
+        ensures walk { (self.new.queued ≡ self.old.queued) × (self.new.is_listing ≡ self.old.is_listing) }
     {
         if self.next_minute <= now.tick {
             self.next_minute = now.behind(LISTING_SECONDS);
@@ -97,17 +128,18 @@ impl Lanes {
             self.next_due = u64::MAX;
             self.is_stale = true;
         }
-        if self.next_hold_end <= now.tick {
-            self.is_open = true;
-            self.note_hold_end(now);
-        }
     }
 
-    /// Sets when the next place isn't left alone any more.
+    /// Where a place isn't left alone any more, sets when the next one isn't.
     fn note_hold_end(&mut self, now: &Now)
         ensures counts { KeepsCounts self.old self.new }
+        ensures kept { KeepsListed self.old self.new }
+        ensures walk { (self.new.queued ≡ self.old.queued) × (self.new.is_listing ≡ self.old.is_listing) }
     {
-        self.next_hold_end = self.hold_end(now);
+        if self.next_hold_end <= now.tick {
+            self.is_open = true;
+            self.next_hold_end = self.hold_end(now);
+        }
     }
 
     /// The tick at which the next place isn't left alone any more.
@@ -131,7 +163,7 @@ impl Lanes {
     /// Takes note of when something is due next.
     fn note_next(&mut self, next: Option<Moment>, now: &Now)
         ensures counts { KeepsCounts self.old self.new }
-        ensures listed { KeepsListed self.old self.new }
+        ensures kept { KeepsListed self.old self.new }
     {
         match next {
             Some(moment) if moment.seconds() <= now.moment.seconds() => self.is_stale = true,
@@ -144,22 +176,52 @@ impl Lanes {
     /// change.
     fn take_new(&mut self, relay: &Relay<FileDisk>, hops: &Hops, now: &Now) -> bool
         ensures more { ListsMore self.old self.new }
+        ensures kept { KeepsListed self.old self.new }
+        ensures listed { 0 < self.old.next_number → AreListedFrom hops.now.hops now.now.moment relay.now.node
+            self.old.next_number relay.now.node.records.queue.next self.new }
+        ensures walk { (self.new.queued.left ≡ self.old.queued.left) × (self.new.is_listing ≡ self.old.is_listing) }
     {
         let next_number = relay.node().next_number();
         if self.next_number == next_number {
             return false;
         }
-        // What was there at the start is listed as a whole.
-        if 0 < self.next_number {
-            for number in self.next_number..next_number {
-                if self.add(relay, hops, number, now) && self.queued.push(number).is_err() {
-                    self.knows_all = false;
-                }
-            }
-        }
+        self.take_up_to(relay, hops, next_number, now);
         self.next_number = next_number;
         self.is_unsure = true;
         true
+    }
+
+    /// Lists what is due of the messages that have come since the last time, before this one.
+    fn take_up_to(&mut self, relay: &Relay<FileDisk>, hops: &Hops, next_number: u64, now: &Now)
+        ensures more { ListsMore self.old self.new }
+        ensures kept { KeepsListed self.old self.new }
+        ensures listed { 0 < self.old.next_number → AreListedFrom hops.now.hops now.now.moment relay.now.node
+            self.old.next_number next_number self.new }
+        ensures walk { (self.new.queued.left ≡ self.old.queued.left) × (self.new.is_listing ≡ self.old.is_listing) }
+    {
+        // What was there at the start is listed as a whole.
+        if self.next_number == 0 {
+            return;
+        }
+        for number in self.next_number..next_number {
+            self.take_one(relay, hops, number, now);
+        }
+    }
+
+    /// Lists what is due of a message that has come. Where memory runs out for its number, the next listing asks the
+    /// node.
+    fn take_one(&mut self, relay: &Relay<FileDisk>, hops: &Hops, number: u64, now: &Now)
+        ensures more { ListsMore self.old self.new }
+        ensures kept { KeepsListed self.old self.new }
+        ensures listed { IsListed hops.now.hops now.now.moment relay.now.node number self.new }
+        ensures walk { (self.new.queued.left ≡ self.old.queued.left) × (self.new.is_listing ≡ self.old.is_listing) }
+    {
+        if !self.add(relay, hops, number, now) {
+            return;
+        }
+        if self.queued.push(number).is_err() {
+            self.knows_all = false;
+        }
     }
 
     /// Begins to list all that is due, with nothing listed, and tells whether: not where no memory is left for that.
@@ -220,23 +282,67 @@ impl Lanes {
     /// Lists what is due of the next messages, and lets go of as much that was listed before.
     fn list_part(&mut self, relay: &Relay<FileDisk>, hops: &Hops, now: &Now)
         ensures more { ListsMore self.old self.new }
+        ensures part { ListsPart hops.now.hops now.now.moment relay.now.node self.old self.new }
     {
-        for lane in self.lanes.as_mut_slice() {
+        self.let_go();
+        self.list_next(relay, hops, now);
+    }
+
+    /// Lets go of as much that was listed before.
+    fn let_go(&mut self)
+        ensures counts { KeepsCounts self.old self.new }
+        ensures kept { KeepsListed self.old self.new }
+        ensures walk { self.new.queued ≡ self.old.queued }
+    {
+        for number in 0..self.lanes.len() {
+            self.let_go_of(number);
+        }
+    }
+
+    fn let_go_of(&mut self, number: usize)
+        ensures counts { KeepsCounts self.old self.new }
+        ensures kept { KeepsListed self.old self.new }
+        ensures walk { self.new.queued ≡ self.old.queued }
+    {
+        if let Some(lane) = self.lanes.get_mut(number) {
             lane.let_go(PART_SIZE);
         }
+    }
+
+    /// Lists what is due of the next messages.
+    fn list_next(&mut self, relay: &Relay<FileDisk>, hops: &Hops, now: &Now)
+        ensures more { ListsMore self.old self.new }
+        ensures part { ListsPart hops.now.hops now.now.moment relay.now.node self.old self.new }
+    {
         for _ in 0..PART_SIZE {
             let Some(number) = self.queued.next() else {
                 return;
             };
-            if self.add(relay, hops, number, now) && self.queued.pass(number).is_err() {
-                self.knows_all = false;
-            }
+            self.look_at(relay, hops, number, now);
+        }
+    }
+
+    /// Lists what is due of a message that the walk has come to. Where memory runs out for its number, the next listing
+    /// asks the node.
+    fn look_at(&mut self, relay: &Relay<FileDisk>, hops: &Hops, number: u64, now: &Now)
+        ensures more { ListsMore self.old self.new }
+        ensures kept { KeepsListed self.old self.new }
+        ensures listed { IsListed hops.now.hops now.now.moment relay.now.node number self.new }
+        ensures walk { self.new.queued.left ≡ self.old.queued.left }
+    {
+        if !self.add(relay, hops, number, now) {
+            return;
+        }
+        if self.queued.pass(number).is_err() {
+            self.knows_all = false;
         }
     }
 
     /// Takes note of a part that has lasted from one tick to another, and of whether it was the last.
     fn end_part(&mut self, begun: u64, ended: u64)
         ensures counts { KeepsCounts self.old self.new }
+        ensures kept { KeepsListed self.old self.new }
+        ensures walk { self.new.queued ≡ self.old.queued }
     {
         self.took = self.took.saturating_add(ended.saturating_sub(begun));
         if self.queued.is_over() {

@@ -6,10 +6,11 @@ ghost use Rattle.relay_next_hops.specs.Lanes.{IsNew, next_due_of};
 ghost use Rattle.relay_next_hops.specs.Readiness.{IsLeftHop, hops_of};
 ghost use Rattle.relay_next_hops.specs.Tables.{TablesMatch};
 
+use crate::giving_up::give_up_next;
 use crate::hops::Hops;
 use crate::lanes::Lanes;
 use crate::spares::Spares;
-use crate::starting::{Starts, give_up_next, start_tasks};
+use crate::starting::{Starts, start_tasks};
 use mio::Registry;
 use relay_connections::{Leaving, Now, Readiness, Replied};
 use relay_disk::FileDisk;
@@ -156,7 +157,11 @@ impl NextHops {
         spares: &mut Spares,
         now: &Now,
         log: &mut Log<'_, Vec<u8>>,
-    ) -> Result<bool, Fault> {
+    ) -> Result<bool, Fault>
+        ensures matches { TablesMatch relay.old.node.config.routes.routes self.old
+            → OnOk result (TablesMatch relay.old.node.config.routes.routes self.new) }
+        ensures config { relay.new.node.config ≡ relay.old.node.config }
+    {
         self.lanes.refresh(rt, relay, &self.hops, now)?;
         let gave_up = give_up_next(relay, &mut self.lanes, now, log)?;
         start_tasks(

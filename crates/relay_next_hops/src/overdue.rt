@@ -1,15 +1,15 @@
 //! Mail that is overdue at a place that is left alone: after four hours it counts as lost there without a connection.
 //! Else a message that is one of many would be given up, or be told of as delayed, days late. Each listing of what is
 //! due lets each task of such a place be checked once, whatever stands before it; a bounded number at a turn.
-ghost use Rattle.std.specs.Prelude.{◌≡◌, ◌⊎◌, ◌++◌, [], IfOk, IfSome, None, Ok, Some, drop, false};
-ghost use Rattle.std.specs.Prelude.{option_to_list, true};
+ghost use Rattle.std.specs.Prelude.{◌≡◌, ◌⊎◌, ◌≤◌, ◌++◌, [], IfOk, IfSome, None, Ok, Some, drop, false};
+ghost use Rattle.std.specs.Prelude.{length, option_to_list, true};
 ghost use Rattle.std.specs.List.{list_any};
 ghost use Rattle.std.specs.declared.net.socket_addr.SocketAddrV4.{SocketAddrV4};
 ghost use Rattle.relay_book.specs.Queue.{message_of};
 ghost use Rattle.relay_routes.specs.Routes.{place_of};
 ghost use Rattle.relay_slots.specs.Slots.{IsFull};
 ghost use Rattle.relay_next_hops.specs.declared.lane.Task.{Task};
-ghost use Rattle.relay_next_hops.specs.Lanes.{KeepsCounts, first_message, tasks_at};
+ghost use Rattle.relay_next_hops.specs.Lanes.{KeepsCounts, OnlyLane, first_message, tasks_at};
 ghost use Rattle.relay_next_hops.specs.Overdue.{Checks, LosesTask, TakesOut, checked_at, is_late, is_overdue};
 ghost use Rattle.relay_next_hops.specs.Overdue.{overdue_at, unchecked_at};
 ghost use Rattle.relay_next_hops.specs.Paces.{IsHeldAt};
@@ -49,6 +49,8 @@ pub(crate) fn lose_overdue(
     ensures elsewhere { ¬ IsHeldAt now.now.tick lanes.old.paces lane
         → (result ≡ Ok false) × (lanes.new ≡ lanes.old) × (relay.new ≡ relay.old) }
     ensures counts { KeepsCounts lanes.old lanes.new }
+    ensures only { OnlyLane lane lanes.old lanes.new }
+    ensures fewer { length (tasks_at lanes.new lane) ≤ length (tasks_at lanes.old lane) }
     ensures config { relay.new.node.config ≡ relay.old.node.config }
 {
     // Where 64 attempts run, none can be recorded now.
@@ -80,6 +82,8 @@ fn next_overdue(
     ensures none { result ≡ None → Checks lane checks.old lanes.old lanes.new }
     ensures stops { result ≡ None → (checks.new ≡ 0) ⊎ (unchecked_at lanes.new lane ≡ []) }
     ensures counts { KeepsCounts lanes.old lanes.new }
+    ensures only { OnlyLane lane lanes.old lanes.new }
+    ensures fewer { length (tasks_at lanes.new lane) ≤ length (tasks_at lanes.old lane) }
 {
     while 0 < *checks {
         let Some(message) = lanes.next_unchecked(lane) else {
@@ -110,6 +114,7 @@ impl Lanes {
         ensures tasks { tasks_at self.new number ≡ tasks_at self.old number }
         ensures unchecked { unchecked_at self.new number ≡ drop 1 (unchecked_at self.old number) }
         ensures counts { KeepsCounts self.old self.new }
+        ensures only { OnlyLane number self.old self.new }
     {
         if let Some(lane) = self.lanes.get_mut(number) {
             lane.check();
@@ -122,6 +127,7 @@ impl Lanes {
         ensures checked { checked_at self.new number ≡ checked_at self.old number }
         ensures none { result ≡ None → unchecked_at self.old number ≡ [] }
         ensures counts { KeepsCounts self.old self.new }
+        ensures only { OnlyLane number self.old self.new }
     {
         match self.lanes.get_mut(number) {
             Some(lane) => lane.take_unchecked(),

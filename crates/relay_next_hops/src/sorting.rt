@@ -1,7 +1,8 @@
 //! Where what is due of a message is listed: under the lane of each next hop's place, or as unroutable.
-ghost use Rattle.std.specs.Prelude.{◌≡◌, IfSome, Some, option_copied, option_map, slice_get, true};
-ghost use Rattle.relay_attempts.specs.Hops.{hop_name, hop_of_place, is_stranded};
-ghost use Rattle.relay_next_hops.specs.Lanes.{IsListedUnroutable, KeepsCounts, KeepsListed, ListsMore};
+ghost use Rattle.std.specs.Prelude.{◌≡◌, ℕ, IfSome, Some, length, option_copied, slice_get, true};
+ghost use Rattle.relay_next_hops.specs.Lanes.{IsListedUnroutable, KeepsCounts, ListsMore, tasks_at};
+ghost use Rattle.relay_next_hops.specs.Listing.{ArePlacesListed, HasTurn, IsListed, IsListedFor, IsPlaceListed};
+ghost use Rattle.relay_next_hops.specs.Listing.{KeepsListed, route_of};
 
 use crate::hops::Hops;
 use crate::lane::{Lane, Task};
@@ -9,7 +10,7 @@ use crate::lanes::Lanes;
 use relay_book::Place;
 use relay_connections::Now;
 use relay_disk::FileDisk;
-use relay_envelope::{PathBuf, Recipient};
+use relay_envelope::Recipient;
 use relay_loop::Relay;
 use relay_routes::{Hop, HostName, Table};
 use std::net::SocketAddrV4;
@@ -25,8 +26,9 @@ impl Lanes {
         now: &Now,
     ) -> bool
         ensures more { ListsMore self.old self.new }
-        ensures listed { KeepsListed self.old self.new }
-        ensures walk { self.new.queued ≡ self.old.queued }
+        ensures kept { KeepsListed self.old self.new }
+        ensures listed { IsListed hops.now.hops now.now.moment relay.now.node number self.new }
+        ensures walk { (self.new.queued ≡ self.old.queued) × (self.new.is_listing ≡ self.old.is_listing) }
     {
         let Some(message) = relay.node().message(number) else {
             return false;
@@ -55,11 +57,13 @@ impl Lanes {
         now: &Now,
     )
         ensures more { ListsMore self.old self.new }
-        ensures listed { KeepsListed self.old self.new }
-        ensures walk { self.new.queued ≡ self.old.queued }
+        ensures kept { KeepsListed self.old self.new }
+        ensures listed { ArePlacesListed hops.now.hops now.now.moment routes.now number recipients.now places.now
+            (length places.now) self.new }
+        ensures walk { (self.new.queued ≡ self.old.queued) × (self.new.is_listing ≡ self.old.is_listing) }
     {
         for (index, place) in places.iter().enumerate() {
-            self.add_place(hops, number, routes, recipients, index, place, now);
+            self.add_place(hops, number, routes, recipients, index, *place, now);
         }
     }
 
@@ -72,14 +76,14 @@ impl Lanes {
         routes: &Table,
         recipients: &[Recipient],
         index: usize,
-        place: &Place,
+        place: Place,
         now: &Now,
     )
         ensures more { ListsMore self.old self.new }
-        ensures listed { KeepsListed self.old self.new }
-        ensures walk { self.new.queued ≡ self.old.queued }
-        ensures unroutable { is_stranded routes.now recipients.now index place.now ≡ true
-            → IsListedUnroutable number self.new }
+        ensures kept { KeepsListed self.old self.new }
+        ensures listed { IsPlaceListed hops.now.hops now.now.moment routes.now number recipients.now index place
+            self.new }
+        ensures walk { (self.new.queued ≡ self.old.queued) × (self.new.is_listing ≡ self.old.is_listing) }
     {
         if !place.held {
             return;
@@ -94,12 +98,13 @@ impl Lanes {
         }
     }
 
-    /// Lists a message for a next hop, behind all others, unless it is tried there. If memory runs out, all is listed
+    /// Lists a message for a next hop, after all others, unless it is tried there. If memory runs out, all is listed
     /// anew.
     fn push(&mut self, hops: &Hops, message: u64, at: SocketAddrV4, name: &HostName)
         ensures more { ListsMore self.old self.new }
-        ensures listed { KeepsListed self.old self.new }
-        ensures walk { self.new.queued ≡ self.old.queued }
+        ensures kept { KeepsListed self.old self.new }
+        ensures listed { IsListedFor hops.now.hops message name.now at self.new }
+        ensures walk { (self.new.queued ≡ self.old.queued) × (self.new.is_listing ≡ self.old.is_listing) }
     {
         if !self.sort_in(hops, message, at, name) {
             self.is_stale = true;
@@ -109,8 +114,9 @@ impl Lanes {
     /// Puts a message into the lane of its next hop's place, and returns whether memory was left for it.
     fn sort_in(&mut self, hops: &Hops, message: u64, at: SocketAddrV4, name: &HostName) -> bool
         ensures more { ListsMore self.old self.new }
-        ensures rest { (self.new.unroutable ≡ self.old.unroutable) × (self.new.is_stale ≡ self.old.is_stale)
-            × (self.new.queued ≡ self.old.queued) }
+        ensures kept { KeepsListed self.old self.new }
+        ensures turn { result ≡ true → HasTurn hops.now.hops message name.now at self.new }
+        ensures walk { (self.new.queued ≡ self.old.queued) × (self.new.is_listing ≡ self.old.is_listing) }
     {
         let Some(number) = self.number_of(at) else {
             return false;
@@ -118,7 +124,10 @@ impl Lanes {
         let Some(lane) = self.lanes.get_mut(number) else {
             return false;
         };
-        if lane.ends_with(message, name) || hops.is_tried(message, number, name) {
+        if lane.ends_with(message, name) {
+            return true;
+        }
+        if hops.is_tried(message, number, name) {
             return true;
         }
         let Ok(hop) = name.copy(self.alloc) else {
@@ -131,9 +140,9 @@ impl Lanes {
     /// Lists a message that has places without a hop. If memory runs out, all is listed anew.
     fn push_unroutable(&mut self, message: u64)
         ensures listed { IsListedUnroutable message self.new }
-        ensures others { KeepsListed self.old self.new }
+        ensures kept { KeepsListed self.old self.new }
         ensures more { ListsMore self.old self.new }
-        ensures walk { self.new.queued ≡ self.old.queued }
+        ensures walk { (self.new.queued ≡ self.old.queued) × (self.new.is_listing ≡ self.old.is_listing) }
     {
         match self.unroutable.back() {
             Some(last) if *last == message => {}
@@ -149,8 +158,8 @@ impl Lanes {
     fn number_of(&mut self, at: SocketAddrV4) -> Option<usize>
         ensures place { IfSome result (λ number. slice_get self.new.places number ≡ Some at) }
         ensures more { ListsMore self.old self.new }
-        ensures rest { (self.new.unroutable ≡ self.old.unroutable) × (self.new.is_stale ≡ self.old.is_stale)
-            × (self.new.queued ≡ self.old.queued) }
+        ensures kept { KeepsListed self.old self.new }
+        ensures walk { (self.new.queued ≡ self.old.queued) × (self.new.is_listing ≡ self.old.is_listing) }
     {
         let number = self.places.number_of(at)?;
         let count = number.checked_add(1)?;
@@ -160,8 +169,9 @@ impl Lanes {
     /// Makes lanes until there are so many, and returns whether memory was left for them.
     fn grow(&mut self, count: usize) -> bool
         ensures counts { KeepsCounts self.old self.new }
+        ensures tasks { (lane : ℕ) → tasks_at self.new lane ≡ tasks_at self.old lane }
         ensures rest { (self.new.unroutable ≡ self.old.unroutable) × (self.new.is_stale ≡ self.old.is_stale)
-            × (self.new.queued ≡ self.old.queued) }
+            × (self.new.queued ≡ self.old.queued) × (self.new.is_listing ≡ self.old.is_listing) }
     {
         if self.paces.grow(count).is_err() {
             return false;
@@ -177,18 +187,10 @@ impl Lanes {
 
 /// Returns the next hop of a message's place, if it has one. A place without a recipient has none.
 fn hop_of_place<'a>(routes: &'a Table, recipients: &[Recipient], place: usize) -> Option<&'a Hop>
-    ensures { option_map (λ hop. hop.name) (option_copied result)
-        ≡ hop_of_place routes.now recipients.now place }
+    ensures { option_copied result ≡ route_of routes.now recipients.now place }
 {
     match recipients.get(place) {
-        Some(recipient) => hop_at(routes, &recipient.path),
+        Some(recipient) => routes.hop_at(&recipient.path),
         None => None,
     }
-}
-
-/// Returns the next hop of a path, if it has one.
-fn hop_at<'a>(routes: &'a Table, path: &PathBuf) -> Option<&'a Hop>
-    ensures { option_map (λ hop. hop.name) (option_copied result) ≡ hop_name routes.now path.now }
-{
-    routes.hop_at(path)
 }

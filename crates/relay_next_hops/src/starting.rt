@@ -1,11 +1,15 @@
-//! Attempts that begin, and messages without a next hop that are given up.
-ghost use Rattle.std.specs.Prelude.{◌≡◌, ◌<◌, ◌≤◌, ◌∷◌, [], ℕ, List, IfOk, MatchOption, None, Ok, Some, false};
-ghost use Rattle.std.specs.Prelude.{length, option_map};
+//! Attempts that begin.
+ghost use Rattle.std.specs.Prelude.{◌≡◌, ◌⊎◌, ◌+◌, ◌<◌, ◌≤◌, ℕ, IfOk, MatchOption, None, Ok, OnOk};
+ghost use Rattle.std.specs.Prelude.{Some, length, option_map, true};
 ghost use Rattle.relay_book.specs.Queue.{message_of};
 ghost use Rattle.relay_routes.specs.Routes.{place_of};
-ghost use Rattle.relay_next_hops.specs.Lanes.{KeepsCounts};
+ghost use Rattle.relay_next_hops.specs.Counts.{CountsMatch, unanswered_of};
+ghost use Rattle.relay_next_hops.specs.Errands.{AreAimed};
+ghost use Rattle.relay_next_hops.specs.Lanes.{KeepsCounts, OnlyLane, tasks_at};
 ghost use Rattle.relay_next_hops.specs.Paces.{HasLane};
-ghost use Rattle.relay_next_hops.specs.Starting.{IsGivenUp, IsTried};
+ghost use Rattle.relay_next_hops.specs.Spares.{held_of};
+ghost use Rattle.relay_next_hops.specs.Starting.{IsBegun, IsEndOf, IsStep};
+ghost use Rattle.relay_next_hops.specs.Starting.{IsStoppedBy, IsTried, back_of, step_after};
 
 use crate::ending::lose;
 use crate::errand::{Aim, Errand};
@@ -14,13 +18,13 @@ use crate::lane::Task;
 use crate::lanes::Lanes;
 use crate::overdue::lose_overdue;
 use crate::spares::Spares;
+use crate::turning::{nearer, visited};
 use mio::Registry;
 use relay_connections::Now;
 use relay_disk::FileDisk;
 use relay_files::{Fault, is_want_of_sockets};
-use relay_log::{Attempt, Log, Loss, Why};
+use relay_log::{Log, Loss};
 use relay_loop::Relay;
-use relay_node::{NodeFault, Noted};
 use relay_slots::SLOT_COUNT;
 use relay_trace::Moment;
 use std::net::Net;
@@ -49,6 +53,13 @@ impl Starts {
         Starts { paused_until: 0 }
     }
 
+    /// None is begun for a while, where the system has no descriptor or no memory for another.
+    fn pause(&mut self, begun: Begun, now: &Now) {
+        if begun == Begun::Wanting {
+            self.paused_until = now.tick.saturating_add(WANT_PAUSE);
+        }
+    }
+
     /// The tick at which connections may be begun again that couldn't, or the given one where that is earlier.
     pub(crate) fn next_deadline(&self, hops: &Hops, lanes: &Lanes, otherwise: u64) -> u64
         ensures { result ≤ otherwise }
@@ -61,15 +72,34 @@ impl Starts {
     }
 }
 
-/// What has come of a connection that was to be begun.
+/// How far it has come to begin what is due for a lane.
 #[derive(Clone, Copy, Debug, PartialEq, Eq)]
-enum Begun {
-    /// The next may be begun.
-    GoesOn,
-    /// There is no room for another.
-    IsFull,
+pub(crate) enum Begun {
+    /// No more of it may be begun now.
+    AllDone,
+    /// Its next hop hasn't said anything yet, as the next hops of so many connections that there is no room for it.
+    Crowded,
+    /// So much of it was tried that the others have their turn.
+    HasMore,
+    /// There is no room for another connection.
+    Full,
     /// The system has no descriptor or no memory for another.
-    IsWanting,
+    Wanting,
+}
+
+/// What has come of the next task of a lane.
+#[derive(Clone, Copy, Debug, PartialEq, Eq)]
+pub(crate) enum Step {
+    /// It has left the lane: a connection is being made for it, or none could be.
+    Left,
+    /// The system has no descriptor or no memory for a connection: the task is the lane's next again.
+    Back,
+    /// None may be begun now, or there is none.
+    Over,
+    /// The lane's next hop hasn't said anything yet, as the next hops of so many connections that there is no room.
+    NoRoom,
+    /// There is no room for another connection.
+    NoSlot,
 }
 
 /// What has come of a task for which a connection was to be begun.
@@ -85,7 +115,10 @@ pub(crate) enum Tried {
     HasNoPlace,
 }
 
-/// Begins what is due and may be begun: of each lane in turn, the first lane each time another.
+/// Begins what is due and may be begun: of each lane in turn, the first lane each time another. Next hops that haven't
+/// said anything yet have so many connections together, one each. Where there is no room for another, the next room is
+/// for the first that waits, after the one that had the last: each waits until the others have had one connection, and
+/// no longer.
 pub(crate) fn start_tasks<N: Net>(
     net: &N,
     registry: &Registry,
@@ -96,33 +129,73 @@ pub(crate) fn start_tasks<N: Net>(
     starts: &mut Starts,
     now: &Now,
     log: &mut Log<'_, Vec<u8>>,
-) -> Result<(), Fault> {
+) -> Result<(), Fault>
+    ensures counts { CountsMatch hops.old.hops lanes.old.paces
+        → OnOk result (CountsMatch hops.new.hops lanes.new.paces) }
+    ensures aimed { AreAimed relay.old.node.config.routes.routes hops.old.hops
+        → OnOk result (AreAimed relay.old.node.config.routes.routes hops.new.hops) }
+    ensures config { relay.new.node.config ≡ relay.old.node.config }
+{
     if !lanes.is_open() || now.tick < starts.paused_until {
         return Ok(());
     }
-    lanes.turn();
     let mut checks = MOST_CHECKS;
-    let mut has_lost = false;
-    for step in 0..lanes.len() {
-        let lane = lanes.nth(step);
-        if !has_lost {
-            has_lost = lose_overdue(relay, lanes, lane, &mut checks, now, log)?;
-        }
-        match start_lane(net, registry, relay, hops, lanes, lane, spares, now, log)? {
-            Begun::GoesOn => {}
+    let (mut has_lost, mut has_more) = (false, false);
+    let (first, count, waiting) = (lanes.first(), lanes.len(), lanes.waiting());
+    let mut crowded = None;
+    for step in 0..count.saturating_add(1) {
+        let lane = visited(first, count, waiting, step);
+        has_lost = lose_once(has_lost, relay, lanes, lane, &mut checks, now, log)?;
+        let begun = start_lane(net, registry, relay, hops, lanes, lane, spares, now, log)?;
+        if stops(begun) {
             // What ends next opens the lanes again.
-            Begun::IsFull => return Ok(()),
-            Begun::IsWanting => {
-                starts.paused_until = now.tick.saturating_add(WANT_PAUSE);
-                return Ok(());
-            }
+            lanes.turn(if step == 0 { waiting } else { crowded });
+            starts.pause(begun, now);
+            return Ok(());
+        }
+        has_more = has_more || begun == Begun::HasMore;
+        if begun == Begun::Crowded {
+            crowded = nearer(waiting.unwrap_or(first), count, crowded, lane);
         }
     }
+    lanes.turn(crowded);
     // One is lost at a turn, and so many are checked, and then the others have theirs.
-    if !has_lost && 0 < checks {
+    if !has_lost && !has_more && 0 < checks {
         lanes.close();
     }
     Ok(())
+}
+
+/// Records that an overdue message of a lane is lost, as [`lose_overdue`], unless one was lost already. It tells
+/// whether one was.
+fn lose_once(
+    has_lost: bool,
+    relay: &mut Relay<FileDisk>,
+    lanes: &mut Lanes,
+    lane: usize,
+    checks: &mut usize,
+    now: &Now,
+    log: &mut Log<'_, Vec<u8>>,
+) -> Result<bool, Fault>
+    ensures counts { KeepsCounts lanes.old lanes.new }
+    ensures only { OnlyLane lane lanes.old lanes.new }
+    ensures fewer { length (tasks_at lanes.new lane) ≤ length (tasks_at lanes.old lane) }
+    ensures config { relay.new.node.config ≡ relay.old.node.config }
+{
+    if has_lost {
+        return Ok(true);
+    }
+    lose_overdue(relay, lanes, lane, checks, now, log)
+}
+
+/// Whether no lane can go on.
+fn stops(begun: Begun) -> bool
+    ensures { IsStoppedBy begun result }
+{
+    match begun {
+        Begun::AllDone | Begun::Crowded | Begun::HasMore => false,
+        Begun::Full | Begun::Wanting => true,
+    }
 }
 
 /// Begins what may be begun of a lane. Where the system has no descriptor for a connection, one is given up that was
@@ -137,29 +210,97 @@ fn start_lane<N: Net>(
     spares: &mut Spares,
     now: &Now,
     log: &mut Log<'_, Vec<u8>>,
-) -> Result<Begun, Fault> {
+) -> Result<Begun, Fault>
+    ensures counts { CountsMatch hops.old.hops lanes.old.paces
+        → OnOk result (CountsMatch hops.new.hops lanes.new.paces) }
+    ensures aimed { AreAimed relay.old.node.config.routes.routes hops.old.hops
+        → OnOk result (AreAimed relay.old.node.config.routes.routes hops.new.hops) }
+    ensures only { OnlyLane lane lanes.old lanes.new }
+    ensures more { OnOk result (unanswered_of hops.old.hops lanes.old.paces
+        ≤ unanswered_of hops.new.hops lanes.new.paces) }
+    ensures fewer { OnOk result (length (tasks_at lanes.new lane) ≤ length (tasks_at lanes.old lane)) }
+    ensures kept { held_of spares.new ≤ held_of spares.old }
+    ensures begun { IfOk result (IsBegun now.now.tick (held_of spares.old) lanes.old hops.new.hops lanes.new
+        spares.new lane) }
+    ensures config { relay.new.node.config ≡ relay.old.node.config }
+{
     for _ in 0..SLOT_COUNT {
-        let Some(number) = hops.free() else {
-            return Ok(Begun::IsFull);
-        };
-        if !lanes.has_answered(lane) && MOST_UNANSWERED <= hops.count_unanswered(lanes) {
-            return Ok(Begun::GoesOn);
-        }
-        let Some(task) = lanes.next(lane, now) else {
-            return Ok(Begun::GoesOn);
-        };
-        match start_task(
-            net, registry, relay, hops, lanes, lane, number, task, now, log,
-        )? {
-            Tried::Connects | Tried::Fails | Tried::HasNoPlace => {}
-            Tried::Wants => {
-                if !spares.give() {
-                    return Ok(Begun::IsWanting);
-                }
-            }
+        let step = start_next(net, registry, relay, hops, lanes, lane, now, log)?;
+        if let Some(begun) = end_of(step, spares) {
+            return Ok(begun);
         }
     }
-    Ok(Begun::GoesOn)
+    Ok(Begun::HasMore)
+}
+
+/// Returns how far it has come with a lane, where this was its last step. A task that was put back takes one of the
+/// descriptors that are kept.
+fn end_of(step: Step, spares: &mut Spares) -> Option<Begun>
+    ensures { IsEndOf step (held_of spares.old) (held_of spares.new) result }
+{
+    match step {
+        Step::Left => None,
+        Step::Back => {
+            if spares.give() {
+                None
+            } else {
+                Some(Begun::Wanting)
+            }
+        }
+        Step::Over => Some(Begun::AllDone),
+        Step::NoRoom => Some(Begun::Crowded),
+        Step::NoSlot => Some(Begun::Full),
+    }
+}
+
+/// Begins the next task of a lane, if one may be begun.
+fn start_next<N: Net>(
+    net: &N,
+    registry: &Registry,
+    relay: &mut Relay<FileDisk>,
+    hops: &mut Hops,
+    lanes: &mut Lanes,
+    lane: usize,
+    now: &Now,
+    log: &mut Log<'_, Vec<u8>>,
+) -> Result<Step, Fault>
+    ensures counts { CountsMatch hops.old.hops lanes.old.paces
+        → OnOk result (CountsMatch hops.new.hops lanes.new.paces) }
+    ensures aimed { AreAimed relay.old.node.config.routes.routes hops.old.hops
+        → OnOk result (AreAimed relay.old.node.config.routes.routes hops.new.hops) }
+    ensures only { OnlyLane lane lanes.old lanes.new }
+    ensures more { OnOk result (unanswered_of hops.old.hops lanes.old.paces
+        ≤ unanswered_of hops.new.hops lanes.new.paces) }
+    ensures fewer { OnOk result (length (tasks_at lanes.new lane) ≤ length (tasks_at lanes.old lane)) }
+    ensures came { IfOk result (IsStep now.now lane hops.old.hops hops.new.hops lanes.old lanes.new relay.old
+        relay.new) }
+    ensures config { relay.new.node.config ≡ relay.old.node.config }
+{
+    let Some(number) = hops.free() else {
+        return Ok(Step::NoSlot);
+    };
+    if !lanes.may_begin(lane, now) {
+        return Ok(Step::Over);
+    }
+    if !lanes.has_answered(lane) && MOST_UNANSWERED <= hops.count_unanswered(lanes) {
+        return Ok(Step::NoRoom);
+    }
+    let Some(task) = lanes.next(lane, now) else {
+        return Ok(Step::Over);
+    };
+    let tried = start_task(
+        net, registry, relay, hops, lanes, lane, number, task, now, log,
+    )?;
+    Ok(step_after(tried))
+}
+
+fn step_after(tried: Tried) -> Step
+    ensures { result ≡ step_after tried }
+{
+    match tried {
+        Tried::Connects | Tried::Fails | Tried::HasNoPlace => Step::Left,
+        Tried::Wants => Step::Back,
+    }
 }
 
 /// Begins a connection for a task of a lane, under a number that is free.
@@ -178,6 +319,9 @@ fn start_task<N: Net>(
     ensures tried { number < length hops.old.hops → HasLane lanes.old.paces lane
         → IfOk result (IsTried now.now lane number task hops.old.hops hops.new.hops lanes.old lanes.new
         relay.old relay.new) }
+    ensures only { OnlyLane lane lanes.old lanes.new }
+    ensures fewer { IfOk result (λ tried. length (tasks_at lanes.new lane)
+        ≤ length (tasks_at lanes.old lane) + back_of tried) }
     ensures config { relay.new.node.config ≡ relay.old.node.config }
 {
     let Some(aim) = aim_of(relay, lanes, &task, lane) else {
@@ -250,68 +394,4 @@ pub(crate) fn errand_of(task: Task, aim: Aim) -> Errand
         is_welcome: false,
         deferral: None,
     }
-}
-
-/// Gives up the places of the next message that have no hop, if there is one. It tells whether that was recorded.
-pub(crate) fn give_up_next(
-    relay: &mut Relay<FileDisk>,
-    lanes: &mut Lanes,
-    now: &Now,
-    log: &mut Log<'_, Vec<u8>>,
-) -> Result<bool, Fault>
-    ensures none { lanes.old.unroutable.items ≡ [] → (result ≡ Ok false) × (relay.new ≡ relay.old) }
-    ensures first { (message : ℕ) (rest : List ℕ) → lanes.old.unroutable.items ≡ message ∷ rest
-        → IfOk result (IsGivenUp now.now.moment message relay.old relay.new lanes.new)
-        × (lanes.new.unroutable.items ≡ rest) }
-    ensures counts { KeepsCounts lanes.old lanes.new }
-    ensures config { relay.new.node.config ≡ relay.old.node.config }
-{
-    match lanes.next_unroutable() {
-        Some(message) => give_up(relay, lanes, message, now, log),
-        None => Ok(false),
-    }
-}
-
-/// Gives up the places of a message that have no hop. It tells whether that was recorded. Where it wasn't, and they are
-/// still due, all that is due is listed anew.
-fn give_up(
-    relay: &mut Relay<FileDisk>,
-    lanes: &mut Lanes,
-    message: u64,
-    now: &Now,
-    log: &mut Log<'_, Vec<u8>>,
-) -> Result<bool, Fault>
-    ensures gives_up { IfOk result (IsGivenUp now.now.moment message relay.old relay.new lanes.new) }
-    ensures others { lanes.new.unroutable ≡ lanes.old.unroutable }
-    ensures counts { KeepsCounts lanes.old lanes.new }
-    ensures config { relay.new.node.config ≡ relay.old.node.config }
-{
-    match relay.give_up_unroutable(message, now.moment) {
-        Ok(_) => {
-            let noted = relay.take_noted();
-            tell_given_up(message, noted, log);
-            Ok(true)
-        }
-        Err(NodeFault::Stopped) => Err(Fault::Device),
-        // Nothing of it is to be given up any more.
-        Err(NodeFault::Unknown | NodeFault::NotDue) => Ok(false),
-        // It stays due.
-        Err(_) => {
-            lanes.list_anew();
-            Ok(false)
-        }
-    }
-}
-
-/// Tells that a message was given up that has no hop.
-fn tell_given_up(message: u64, noted: Option<Noted>, log: &mut Log<'_, Vec<u8>>) {
-    log.attempt(&Attempt {
-        number: message,
-        hop: None,
-        at: None,
-        age: None,
-        end: "noroute",
-        why: Why::at_once(None),
-        noted,
-    });
 }

@@ -1,5 +1,4 @@
 use Rattle.std.proofs.Common.{map, refl, subst, ap, ◌∙◌}
-use Rattle.relay_disk.specs.File.{file_words}
 use Rattle.relay_loop.specs.Groups.{ReadsAll}
 use Rattle.relay_connections.specs.Hearing.{session_of}
 use Rattle.relay_connections.proofs.hearing.hear_all.Goals as goal
@@ -14,5 +13,5 @@ returns-in-Ok-read_all-clause-own g c = record {
   heard = refl;
   answered = refl;
   notes = refl;
-  reads = λ changes keeps. subst (λ pieces. ReadsAll ⊥ file_words changes c.args.now.now.moment pieces c.args.replies.now c.args.relay.now c.read_all.new.self c.in-Ok-read_all.field-0) c.as_slice-2.ensures.value (c.in-Ok-read_all.ensures.reads changes keeps);
+  reads = λ changes keeps. subst (λ pieces. ReadsAll g.D.Disk.honest g.D.Disk.words changes c.args.now.now.moment pieces c.args.replies.now c.args.relay.now c.read_all.new.self c.in-Ok-read_all.field-0) c.as_slice-2.ensures.value (c.in-Ok-read_all.ensures.reads changes keeps);
 }

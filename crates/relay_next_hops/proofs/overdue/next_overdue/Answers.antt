@@ -4,7 +4,8 @@ use Rattle.relay_book.specs.Queue.{message_of}
 use Rattle.relay_next_hops.specs.declared.lane.Task.{Task}
 use Rattle.relay_next_hops.specs.Lanes.{first_message}
 use Rattle.relay_next_hops.specs.Overdue.{is_overdue, is_overdue_task, unchecked_at}
-use Rattle.relay_next_hops.proofs.OverdueLemmas.{find_passes, find_stops, first_taken, none_left, takes_out}
+use Rattle.relay_next_hops.proofs.OverdueLemmas.{find_none, find_passes, find_stops, first_taken, none_left, takes_fewer, takes_out}
+use Rattle.relay_next_hops.proofs.TurnLemmas.{only_then}
 use Rattle.relay_next_hops.proofs.overdue.next_overdue.Goals as goal
 
 -- The first that wasn't checked is overdue, and so it is the first that is.
@@ -46,6 +47,7 @@ loop-checks-preserved c =
         places = c.check.ensures.counts.places ∙ c.loop-checks.invariant.counts.places;
         runs = λ number. c.check.ensures.counts.runs number ∙ c.loop-checks.invariant.counts.runs number;
       };
+      only = only_then c.args.lane c.args.lanes.now c.loop-checks.lanes c.check.new.self c.loop-checks.invariant.only c.check.ensures.only;
     }
 
 -- None is left that wasn't checked.
@@ -63,3 +65,17 @@ pub returns-in_default-clause-stops : goal.returns-in_default-clause-stops
 returns-in_default-clause-stops c =
     let message : Task → ℕ = λ task. task.message in
     λ _. inr (none_left message (unchecked_at c.loop-checks.lanes c.args.lane) (sym c.in_default.ensures))
+
+-- One task less is left.
+pub returns-then-is_overdue-clause-fewer : goal.returns-then-is_overdue-clause-fewer
+returns-then-is_overdue-clause-fewer c =
+    takes_fewer c.take_unchecked.result c.args.lane c.args.lanes.now c.loop-checks.lanes c.take_unchecked.new.self
+    c.loop-checks.invariant.tasks c.take_unchecked.ensures.unchecked c.take_unchecked.ensures.checked
+
+-- None is overdue where none is left.
+pub returns-in_default-clause-first : goal.returns-in_default-clause-first
+returns-in_default-clause-first c =
+    let message : Task → ℕ = λ task. task.message in
+    let test = is_overdue_task c.args.now.now.moment c.args.relay.now.node.records.queue.messages in
+    let empty = none_left message (unchecked_at c.loop-checks.lanes c.args.lane) (sym c.in_default.ensures) in
+    sym (ap (λ tasks. find test (take c.loop-checks.checks tasks)) empty ∙ find_none test c.loop-checks.checks) ∙ c.loop-checks.invariant.first

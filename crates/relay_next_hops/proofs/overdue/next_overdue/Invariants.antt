@@ -1,6 +1,6 @@
 -- The tasks that it has passed over aren't overdue, so the first that is overdue is among those that are left.
 use Rattle.std.proofs.Common.{◌≡◌, drop}
-use Rattle.relay_next_hops.specs.Lanes.{KeepsCounts, tasks_at}
+use Rattle.relay_next_hops.specs.Lanes.{KeepsCounts, OnlyLane, tasks_at}
 use Rattle.relay_next_hops.specs.Overdue.{overdue_at, unchecked_at}
 use Rattle.relay_next_hops.proofs.overdue.next_overdue.Given as goal
 
@@ -11,6 +11,7 @@ invariant-loop-checks l = record {
   rest : drop l.checks (unchecked_at l.lanes l.lane) ≡ drop l.initial.checks (unchecked_at l.initial.lanes l.lane);
   tasks : tasks_at l.lanes l.lane ≡ tasks_at l.initial.lanes l.lane;
   counts : KeepsCounts l.initial.lanes l.lanes;
+  only : OnlyLane l.lane l.initial.lanes l.lanes;
 }
 
 abbrev pub decreases-loop-checks : goal.decreases-loop-checks

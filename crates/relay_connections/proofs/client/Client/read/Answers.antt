@@ -20,4 +20,4 @@ returns-in_ok-end_session-in-Some-clause-read g c =
     (sym same)
     (read_end g.S.Stream.remaining g.S.Stream.contents c.args.session c.args.relay.now c.flush.new.relay c.end_session.new.relay c.args.self.now.channel c.flush.new.self.channel after c.in_ok-end_session-in-Some.field-0
     c.flush.ensures.hands c.fill.ensures.output c.in_ok-end_session-in-Some.ensures.ends c.in_ok-end_session-in-Some.ensures.next (ap unread_of (sym same) ∙ unread)
-    (some_is_not_none (ap (λ channel. channel.end) (sym same) ∙ over)) c.fill.ensures.end)
+    (some_is_not_none (ap (λ channel. channel.end) (sym same) ∙ over)) c.fill.ensures.end c.fill.ensures.input)

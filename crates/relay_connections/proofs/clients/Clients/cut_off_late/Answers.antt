@@ -1,6 +1,22 @@
 -- A client that is late is told so where nothing waits, and nothing is held.
-use Rattle.relay_connections.proofs.NextLemmas.{nothing_held, told_late}
+use Rattle.std.proofs.Common.{subst}
+use Rattle.relay_connections.specs.Served.{HasNext, address_of}
+use Rattle.relay_connections.proofs.NextLemmas.{cut_late, gone_late, nothing_held, told_late}
 use Rattle.relay_connections.proofs.clients.Clients.cut_off_late.Goals as goal
+
+pub returns-then-is_holding-clause-next : goal.returns-then-is_holding-clause-next
+returns-then-is_holding-clause-next g c = λ changes setting works has.
+    let client = c.args.client.now in
+    let session = subst (λ next. HasNext g.S.Stream.remaining g.S.Stream.contents changes setting c.args.relay.now c.args.number (address_of client) client.channel next) c.in-Stays.is has in
+    gone_late g.S.Stream.remaining g.S.Stream.contents changes setting c.args.relay.now c.drop_session.new.relay c.args.number (address_of client) client.channel works session
+    c.drop_session.ensures.freed c.drop_session.result c.drop_session.ensures.next
+
+pub returns-else-is_holding-clause-next : goal.returns-else-is_holding-clause-next
+returns-else-is_holding-clause-next g c = λ changes setting works has.
+    let client = c.args.client.now in
+    let session = subst (λ next. HasNext g.S.Stream.remaining g.S.Stream.contents changes setting c.args.relay.now c.args.number (address_of client) client.channel next) c.in-Stays.is has in
+    cut_late g.S.Stream.remaining g.S.Stream.contents changes setting c.args.relay.now c.cut_off-else-is_holding.new.relay c.args.number (address_of client) client.channel works session
+    c.cut_off-else-is_holding.ensures.freed c.cut_off-else-is_holding.result c.cut_off-else-is_holding.ensures.next
 
 pub returns-else-is_holding-clause-told : goal.returns-else-is_holding-clause-told
 returns-else-is_holding-clause-told g c =

@@ -1,14 +1,23 @@
 -- What was heard is answered, each client in turn.
-use Rattle.std.proofs.Common.{◌++◌}
+use Rattle.std.proofs.Common.{rules, ◌≡◌, ◌++◌, sym, subst}
+use Rattle.relay_connections.specs.Readiness.{clients_of}
+use Rattle.relay_connections.specs.Served.{AreServed}
 use Rattle.relay_connections.proofs.AnsweredLemmas.{hears_answered}
+use Rattle.relay_connections.proofs.CarriedLemmas.{none_join}
+use Rattle.relay_connections.proofs.ServedLemmas.{served_at_once}
 use Rattle.relay_connections.proofs.clients.Clients.hear.Goals as goal
 
+pub returns-in_default-clause-served : goal.returns-in_default-clause-served
+returns-in_default-clause-served g c = λ changes setting served.
+    let same : c.hear_all.new.relay ≡ c.args.relay.now = search rules in
+    let still = subst (λ relay. AreServed g.D.Disk.honest g.D.Disk.words g.S.Stream.remaining g.S.Stream.contents changes setting (clients_of c.args.self.now) relay) (sym same) served in
+    let later = c.in_ok-give_one_up.ensures.served changes setting still in
+    (served_at_once g.D.Disk.honest g.D.Disk.words g.S.Stream.remaining g.S.Stream.contents changes setting c.give_one_up.new.self.clients c.give_one_up.new.relay later, none_join g.S.Stream.remaining g.S.Stream.contents setting c.args.leaving.now.leavers)
+
 pub returns-clause-served : goal.returns-clause-served
-returns-clause-served g c = λ changes served.
+returns-clause-served g c = λ changes setting served.
     let own = rw c.in-Some.is at c.in_ok-sessions.ensures.own in
-    let behind = hears_answered changes c.args.self.now.clients c.standing-clients.result.now c.turned-first.result c.args.replies.now c.args.now.now.moment c.args.relay.now c.hear_all.new.relay c.in-Some.field-0
+    let behind = hears_answered g.D.Disk.honest g.D.Disk.words g.S.Stream.remaining g.S.Stream.contents changes setting c.args.self.now.clients c.standing-clients.result.now c.turned-first.result c.args.replies.now c.args.now.now.moment c.args.relay.now c.hear_all.new.relay c.in-Some.field-0
     c.standing-clients.ensures.slots served own in
-    record {
-      added = behind.pending;
-      served = c.in_ok-hears.ensures.served (changes ++ behind.pending) behind.answered;
-    }
+    let answered = c.in_ok-hears.ensures.served (changes ++ behind.pending) setting behind.answered in
+    (record { added = behind.pending; served = answered.0 }, answered.1)

@@ -1,26 +1,43 @@
--- All are served behind each call of the turn.
+-- All are served after each call of the turn.
 use Rattle.std.proofs.Common.{◌++◌, sym, subst}
+use Rattle.relay_connections.specs.Leaving.{ClientsJoin, leavers_of}
 use Rattle.relay_connections.specs.Readiness.{clients_of}
 use Rattle.relay_connections.specs.Served.{AreServedBehind}
-use Rattle.relay_connections.proofs.ServedLemmas.{served_behind}
+use Rattle.relay_connections.proofs.CarriedLemmas.{more_join}
+use Rattle.relay_connections.proofs.ServedLemmas.{served_at_once, served_behind}
 use Rattle.relay_connections.proofs.clients.Clients.serve.Goals as goal
 use Rattle.relay_connections.proofs.clients.Clients.serve.Goals.{then-hears+in_ok-_none+in-Some-1, then-hears+in_ok-_none+in-None-1, else-hears}
 
+pub returns-then-is_empty-clause-served : goal.returns-then-is_empty-clause-served
+returns-then-is_empty-clause-served g c = λ changes setting served.
+    let first = c.in_ok-hears.ensures.served changes setting served in
+    (served_at_once g.D.Disk.honest g.D.Disk.words g.S.Stream.remaining g.S.Stream.contents changes setting c.read_each.new.self.clients c.read_each.new.relay first.0, first.1)
+
 pub returns-clause-served : goal.returns-clause-served
-returns-clause-served g c = λ changes served.
-    let one = c.in_ok-hears-2.ensures.served changes (c.in_ok-hears.ensures.served changes served) in
+returns-clause-served g c = λ changes setting served.
+    let first = c.in_ok-hears.ensures.served changes setting served in
+    let second = c.in_ok-hears-2.ensures.served changes setting first.0 in
+    let joined = more_join g.S.Stream.remaining g.S.Stream.contents setting c.args.leaving.now.leavers c.read_each.new.leaving.leavers c.hear.new.leaving.leavers first.1 second.1 in
     elim c.if-hears.branch [
       | then-hears+in_ok-_none+in-Some-1 w ↦
-          subst (λ self. AreServedBehind changes (clients_of self) c.if-hears.relay) (sym w.self-is)
-          (subst (λ relay. AreServedBehind changes (clients_of w.hear-then-hears.new.self) relay) (sym w.relay-is)
-          (served_behind changes one.added w.hear-then-hears.new.self.clients w.hear-then-hears.new.relay
-          (w.in_ok-_none.ensures.served (changes ++ one.added) one.served)))
+          let third = w.in_ok-_none.ensures.served (changes ++ second.0.added) setting second.0.served in (
+            subst (λ self. AreServedBehind g.D.Disk.honest g.D.Disk.words g.S.Stream.remaining g.S.Stream.contents changes setting (clients_of self) c.if-hears.relay) (sym w.self-is)
+                (subst (λ relay. AreServedBehind g.D.Disk.honest g.D.Disk.words g.S.Stream.remaining g.S.Stream.contents changes setting (clients_of w.hear-then-hears.new.self) relay) (sym w.relay-is)
+                (served_behind g.D.Disk.honest g.D.Disk.words g.S.Stream.remaining g.S.Stream.contents changes setting second.0.added w.hear-then-hears.new.self.clients w.hear-then-hears.new.relay third.0)),
+            subst (λ leaving. ClientsJoin g.S.Stream.remaining g.S.Stream.contents setting c.args.leaving.now.leavers (leavers_of leaving)) (sym w.leaving-is)
+                (more_join g.S.Stream.remaining g.S.Stream.contents setting c.args.leaving.now.leavers c.hear.new.leaving.leavers w.hear-then-hears.new.leaving.leavers joined third.1),
+          )
       | then-hears+in_ok-_none+in-None-1 w ↦
-          subst (λ self. AreServedBehind changes (clients_of self) c.if-hears.relay) (sym w.self-is)
-          (subst (λ relay. AreServedBehind changes (clients_of w.hear-then-hears.new.self) relay) (sym w.relay-is)
-          (served_behind changes one.added w.hear-then-hears.new.self.clients w.hear-then-hears.new.relay
-          (w.in_ok-_none.ensures.served (changes ++ one.added) one.served)))
-      | else-hears w ↦
-          subst (λ self. AreServedBehind changes (clients_of self) c.if-hears.relay) (sym w.self-is)
-          (subst (λ relay. AreServedBehind changes (clients_of c.hear.new.self) relay) (sym w.relay-is) one)
+          let third = w.in_ok-_none.ensures.served (changes ++ second.0.added) setting second.0.served in (
+            subst (λ self. AreServedBehind g.D.Disk.honest g.D.Disk.words g.S.Stream.remaining g.S.Stream.contents changes setting (clients_of self) c.if-hears.relay) (sym w.self-is)
+                (subst (λ relay. AreServedBehind g.D.Disk.honest g.D.Disk.words g.S.Stream.remaining g.S.Stream.contents changes setting (clients_of w.hear-then-hears.new.self) relay) (sym w.relay-is)
+                (served_behind g.D.Disk.honest g.D.Disk.words g.S.Stream.remaining g.S.Stream.contents changes setting second.0.added w.hear-then-hears.new.self.clients w.hear-then-hears.new.relay third.0)),
+            subst (λ leaving. ClientsJoin g.S.Stream.remaining g.S.Stream.contents setting c.args.leaving.now.leavers (leavers_of leaving)) (sym w.leaving-is)
+                (more_join g.S.Stream.remaining g.S.Stream.contents setting c.args.leaving.now.leavers c.hear.new.leaving.leavers w.hear-then-hears.new.leaving.leavers joined third.1),
+          )
+      | else-hears w ↦ (
+        subst (λ self. AreServedBehind g.D.Disk.honest g.D.Disk.words g.S.Stream.remaining g.S.Stream.contents changes setting (clients_of self) c.if-hears.relay) (sym w.self-is)
+            (subst (λ relay. AreServedBehind g.D.Disk.honest g.D.Disk.words g.S.Stream.remaining g.S.Stream.contents changes setting (clients_of c.hear.new.self) relay) (sym w.relay-is) second.0),
+        subst (λ leaving. ClientsJoin g.S.Stream.remaining g.S.Stream.contents setting c.args.leaving.now.leavers (leavers_of leaving)) (sym w.leaving-is) joined,
+      )
     ]

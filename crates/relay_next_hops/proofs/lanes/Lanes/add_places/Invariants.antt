@@ -1,7 +1,13 @@
--- no lane is lost, and none that is listed
+-- no lane is lost, what was listed stays so, and the places so far are
 use Rattle.std.proofs.Common.{◌≡◌}
-use Rattle.relay_next_hops.specs.Lanes.{KeepsListed, ListsMore}
+use Rattle.relay_next_hops.specs.Lanes.{ListsMore}
+use Rattle.relay_next_hops.specs.Listing.{ArePlacesListed, KeepsListed}
 use Rattle.relay_next_hops.proofs.lanes.Lanes.add_places.Given as goal
 
 abbrev pub invariant-loop-index : goal.invariant-loop-index
-invariant-loop-index l = ListsMore l.initial.self l.self × KeepsListed l.initial.self l.self × (l.self.queued ≡ l.initial.self.queued)
+invariant-loop-index l = record {
+  more : ListsMore l.initial.self l.self;
+  kept : KeepsListed l.initial.self l.self;
+  listed : ArePlacesListed l.hops.hops l.now.moment l.routes l.number l.recipients l.places l.index l.self;
+  walk : (l.self.queued ≡ l.initial.self.queued) × (l.self.is_listing ≡ l.initial.self.is_listing);
+}

@@ -1,5 +1,5 @@
 -- Its places have ended, and the note of that was taken.
-use Rattle.relay_next_hops.proofs.starting.give_up.Goals as goal
+use Rattle.relay_next_hops.proofs.giving_up.give_up.Goals as goal
 
 pub returns-in-Ok-clause-gives_up : goal.returns-in-Ok-clause-gives_up
 returns-in-Ok-clause-gives_up c = record {

@@ -1,0 +1,30 @@
+-- What `list` writes: a line for each held recipient, in the order of the queue.
+use Rattle.std.specs.Prelude.{ℕ, List, [], ◌∷◌, ◌++◌, decimal, Option}
+use Rattle.std.specs.List.{flat_map}
+use Rattle.std.specs.Option.{option_map_or}
+use Rattle.std.specs.Io.KnownBytes.{Appends}
+use Rattle.relay_disk.specs.declared.file.FileDisk.{FileDisk}
+use Rattle.relay_book.specs.Queue.{Queue, held_of}
+use Rattle.relay_records.specs.HeldPlace.{waiting_at}
+use Rattle.relay_records.specs.Records.{Kept}
+use Rattle.relay_files.specs.Opening.{IsOpened}
+
+-- the number of the message, the recipient's place in it, its path, and when it is due, in seconds from 1970, with
+-- spaces between them
+abbrev pub listed_line : ℕ → ℕ → List ℕ × ℕ → List ℕ
+listed_line number place waiting =
+    decimal number ++ 32 ∷ decimal place ++ 32 ∷ waiting.0 ++ 32 ∷ decimal waiting.1 ++ 10 ∷ []
+
+-- the line of a place, where it is held
+abbrev pub line_at : Queue → ℕ × ℕ → List ℕ
+line_at queue mark = option_map_or (listed_line mark.0 mark.1) (waiting_at queue mark.0 mark.1) []
+
+-- the lines of all held places
+abbrev pub listing_of : Queue → List ℕ
+listing_of queue = flat_map (line_at queue) (held_of queue)
+
+-- what was written are the lines of a queue that files were opened to
+pub record IsListed (old new : Option (List ℕ)) : Type 0 where
+  pub records : Kept FileDisk
+  pub opened : IsOpened records
+  pub written : Appends old new (listing_of records.queue)

@@ -1,0 +1,137 @@
+//! A spool that is read and not written, also while a relay runs on it.
+ghost use Rattle.std.specs.Prelude.{◌≡◌, IfOk, IfSome};
+ghost use Rattle.relay_files.specs.Opening.{IsOpened};
+
+use crate::fault::Fault;
+use crate::settings::spool_files_to_read;
+use relay_disk::{Disk, DiskFault, Disks, FileDisk};
+use relay_records::{Cause, NotOpened, Records};
+use relay_routes::Config;
+use relay_spool::SpoolFault;
+use std::alloc::Global;
+use std::fs::File;
+use std::rt::Files;
+
+/// The most times that a spool is opened which a running relay compacts while it is read.
+const OPENINGS: u32 = 1_000;
+
+/// The octets of the head of a spool's file: the mark of a spool, a gate, and the generation.
+const HEAD_SIZE: usize = 17;
+
+/// What changes where a spool's file is compacted or grows: its head and its size, as far as these can be read.
+#[derive(Clone, Copy, Debug, PartialEq, Eq)]
+struct Sight {
+    size: Result<usize, DiskFault>,
+    head: Result<[u8; HEAD_SIZE], DiskFault>,
+}
+
+/// Opens the spool that a configuration names for reading alone, and takes no lock. Returns the records that its files
+/// held at one time during this call: a relay that runs on the spool may append to it and compact it meanwhile. The
+/// first file must be there; nothing is written, and no file is made.
+pub fn open_to_read<F: Files<File = File>>(
+    alloc: Global,
+    files: &F,
+    config: &Config,
+) -> Result<Records<FileDisk>, Fault>
+    ensures { IfOk result IsOpened }
+{
+    for _ in 0..OPENINGS {
+        if let Some(records) = open_unless_it_changed(alloc, files, config)? {
+            return Ok(records);
+        }
+    }
+    Err(Fault::Device)
+}
+
+/// The records of the spool; none where a file of it has another head than before, since a running relay has compacted
+/// it meanwhile. A running relay also appends: a change that it appends while the spool is read may pass the end that
+/// the file had, and then the spool is read as it was before that change.
+fn open_unless_it_changed<F: Files<File = File>>(
+    alloc: Global,
+    files: &F,
+    config: &Config,
+) -> Result<Option<Records<FileDisk>>, Fault>
+    ensures { IfOk result (λ found. IfSome found IsOpened) }
+{
+    let mut disks = spool_files_to_read(alloc, files, config)?;
+    let sights = sights_of(&mut disks);
+    match Records::open(alloc, disks) {
+        Ok(records) => unless_changed(alloc, files, config, records, &sights),
+        Err(NotOpened { cause, disk }) => {
+            let mut disks = disk;
+            if sights_of(&mut disks) == sights {
+                return Err(Fault::from(cause));
+            }
+            match cause {
+                Cause::Spool(SpoolFault::Damaged(gate)) => {
+                    open_up_to(alloc, files, config, disks, gate, &sights)
+                }
+                _ => Ok(None),
+            }
+        }
+    }
+}
+
+/// The records of the spool as it was when the gate at this place was closed, which a running relay has opened since;
+/// none where that relay has compacted the spool.
+fn open_up_to<F: Files<File = File>>(
+    alloc: Global,
+    files: &F,
+    config: &Config,
+    disks: Disks<FileDisk>,
+    gate: usize,
+    sights: &[Sight; 2],
+) -> Result<Option<Records<FileDisk>>, Fault>
+    ensures { IfOk result (λ found. IfSome found IsOpened) }
+{
+    let mut disks = disks;
+    disks.first.reads_up_to(gate);
+    disks.second.reads_up_to(gate);
+    match Records::open(alloc, disks) {
+        Ok(records) => unless_changed(alloc, files, config, records, sights),
+        Err(_refused) => Ok(None),
+    }
+}
+
+/// The records, unless a file of their spool has another head than before.
+fn unless_changed<F: Files<File = File>>(
+    alloc: Global,
+    files: &F,
+    config: &Config,
+    records: Records<FileDisk>,
+    before: &[Sight; 2],
+) -> Result<Option<Records<FileDisk>>, Fault>
+    ensures { IfOk result (λ found. IfSome found (λ same. same ≡ records)) }
+{
+    let mut disks = spool_files_to_read(alloc, files, config)?;
+    if have_heads_of(&sights_of(&mut disks), before) {
+        Ok(Some(records))
+    } else {
+        Ok(None)
+    }
+}
+
+/// The head and the size of each of two files.
+fn sights_of(disks: &mut Disks<FileDisk>) -> [Sight; 2] {
+    [sight_of(&mut disks.first), sight_of(&mut disks.second)]
+}
+
+fn sight_of(disk: &mut FileDisk) -> Sight {
+    let size = disk.size();
+    let mut head = [0; HEAD_SIZE];
+    match disk.read(0, &mut head) {
+        Ok(()) => Sight {
+            size,
+            head: Ok(head),
+        },
+        Err(fault) => Sight {
+            size,
+            head: Err(fault),
+        },
+    }
+}
+
+/// Whether each file has the same head as before: then it wasn't compacted while it was read.
+fn have_heads_of(now: &[Sight; 2], before: &[Sight; 2]) -> bool {
+    now[0].head == before[0].head && now[1].head == before[1].head
+}

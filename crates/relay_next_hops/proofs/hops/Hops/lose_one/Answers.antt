@@ -1,0 +1,26 @@
+-- The connection that is taken out is counted until it is settled.
+use Rattle.std.proofs.Common.{refl}
+use Rattle.relay_next_hops.specs.Errands.{KeepsErrand}
+use Rattle.relay_next_hops.specs.declared.hop.Hop.{Hop}
+use Rattle.relay_next_hops.proofs.SlotLemmas.{out_aim, out_aimed, out_counts, out_free, out_low}
+use Rattle.relay_next_hops.proofs.hops.Hops.lose_one.Goals as goal
+
+same : (hop : Hop) → KeepsErrand hop hop
+same hop = record { aim = refl; message = refl; name = refl }
+
+pub returns-clause-counts : goal.returns-clause-counts
+returns-clause-counts c = λ match_is.
+    let hops = c.args.self.now.hops in
+    let hop = c.in-Some-take.hop in
+    c.in_ok-settle.ensures.counts
+    (out_counts hops c.take.new.self c.in-Some.number hop hop c.in-Some-take.ensures.taken c.take.ensures.rest (same hop) c.args.lanes.now.paces c.args.lanes.now.paces (λ lane. refl) match_is)
+    (out_free hops c.take.new.self c.in-Some.number hop hop c.in-Some-take.ensures.taken c.take.ensures.rest (same hop))
+    (out_low hops c.take.new.self c.in-Some.number hop hop c.in-Some-take.ensures.taken c.take.ensures.rest (same hop))
+
+pub returns-clause-aimed : goal.returns-clause-aimed
+returns-clause-aimed c = λ routes aimed.
+    let hops = c.args.self.now.hops in
+    let hop = c.in-Some-take.hop in
+    c.settle.ensures.aimed routes
+    (out_aim hops c.take.new.self c.in-Some.number hop hop c.in-Some-take.ensures.taken c.take.ensures.rest (same hop) routes aimed)
+    (out_aimed hops c.take.new.self c.in-Some.number hop hop c.in-Some-take.ensures.taken c.take.ensures.rest (same hop) routes aimed)

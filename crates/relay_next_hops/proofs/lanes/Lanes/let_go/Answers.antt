@@ -1,0 +1,14 @@
+-- One lane more has let go.
+use Rattle.std.proofs.Common.{◌∙◌}
+use Rattle.relay_next_hops.proofs.ListingLemmas.{kept_then}
+use Rattle.relay_next_hops.proofs.lanes.Lanes.let_go.Goals as goal
+
+pub loop-number-preserved : goal.loop-number-preserved
+loop-number-preserved c = record {
+  counts = record {
+    places = c.let_go_of.ensures.counts.places ∙ c.loop-number.invariant.counts.places;
+    runs = λ number. c.let_go_of.ensures.counts.runs number ∙ c.loop-number.invariant.counts.runs number;
+  };
+  kept = kept_then c.args.self.now c.loop-number.self c.let_go_of.new.self c.loop-number.invariant.kept c.let_go_of.ensures.kept;
+  walk = c.let_go_of.ensures.walk ∙ c.loop-number.invariant.walk;
+}

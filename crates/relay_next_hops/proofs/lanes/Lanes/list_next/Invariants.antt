@@ -1,0 +1,16 @@
+-- no lane is lost, and the next messages of the walk so far are listed
+use Rattle.std.proofs.Common.{◌≡◌, ◌<◌, ◌≤◌, ℕ, Some, drop}
+use Rattle.std.specs.Prelude.{slice_get}
+use Rattle.relay_next_hops.specs.Lanes.{ListsMore}
+use Rattle.relay_next_hops.specs.Listing.{IsListed, KeepsListed}
+use Rattle.relay_next_hops.proofs.lanes.Lanes.list_next.Given as goal
+
+abbrev pub invariant-loop : goal.invariant-loop
+invariant-loop l = record {
+  more : ListsMore l.initial.self l.self;
+  kept : KeepsListed l.initial.self l.self;
+  walk : l.self.queued.left ≡ drop l.counter l.initial.self.queued.left;
+  listed : (step number : ℕ) → step < l.counter → slice_get l.initial.self.queued.left step ≡ Some number
+      → IsListed l.hops.hops l.now.moment l.relay.node number l.self;
+  within : l.counter ≤ 512;
+}

@@ -1,0 +1,22 @@
+-- How far it has come with the lane: where counts and aims matched before, they do, and so many of its tasks have left
+-- it as were tried, but for those that were put back for want of a descriptor.
+use Rattle.std.proofs.Common.{◌≡◌, ◌+◌, ◌≤◌, length}
+use Rattle.relay_next_hops.specs.Counts.{CountsMatch, unanswered_of}
+use Rattle.relay_next_hops.specs.Errands.{AreAimed}
+use Rattle.relay_next_hops.specs.Lanes.{OnlyLane, tasks_at}
+use Rattle.relay_next_hops.specs.Spares.{held_of}
+use Rattle.relay_next_hops.proofs.starting.start_lane.Given as goal
+
+abbrev pub invariant-loop : goal.invariant-loop
+invariant-loop g l = record {
+  config : l.relay.node.config ≡ l.initial.relay.node.config;
+  counts : CountsMatch l.initial.hops.hops l.initial.lanes.paces → CountsMatch l.hops.hops l.lanes.paces;
+  aimed : AreAimed l.initial.relay.node.config.routes.routes l.initial.hops.hops
+      → AreAimed l.initial.relay.node.config.routes.routes l.hops.hops;
+  only : OnlyLane l.lane l.initial.lanes l.lanes;
+  more : unanswered_of l.initial.hops.hops l.initial.lanes.paces ≤ unanswered_of l.hops.hops l.lanes.paces;
+  kept : held_of l.spares ≤ held_of l.initial.spares;
+  tries : held_of l.initial.spares ≤ held_of l.spares + l.counter;
+  tasks : length (tasks_at l.lanes l.lane) + l.counter + held_of l.spares
+      ≤ length (tasks_at l.initial.lanes l.lane) + held_of l.initial.spares;
+}

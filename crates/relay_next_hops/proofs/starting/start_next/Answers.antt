@@ -1,0 +1,59 @@
+-- The next task of the lane was tried.
+use Rattle.std.proofs.Common.{◌≡◌, ◌+◌, ◌≤◌, ℕ, List, length, sym, ap, subst, ◌∙◌, add-one, arith}
+use Rattle.relay_limits.specs.declared.pace.Pace.{Pace}
+use Rattle.relay_next_hops.specs.Counts.{CountsMatch, unanswered_of}
+use Rattle.relay_next_hops.specs.Lanes.{tasks_at}
+use Rattle.relay_next_hops.specs.Paces.{HasLane}
+use Rattle.relay_next_hops.specs.Starting.{IsStep}
+use Rattle.relay_next_hops.specs.declared.starting.Step.{Step}
+use Rattle.relay_next_hops.proofs.StartLemmas.{back_few, step_is, tried_aimed, tried_counts, tried_unanswered}
+use Rattle.relay_next_hops.proofs.TurnLemmas.{has_lane, only_then}
+use Rattle.relay_next_hops.proofs.starting.start_next.Goals as goal
+use Rattle.relay_next_hops.proofs.starting.start_next.Goals.{else-not-has_answered-via-then-not-has_answered+else-count_unanswered-ge-MOST_UNANSWERED, else-not-has_answered-via-else-not-has_answered}
+
+pub returns : goal.returns
+returns g c =
+    let now = c.args.now.now in
+    let lane = c.args.lane in
+    let old = c.args.lanes.now in
+    let between = c.next.new.self in
+    let new = c.start_task.new.lanes in
+    let hops_old = c.args.hops.now.hops in
+    let hops_new = c.start_task.new.hops.hops in
+    let relay_old = c.args.relay.now in
+    let relay_new = c.start_task.new.relay in
+    let number = c.in-Some.number in
+    let task = c.in-Some-next.task in
+    let tried = c.in_ok-tried.tried in
+    let may = c.in-Some-next.ensures.begins in
+    let paces : between.paces ≡ old.paces = c.in-Some-next.ensures.paces in
+    let has : HasLane between.paces lane = subst (λ (paces : List Pace). HasLane paces lane) (sym paces) (has_lane old.most now.tick old.paces lane may) in
+    let low = c.in-Some.ensures.within in
+    let comes = c.in_ok-tried.ensures.tried low has in
+    let free = c.in-Some.ensures.least.free in
+    let longer : length (tasks_at old lane) ≡ length (tasks_at between lane) + 1 = ap length c.in-Some-next.ensures.tasks ∙ sym (add-one (length (tasks_at between lane))) in
+    record {
+      counts = λ match_is. tried_counts now lane number task hops_old hops_new between new relay_old relay_new tried comes free low c.in-Some.ensures.few (subst (λ (paces : List Pace). CountsMatch hops_old paces) (sym paces) match_is);
+      aimed = λ aimed. tried_aimed now lane number task hops_old hops_new between new relay_old relay_new tried comes aimed;
+      only = only_then lane old between new c.in-Some-next.ensures.only c.in_ok-tried.ensures.only;
+      more = subst (λ (paces : List Pace). unanswered_of hops_old paces ≤ unanswered_of hops_new new.paces) paces (tried_unanswered now lane number task hops_old hops_new between new relay_old relay_new tried comes free low c.in_ok-tried.ensures.only);
+      fewer = omega (arith, c.in_ok-tried.ensures.fewer, longer, back_few tried);
+      came = subst (IsStep now lane hops_old hops_new old new relay_old relay_new) (sym c.step_after.ensures)
+          (step_is now lane hops_old hops_new old new relay_old relay_new tried
+          (record {
+            number = number;
+            task = task;
+            between = between;
+            may = may;
+            room = λ silent. elim c.else-not-has_answered.branch [
+              | else-not-has_answered-via-then-not-has_answered+else-count_unanswered-ge-MOST_UNANSWERED w ↦ omega (arith, w.if-count_unanswered-ge-MOST_UNANSWERED.false, w.count_unanswered.ensures)
+              | else-not-has_answered-via-else-not-has_answered w ↦ absurd (cc (c.has_answered.ensures, silent, w.if-not-has_answered.false))
+            ];
+            free = c.in-Some.ensures.least;
+            first = c.in-Some-next.ensures.tasks;
+            runs = paces;
+            comes = comes;
+          })
+          (λ before is. omega (arith, c.in_ok-tried.ensures.fewer, longer, is)));
+      config = c.in_ok-tried.ensures.config;
+    }

@@ -1,0 +1,76 @@
+//! Messages without a next hop, which are given up.
+ghost use Rattle.std.specs.Prelude.{◌≡◌, ◌∷◌, [], ℕ, List, IfOk, Ok, false};
+ghost use Rattle.relay_next_hops.specs.Lanes.{KeepsCounts};
+ghost use Rattle.relay_next_hops.specs.Starting.{IsGivenUp};
+
+use crate::lanes::Lanes;
+use relay_connections::Now;
+use relay_disk::FileDisk;
+use relay_files::Fault;
+use relay_log::{Attempt, Log, Why};
+use relay_loop::Relay;
+use relay_node::{NodeFault, Noted};
+
+/// Gives up the places of the next message that have no hop, if there is one. It tells whether that was recorded.
+pub(crate) fn give_up_next(
+    relay: &mut Relay<FileDisk>,
+    lanes: &mut Lanes,
+    now: &Now,
+    log: &mut Log<'_, Vec<u8>>,
+) -> Result<bool, Fault>
+    ensures none { lanes.old.unroutable.items ≡ [] → (result ≡ Ok false) × (relay.new ≡ relay.old) }
+    ensures first { (message : ℕ) (rest : List ℕ) → lanes.old.unroutable.items ≡ message ∷ rest
+        → IfOk result (IsGivenUp now.now.moment message relay.old relay.new lanes.new)
+        × (lanes.new.unroutable.items ≡ rest) }
+    ensures counts { KeepsCounts lanes.old lanes.new }
+    ensures config { relay.new.node.config ≡ relay.old.node.config }
+{
+    match lanes.next_unroutable() {
+        Some(message) => give_up(relay, lanes, message, now, log),
+        None => Ok(false),
+    }
+}
+
+/// Gives up the places of a message that have no hop. It tells whether that was recorded. Where it wasn't, and they are
+/// still due, all that is due is listed anew.
+fn give_up(
+    relay: &mut Relay<FileDisk>,
+    lanes: &mut Lanes,
+    message: u64,
+    now: &Now,
+    log: &mut Log<'_, Vec<u8>>,
+) -> Result<bool, Fault>
+    ensures gives_up { IfOk result (IsGivenUp now.now.moment message relay.old relay.new lanes.new) }
+    ensures others { lanes.new.unroutable ≡ lanes.old.unroutable }
+    ensures counts { KeepsCounts lanes.old lanes.new }
+    ensures config { relay.new.node.config ≡ relay.old.node.config }
+{
+    match relay.give_up_unroutable(message, now.moment) {
+        Ok(_) => {
+            let noted = relay.take_noted();
+            tell_given_up(message, noted, log);
+            Ok(true)
+        }
+        Err(NodeFault::Stopped) => Err(Fault::Device),
+        // Nothing of it is to be given up any more.
+        Err(NodeFault::Unknown | NodeFault::NotDue) => Ok(false),
+        // It stays due.
+        Err(_) => {
+            lanes.list_anew();
+            Ok(false)
+        }
+    }
+}
+
+/// Tells that a message was given up that has no hop.
+fn tell_given_up(message: u64, noted: Option<Noted>, log: &mut Log<'_, Vec<u8>>) {
+    log.attempt(&Attempt {
+        number: message,
+        hop: None,
+        at: None,
+        age: None,
+        end: "noroute",
+        why: Why::at_once(None),
+        noted,
+    });
+}
