@@ -1,7 +1,7 @@
 #!/usr/bin/env python3
-"""Runs each subcommand of `relayd` with each set of its standard streams closed: its status, its fault, and that the spool is
-octet for octet what it is with all of them open, where one message waits and one work is due. It ends at the first
-difference.
+"""Runs each subcommand of `relayd` with each set of its standard streams closed: its status, its fault, and that the
+spool is octet for octet what it is with all of them open, where one message waits and one work is due. It ends at the
+first difference.
 
     tests/closed_streams.py build/relayd
 """

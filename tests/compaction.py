@@ -387,8 +387,8 @@ def feed(relay, answered, number):
         return number
 
 
-ROWS = [init_makes_both_files, one_file_under_two_names_is_no_spool, an_empty_spool_is_written_anew_and_anew, what_is_held_stays,
-        a_drained_spool_is_as_small_as_one_body, a_spool_of_one_file_goes_on_without,
+ROWS = [init_makes_both_files, one_file_under_two_names_is_no_spool, an_empty_spool_is_written_anew_and_anew,
+        what_is_held_stays, a_drained_spool_is_as_small_as_one_body, a_spool_of_one_file_goes_on_without,
         the_newer_file_with_an_open_head_is_read, a_snapshot_that_is_cut_is_refused, both_files_are_taken_by_serve,
         a_file_that_takes_no_more_loses_nothing, each_allocation_that_is_refused_loses_nothing,
         list_beside_a_serve_that_compacts, list_beside_a_run_that_compacts, serve_writes_its_spool_anew,

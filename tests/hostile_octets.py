@@ -1,7 +1,7 @@
 #!/usr/bin/env python3
-"""Octets that nobody ought to send: ten million without a line end to a session, whose memory stays small; replies of a next
-hop that are too long, have too many lines, or are none; and a spool's file that is cut at each octet, or says a length past its
-end. It ends at the first difference.
+"""Octets that nobody ought to send: ten million without a line end to a session, whose memory stays small; replies of a
+next hop that are too long, have too many lines, or are none; and a spool's file that is cut at each octet, or says a
+length past its end. It ends at the first difference.
 
     tests/hostile_octets.py build/relayd
 """

@@ -48,7 +48,8 @@ class Play:
     """A play that goes on: each line is answered before the next is written."""
 
     def __init__(self, program):
-        self.process = subprocess.Popen([program, "play"], stdin=subprocess.PIPE, stdout=subprocess.PIPE, text=True, bufsize=1)
+        self.process = subprocess.Popen(
+            [program, "play"], stdin=subprocess.PIPE, stdout=subprocess.PIPE, text=True, bufsize=1)
 
     def __enter__(self):
         return self
@@ -80,7 +81,8 @@ class Play:
 def scripts(program):
     for script in sorted(PLAYS.glob("*.play")):
         status, out, errors = run(program, script.read_bytes())
-        for number, (one, other) in enumerate(zip(out.decode().split("\n"), script.with_suffix(".seen").read_text().split("\n"))):
+        lines = script.with_suffix(".seen").read_text().split("\n")
+        for number, (one, other) in enumerate(zip(out.decode().split("\n"), lines)):
             same(f"{script.name}: line {number + 1} of what is seen", one, other)
         same(script.name, (status, out, errors), (0, script.with_suffix(".seen").read_bytes(), b""))
 
@@ -193,8 +195,10 @@ def no_route(program):
     up."""
     played(program, [
         ("connect a", GREETED.format(1, "a")),
-        (r"send 1 EHLO x\r\nMAIL FROM:<s@nowhere.example>\r\nRCPT TO:<r@nowhere.example>\r\nRCPT TO:<r@b.example>\r\n", "ok"),
-        ("carry 1 a 1000", r"node a link 1 used 91 out 250-a.example\r\n250-PIPELINING\r\n250-CHUNKING\r\n250 DSN\r\n250 sender OK\r\n"
+        (r"send 1 EHLO x\r\nMAIL FROM:<s@nowhere.example>\r\nRCPT TO:<r@nowhere.example>\r\n"
+         r"RCPT TO:<r@b.example>\r\n", "ok"),
+        ("carry 1 a 1000",
+         r"node a link 1 used 91 out 250-a.example\r\n250-PIPELINING\r\n250-CHUNKING\r\n250 DSN\r\n250 sender OK\r\n"
          r"550 no route\r\n250 recipient OK\r\n"),
         (r"send 1 BDAT 4 LAST\r\nhi\r\n", "ok"),
         ("carry 1 a 1000", r"node a link 1 used 17 out 250 queued as 1\r\n change 1"),
@@ -248,7 +252,8 @@ def faults(program):
     ]:
         same(shown(script), run(program, script), wanted)
     with open("/dev/full", "wb") as full:
-        done = subprocess.run([program, "play"], input=b"tick 1\n", stdout=full, stderr=subprocess.PIPE, timeout=PATIENCE)
+        done = subprocess.run(
+            [program, "play"], input=b"tick 1\n", stdout=full, stderr=subprocess.PIPE, timeout=PATIENCE)
     same("a full output", (done.returncode, done.stderr), (1, b"relayd: output\n"))
     with open("/", "rb") if False else subprocess.Popen(["true"], stdout=subprocess.PIPE).stdout as nothing:
         done = subprocess.run([program, "play"], stdin=nothing, capture_output=True, timeout=PATIENCE)
@@ -285,7 +290,8 @@ def networks(program):
             found = run(program, f"nodes {count}\n".encode() + script.read_bytes())
             same(f"nodes {count}, {name}", found, (0, script.with_suffix(".seen").read_bytes(), b""))
         undone(program, f"nodes {count}\n")
-    played(program, [("nodes 16", [])] + [(f"connect {one}", GREETED.format(at + 1, one)) for at, one in enumerate(LETTERS)])
+    greetings = [(f"connect {one}", GREETED.format(at + 1, one)) for at, one in enumerate(LETTERS)]
+    played(program, [("nodes 16", [])] + greetings)
 
 
 def attempt(play, node, other):
@@ -362,11 +368,13 @@ def carries(program):
 
 def main(program):
     program = str(pathlib.Path(program).resolve())
-    for check in (scripts, undone, compactions, refusals, too_many, too_many_attempts, no_route, cascade, faults, networks):
+    for check in (
+            scripts, undone, compactions, refusals, too_many, too_many_attempts, no_route, cascade, faults, networks):
         check(program)
     circle(program, 3)
     count, seconds = circle(program, 2)
-    print(f"ok: plays: scripts, compactions, refusals, stops, faults, networks; a circle of {count} carries in {seconds:.2f} s, "
+    print(f"ok: plays: scripts, compactions, refusals, stops, faults, networks; "
+          f"a circle of {count} carries in {seconds:.2f} s, "
           f"10,000 carries in {carries(program):.2f} s, 1,008 messages among 16 nodes in {crowd(program):.2f} s")
 
 

@@ -1,10 +1,10 @@
 #!/usr/bin/env python3
-"""Plays the scripts of docs/plays/ once for each allocation of the program, which is refused. The play goes on after it or
-says that there was no memory; and each recipient that a node acknowledged is held in the end, or was handed on, or has ended,
-once all nodes were stopped and opened again. Then a node that can't be opened, for want of memory: each event that it
-refuses, in its order, and what it says once it is opened. And a carry for which there is no memory: before the node's call
-nothing changes, and in it or after it, where what the node wrote can't be put on the link, that link breaks, and what the
-node recorded stands in the ledger. It ends at the first difference.
+"""Plays the scripts of docs/plays/ once for each allocation of the program, which is refused. The play goes on after it
+or says that there was no memory; and each recipient that a node acknowledged is held in the end, or was handed on, or
+has ended, once all nodes were stopped and opened again. Then a node that can't be opened, for want of memory: each
+event that it refuses, in its order, and what it says once it is opened. And a carry for which there is no memory:
+before the node's call nothing changes, and in it or after it, where what the node wrote can't be put on the link, that
+link breaks, and what the node recorded stands in the ledger. It ends at the first difference.
 
     tests/plays_without_memory.py build/relayd
 """
@@ -100,7 +100,8 @@ def a_node_that_is_down(program, shim, mark):
         if not mark.exists():
             break
         if out.startswith(down):
-            same(f"a node that is down, by allocation {number}", (status, out, errors), (0, seen(BEFORE + STOP + DOWN + AGAIN), ""))
+            same(f"a node that is down, by allocation {number}", (status, out, errors),
+                 (0, seen(BEFORE + STOP + DOWN + AGAIN), ""))
             found += 1
     same("whether a node was down", found > 0, True)
     print(f"ok: a node that is down, by {found} allocations of {number - 1}")
@@ -143,7 +144,9 @@ def main(program):
             while True:
                 number += 1
                 mark.unlink(missing_ok=True)
-                look(f"{script.name}, allocation {number}", *play(program, script.read_bytes() + ending(script.read_bytes()), number, shim, mark))
+                text = script.read_bytes()
+                found = play(program, text + ending(text), number, shim, mark)
+                look(f"{script.name}, allocation {number}", *found)
                 if not mark.exists():
                     break
             same(f"{script.name}: whether allocations were refused", number > 100, True)

@@ -1,7 +1,8 @@
 #!/usr/bin/env python3
-"""Makes random plays of two relays, and judges each by what is printed alone: whether mail that a node acknowledged is held,
-was handed on or has ended; whether what was handed on was accepted; whether there are no more copies than lost replies allow;
-and whether the ledger only grows. A play that fails is printed, with each line left out that it doesn't take.
+"""Makes random plays of two relays, and judges each by what is printed alone: whether mail that a node acknowledged is
+held, was handed on or has ended; whether what was handed on was accepted; whether there are no more copies than lost
+replies allow; and whether the ledger only grows. A play that fails is printed, with each line left out that it doesn't
+take.
 
     tests/random_plays.py build/relayd [COUNT [FIRST]]
 
@@ -31,7 +32,8 @@ DELAYED = re.compile(r"delay ([a-p]) (\d+) (\d+) link (\d+) report (\d+)")
 # What an event may print.
 PRINTED = re.compile(
     r"link \d+ out .*|ok|node [a-p] link \d+ used \d+ out .*?( change \d+)?( end)?|start [a-p] \d+ \S+ link \d+"
-    r"|noroute [a-p] \d+ change \d+|compact [a-p] size \d+|broken \d+|now \d+|stopped [a-p]|armed [a-p]|refused [A-Z][A-Za-z]+")
+    r"|noroute [a-p] \d+ change \d+|compact [a-p] size \d+|broken \d+|now \d+|stopped [a-p]|armed [a-p]"
+    r"|refused [A-Z][A-Za-z]+")
 
 
 def nodes_of(lines):
@@ -42,15 +44,16 @@ def nodes_of(lines):
 
 
 def escaped(octets):
-    return "".join({13: r"\r", 10: r"\n", 92: r"\x5C"}.get(octet, chr(octet) if 32 <= octet < 127 else f"\\x{octet:02X}")
-                   for octet in octets)
+    named = {13: r"\r", 10: r"\n", 92: r"\x5C"}
+    return "".join(named.get(octet, chr(octet) if 32 <= octet < 127 else f"\\x{octet:02X}") for octet in octets)
 
 
 class Play:
     """A play that goes on: each event is answered before the next is chosen."""
 
     def __init__(self, program):
-        self.process = subprocess.Popen([program, "play"], stdin=subprocess.PIPE, stdout=subprocess.PIPE, text=True, bufsize=1)
+        self.process = subprocess.Popen(
+            [program, "play"], stdin=subprocess.PIPE, stdout=subprocess.PIPE, text=True, bufsize=1)
 
     def __enter__(self):
         return self
@@ -151,7 +154,8 @@ class Judge:
         held = [(one[1], int(one[2]), int(one[3])) for one in map(MARKS.fullmatch, ask("marks"))]
         self.require(len(set(held)) == len(held), f"a place is held twice: {held}")
         for key, link in self.acknowledged.items():
-            self.require(key in taken and taken[key][1] == link, f"{key} was acknowledged on link {link}, and isn't in the ledger")
+            self.require(key in taken and taken[key][1] == link,
+                         f"{key} was acknowledged on link {link}, and isn't in the ledger")
         for (node, number), (places, _) in taken.items():
             for place in range(places):
                 one = (node, number, place)
@@ -180,7 +184,8 @@ class Judge:
                 taken[node, number] = places, link
             elif late:
                 node, number, place, _, report = late[1], *map(int, late.groups()[1:])
-                self.require((node, number, place) not in delayed | left.keys(), f"{line}: for the second time, or too late")
+                self.require((node, number, place) not in delayed | left.keys(),
+                             f"{line}: for the second time, or too late")
                 self.require(report > number, f"{line}: without a report")
                 delayed.add((node, number, place))
                 taken[node, report] = 1, 0
@@ -197,7 +202,8 @@ class Judge:
         self.require(link and link.work == one[:2], f"{one} was handed on, on link {number}, which isn't its own")
         if link.server:
             children = [key for key, (_, on) in taken.items() if on == number and key[0] == link.server]
-            self.require(len(children) == 1, f"{one} was handed on, on link {number}, which has {len(children)} messages")
+            self.require(len(children) == 1,
+                         f"{one} was handed on, on link {number}, which has {len(children)} messages")
         else:
             self.require("250" in link.codes, f"{one} was handed on, on link {number}, and outside said {link.codes}")
 
@@ -207,7 +213,8 @@ class Judge:
         tried = [link for link in self.links.values() if link.work == (node, number)]
         broken = sum(link.ended != "by a reply" and not (link.whole and not link.ended) for link in tried)
         self.require(copies <= min(1 + lost, len(tried)) and lost <= broken,
-                     f"{copies} copies of {(node, number, place)}, of {len(tried)} attempts; {lost} replies lost, {broken} broken")
+                     f"{copies} copies of {(node, number, place)}, of {len(tried)} attempts; "
+                      f"{lost} replies lost, {broken} broken")
 
 
 class Driver:
@@ -221,8 +228,8 @@ class Driver:
             return self.compact(links)
         if links and self.chance.random() < 0.85:
             return self.go_on(links, max(links))
-        kinds = {"connect": 1, "write": 2, "carry": 4, "reply": 2, "give": 2, "break_off": 1, "tick": 3, "stop": 0.5, "arm": 2,
-                 "compact": 2, "arm_compact": 1}
+        kinds = {"connect": 1, "write": 2, "carry": 4, "reply": 2, "give": 2, "break_off": 1, "tick": 3, "stop": 0.5,
+                 "arm": 2, "compact": 2, "arm_compact": 1}
         return getattr(self, self.chance.choices([*kinds], [*kinds.values()])[0])(links)
 
     def go_on(self, links, number):
@@ -234,7 +241,9 @@ class Driver:
         if link.client is None:
             return self.send(links, number, self.message) if self.turn % 2 else f"carry {number} {link.server} 100000"
         if link.server is None:
-            return self.send(links, number, lambda: self.next_reply(link)) if self.turn % 2 else f"carry {number} {link.client} 100000"
+            if self.turn % 2:
+                return self.send(links, number, lambda: self.next_reply(link))
+            return f"carry {number} {link.client} 100000"
         count = self.chance.choices([100000, 20], [12, 1])[0]
         return f"carry {number} {link.server if self.turn % 2 == 0 else link.client} {count}"
 
@@ -260,7 +269,8 @@ class Driver:
         """A next hop outside writes a reply."""
         number = self.one(links, lambda link: link.whole and link.server is None)
         return self.send(links, number, lambda: self.chance.choices(
-            [b"220 x\r\n", b"250 x\r\n", b"250-x\r\n250-PIPELINING\r\n250-CHUNKING\r\n250 DSN\r\n", b"354 x\r\n", b"451 x\r\n",
+            [b"220 x\r\n", b"250 x\r\n", b"250-x\r\n250-PIPELINING\r\n250-CHUNKING\r\n250 DSN\r\n",
+             b"354 x\r\n", b"451 x\r\n",
              b"550 x\r\n", b"2x0 a\r\n"], [3, 8, 3, 4, 1, 2, 0.2])[0])
 
     def next_reply(self, link):
@@ -285,7 +295,8 @@ class Driver:
         for _ in range(self.chance.choice([1, 1, 1, 2, 3])):
             notify = self.chance.choice(["", "", " NOTIFY=NEVER", " NOTIFY=SUCCESS,FAILURE"])
             lines.append(f"RCPT TO:<{self.chance.choice(PEOPLE)}@{self.chance.choice(DOMAINS)}>{notify}")
-        content = "Subject: t\r\n\r\n" + "\r\n".join(self.chance.choice(["hi", ".", "..x", ""]) for _ in range(3)) + "\r\n"
+        text = [self.chance.choice(["hi", ".", "..x", ""]) for _ in range(3)]
+        content = "Subject: t\r\n\r\n" + "\r\n".join(text) + "\r\n"
         if self.chance.random() < 0.3:
             lines += [f"BDAT {len(content)} LAST", content[:-2]]
         else:
@@ -307,7 +318,8 @@ class Driver:
         return f"break {self.one(links, lambda link: link.whole)}"
 
     def tick(self, links):
-        self.clock = max(0, self.clock + self.chance.choice([1, 60, 1800, 3600, 7200, 14400, 432000, -1, -1800, -100000]))
+        step = self.chance.choice([1, 60, 1800, 3600, 7200, 14400, 432000, -1, -1800, -100000])
+        self.clock = max(0, self.clock + step)
         return f"tick {self.clock}"
 
     def pick(self):
@@ -390,6 +402,8 @@ def main(program, count="50", first="1"):
             raise Difference(f"seed {seed}: {difference}\n" + "\n".join(shortened(program, events)))
         messages += sum(line.startswith("accept") for line in judge.ledger)
         left += sum(not line.startswith("accept") for line in judge.ledger)
+    if int(count) >= 20 and not (messages and left):
+        raise Difference("no message was taken, or none left its node: these plays show nothing")
     print(f"ok: {count} random plays: {messages} messages were taken, {left} recipients were handed on or ended")
 
 

@@ -104,7 +104,8 @@ def check(row, text, sizes):
     message = email.message_from_bytes(text, policy=email.policy.compat32)
     assert message.get_content_type() == "multipart/report" and not message.defects, "no report"
     assert message.get_param("report-type") == "delivery-status"
-    assert message["To"] == path and message["From"] == f"<postmaster@{HOST}>" and message["Message-ID"] == f"<2@{HOST}>"
+    assert message["To"] == path and message["From"] == f"<postmaster@{HOST}>"
+    assert message["Message-ID"] == f"<2@{HOST}>"
     people, status, returned = message.get_payload()
     assert people.get_content_type() == "text/plain" and status.get_content_type() == "message/delivery-status"
     told = []
@@ -117,7 +118,8 @@ def check(row, text, sizes):
     lines = people.get_payload().splitlines()
     assert lines[0] == f"Delivery report of {HOST} for message 1." and len(lines) == 1 + len(told)
     of_message, *of_places = status.get_payload()
-    assert of_message["Reporting-MTA"] == f"dns; {HOST}" and of_message["Original-Envelope-Id"] == (plain(envid) or None)
+    assert of_message["Reporting-MTA"] == f"dns; {HOST}"
+    assert of_message["Original-Envelope-Id"] == (plain(envid) or None)
     assert len(of_places) == len(told), "other places"
     for found, wanted, line in zip(of_places, told, lines[1:]):
         wanted.pop("Last-Attempt-Date", None)
@@ -134,7 +136,8 @@ def check(row, text, sizes):
 
 
 def main():
-    written = subprocess.run([sys.argv[1], "books", str(DATA)], check=True, capture_output=True, text=True).stdout.splitlines()
+    done = subprocess.run([sys.argv[1], "books", str(DATA)], check=True, capture_output=True, text=True)
+    written = done.stdout.splitlines()
     rows = (DATA / "reports.in").read_text().splitlines()
     count = 0
     # What comes of these rows is written last.

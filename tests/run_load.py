@@ -150,7 +150,8 @@ def listing(relay):
 
 def list_takes_no_longer_beside_a_flood(field):
     """What is appended while it reads isn't printed: it prints the queue as it was at one time."""
-    relay = field.relay(more={"example.net": ("away.example", free_port())}, spool_limit=1 << 30, sessions_per_client=64)
+    relay = field.relay(
+        more={"example.net": ("away.example", free_port())}, spool_limit=1 << 30, sessions_per_client=64)
 
     def flood(done):
         while not done.is_set():
