@@ -13,4 +13,5 @@ mod ChainLemmas
 mod ReadingLemmas
 mod RenewalLemmas
 mod PairLemmas
+mod TrimLemmas
 pub mod Theorems

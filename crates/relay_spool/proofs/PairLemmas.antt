@@ -123,7 +123,7 @@ new_taken side images octets body generation is renewal old = record {
       newer side (generation_of (mine side images)) (generation_of (other side images)) (omega (arith, new, old));
 }
 
-closed_taken : (side : Side) (images : Images) → HasOpenHead (mine side images) → (HasOpenHead (other side images) → ⊥) → IsTaken side images
+pub closed_taken : (side : Side) (images : Images) → HasOpenHead (mine side images) → (HasOpenHead (other side images) → ⊥) → IsTaken side images
 closed_taken side images head closed = record { head = head; newest = λ is. absurd (closed is) }
 
 -- while the other disk is written anew

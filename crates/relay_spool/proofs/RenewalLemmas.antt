@@ -45,12 +45,12 @@ pub record HasClosedGate (image : List ℕ) : Type 0 where
 pub not_open : (image : List ℕ) → HasClosedGate image → IsNotOpen image
 not_open image has = λ is. has.closed is.gate
 
--- a cut to nine octets opens none
-pub cutting : (image other : List ℕ) → HasClosedGate image → Cuts 9 image other → HasClosedGate other
-cutting image other has cuts =
+-- a cut behind it opens none
+pub cutting : (size : ℕ) → 9 ≤ size → (image other : List ℕ) → HasClosedGate image → Cuts size image other → HasClosedGate other
+cutting size behind image other has cuts =
     let long = has.long in
     let least = cuts.no_shorter in
-    record { long = omega (arith, long, least); closed = λ e. has.closed (sym (cuts.stays 8 (omega (arith, long, least))) ∙ e) }
+    record { long = omega (arith, behind, long, least); closed = λ e. has.closed (sym (cuts.stays 8 (omega (arith, behind, long, least))) ∙ e) }
 
 -- nor does a write behind it
 pub filling : (image other : List ℕ) (count : ℕ) → HasClosedGate image → Writes 9 count image other → HasClosedGate other
@@ -59,10 +59,10 @@ filling image other count has writes =
     let longer = writes.no_shorter in
     record { long = omega (arith, long, longer); closed = λ e. has.closed (sym (writes.stays 8 (omega (arith, long)) (inl (omega arith))) ∙ e) }
 
-take_less : (n m : ℕ) (xs ys : List ℕ) → n ≤ m → take m xs ≡ take m ys → take n xs ≡ take n ys
+pub take_less : (n m : ℕ) (xs ys : List ℕ) → n ≤ m → take m xs ≡ take m ys → take n xs ≡ take n ys
 take_less n m xs ys few same = sym (take-take n m xs few) ∙ ap (λ (zs : List ℕ). take n zs) same ∙ take-take n m ys few
 
-index_less : (n m : ℕ) (xs ys : List ℕ) → n < m → take m xs ≡ take m ys → slice_index xs n ≡ slice_index ys n
+pub index_less : (n m : ℕ) (xs ys : List ℕ) → n < m → take m xs ≡ take m ys → slice_index xs n ≡ slice_index ys n
 index_less n m xs ys few same = sym (get_or-take m xs n 0 few) ∙ ap (λ (zs : List ℕ). slice_index zs n) same ∙ get_or-take m ys n 0 few
 
 filled_cut : (image octets : List ℕ) → HasHeadGate image → slice_index image 8 ≢ 1 → IsFilled (written (take 9 image) 9 octets) octets
@@ -141,20 +141,20 @@ renewed_generation octets body generation is =
 
 module _ {D : Type 0} (words : DiskWords D) where
   -- a run with P, and one call more that keeps P
-  stepped : (old mid new : D) (P : List ℕ → Type 0) (step : List ℕ → List ℕ → Type 0) → ((before image : List ℕ) → P before → step before image → P image)
+  pub stepped : (old mid new : D) (P : List ℕ → Type 0) (step : List ℕ → List ℕ → Type 0) → ((before image : List ℕ) → P before → step before image → P image)
       → AtEachMoment words old mid P → Steps words step mid new → AtEachMoment words old new P
   stepped old mid new P step keeps run steps =
       goes_on words old mid new P run steps.time
       (λ image left. let before = steps.images image left in keeps before.0 image (run.now before.0 before.1) before.2)
 
-  still : (old mid new : D) (P : List ℕ → Type 0) → AtEachMoment words old mid P → AddsNoImage words mid new → AtEachMoment words old new P
+  pub still : (old mid new : D) (P : List ℕ → Type 0) → AtEachMoment words old mid P → AddsNoImage words mid new → AtEachMoment words old new P
   still old mid new P run stays = goes_on words old mid new P run stays.time (λ image left. run.now image (stays.images image left))
 
   -- a disk that is cut behind its closed gate, and filled
   cut_run : (old mid : D) → OnlyNow words old → IsSettled words old → HasClosedGate (words.seen old) → Steps words (Cuts 9) old mid
       → AtEachMoment words old mid HasClosedGate
   cut_run old mid now only has steps =
-      stepped old old mid HasClosedGate (Cuts 9) cutting
+      stepped old old mid HasClosedGate (Cuts 9) (cutting 9 (omega arith))
       (started words old HasClosedGate now (λ image left. subst HasClosedGate (sym (only image left)) has)) steps
 
   pub cut_short : (old new : D) → OnlyNow words old → IsSettled words old → HasClosedGate (words.seen old) → Steps words (Cuts 9) old new

@@ -7,3 +7,4 @@ pub mod Blocks
 pub mod Pair
 pub mod Opening
 pub mod Spool
+pub mod Trim

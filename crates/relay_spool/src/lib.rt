@@ -17,6 +17,7 @@ mod renewal;
 mod row;
 mod spool;
 mod taken;
+mod trim;
 
 pub use chain::SIZE_LIMIT;
 pub use fault::{Refused, SpoolFault};

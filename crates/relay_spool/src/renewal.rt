@@ -1,7 +1,7 @@
 // A spool's body written anew, on the disk that isn't taken.
 ghost use Rattle.std.specs.Prelude.{◌≡◌, ◌≢◌, ◌+◌, ◌<◌, ◌≤◌, ◌^◌, [], ◌∷◌, ℕ, List, length, slice_index, vec_capacity};
 ghost use Rattle.std.specs.Prelude.{Some, IfOk, IsOk, OnOk};
-ghost use Rattle.relay_disk.specs.Device.{CountsFailure as CountsDiskFailure, IsSettled};
+ghost use Rattle.relay_disk.specs.Device.{CountsFailure as CountsDiskFailure, IsSettled, written};
 ghost use Rattle.relay_disk.specs.Disks.{CountsFailure, other};
 ghost use Rattle.relay_spool.specs.Head.{HasHeadGate, IsClosedOr, IsFilled, IsGateOf, IsNotOpen, IsOldOrNew, IsRenewal};
 ghost use Rattle.relay_spool.specs.Head.{renewal_calls, renewed};
@@ -84,9 +84,11 @@ fn write_anew<D: Disk>(disk: &mut D, gate: HeadGate, octets: &[u8]) -> Result<()
 }
 
 /// Closes an open head gate, by two calls.
-fn close_head<D: Disk>(disk: &mut D) -> Result<(), DiskFault>
+pub(crate) fn close_head<D: Disk>(disk: &mut D) -> Result<(), DiskFault>
     requires { D.honest → HasHeadGate (D.words.seen disk.old)
         × (slice_index (D.words.seen disk.old) 8 ≡ 1) }
+    ensures written { D.honest → OnOk result
+        (D.words.seen disk.new ≡ written (D.words.seen disk.old) 8 (0 ∷ [])) }
     ensures closed { D.honest → OnOk result (HasHeadGate (D.words.seen disk.new)
         × (slice_index (D.words.seen disk.new) 8 ≢ 1)) }
     ensures settled { D.honest → OnOk result (IsSettled D.words disk.new) }
