@@ -2,6 +2,7 @@ mod ListLemmas
 mod RecordLemmas
 mod StagedLemmas
 mod CompactLemmas
+mod TrimLemmas
 mod ReadLemmas
 mod LawLemmas
 mod PlaceLemmas

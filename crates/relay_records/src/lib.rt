@@ -13,6 +13,7 @@ mod reading;
 mod records;
 mod stage;
 mod staged;
+mod trim;
 
 pub use fault::{Cause, NodeFault, NotOpened};
 pub use noted::Noted;
