@@ -21,7 +21,7 @@ use Rattle.relay_routes.specs.Value.{IsAddress, IsAddressText, address_text, beg
 abbrev pub HasNo : ℕ → List ℕ → Type 0
 HasNo stop text = AllByRecursion (λ octet. octet == stop ≡ false) text
 
-has_no-append : (stop : ℕ) (front back : List ℕ) → HasNo stop front → HasNo stop back → HasNo stop (front ++ back)
+pub has_no-append : (stop : ℕ) (front back : List ℕ) → HasNo stop front → HasNo stop back → HasNo stop (front ++ back)
 has_no-append stop [] back f b = b
 has_no-append stop (octet ∷ front) back f b = (f.0, has_no-append stop front back f.1 b)
 
@@ -37,7 +37,7 @@ has_no-decimal : (stop n : ℕ) → 10 ≤ digit_value stop → n < 2 ^ 64 → H
 has_no-decimal stop n high fits = has_no-digits stop (decimal n) high (decimal_is_IsNumeral n fits).0.1
 
 -- texts that part at the first such octet part in one way
-split_is_one : (stop : ℕ) (front other back more : List ℕ) → HasNo stop front → HasNo stop other → front ++ stop ∷ back ≡ other ++ stop ∷ more → (front ≡ other) × (back ≡ more)
+pub split_is_one : (stop : ℕ) (front other back more : List ℕ) → HasNo stop front → HasNo stop other → front ++ stop ∷ back ≡ other ++ stop ∷ more → (front ≡ other) × (back ≡ more)
 split_is_one stop [] [] back more f o same = (refl, ap (drop 1) same)
 split_is_one stop [] (octet ∷ other) back more f o same = let h : stop ≡ octet = cc same in absurd (grind (arith, nat_tests, o.0))
 split_is_one stop (octet ∷ front) [] back more f o same = let h : octet ≡ stop = cc same in absurd (grind (arith, nat_tests, f.0))
@@ -58,17 +58,21 @@ drop_behind (first ∷ front) octet back = drop_behind front octet back
 after_colon : (front back : List ℕ) → HasNo 58 front → after_first is_colon (front ++ 58 ∷ back) ≡ back
 after_colon front back h = rw (colon_place front back h, add-one) (drop_behind front 58 back)
 
+-- what is neither a digit nor a dot stands in no address
+pub has_no-dotted : (stop a b c d : ℕ) → 10 ≤ digit_value stop → 46 == stop ≡ false → a < 256 → b < 256 → c < 256 → d < 256 → HasNo stop (dotted_text a b c d)
+has_no-dotted stop a b c d high no_dot ha hb hc hd =
+    let part : (n : ℕ) → n < 256 → HasNo stop (decimal n) = λ n h. has_no-decimal stop n high (omega arith) in
+    let dot : HasNo stop (codes ".") = (no_dot, tt) in
+    has_no-append stop _ _ (has_no-append stop _ _ (has_no-append stop _ _ (has_no-append stop _ _ (has_no-append stop _ _ (has_no-append stop _ _ (part a ha) dot) (part b hb)) dot) (part c hc)) dot) (part d hd)
+
 has_no_colon : (a b c d : ℕ) → a < 256 → b < 256 → c < 256 → d < 256 → HasNo 58 (dotted_text a b c d)
-has_no_colon a b c d ha hb hc hd =
-    let part : (n : ℕ) → n < 256 → HasNo 58 (decimal n) = λ n h. has_no-decimal 58 n (lit≤ tt) (omega arith) in
-    let dot : HasNo 58 (codes ".") = (refl, tt) in
-    has_no-append 58 _ _ (has_no-append 58 _ _ (has_no-append 58 _ _ (has_no-append 58 _ _ (has_no-append 58 _ _ (has_no-append 58 _ _ (part a ha) dot) (part b hb)) dot) (part c hc)) dot) (part d hd)
+has_no_colon a b c d ha hb hc hd = has_no-dotted 58 a b c d (lit≤ tt) refl ha hb hc hd
 
 parted : (a b c d : ℕ) → dotted_text a b c d ≡ decimal a ++ 46 ∷ (decimal b ++ 46 ∷ (decimal c ++ 46 ∷ decimal d))
 parted a b c d = simp append_assoc
 
 -- four numbers with dots between them are written in one way
-dotted_is_one : (a b c d e f g h : ℕ) → a < 256 → b < 256 → c < 256 → d < 256 → e < 256 → f < 256 → g < 256 → h < 256
+pub dotted_is_one : (a b c d e f g h : ℕ) → a < 256 → b < 256 → c < 256 → d < 256 → e < 256 → f < 256 → g < 256 → h < 256
     → dotted_text a b c d ≡ dotted_text e f g h → (a ≡ e) × (b ≡ f) × (c ≡ g) × (d ≡ h)
 dotted_is_one a b c d e f g h ha hb hc hd he hf hg hh same =
     let no : (n : ℕ) → n < 256 → HasNo 46 (decimal n) = λ n h. has_no-decimal 46 n (lit≤ tt) (omega arith) in

@@ -1,6 +1,11 @@
 mod AddressLemmas
+mod PrefixLemmas
+mod NetworkLemmas
 mod RouteLemmas
 mod HopLemmas
 mod MemberLemmas
+mod CopyLemmas
+mod ItemLemmas
 mod ReadingLemmas
+mod AcceptedLemmas
 pub mod Theorems

@@ -89,7 +89,7 @@ no_route all key value rest routes whole walked none are = by (walked.complete w
     by (route ∷ tail) are = none route are.0
 
 -- the routes before one that agrees with all agree with it
-agree_before : (routes : List Route) (route : Route) (tail : List Route) → AllAgree (routes ++ route ∷ tail) → AllByRecursion (λ one. Agrees one route) routes
+pub agree_before : (routes : List Route) (route : Route) (tail : List Route) → AllAgree (routes ++ route ∷ tail) → AllByRecursion (λ one. Agrees one route) routes
 agree_before [] route tail agree = tt
 agree_before (one ∷ routes) route tail agree = (at_place routes agree.0, agree_before routes route tail agree.1)
   where
@@ -98,7 +98,7 @@ agree_before (one ∷ routes) route tail agree = (at_place routes agree.0, agree
     at_place (other ∷ rest) all = at_place rest all.1
 
 -- a route that agrees with others is for a domain of which there is no entry
-entry_is_new : (routes : List Route) (route : Route) → AllByRecursion (λ one. Agrees one route) routes → ¬ IsSome (entry_of routes route.domain)
+pub entry_is_new : (routes : List Route) (route : Route) → AllByRecursion (λ one. Agrees one route) routes → ¬ IsSome (entry_of routes route.domain)
 entry_is_new [] route agree some = false≢true some
 entry_is_new (one ∷ routes) route agree some =
     elim (cases_Bool (bytes_eq route.domain one.domain)) [
@@ -107,7 +107,7 @@ entry_is_new (one ∷ routes) route agree some =
     ]
 
 -- and the place of its name is its own
-place_is_own : (routes : List Route) (route : Route) (place : SocketAddrV4) → AllByRecursion (λ one. Agrees one route) routes → place_of routes route.hop.name ≡ Some place → place ≡ route.hop.at
+pub place_is_own : (routes : List Route) (route : Route) (place : SocketAddrV4) → AllByRecursion (λ one. Agrees one route) routes → place_of routes route.hop.name ≡ Some place → place ≡ route.hop.at
 place_is_own [] route place agree found = absurd (none-some place found)
 place_is_own (one ∷ routes) route place agree found =
     elim (cases_Bool (bytes_eq route.hop.name one.hop.name)) [

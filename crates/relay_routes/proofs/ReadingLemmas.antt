@@ -1,7 +1,8 @@
 -- A text reads as one configuration, or has one first fault.
-use Rattle.std.proofs.Common.{◌≡◌, ◌⊎◌, inl, inr, ℕ, arith, length, List, [], ◌∷◌, Option, None, Some, Result, Ok, Err, pos, refl, sym, ap, ◌∙◌, subst}
+use Rattle.std.proofs.Common.{◌≡◌, ◌⊎◌, inl, inr, ℕ, arith, length, List, [], ◌∷◌, Option, None, Some, option_map, Result, Ok, Err, pos, refl, sym, ap, ◌∙◌, subst}
 use Rattle.std.proofs.Math.Path.{PathP, to_path_p}
 use Rattle.std.proofs.Props.{props}
+use Rattle.std.proofs.lemmas.Option.{none-some, same_Some}
 use Rattle.relay_routes.specs.declared.bare_newlines.BareNewlines.{BareNewlines as Rule}
 use Rattle.relay_routes.specs.declared.bare_newlines.BareNewlines.TheVariants.{Pass, Refuse}
 use Rattle.toml.specs.Data.{Data, Members, no_members, member, string, integer, table}
@@ -9,15 +10,19 @@ use Rattle.toml.specs.Parse.{parse_document}
 use Rattle.relay_routes.specs.declared.config.Config.{Config}
 use Rattle.relay_routes.specs.declared.fault.ConfigFault.{ConfigFault}
 use Rattle.relay_routes.specs.declared.key.Key.{Key}
-use Rattle.relay_routes.specs.declared.key.Key.TheVariants.{Host, Listen, Spool, MaxContent, SpoolLimit, BareNewlines, Routes}
+use Rattle.relay_routes.specs.declared.key.Key.TheVariants.{Host, Listen, Spool, MaxContent, SpoolLimit, BareNewlines, Routes, TrustedClients}
 use Rattle.relay_routes.specs.Value.{GivesAddress, GivesBareNewlines, GivesHost, GivesPath, GivesSize, address_text, bare_newlines_text}
-use Rattle.relay_routes.specs.Routes.{Route, RouteTable}
+use Rattle.relay_routes.specs.Network.{GivesNetworks}
+use Rattle.relay_routes.specs.Trusted.{IsTrusting, Trusted}
+use Rattle.relay_routes.specs.declared.network.Network.{Network}
+use Rattle.relay_routes.specs.Routes.{Route, RouteTable, without_wildcard}
 use Rattle.relay_routes.specs.Settings.{IsConfig}
 use Rattle.relay_routes.specs.Document.{AreRoutes, GivesRoutes, value_of}
-use Rattle.relay_routes.specs.Config.{FirstFault, IsGood, ReadsBareNewlines, ReadsDocument, ReadsHost, ReadsListen, ReadsMaxContent, ReadsOptional, ReadsParsed, ReadsRequired, ReadsRoutes, ReadsSpool, ReadsSpoolLimit, ReadsValue, Says, at_bare_newlines, at_host, at_listen, at_max_content, at_routes, at_spool, at_spool_limit}
+use Rattle.relay_routes.specs.Config.{FirstFault, GivesTrusted, IsGood, ReadsBareNewlines, ReadsDocument, ReadsHost, ReadsListen, ReadsMaxContent, ReadsOptional, ReadsParsed, ReadsRequired, ReadsRoutes, ReadsSpool, ReadsSpoolLimit, ReadsTrustedClients, ReadsValue, Says, at_bare_newlines, at_host, at_listen, at_max_content, at_routes, at_spool, at_spool_limit, at_trusted_clients}
 use Rattle.relay_routes.specs.ConfigLaws.{OneReading}
 use Rattle.relay_routes.proofs.AddressLemmas.{address_is_one}
 use Rattle.relay_routes.proofs.MemberLemmas.{route_is_one}
+use Rattle.relay_routes.proofs.ItemLemmas.{networks_are_one}
 
 -- what a value gives is one
 abbrev GivesOne : {A : Type 0} → (Data → A → Type 0) → Type 0
@@ -113,6 +118,14 @@ one_bare_newlines document = optional_is_one BareNewlines Pass GivesBareNewlines
 one_routes : (document : Members) → ReadsOne (ReadsRoutes document)
 one_routes document = required_is_one Routes GivesRoutes (value_of Routes document) table_is_one
 
+trusted_are_one : GivesOne GivesTrusted
+trusted_are_one value None two a b = absurd a
+trusted_are_one value (Some one) None a b = absurd b
+trusted_are_one value (Some one) (Some two) a b = ap Some (networks_are_one value one two a b)
+
+one_trusted_clients : (document : Members) → ReadsOne (ReadsTrustedClients document)
+one_trusted_clients document = optional_is_one TrustedClients None GivesTrusted (value_of TrustedClients document) trusted_are_one
+
 -- a value that was read is one
 same_value : {A : Type 0} (Reads : Result A ConfigFault → Type 0) (one two : A) → ReadsOne Reads → Reads (Ok one) → Reads (Ok two) → one ≡ two
 same_value Reads one two unique a b =
@@ -134,11 +147,26 @@ no_fault {A} Reads value fault unique good bad =
 config_prop : (host : List ℕ) (max_content spool_limit : ℕ) (routes : RouteTable) → IsProp (IsConfig host max_content spool_limit routes)
 config_prop host max_content spool_limit routes = hlevel props
 
+trusting_prop : (routes : RouteTable) (trusted : Option Trusted) → IsProp (IsTrusting routes trusted)
+trusting_prop routes trusted = hlevel props
+
+-- whom a relay trusts is the networks, and the routes of the domains that are named
+trusted_by : (routes other : RouteTable) (one two : Option Trusted) → routes ≡ other → IsTrusting routes one → IsTrusting other two → option_map (λ trusted. trusted.networks) one ≡ option_map (λ trusted. trusted.networks) two → one ≡ two
+trusted_by routes other None None same a b networks = refl
+trusted_by routes other None (Some two) same a b networks = absurd (none-some two.networks networks)
+trusted_by routes other (Some one) None same a b networks = absurd (none-some one.networks (sym networks))
+trusted_by routes other (Some one) (Some two) same a b networks =
+    let its = same_Some one.networks two.networks networks in
+    let named : one.named ≡ two.named = a one refl ∙ ap (λ (t : RouteTable). without_wildcard t) same ∙ sym (b two refl) in
+    λ j. Some (record { networks = its j; named = named j })
+
 -- a configuration is its values
-config_by : (one two : Config) → one.host ≡ two.host → one.listen ≡ two.listen → one.spool ≡ two.spool → one.max_content ≡ two.max_content → one.spool_limit ≡ two.spool_limit → one.bare_newlines ≡ two.bare_newlines → one.routes ≡ two.routes → one ≡ two
-config_by one two host listen spool max_content spool_limit bare_newlines routes =
+config_by : (one two : Config) → one.host ≡ two.host → one.listen ≡ two.listen → one.spool ≡ two.spool → one.max_content ≡ two.max_content → one.spool_limit ≡ two.spool_limit → one.bare_newlines ≡ two.bare_newlines → one.routes ≡ two.routes → one.trusted_clients ≡ two.trusted_clients → one ≡ two
+config_by one two host listen spool max_content spool_limit bare_newlines routes trusted_clients =
     let valid : PathP (λ j. IsConfig (host j) (max_content j) (spool_limit j) (routes j)) one.valid two.valid =
     to_path_p (λ j. IsConfig (host j) (max_content j) (spool_limit j) (routes j)) (config_prop two.host two.max_content two.spool_limit two.routes _ two.valid) in
+    let trusting : PathP (λ j. IsTrusting (routes j) (trusted_clients j)) one.trusting two.trusting =
+    to_path_p (λ j. IsTrusting (routes j) (trusted_clients j)) (trusting_prop two.routes two.trusted_clients _ two.trusting) in
     λ j. record {
       host = host j;
       listen = listen j;
@@ -147,7 +175,9 @@ config_by one two host listen spool max_content spool_limit bare_newlines routes
       spool_limit = spool_limit j;
       bare_newlines = bare_newlines j;
       routes = routes j;
+      trusted_clients = trusted_clients j;
       valid = valid j;
+      trusting = trusting j;
     }
 
 -- a document says one configuration
@@ -161,7 +191,10 @@ says_one document one two a b =
     let bare_newlines = same_value (ReadsBareNewlines document) one.bare_newlines two.bare_newlines (one_bare_newlines document) a.bare_newlines b.bare_newlines in
     let routes = same_value (ReadsRoutes document) one.routes.routes two.routes.routes (one_routes document) a.routes b.routes in
     let routes_host : one.routes.host ≡ two.routes.host = a.routes_host ∙ host ∙ sym b.routes_host in
-    config_by one two host listen spool max_content spool_limit bare_newlines (λ j. record { host = routes_host j; routes = routes j })
+    let table : one.routes ≡ two.routes = λ j. record { host = routes_host j; routes = routes j } in
+    let networks = same_value (ReadsTrustedClients document) (option_map (λ trusted. trusted.networks) one.trusted_clients) (option_map (λ trusted. trusted.networks) two.trusted_clients)
+    (one_trusted_clients document) a.trusted_clients b.trusted_clients in
+    config_by one two host listen spool max_content spool_limit bare_newlines table (trusted_by one.routes two.routes one.trusted_clients two.trusted_clients table a.trusting b.trusting networks)
 
 -- a fault is that of this key, or the key is good and the fault a later one
 abbrev FaultFrom : {A : Type 0} → (Result A ConfigFault → Type 0) → (ConfigFault → Type 0) → ConfigFault → Type 0
@@ -177,8 +210,11 @@ from_is_one Reads Later unique later one two (inr a) (inl b) = absurd (no_fault 
 from_is_one Reads Later unique later one two (inr a) (inr b) = later one two a.1 b.1
 
 -- the faults from each key on
+abbrev FromTrustedClients : Members → ConfigFault → Type 0
+FromTrustedClients document fault = ReadsTrustedClients document (Err fault)
+
 abbrev FromBareNewlines : Members → ConfigFault → Type 0
-FromBareNewlines document fault = ReadsBareNewlines document (Err fault)
+FromBareNewlines document = FaultFrom (ReadsBareNewlines document) (FromTrustedClients document)
 
 abbrev FromRoutes : Members → ConfigFault → Type 0
 FromRoutes document = FaultFrom (ReadsRoutes document) (FromBareNewlines document)
@@ -207,7 +243,9 @@ from_host document fault (at_spool_limit host listen spool max_content bad) = in
 from_host document fault (at_routes host listen spool max_content spool_limit bad) =
     inr (host, inr (listen, inr (spool, inr (max_content, inr (spool_limit, inl bad)))))
 from_host document fault (at_bare_newlines host listen spool max_content spool_limit routes bad) =
-    inr (host, inr (listen, inr (spool, inr (max_content, inr (spool_limit, inr (routes, bad))))))
+    inr (host, inr (listen, inr (spool, inr (max_content, inr (spool_limit, inr (routes, inl bad))))))
+from_host document fault (at_trusted_clients host listen spool max_content spool_limit routes bare_newlines bad) =
+    inr (host, inr (listen, inr (spool, inr (max_content, inr (spool_limit, inr (routes, inr (bare_newlines, bad)))))))
 
 one_from_host : (document : Members) → IsOneFault (FromHost document)
 one_from_host document =
@@ -217,7 +255,8 @@ one_from_host document =
     (from_is_one (ReadsMaxContent document) (FromSpoolLimit document) (one_max_content document)
     (from_is_one (ReadsSpoolLimit document) (FromRoutes document) (one_spool_limit document)
     (from_is_one (ReadsRoutes document) (FromBareNewlines document) (one_routes document)
-    (λ one two a b. same_fault (ReadsBareNewlines document) one two (one_bare_newlines document) a b))))))
+    (from_is_one (ReadsBareNewlines document) (FromTrustedClients document) (one_bare_newlines document)
+    (λ one two a b. same_fault (ReadsTrustedClients document) one two (one_trusted_clients document) a b)))))))
 
 -- a document that says a configuration has no fault
 says_no_fault : (document : Members) (config : Config) (fault : ConfigFault) → Says document config → ¬ FirstFault document fault
@@ -232,6 +271,8 @@ says_no_fault document config fault says (at_routes host listen spool max_conten
     no_fault (ReadsRoutes document) config.routes.routes fault (one_routes document) says.routes bad
 says_no_fault document config fault says (at_bare_newlines host listen spool max_content spool_limit routes bad) =
     no_fault (ReadsBareNewlines document) config.bare_newlines fault (one_bare_newlines document) says.bare_newlines bad
+says_no_fault document config fault says (at_trusted_clients host listen spool max_content spool_limit routes bare_newlines bad) =
+    no_fault (ReadsTrustedClients document) (option_map (λ trusted. trusted.networks) config.trusted_clients) fault (one_trusted_clients document) says.trusted_clients bad
 
 document_is_one : (document : Members) → ReadsOne (ReadsDocument document)
 document_is_one document (Ok one) (Ok two) a b = ap Ok (says_one document one two a b)

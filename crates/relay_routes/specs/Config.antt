@@ -1,16 +1,19 @@
 -- What a configuration's text says: its values, or the first fault.
-use Rattle.std.specs.Prelude.{◌≡◌, ℕ, List, Option, Some, None, Result, Ok, Err}
+use Rattle.std.specs.Prelude.{◌≡◌, ℕ, List, Option, Some, None, Result, Ok, Err, option_map}
 use Rattle.toml.specs.Data.{Data, Members}
 use Rattle.toml.specs.Parse.{parse_document}
 use Rattle.relay_routes.specs.declared.bare_newlines.BareNewlines.{BareNewlines as Rule}
 use Rattle.relay_routes.specs.declared.bare_newlines.BareNewlines.TheVariants.{Pass}
 use Rattle.relay_routes.specs.Value.{GivesAddress, GivesBareNewlines, GivesHost, GivesPath, GivesSize}
 use Rattle.relay_routes.specs.Routes.{Route}
+use Rattle.relay_routes.specs.Network.{GivesNetworks}
+use Rattle.relay_routes.specs.Trusted.{IsTrusting}
 use Rattle.relay_routes.specs.Document.{GivesRoutes, value_of}
 use Rattle.std.specs.declared.net.socket_addr.SocketAddrV4.{SocketAddrV4}
+use Rattle.relay_routes.specs.declared.network.Network.{Network}
 use Rattle.relay_routes.specs.declared.key.Key.{Key}
 use Rattle.relay_routes.specs.declared.key.Key.TheVariants.{Host, Listen, Spool, MaxContent, SpoolLimit, Routes}
-use Rattle.relay_routes.specs.declared.key.Key.TheVariants.{BareNewlines}
+use Rattle.relay_routes.specs.declared.key.Key.TheVariants.{BareNewlines, TrustedClients}
 use Rattle.relay_routes.specs.declared.fault.ConfigFault.{ConfigFault}
 use Rattle.relay_routes.specs.declared.fault.ConfigFault.TheVariants.{NotToml, Missing, BadValue}
 use Rattle.relay_routes.specs.declared.config.Config.{Config}
@@ -58,6 +61,15 @@ ReadsBareNewlines document = ReadsOptional BareNewlines Pass GivesBareNewlines (
 abbrev pub ReadsRoutes : Members → Result (List Route) ConfigFault → Type 0
 ReadsRoutes document = ReadsRequired Routes GivesRoutes (value_of Routes document)
 
+-- the value is an array of these networks
+abbrev pub GivesTrusted : Data → Option (List Network) → Type 0
+GivesTrusted value None = ⊥
+GivesTrusted value (Some networks) = GivesNetworks value networks
+
+-- the networks of clients that may send to every route: everybody may where nothing is said
+abbrev pub ReadsTrustedClients : Members → Result (Option (List Network)) ConfigFault → Type 0
+ReadsTrustedClients document = ReadsOptional TrustedClients None GivesTrusted (value_of TrustedClients document)
+
 -- the document says this configuration
 pub record Says (document : Members) (config : Config) : Type 0 where
   pub host : ReadsHost document (Ok config.host)
@@ -68,6 +80,9 @@ pub record Says (document : Members) (config : Config) : Type 0 where
   pub bare_newlines : ReadsBareNewlines document (Ok config.bare_newlines)
   pub routes : ReadsRoutes document (Ok config.routes.routes)
   pub routes_host : config.routes.host ≡ config.host
+  pub trusted_clients : ReadsTrustedClients document
+      (Ok (option_map (λ trusted. trusted.networks) config.trusted_clients))
+  pub trusting : IsTrusting config.routes config.trusted_clients
 
 -- there is a value where each key before was read
 pub record IsGood {A : Type 0} (Reads : Result A ConfigFault → Type 0) : Type 0 where
@@ -90,6 +105,9 @@ pub data FirstFault (document : Members) (fault : ConfigFault) : Type 0 where
   at_bare_newlines : IsGood (ReadsHost document) → IsGood (ReadsListen document) → IsGood (ReadsSpool document)
       → IsGood (ReadsMaxContent document) → IsGood (ReadsSpoolLimit document) → IsGood (ReadsRoutes document)
       → ReadsBareNewlines document (Err fault) → FirstFault document fault
+  at_trusted_clients : IsGood (ReadsHost document) → IsGood (ReadsListen document) → IsGood (ReadsSpool document)
+      → IsGood (ReadsMaxContent document) → IsGood (ReadsSpoolLimit document) → IsGood (ReadsRoutes document)
+      → IsGood (ReadsBareNewlines document) → ReadsTrustedClients document (Err fault) → FirstFault document fault
 
 -- what a document says
 abbrev pub ReadsDocument : Members → Result Config ConfigFault → Type 0

@@ -1,7 +1,11 @@
 pub mod Value
 pub mod Routes
 pub mod Indexed
+pub mod Prefix
+pub mod Network
+pub mod Trusted
 pub mod Document
 pub mod Settings
 pub mod Config
+pub mod Accepted
 pub mod ConfigLaws

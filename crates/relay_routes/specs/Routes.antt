@@ -1,6 +1,6 @@
 -- Where mail goes: the routes of a relay, and the next hop of a path.
 use Rattle.std.specs.Prelude.{◌≡◌, ◌≢◌, ℕ, ◌⊎◌, List, [], ◌∷◌, ◌++◌, map, codes, bytes_eq, Option, Some, None, IsSome}
-use Rattle.std.specs.Prelude.{find, option_map, unwrap_or, if◌then◌else◌}
+use Rattle.std.specs.Prelude.{filter, find, not, option_map, unwrap_or, if◌then◌else◌}
 use Rattle.std.specs.Char.{to_ascii_lowercase}
 use Rattle.std.specs.List.{AllByRecursion}
 use Rattle.std.specs.declared.net.socket_addr.SocketAddrV4.{SocketAddrV4}
@@ -52,6 +52,14 @@ hop_at table path =
 -- a route is for a domain, or for any
 abbrev pub IsRouteDomain : List ℕ → Type 0
 IsRouteDomain domain = (domain ≡ codes "*") ⊎ IsDomain domain
+
+-- the routes of domains that are named: all but that of `*`
+abbrev pub named_routes : List Route → List Route
+named_routes routes = filter (λ route. not (bytes_eq route.domain (codes "*"))) routes
+
+-- the table without its route for `*`
+abbrev pub without_wildcard : RouteTable → RouteTable
+without_wildcard table = record table { routes = named_routes table.routes }
 
 -- two routes are for different domains, and go to one place where they go to one name
 pub record Agrees (one other : Route) : Type 0 where

@@ -1,15 +1,17 @@
-ghost use Rattle.std.specs.Prelude.{◌≡◌, Ok, Err, IfOk, IfErr, IsTrue, MatchOption, ◌⊎◌, ◌↔◌};
+ghost use Rattle.std.specs.Prelude.{◌≡◌, None, Ok, Err, IfOk, IfErr, IsTrue, MatchOption, ◌⊎◌, ◌↔◌};
 ghost use Rattle.relay_routes.specs.Settings.{IsConfig};
+ghost use Rattle.relay_routes.specs.Trusted.{IsTrusting};
 
 use crate::bare_newlines::BareNewlines;
 use crate::document::{
     CONTENT_LIMIT, SPOOL_LIMIT, read_bare_newlines, read_host, read_listen, read_max_content,
-    read_routes, read_spool, read_spool_limit,
+    read_routes, read_spool, read_spool_limit, read_trusted_clients,
 };
 use crate::fault::ConfigFault;
 use crate::host_name::HostName;
 use crate::spool_path::SpoolPath;
 use crate::table::Table;
+use crate::trusted_clients::TrustedClients;
 use std::alloc::Global;
 use std::net::SocketAddrV4;
 
@@ -30,7 +32,10 @@ pub struct Config {
     pub bare_newlines: BareNewlines,
     /// Where mail goes.
     pub routes: Table,
+    /// The clients that may send to every route, where not all of them may.
+    pub trusted_clients: Option<TrustedClients>,
     pub ghost valid: { IsConfig host max_content spool_limit routes },
+    pub ghost trusting: { IsTrusting routes trusted_clients },
 }
 
 // Written out, so that what drops a configuration calls this, and doesn't look into its parts.
@@ -44,16 +49,18 @@ impl Drop for Config {
             spool_limit: _,
             bare_newlines: _,
             routes: _routes,
+            trusted_clients: _trusted_clients,
         } = self;
     }
 }
 
 impl Config {
     ghost use Rattle.toml.specs.View.{table_view};
+    ghost use Rattle.relay_routes.specs.Accepted.{accepted_table};
     ghost use Rattle.relay_routes.specs.Config.{ReadsConfig, ReadsDocument};
 
     /// A configuration of these values, where `max_content` and `spool_limit` lie in their ranges and the routes are
-    /// those of this host. It takes no memory.
+    /// those of this host. Every client may send to every route. It takes no memory.
     pub fn new(
         host: HostName,
         listen: SocketAddrV4,
@@ -66,7 +73,8 @@ impl Config {
         ensures { MatchOption result (¬ IsConfig host max_content spool_limit routes) (λ config.
             (config.host ≡ host) × (config.listen ≡ listen) × (config.spool ≡ spool)
             × (config.max_content ≡ max_content) × (config.spool_limit ≡ spool_limit)
-            × (config.bare_newlines ≡ bare_newlines) × (config.routes ≡ routes)) }
+            × (config.bare_newlines ≡ bare_newlines) × (config.routes ≡ routes)
+            × (config.trusted_clients ≡ None)) }
     {
         if is_config(&host, max_content, spool_limit, &routes) {
             Some(Config {
@@ -77,6 +85,7 @@ impl Config {
                 spool_limit,
                 bare_newlines,
                 routes,
+                trusted_clients: None,
             })
         } else {
             None
@@ -85,7 +94,8 @@ impl Config {
 
     /// The configuration that a text in TOML says. Keys are looked at in the order of [`Key`](crate::Key), and the
     /// first fault is answered; other keys are ignored. Where they are missing, `max_content` is 1,048,576,
-    /// `spool_limit` 67,108,864 and `bare_newlines` says that content is taken as it came.
+    /// `spool_limit` 67,108,864, `bare_newlines` says that content is taken as it came, and `trusted_clients` that every
+    /// client may send to every route.
     pub fn read(alloc: Global, text: &str) -> Result<Self, ConfigFault>
         ensures ok { IfOk result (λ config. ReadsConfig text.now (Ok config)) }
         ensures err { IfErr result (λ fault. (fault ≡ ConfigFault.NoMemory)
@@ -111,6 +121,7 @@ impl Config {
         let spool_limit = read_spool_limit(document)?;
         let routes = read_routes(alloc, document, host.copy(alloc)?)?;
         let bare_newlines = read_bare_newlines(document)?;
+        let trusted_clients = read_trusted_clients(alloc, document, &routes)?;
         Ok(Config {
             host,
             listen,
@@ -119,7 +130,25 @@ impl Config {
             spool_limit,
             bare_newlines,
             routes,
+            trusted_clients,
         })
+    }
+
+    /// The table by which a client's recipients are accepted: all routes for one that may send to each of them, else
+    /// those of the domains that are named. It takes no memory.
+    pub fn accepted_table(&self, client: [u8; 4]) -> &Table
+        ensures { result.now ≡ accepted_table self.now client }
+    {
+        match &self.trusted_clients {
+            Some(trusted) => {
+                if trusted.contains(client) {
+                    &self.routes
+                } else {
+                    trusted.named()
+                }
+            }
+            None => &self.routes,
+        }
     }
 }
 

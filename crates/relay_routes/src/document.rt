@@ -2,13 +2,16 @@
 ghost use Rattle.std.specs.Prelude.{◌≡◌, ◌⊎◌, ℕ, None, Some, Ok, Err, IfOk, IfErr, List, MatchOption, MatchResult};
 ghost use Rattle.std.specs.Prelude.{option_map, option_and_then};
 ghost use Rattle.toml.specs.Data.{as_str, get_member};
-ghost use Rattle.toml.specs.View.{table_view, view};
+ghost use Rattle.toml.specs.View.{items_view, table_view, view};
 ghost use Rattle.relay_routes.specs.Value.{GivesSize};
 ghost use Rattle.relay_routes.specs.Document.{AreRoutes, GivesHop, fault_of_routes, value_of};
 ghost use Rattle.relay_routes.specs.Routes.{AllAgree, Route};
 ghost use Rattle.relay_routes.specs.Config.{ReadsBareNewlines, ReadsHost, ReadsListen, ReadsMaxContent, ReadsOptional};
-ghost use Rattle.relay_routes.specs.Config.{ReadsRoutes, ReadsSpool, ReadsSpoolLimit};
+ghost use Rattle.relay_routes.specs.Config.{ReadsRoutes, ReadsSpool, ReadsSpoolLimit, ReadsTrustedClients};
+ghost use Rattle.relay_routes.specs.Network.{AreNetworks, GivesNetwork};
+ghost use Rattle.relay_routes.specs.Trusted.{IsTrusting};
 ghost use Rattle.relay_routes.specs.declared.hop.Hop.{Hop};
+ghost use Rattle.relay_routes.specs.declared.network.Network.{Network};
 
 use crate::address::read_address;
 use crate::bare_newlines::BareNewlines;
@@ -16,8 +19,10 @@ use crate::fault::{ConfigFault, RouteFault};
 use crate::hop::Hop;
 use crate::host_name::HostName;
 use crate::key::Key;
+use crate::network::Network;
 use crate::spool_path::SpoolPath;
 use crate::table::Table;
+use crate::trusted_clients::TrustedClients;
 use std::alloc::{AllocError, Global};
 use std::net::SocketAddrV4;
 use toml::Value;
@@ -133,6 +138,57 @@ pub(crate) fn read_routes(
     match required(document, Key::Routes)? {
         Value::Table(members) => table_of(alloc, host, members),
         _ => Err(ConfigFault::BadValue(Key::Routes)),
+    }
+}
+
+/// `trusted_clients`: the clients that may send to every one of these routes, where not all of them may.
+pub(crate) fn read_trusted_clients(
+    alloc: Global,
+    document: &toml::Table,
+    routes: &Table,
+) -> Result<Option<TrustedClients>, ConfigFault>
+    ensures ok { IfOk result (λ found. ReadsTrustedClients (table_view document.now)
+        (Ok (option_map (λ trusted. trusted.networks) found))) }
+    ensures trusting { IfOk result (IsTrusting routes.now) }
+    ensures err { IfErr result (λ fault. (fault ≡ ConfigFault.NoMemory)
+        ⊎ ReadsTrustedClients (table_view document.now) (Err fault)) }
+{
+    let Some(value) = member(document, Key::TrustedClients) else {
+        return Ok(None);
+    };
+    let Value::Array(values) = value else {
+        return Err(ConfigFault::BadValue(Key::TrustedClients));
+    };
+    match read_networks(alloc, values.as_slice())? {
+        Some(networks) => Ok(Some(TrustedClients::new(alloc, networks, routes)?)),
+        None => Err(ConfigFault::BadValue(Key::TrustedClients)),
+    }
+}
+
+/// The networks that the values write, where each writes one.
+fn read_networks(alloc: Global, values: &[Value]) -> Result<Option<Vec<Network>>, AllocError>
+    ensures { IfOk result (λ found. MatchOption found
+        ((networks : List Network) → ¬ AreNetworks (items_view values.now) networks)
+        (λ networks. AreNetworks (items_view values.now) networks.items)) }
+{
+    let mut networks = Vec::new(alloc);
+    for value in values {
+        match read_network(value) {
+            Some(network) => networks.push(network)?,
+            None => return Ok(None),
+        }
+    }
+    Ok(Some(networks))
+}
+
+/// The network that the value writes.
+fn read_network(value: &Value) -> Option<Network>
+    ensures { MatchOption result
+        ((network : Network) → ¬ GivesNetwork (view value.now) network) (GivesNetwork (view value.now)) }
+{
+    match value {
+        Value::String(text) => Network::read(text.as_bytes()),
+        _ => None,
     }
 }
 

@@ -1,4 +1,7 @@
+ghost use Rattle.std.specs.Prelude.{◌≡◌, IfOk};
+
 use crate::host_name::HostName;
+use std::alloc::{AllocError, Global};
 use std::net::SocketAddrV4;
 
 /// Another server that takes mail on.
@@ -14,5 +17,15 @@ pub struct Hop {
 impl Drop for Hop {
     fn drop(self) {
         let Hop { name: _name, at: _ } = self;
+    }
+}
+
+impl Hop {
+    /// The same hop again. It fails where memory runs out.
+    pub fn copy(&self, alloc: Global) -> Result<Self, AllocError>
+        ensures { IfOk result (λ copy. copy ≡ self.now) }
+    {
+        let name = self.name.copy(alloc)?;
+        Ok(Hop { name, at: self.at })
     }
 }

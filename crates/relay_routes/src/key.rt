@@ -20,6 +20,8 @@ pub enum Key {
     Routes,
     /// What is done with a content in which a CR or an LF stands alone.
     BareNewlines,
+    /// Whose mail is accepted for every route.
+    TrustedClients,
 }
 
 impl Key {
@@ -35,6 +37,7 @@ impl Key {
             Key::SpoolLimit => "spool_limit",
             Key::Routes => "routes",
             Key::BareNewlines => "bare_newlines",
+            Key::TrustedClients => "trusted_clients",
         }
     }
 }

@@ -1,9 +1,9 @@
-ghost use Rattle.std.specs.Prelude.{◌≡◌, ◌≢◌, ◌↔◌, ◌≤◌, ◌<◌, [], None, Some, IsTrue, IsErrOf, IsSome, IfErr, OnOk};
+ghost use Rattle.std.specs.Prelude.{◌≡◌, ◌≢◌, ◌↔◌, ◌≤◌, ◌<◌, [], None, Some, IsTrue, IsErrOf, IsSome, IfErr, IfOk, OnOk};
 ghost use Rattle.std.specs.Prelude.{OnErr, MatchBool, length, option_copied};
 ghost use Rattle.relay_envelope.specs.Path.{value_of};
 ghost use Rattle.relay_routes.specs.Routes.{AllAgree, HasNoOtherPlace, HasOtherPlace, IsRouteDomain, MayBeAdded};
 ghost use Rattle.relay_routes.specs.Routes.{RefusesRoute, entry_of, hop_at, hop_for, hop_of, place_of, with_lowered};
-ghost use Rattle.relay_routes.specs.Routes.{with_route};
+ghost use Rattle.relay_routes.specs.Routes.{with_route, without_wildcard};
 
 use crate::fault::RouteFault;
 use crate::hop::Hop;
@@ -127,6 +127,21 @@ impl Table {
             Some(place) => Some(*place),
             None => None,
         }
+    }
+
+    /// The same routes again but for that of `*`: where mail goes for the domains that are named. It fails where memory
+    /// runs out.
+    pub fn without_wildcard(&self, alloc: Global) -> Result<Table, AllocError>
+        ensures { IfOk result (λ table. table ≡ without_wildcard self.now) }
+    {
+        let mut table = Table::new(alloc, self.host.copy(alloc)?);
+        'routes: for (domain, hop) in self.hops.iter() {
+            if domain.as_slice() != b"*".as_slice() {
+                let domain = Vec::from_slice(alloc, domain.as_slice())?;
+                table.insert(alloc, domain, hop.copy(alloc)?)?;
+            }
+        }
+        Ok(table)
     }
 
     /// Adds a route that agrees with the others. Where memory runs out, none is added.

@@ -19,4 +19,5 @@ invariant_of-result c =
         little_room = room.1;
         same_host = c.in_ok-routes.ensures.ok.1 ∙ c.in_ok-copy.ensures;
       };
+      trusting = c.in_ok-trusted_clients.ensures.trusting;
     }
