@@ -1,9 +1,7 @@
 -- The routes of named domains, copied one after another.
-use Rattle.std.proofs.Common.{◌≡◌, ◌⊎◌, inl, inr, ℕ, Bool, true, false, not, cond, List, [], ◌∷◌, ◌++◌, codes, Option, None, Some, IsSome, bytes_eq, filter, refl, sym, ap, ◌∙◌, append_assoc, append-nil, subst}
+use Rattle.std.proofs.Common.{◌≡◌, inl, inr, Bool, true, false, not, cond, List, [], ◌∷◌, ◌++◌, codes, Option, None, Some, IsSome, bytes_eq, refl, sym, ap, ◌∙◌, append_assoc, append-nil, subst}
 use Rattle.std.specs.List.{AllByRecursion}
 use Rattle.std.specs.declared.net.socket_addr.SocketAddrV4.{SocketAddrV4}
-use Rattle.std.proofs.lemmas.Bool.{cases_Bool}
-use Rattle.relay_routes.specs.declared.hop.Hop.{Hop}
 use Rattle.relay_routes.specs.Routes.{Agrees, AllAgree, HasNoOtherPlace, Route, entry_of, named_routes, place_of}
 use Rattle.relay_routes.proofs.MemberLemmas.{agree_before, entry_is_new, place_is_own}
 

@@ -1,11 +1,11 @@
 -- Networks and their texts.
-use Rattle.std.proofs.Common.{◌≡◌, ℕ, ◌+◌, ◌<◌, ◌≤◌, ◌==◌, false, ◌⊎◌, inl, inr, List, [], ◌∷◌, ◌++◌, codes, decimal, Option, None, Some, MatchOption, length, take, drop, get_or, zero, suc, add-one, lit≤, refl, sym, ap, ◌∙◌, subst, arith, append_assoc}
+use Rattle.std.proofs.Common.{◌≡◌, ℕ, ◌+◌, ◌<◌, ◌≤◌, ◌==◌, false, inl, inr, List, [], ◌∷◌, ◌++◌, codes, decimal, Option, None, Some, MatchOption, length, take, drop, get_or, zero, suc, add-one, lit≤, refl, sym, ap, ◌∙◌, subst, arith, append_assoc}
 use Rattle.std.specs.Net.Addr.{ipv4_octets}
 use Rattle.std.specs.Net.Grammar.{IsDotted, IsIpv4Text}
 use Rattle.std.specs.declared.net.ipv4_addr.Ipv4Addr.{Ipv4Addr}
 use Rattle.std.proofs.Math.Path.{PathP, to_path_p}
 use Rattle.std.proofs.Props.{props}
-use Rattle.std.proofs.lemmas.Bool.{false_from_ne_true, eqb-true, false≢true}
+use Rattle.std.proofs.lemmas.Bool.{false_from_ne_true, eqb-true}
 use Rattle.std.proofs.lemmas.Bool.Decides.{nat_tests}
 use Rattle.std.proofs.lemmas.Fmt.{decimal_injective}
 use Rattle.memchr.specs.Find.{NoneBefore, Passes, is_byte}

@@ -12,9 +12,7 @@ use Rattle.relay_routes.specs.declared.fault.ConfigFault.{ConfigFault}
 use Rattle.relay_routes.specs.declared.key.Key.{Key}
 use Rattle.relay_routes.specs.declared.key.Key.TheVariants.{Host, Listen, Spool, MaxContent, SpoolLimit, BareNewlines, Routes, TrustedClients}
 use Rattle.relay_routes.specs.Value.{GivesAddress, GivesBareNewlines, GivesHost, GivesPath, GivesSize, address_text, bare_newlines_text}
-use Rattle.relay_routes.specs.Network.{GivesNetworks}
 use Rattle.relay_routes.specs.Trusted.{IsTrusting, Trusted}
-use Rattle.relay_routes.specs.declared.network.Network.{Network}
 use Rattle.relay_routes.specs.Routes.{Route, RouteTable, without_wildcard}
 use Rattle.relay_routes.specs.Settings.{IsConfig}
 use Rattle.relay_routes.specs.Document.{AreRoutes, GivesRoutes, value_of}

@@ -8,4 +8,5 @@ pub mod Document
 pub mod Settings
 pub mod Config
 pub mod Accepted
+pub mod AcceptedLaws
 pub mod ConfigLaws

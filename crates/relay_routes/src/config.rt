@@ -94,8 +94,8 @@ impl Config {
 
     /// The configuration that a text in TOML says. Keys are looked at in the order of [`Key`](crate::Key), and the
     /// first fault is answered; other keys are ignored. Where they are missing, `max_content` is 1,048,576,
-    /// `spool_limit` 67,108,864, `bare_newlines` says that content is taken as it came, and `trusted_clients` that every
-    /// client may send to every route.
+    /// `spool_limit` 67,108,864, `bare_newlines` says that content is taken as it came, and `trusted_clients` that
+    /// every client may send to every route.
     pub fn read(alloc: Global, text: &str) -> Result<Self, ConfigFault>
         ensures ok { IfOk result (λ config. ReadsConfig text.now (Ok config)) }
         ensures err { IfErr result (λ fault. (fault ≡ ConfigFault.NoMemory)

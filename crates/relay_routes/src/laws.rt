@@ -1,4 +1,5 @@
 //! What is true of configurations and routes, whoever reads them.
+ghost use Rattle.relay_routes.specs.AcceptedLaws.{AcceptedIsRouted, AllAreTrusted};
 ghost use Rattle.relay_routes.specs.ConfigLaws.{OneReading};
 ghost use Rattle.relay_routes.specs.Routes.{HopAtIsHopOf, HopHasItsPlace};
 ghost use Rattle.relay_routes.specs.Settings.{ConfigIsNamed};
@@ -21,4 +22,14 @@ pub fn hop_at_is_hop_of()
 /// One name has one place: that of each hop with this name.
 pub fn hop_has_its_place()
     ensures { HopHasItsPlace }
+{}
+
+/// Where no trusted clients are named, every client may send to every route.
+pub fn all_are_trusted()
+    ensures { AllAreTrusted }
+{}
+
+/// A path that is accepted of a client has its next hop in the whole table too, and it is the same.
+pub fn accepted_is_routed()
+    ensures { AcceptedIsRouted }
 {}
