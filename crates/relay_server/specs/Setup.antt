@@ -1,5 +1,6 @@
 -- What a server works with through a session.
 use Rattle.std.specs.Prelude.{ℕ, List}
+use Rattle.relay_routes.specs.Accepted.{accepted_table}
 use Rattle.relay_routes.specs.Routes.{RouteTable}
 use Rattle.relay_routes.specs.declared.bare_newlines.BareNewlines.{BareNewlines}
 use Rattle.relay_routes.specs.declared.config.Config.{Config}
@@ -22,11 +23,11 @@ setup_of server routes = record {
   routes = routes;
 }
 
--- what a server with this configuration works with
-abbrev pub setup_of_config : Config → Setup
-setup_of_config config = record {
+-- what a server with this configuration works with through a session of this client
+abbrev pub setup_for : Config → List ℕ → Setup
+setup_for config client = record {
   host = config.host;
   max_content = config.max_content;
   bare_newlines = config.bare_newlines;
-  routes = config.routes;
+  routes = accepted_table config client;
 }
