@@ -6,7 +6,7 @@ use Rattle.relay_spool.specs.Image.{room_of}
 use Rattle.relay_server.specs.declared.offer.Answer.TheVariants.{Queued}
 use Rattle.relay_server.specs.declared.session.Session.{Session}
 use Rattle.relay_server.specs.Dialogue.{Offered, Said}
-use Rattle.relay_server.specs.Setup.{setup_of_config}
+use Rattle.relay_server.specs.Setup.{setup_for}
 use Rattle.relay_book.specs.declared.change.Accept.{Accept}
 use Rattle.relay_book.specs.declared.change.Change.{Change}
 use Rattle.relay_records.specs.Records.{Kept}
@@ -37,7 +37,7 @@ module _ {D : Type 0} (honest : Type 0) (words : DiskWords D) (intake : Intake) 
       (subst (λ size. HasRoom (acceptance_of intake) intake.config.now.spool_limit size offer accept) size_is room)
 
   module _ (before session : Session) (spoken : Spoken) (is : IsSpoken intake (length piece) session spoken)
-      (speaks : (said : Said) → SessionHasSaid (setup_of_config intake.config.now) before said → Speaks intake said piece session spoken) where
+      (speaks : (said : Said) → SessionHasSaid (setup_for intake.config.now intake.peer) before said → Speaks intake said piece session spoken) where
     -- no offer was staged
     pub hears_quietly_behind : spoken.taken ≡ None → Awaits honest words old changes pending row → HearsBehind honest words intake.config.now changes pending intake.at intake.peer before session piece old row old row (received_of spoken None)
     hears_quietly_behind untaken awaits = record {

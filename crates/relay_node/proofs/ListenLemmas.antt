@@ -7,7 +7,7 @@ use Rattle.relay_server.specs.declared.session.Session.{Session}
 use Rattle.relay_server.specs.Dialogue.{Offered, Said}
 use Rattle.relay_server.specs.declared.session.Next.TheVariants as next
 use Rattle.relay_server.specs.Session.{Answered, Hears, Stands, next_of, open_offers}
-use Rattle.relay_server.specs.Setup.{setup_of_config}
+use Rattle.relay_server.specs.Setup.{setup_for}
 use Rattle.relay_server.proofs.Theorems.{more_is_more, offer_is_told, open_is_new, piece_goes_on, what_stands_is_a_dialogue}
 use Rattle.relay_node.specs.declared.intake.Intake.{Intake}
 use Rattle.relay_node.specs.Listening.{HasListened, HasNoRoom}
@@ -24,7 +24,7 @@ all_join P (x ∷ xs) ys all more = (all.0, all_join P xs ys all.1 more)
 
 module _ (intake : Intake) (said : Said) where
   -- nothing was read yet
-  pub listened_to_nothing : (session : Session) (out : List ℕ) → out ≡ [] → open_offers session ≡ [] → Stands (setup_of_config intake.config.now) session said → HasListened intake said session [] out
+  pub listened_to_nothing : (session : Session) (out : List ℕ) → out ≡ [] → open_offers session ≡ [] → Stands (setup_for intake.config.now intake.peer) session said → HasListened intake said session [] out
   listened_to_nothing session out empty none stands = record {
     later = said;
     stands = stands;
@@ -44,7 +44,7 @@ module _ (intake : Intake) (said : Said) where
 
   -- further octets were read
   pub listened_on : (old new : Session) (piece : List ℕ) (used further : ℕ) (before after : List ℕ) → HasListened intake said old (take used piece) before → open_offers old ≡ [] → used ≤ further
-      → ((later : Said) → Stands (setup_of_config intake.config.now) old later → Hears (setup_of_config intake.config.now) later old new (slice_range piece used further) before after) → HasListened intake said new (take further piece) after
+      → ((later : Said) → Stands (setup_for intake.config.now intake.peer) old later → Hears (setup_for intake.config.now intake.peer) later old new (slice_range piece used further) before after) → HasListened intake said new (take further piece) after
   listened_on old new piece used further before after l none within hears =
       let h = hears l.later l.stands in
       let answers = l.answers in
@@ -65,7 +65,7 @@ module _ (intake : Intake) (said : Said) where
 
   -- the open offer was refused
   pub listened_and_refused : (old new : Session) (octets before after : List ℕ) (offer : Offered) → HasListened intake said old octets before → open_offers old ≡ offer ∷ [] → HasNoRoom intake offer → open_offers new ≡ []
-      → ((later : Said) → Stands (setup_of_config intake.config.now) old later → Answered (setup_of_config intake.config.now) later new answer.Full before after) → HasListened intake said new octets after
+      → ((later : Said) → Stands (setup_for intake.config.now intake.peer) old later → Answered (setup_for intake.config.now intake.peer) later new answer.Full before after) → HasListened intake said new octets after
   listened_and_refused old new octets before after offer l was_open no_room none answered =
       let a = answered l.later l.stands in
       let more = l.refused ++ offer ∷ [] in
@@ -92,7 +92,7 @@ module _ (intake : Intake) (said : Said) where
 
   -- a message came that no number is left for
   pub comes_to_offer : (session : Session) (piece : List ℕ) (used : ℕ) (out : List ℕ) → HasListened intake said session (take used piece) out → next_of session ≡ next.Offer → used ≤ length piece → 2 ^ 62 < intake.number
-      → ComesToOffer (setup_of_config intake.config.now) said piece
+      → ComesToOffer (setup_for intake.config.now intake.peer) said piece
   comes_to_offer session piece used out l told within many =
       let none = none_refused l.refused many l.no_room in
       let is_open = (offer_is_told session).0 told in
@@ -104,5 +104,5 @@ module _ (intake : Intake) (said : Said) where
         offer = is_open.0;
         offers = l.answers.offers ∙ ap (λ x. said.offers ++ (x ++ open_offers session)) none ∙ ap (λ x. said.offers ++ x) is_open.1;
         answers = l.answers.answers ∙ ap (λ x. said.answers ++ (refusals x ++ [])) none ∙ append-nil said.answers;
-        dialogue = what_stands_is_a_dialogue (setup_of_config intake.config.now) session l.later l.stands;
+        dialogue = what_stands_is_a_dialogue (setup_for intake.config.now intake.peer) session l.later l.stands;
       }

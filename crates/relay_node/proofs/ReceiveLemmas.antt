@@ -5,7 +5,7 @@ use Rattle.relay_disk.specs.Device.{DiskWords}
 use Rattle.relay_server.specs.declared.offer.Answer.TheVariants.{Queued}
 use Rattle.relay_server.specs.declared.session.Session.{Session}
 use Rattle.relay_server.specs.Dialogue.{Offered, Said}
-use Rattle.relay_server.specs.Setup.{setup_of_config}
+use Rattle.relay_server.specs.Setup.{setup_for}
 use Rattle.relay_server.proofs.Theorems.{what_stands_is_a_dialogue}
 use Rattle.relay_book.specs.declared.change.Accept.{Accept}
 use Rattle.relay_book.specs.declared.change.Change.{Change}
@@ -123,7 +123,7 @@ module _ {D : Type 0} (honest : Type 0) (words : DiskWords D) (intake : Intake) 
         input = s.input;
         unwritten = spoken.out.items;
         output = s.output;
-        dialogue = what_stands_is_a_dialogue (setup_of_config intake.config.now) session s.later s.says.stands;
+        dialogue = what_stands_is_a_dialogue (setup_for intake.config.now intake.peer) session s.later s.says.stands;
         refused = s.refused;
         no_room = no_room s.refused s.no_room;
         offer = last.offer;

@@ -1,5 +1,5 @@
 -- A call on a session, whose seat it takes out and puts back.
-use Rattle.std.proofs.Common.{◌≡◌, ◌≢◌, ℕ, ◌<◌, zero, suc, Bool, true, false, List, [], ◌∷◌, length, Option, None, Some, Result, Ok, Err, refl, sym, ap, ◌∙◌, subst, arith}
+use Rattle.std.proofs.Common.{◌≡◌, ℕ, ◌<◌, zero, suc, Bool, true, false, List, [], ◌∷◌, length, Option, None, Some, Result, Ok, Err, refl, sym, ap, ◌∙◌, subst, arith}
 use Rattle.std.specs.Prelude.{if◌then◌else◌, slice_set}
 use Rattle.std.proofs.lemmas.List.{length-set}
 use Rattle.relay_disk.specs.Device.{DiskWords}
@@ -80,7 +80,7 @@ module _ {D : Type 0} (records : Kept D) (number : ℕ) (old mid : List (Option 
       omega (arith, long, there)
 
   module _ (new : Seat) where
-    pub back_histories : (config : Config) (close : Bool) (all : List (Option Seat)) → all ≡ (if close then mid else slice_set mid number (Some new)) → HaveHistories config old → HasHistory config new.session.value → HaveHistories config all
+    pub back_histories : (config : Config) (close : Bool) (all : List (Option Seat)) → all ≡ (if close then mid else slice_set mid number (Some new)) → HaveHistories config old → HasHistory config new.peer new.session.value → HaveHistories config all
     back_histories config true all put before history = rest_has_histories config old all number (put ∙ takes.rest) before
     back_histories config false all put before history = all_have_histories config mid all number new put (rest_has_histories config old mid number takes.rest before) history
 

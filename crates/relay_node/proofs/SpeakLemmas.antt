@@ -6,7 +6,7 @@ use Rattle.relay_server.specs.declared.session.Next.TheVariants as next
 use Rattle.relay_server.specs.declared.session.Session.{Session}
 use Rattle.relay_server.specs.Dialogue.{IsDialogue, Offered, Said}
 use Rattle.relay_server.specs.Session.{Answered, SaysMore, next_of, open_offers}
-use Rattle.relay_server.specs.Setup.{Setup, setup_of_config}
+use Rattle.relay_server.specs.Setup.{Setup, setup_for}
 use Rattle.relay_server.proofs.Theorems.{more_is_more, what_stands_is_a_dialogue}
 use Rattle.relay_node.specs.declared.intake.Intake.{Intake}
 use Rattle.relay_node.specs.declared.intake.Taken.{Taken}
@@ -35,7 +35,7 @@ same_dialogue setup said input answers offers read given made d = record {
 }
 
 module _ (intake : Intake) (said : Said) (mid session : Session) (octets before after : List ℕ) (offer : Offered) (l : HasListened intake said mid octets before) (was_open : open_offers mid ≡ offer ∷ [])
-    (a : Answered (setup_of_config intake.config.now) l.later session (Queued intake.number) before after) where
+    (a : Answered (setup_for intake.config.now intake.peer) l.later session (Queued intake.number) before after) where
   -- the open offer has the last answer
   pub queued_answers : AnswersMore said a.later l.refused (offer ∷ []) (Queued intake.number ∷ [])
   queued_answers = record {
@@ -44,13 +44,13 @@ module _ (intake : Intake) (said : Said) (mid session : Session) (octets before 
   }
 
   -- what was read ends with it
-  pub queued_ends : EndsWithOffer (setup_of_config intake.config.now) a.later (said.answers ++ refusals l.refused)
+  pub queued_ends : EndsWithOffer (setup_for intake.config.now intake.peer) a.later (said.answers ++ refusals l.refused)
   queued_ends = record {
     output = l.later.output;
     dialogue =
-        same_dialogue (setup_of_config intake.config.now) l.later a.later.input (said.answers ++ refusals l.refused) a.later.offers
+        same_dialogue (setup_for intake.config.now intake.peer) l.later a.later.input (said.answers ++ refusals l.refused) a.later.offers
         (a.more.input ∙ append-nil l.later.input) (ap (λ x. said.answers ++ x) (sym (append-nil (refusals l.refused))) ∙ sym l.answers.answers) a.offers
-        (what_stands_is_a_dialogue (setup_of_config intake.config.now) mid l.later l.stands);
+        (what_stands_is_a_dialogue (setup_for intake.config.now intake.peer) mid l.later l.stands);
   }
 
   -- its reply is the last one
@@ -97,7 +97,7 @@ module _ (intake : Intake) (said : Said) (piece : List ℕ) where
 
   -- the last offer was
   pub speaks_last : (mid session : Session) (spoken : Spoken) (taken : Taken) (offer : Offered) (before : List ℕ) (l : HasListened intake said mid (take spoken.used piece) before) → open_offers mid ≡ offer ∷ [] → IsTaken intake offer taken
-      → Answered (setup_of_config intake.config.now) l.later session (Queued intake.number) before spoken.out.items → open_offers session ≡ [] → spoken.taken ≡ Some taken → Speaks intake said piece session spoken
+      → Answered (setup_for intake.config.now intake.peer) l.later session (Queued intake.number) before spoken.out.items → open_offers session ≡ [] → spoken.taken ≡ Some taken → Speaks intake said piece session spoken
   speaks_last mid session spoken taken offer before l was_open is a none some =
       let more = queued_more intake said mid session (take spoken.used piece) before spoken.out.items offer l was_open a in
       record {

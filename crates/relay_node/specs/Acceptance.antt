@@ -6,7 +6,7 @@ use Rattle.relay_routes.specs.declared.config.Config.{Config}
 use Rattle.relay_server.specs.declared.client.Client.{Client}
 use Rattle.relay_server.specs.Dialogue.{Offered}
 use Rattle.relay_server.specs.DialogueLaws.{MayBeStored}
-use Rattle.relay_server.specs.Setup.{setup_of_config}
+use Rattle.relay_server.specs.Setup.{setup_for}
 use Rattle.relay_book.specs.declared.change.Accept.{Accept}
 
 -- by which host, from which address, under which number and when a message is accepted
@@ -39,4 +39,4 @@ pub record IsAcceptOf (acceptance : Acceptance) (offer : Offered) (accept : Acce
 
 -- under some configuration a session may offer this
 abbrev pub IsStorable : Offered → Type 0
-IsStorable offer = (config : Config) × MayBeStored (setup_of_config config) offer
+IsStorable offer = (config : Config) × (client : List ℕ) × MayBeStored (setup_for config client) offer

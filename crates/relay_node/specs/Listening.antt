@@ -5,7 +5,7 @@ use Rattle.relay_server.specs.declared.session.Session.{Session}
 use Rattle.relay_server.specs.declared.session.Next.TheVariants as next
 use Rattle.relay_server.specs.Dialogue.{Offered, Said}
 use Rattle.relay_server.specs.Session.{SaysMore, Stands, next_of, open_offers}
-use Rattle.relay_server.specs.Setup.{setup_of_config}
+use Rattle.relay_server.specs.Setup.{setup_for}
 use Rattle.relay_book.specs.declared.change.Accept.{Accept}
 use Rattle.relay_book.specs.declared.change.Change.TheVariants as change
 use Rattle.relay_book.specs.Record.{IsAccept, encode}
@@ -44,7 +44,7 @@ Considers intake session taken = (offer : Offered) × (open_offers session ≡ o
 pub record HasListened (intake : Intake) (said : Said) (session : Session)
     (octets out : List ℕ) : Type 0 where
   pub later : Said
-  pub stands : Stands (setup_of_config intake.config.now) session later
+  pub stands : Stands (setup_for intake.config.now intake.peer) session later
   pub more : SaysMore said later octets [] out
   pub refused : List Offered
   pub answers : AnswersMore said later refused (open_offers session) []

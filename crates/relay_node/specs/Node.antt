@@ -13,7 +13,7 @@ use Rattle.relay_server.specs.declared.session.Next.TheVariants as next
 use Rattle.relay_server.specs.declared.session.Session.{Session}
 use Rattle.relay_server.specs.Dialogue.{Offered, Said, IsDialogue, unread_behind}
 use Rattle.relay_server.specs.Session.{Stands, next_of, open_offers}
-use Rattle.relay_server.specs.Setup.{Setup, setup_of_config}
+use Rattle.relay_server.specs.Setup.{Setup, setup_for}
 use Rattle.relay_server.specs.State.{Closed}
 use Rattle.relay_book.specs.declared.change.Accept.{Accept}
 use Rattle.relay_book.specs.declared.change.Change.{Change}
@@ -51,17 +51,17 @@ pub record SeatHasSaid (config : Config) (seats : List (Option Seat)) (number : 
   pub seat : Seat
   pub at : slot_at seats number ≡ Some seat
   pub peer_is : seat.peer ≡ peer
-  pub says : SessionHasSaid (setup_of_config config) seat.session.value said
+  pub says : SessionHasSaid (setup_for config peer) seat.session.value said
 
--- something was said on a session
-abbrev pub HasHistory : Config → Session → Type 0
-HasHistory config session = (said : Said) × SessionHasSaid (setup_of_config config) session said
+-- something was said on a session of a client at this address
+abbrev pub HasHistory : Config → List ℕ → Session → Type 0
+HasHistory config peer session = (said : Said) × SessionHasSaid (setup_for config peer) session said
 
 -- something was said on each session
 abbrev pub HaveHistories : Config → List (Option Seat) → Type 0
 HaveHistories config [] = Unit {0}
 HaveHistories config (None ∷ seats) = HaveHistories config seats
-HaveHistories config (Some seat ∷ seats) = HasHistory config seat.session.value × HaveHistories config seats
+HaveHistories config (Some seat ∷ seats) = HasHistory config seat.peer seat.session.value × HaveHistories config seats
 
 -- what was said is a dialogue that the server has closed, and octets behind it belong to its rest
 pub record HasClosed (setup : Setup) (said : Said) : Type 0 where
@@ -72,7 +72,7 @@ pub record HasClosed (setup : Setup) (said : Said) : Type 0 where
 -- the session of this number goes on behind what was said, or it has closed, and is gone
 abbrev pub SessionGoesOn : Config → List (Option Seat) → ℕ → List ℕ → Said → Bool → Type 0
 SessionGoesOn config seats number peer said true =
-    (slot_at seats number ≡ None) × HasClosed (setup_of_config config) said
+    (slot_at seats number ≡ None) × HasClosed (setup_for config peer) said
 SessionGoesOn config seats number peer said false = SeatHasSaid config seats number peer said
 
 -- the session of this number waits for more octets: it has not closed
@@ -107,7 +107,7 @@ module _ {D : Type 0} (honest : Type 0) (words : DiskWords D) (config : Config) 
     pub number_is : number ≡ length changes + 1
     pub offer : Offered
     pub answers : AnswersMore said later refused (offer ∷ []) (Queued number ∷ [])
-    pub ends : EndsWithOffer (setup_of_config config) later (said.answers ++ refusals refused)
+    pub ends : EndsWithOffer (setup_for config peer) later (said.answers ++ refusals refused)
     pub accept : Accept
     pub fits : FitsIn old offer accept
     pub adds : Adds honest words new changes (change.Accept accept) used
@@ -133,7 +133,7 @@ module _ {D : Type 0} (honest : Type 0) (words : DiskWords D) (config : Config) 
   pub record Hears (said : Said) (piece : List ℕ) (new_session : Session) (old new : Kept D)
       (received : Received) : Type 0 where
     pub later : Said
-    pub says : SessionHasSaid (setup_of_config config) new_session later
+    pub says : SessionHasSaid (setup_for config peer) new_session later
     pub closed : (received.close ≡ true) ↔ (next_of new_session ≡ next.Close)
     pub talks : TalksOn said later piece old new received
 
@@ -154,7 +154,7 @@ module _ {D : Type 0} (honest : Type 0) (words : DiskWords D) (config : Config) 
     pub input : later.input ≡ said.input ++ take used piece
     pub unwritten : List ℕ
     pub output : later.output ≡ said.output ++ unwritten
-    pub dialogue : IsDialogue (setup_of_config config) later
+    pub dialogue : IsDialogue (setup_for config peer) later
     pub refused : List Offered
     pub no_room : HaveNoRoom old refused
     pub offer : Offered
@@ -180,11 +180,11 @@ pub record UsesOctets {D : Type 0} (words : DiskWords D) (len : ℕ) (old new : 
 
 -- whatever was said before, a session was heard: octets were used, mail was accepted or not, and something was said on
 -- it
-pub record IsHeard {D : Type 0} (words : DiskWords D) (config : Config) (len : ℕ) (old new : Kept D)
+pub record IsHeard {D : Type 0} (words : DiskWords D) (config : Config) (peer : List ℕ) (len : ℕ) (old new : Kept D)
     (session : Session) (received : Received) : Type 0 where
   pub used : UsesOctets words len old new received
   pub takes : TakesIn old.queue received.change new.queue
-  pub history : HasHistory config session
+  pub history : HasHistory config peer session
 
 -- A call on the session or the attempt of a number is refused so: by a stopped node always, and nothing
 -- changes; and by a live one as unknown exactly where the number is free, and each fault leaves this.

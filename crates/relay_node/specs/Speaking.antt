@@ -6,7 +6,7 @@ use Rattle.relay_server.specs.declared.session.Next.TheVariants as next
 use Rattle.relay_server.specs.declared.session.Session.{Session}
 use Rattle.relay_server.specs.Dialogue.{Offered, Said}
 use Rattle.relay_server.specs.Session.{next_of}
-use Rattle.relay_server.specs.Setup.{setup_of_config}
+use Rattle.relay_server.specs.Setup.{setup_for}
 use Rattle.relay_node.specs.declared.intake.Intake.{Intake}
 use Rattle.relay_node.specs.declared.intake.Taken.{Taken}
 use Rattle.relay_node.specs.declared.speak.Spoken.{Spoken}
@@ -19,7 +19,7 @@ pub record TakesLast (intake : Intake) (said later : Said) (refused : List Offer
   pub offer : Offered
   pub is : IsTaken intake offer taken
   pub answers : AnswersMore said later refused (offer ∷ []) (Queued intake.number ∷ [])
-  pub ends : EndsWithOffer (setup_of_config intake.config.now) later (said.answers ++ refusals refused)
+  pub ends : EndsWithOffer (setup_for intake.config.now intake.peer) later (said.answers ++ refusals refused)
 
 -- the refused offers are all, or one behind them is taken
 abbrev pub AnswersAll : Intake → Said → Said → List Offered → Option Taken → Type 0
@@ -30,7 +30,7 @@ AnswersAll intake said later refused (Some taken) = TakesLast intake said later 
 pub record Speaks (intake : Intake) (said : Said) (piece : List ℕ) (session : Session) (spoken : Spoken)
     : Type 0 where
   pub later : Said
-  pub says : SessionHasSaid (setup_of_config intake.config.now) session later
+  pub says : SessionHasSaid (setup_for intake.config.now intake.peer) session later
   pub input : later.input ≡ said.input ++ take spoken.used piece
   pub output : later.output ≡ said.output ++ spoken.out.items
   pub refused : List Offered

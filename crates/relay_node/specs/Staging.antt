@@ -11,7 +11,7 @@ use Rattle.relay_server.specs.declared.session.Next.TheVariants as next
 use Rattle.relay_server.specs.declared.session.Session.{Session}
 use Rattle.relay_server.specs.Dialogue.{Offered, Said}
 use Rattle.relay_server.specs.Session.{next_of}
-use Rattle.relay_server.specs.Setup.{setup_of_config}
+use Rattle.relay_server.specs.Setup.{setup_for}
 use Rattle.relay_spool.specs.Image.{room_of}
 use Rattle.relay_book.specs.declared.change.Accept.{Accept}
 use Rattle.relay_book.specs.declared.change.Change.{Change}
@@ -96,7 +96,7 @@ module _ (config : Config) (changes pending : List Change) (peer : List ℕ) (at
     pub number_is : number ≡ length changes + length pending + 1
     pub offer : Offered
     pub answers : AnswersMore said later refused (offer ∷ []) (answer.Queued number ∷ [])
-    pub ends : EndsWithOffer (setup_of_config config) later (said.answers ++ refusals refused)
+    pub ends : EndsWithOffer (setup_for config peer) later (said.answers ++ refusals refused)
     pub accept : Accept
     pub fits : HasRoom next_behind config.spool_limit (old.spool.size + room_of row.bodies) offer accept
     pub more_is : more ≡ change.Accept accept ∷ []
@@ -128,7 +128,7 @@ module _ (config : Config) (changes pending : List Change) (peer : List ℕ) (at
       (new : Kept D) (left : Row) (more : List Change) (received : Received)
       : Type 0 where
     pub later : Said
-    pub says : SessionHasSaid (setup_of_config config) new_session later
+    pub says : SessionHasSaid (setup_for config peer) new_session later
     pub closed : (received.close ≡ true) ↔ (next_of new_session ≡ next.Close)
     pub talks : TalksInto said later piece old row new left more received
 
@@ -151,7 +151,7 @@ module _ {D : Type 0} (honest : Type 0) (words : DiskWords D) (config : Config) 
     pub more : List Change
     pub staged : IsStaged (length changes + length pending + 1) received.change more
     pub awaits : Awaits honest words new changes (pending ++ more) left
-    pub hears : (said : Said) → SessionHasSaid (setup_of_config config) old_session said
+    pub hears : (said : Said) → SessionHasSaid (setup_for config peer) old_session said
         → HearsInto config changes pending peer at said piece new_session old row new left more received
 
   pub record ReceivesBehind (number : ℕ) (piece : List ℕ) (old : NodeState D) (row : Row) (new : NodeState D)
@@ -179,11 +179,11 @@ pub record TakesInto {D : Type 0} (old : Kept D) (row : Row) (new : Kept D) (lef
   pub room : (left ≡ row) ⊎ (new.spool.size + room_of left.bodies ≤ 2 ^ 40)
 
 -- whatever was said before, a session was heard: octets were used, mail was staged or not, and something was said on it
-pub record IsHeardInto {D : Type 0} (config : Config) (len : ℕ) (old : Kept D) (row : Row) (new : Kept D) (left : Row)
-    (session : Session) (received : Received) : Type 0 where
+pub record IsHeardInto {D : Type 0} (config : Config) (peer : List ℕ) (len : ℕ) (old : Kept D) (row : Row)
+    (new : Kept D) (left : Row) (session : Session) (received : Received) : Type 0 where
   pub used : UsesPiece len received
   pub takes : TakesInto old row new left received
-  pub history : HasHistory config session
+  pub history : HasHistory config peer session
 
 -- what a live node leaves of records and row that stages nothing
 abbrev pub RefusesToHearInto : {D : Type 0} → Kept D → Kept D → Row → Row → NodeFault → Type 0

@@ -4,7 +4,7 @@ ghost use Rattle.relay_node.specs.Listening.{Considers, Weighs};
 ghost use Rattle.relay_server.specs.Dialogue.{Offered};
 ghost use Rattle.relay_server.specs.DialogueLaws.{MayBeStored};
 ghost use Rattle.relay_server.specs.Session.{HasOffer, offered, open_offers};
-ghost use Rattle.relay_server.specs.Setup.{setup_of_config};
+ghost use Rattle.relay_server.specs.Setup.{setup_for};
 
 use crate::accept::accept_of;
 use relay_book::{Change, LAST_NUMBER, encode_change};
@@ -48,7 +48,7 @@ impl Intake<'_> {
     ) -> Result<Option<Taken>, NodeFault>
         requires offer { HasOffer session.now }
         requires stored { (offer : Offered) → open_offers session.now ≡ offer ∷ []
-            → MayBeStored (setup_of_config self.now.config.now) offer }
+            → MayBeStored (setup_for self.now.config.now self.now.peer) offer }
         ensures considers { IfOk result (Considers self.now session.now) }
         ensures full { (result ≡ Err NodeFault.Full) ↔ (2 ^ 62 < self.now.number) }
         ensures refused { IfErr result (λ fault. (fault ≡ NodeFault.NoMemory) ⊎ (fault ≡ NodeFault.Full)) }

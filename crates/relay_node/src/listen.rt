@@ -3,7 +3,7 @@ ghost use Rattle.relay_node.specs.Listening.{Ends, HasListened};
 ghost use Rattle.relay_node.specs.Room.{ComesToOffer};
 ghost use Rattle.relay_server.specs.Dialogue.{Said};
 ghost use Rattle.relay_server.specs.Session.{Stands, open_offers};
-ghost use Rattle.relay_server.specs.Setup.{setup_of_config};
+ghost use Rattle.relay_server.specs.Setup.{setup_for};
 
 use crate::intake::{Intake, Taken};
 use relay_records::NodeFault;
@@ -42,21 +42,22 @@ impl Intake<'_> {
         piece: &[u8],
     ) -> Result<Listened, NodeFault>
         requires settled { open_offers session.old ≡ [] }
-        requires history { (said : Said) × Stands (setup_of_config self.now.config.now) session.old said }
+        requires history { (said : Said) × Stands (setup_for self.now.config.now self.now.peer) session.old said }
         ensures listens { IfOk result (λ listened. (said : Said)
-            → Stands (setup_of_config self.now.config.now) session.old said
+            → Stands (setup_for self.now.config.now self.now.peer) session.old said
             → HasListened self.now said session.new (take listened.used piece.now) listened.out.items) }
         ensures ends { IfOk result (Ends self.now session.new piece.now) }
         ensures full { result ≡ Err NodeFault.Full → 2 ^ 62 < self.now.number }
         ensures comes { result ≡ Err NodeFault.Full → (said : Said)
-            → Stands (setup_of_config self.now.config.now) session.old said
-            → ComesToOffer (setup_of_config self.now.config.now) said piece.now }
+            → Stands (setup_for self.now.config.now self.now.peer) session.old said
+            → ComesToOffer (setup_for self.now.config.now self.now.peer) said piece.now }
         ensures refused { IfErr result (λ fault. (fault ≡ NodeFault.NoMemory) ⊎ (fault ≡ NodeFault.Full)) }
     {
+        let table = self.config.accepted_table(self.peer);
         let mut used = 0;
         let mut out = Vec::new(alloc);
         'rounds: loop {
-            match session.hear(&self.config.routes, piece, &mut used, &mut out)? {
+            match session.hear(table, piece, &mut used, &mut out)? {
                 Next::More => {
                     return Ok(Listened {
                         used,

@@ -14,7 +14,7 @@ ghost use Rattle.relay_records.specs.HeldPlace.{IsWaiting, waiting_at};
 ghost use Rattle.relay_records.specs.Open.{FailsFor, Opens, RefusesImage};
 ghost use Rattle.relay_records.specs.Records.{Halted, Keeps, Stays};
 ghost use Rattle.relay_server.specs.Dialogue.{Said};
-ghost use Rattle.relay_server.specs.Setup.{setup_of_config};
+ghost use Rattle.relay_server.specs.Setup.{setup_for};
 ghost use Rattle.relay_spool.specs.Pair.{HasNoBody};
 ghost use Rattle.relay_spool.specs.Spool.{AtEachMoment, OnlyReads};
 
@@ -269,7 +269,7 @@ impl<D: Disk> Node<D> {
             → CutsTalk D.honest D.words self.old.config changes peer now said piece.now
             self.old.records self.new.records }
         ensures full { (peer : List ℕ) (said : Said) → SeatHasSaid self.old.config self.old.seats session peer said
-            → result ≡ Err NodeFault.Full → ComesToOffer (setup_of_config self.old.config) said piece.now }
+            → result ≡ Err NodeFault.Full → ComesToOffer (setup_for self.old.config peer) said piece.now }
         ensures used { IfOk result (UsesOctets D.words (length piece.now) self.old.records self.new.records) }
         ensures rest { OthersStay self.old.seats self.new.seats session
             × (self.new.config ≡ self.old.config) × (self.new.attempts ≡ self.old.attempts) }

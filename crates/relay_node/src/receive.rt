@@ -4,7 +4,7 @@ ghost use Rattle.relay_node.specs.Node.{CutsTalk, HasHistory, Hears, IsHeard, Re
 ghost use Rattle.relay_node.specs.Room.{ComesToOffer};
 ghost use Rattle.relay_records.specs.Records.{Keeps};
 ghost use Rattle.relay_server.specs.Dialogue.{Said};
-ghost use Rattle.relay_server.specs.Setup.{setup_of_config};
+ghost use Rattle.relay_server.specs.Setup.{setup_for};
 
 use crate::intake::Intake;
 use crate::seat::Seat;
@@ -39,18 +39,19 @@ pub(crate) fn hear<D: Disk>(
     now: Moment,
 ) -> Result<Received, NodeFault>
     requires live { IsTrue records.old.spool.live }
-    requires history { HasHistory config.now seat.old.session.value }
+    requires history { HasHistory config.now seat.old.peer seat.old.session.value }
     ensures hears { (changes : List Change) (said : Said) → Keeps D.honest D.words records.old changes
-        → SessionHasSaid (setup_of_config config.now) seat.old.session.value said
+        → SessionHasSaid (setup_for config.now seat.old.peer) seat.old.session.value said
         → IfOk result (Hears D.honest D.words config.now changes seat.old.peer now said piece.now
         seat.new.session.value records.old records.new) }
     ensures cut { (changes : List Change) (said : Said) → Keeps D.honest D.words records.old changes
-        → SessionHasSaid (setup_of_config config.now) seat.old.session.value said → result ≡ Err NodeFault.Stopped
+        → SessionHasSaid (setup_for config.now seat.old.peer) seat.old.session.value said
+        → result ≡ Err NodeFault.Stopped
         → CutsTalk D.honest D.words config.now changes seat.old.peer now said piece.now
         records.old records.new }
-    ensures full { (said : Said) → SessionHasSaid (setup_of_config config.now) seat.old.session.value said
-        → result ≡ Err NodeFault.Full → ComesToOffer (setup_of_config config.now) said piece.now }
-    ensures heard { IfOk result (IsHeard D.words config.now (length piece.now) records.old records.new
+    ensures full { (said : Said) → SessionHasSaid (setup_for config.now seat.old.peer) seat.old.session.value said
+        → result ≡ Err NodeFault.Full → ComesToOffer (setup_for config.now seat.old.peer) said piece.now }
+    ensures heard { IfOk result (IsHeard D.words config.now seat.new.peer (length piece.now) records.old records.new
         seat.new.session.value) }
     ensures refused { IfErr result (RefusesToHear D.words records.old records.new) }
     ensures peer { seat.new.peer ≡ seat.old.peer }

@@ -7,7 +7,7 @@ ghost use Rattle.relay_node.specs.Staging.{HearsBehind, IsHeardInto, ReceivesBeh
 ghost use Rattle.relay_node.specs.Staging.{RefusesToHearInto, RefusesToReceiveInto};
 ghost use Rattle.relay_records.specs.Staged.{Awaits};
 ghost use Rattle.relay_server.specs.Dialogue.{Said};
-ghost use Rattle.relay_server.specs.Setup.{setup_of_config};
+ghost use Rattle.relay_server.specs.Setup.{setup_for};
 ghost use Rattle.relay_slots.specs.Slots.{OthersStay, slot_at};
 
 use crate::attempts::note;
@@ -42,7 +42,7 @@ impl<D: Disk> Node<D> {
             → IfOk result (ReceivesBehind D.honest D.words self.old.config changes pending now session piece.now
             self.old row.old self.new row.new) }
         ensures full { (peer : List ℕ) (said : Said) → SeatHasSaid self.old.config self.old.seats session peer said
-            → result ≡ Err NodeFault.Full → ComesToOffer (setup_of_config self.old.config) said piece.now }
+            → result ≡ Err NodeFault.Full → ComesToOffer (setup_for self.old.config peer) said piece.now }
         ensures answers { IfOk result (TakesInto self.old.records row.old self.new.records row.new) }
         ensures used { IfOk result (UsesPiece (length piece.now)) }
         ensures rest { OthersStay self.old.seats self.new.seats session
@@ -79,15 +79,15 @@ fn hear_into<D: Disk>(
     piece: &[u8],
     now: Moment,
 ) -> Result<Received, NodeFault>
-    requires { HasHistory config.now seat.old.session.value }
+    requires { HasHistory config.now seat.old.peer seat.old.session.value }
     ensures hears { (changes pending : List Change)
         → Awaits D.honest D.words records.old changes pending row.old
         → IfOk result (HearsBehind D.honest D.words config.now changes pending now seat.old.peer seat.old.session.value
         seat.new.session.value piece.now records.old row.old records.new row.new) }
-    ensures full { (said : Said) → SessionHasSaid (setup_of_config config.now) seat.old.session.value said
-        → result ≡ Err NodeFault.Full → ComesToOffer (setup_of_config config.now) said piece.now }
-    ensures heard { IfOk result (IsHeardInto config.now (length piece.now) records.old row.old records.new row.new
-        seat.new.session.value) }
+    ensures full { (said : Said) → SessionHasSaid (setup_for config.now seat.old.peer) seat.old.session.value said
+        → result ≡ Err NodeFault.Full → ComesToOffer (setup_for config.now seat.old.peer) said piece.now }
+    ensures heard { IfOk result (IsHeardInto config.now seat.new.peer (length piece.now) records.old row.old
+        records.new row.new seat.new.session.value) }
     ensures refused { IfErr result (RefusesToHearInto records.old records.new row.old row.new) }
     ensures peer { seat.new.peer ≡ seat.old.peer }
 {

@@ -3,7 +3,7 @@ ghost use Rattle.relay_node.specs.Node.{HasHistory, SessionHasSaid};
 ghost use Rattle.relay_node.specs.Room.{ComesToOffer};
 ghost use Rattle.relay_node.specs.Speaking.{IsSpoken, Speaks};
 ghost use Rattle.relay_server.specs.Dialogue.{Said};
-ghost use Rattle.relay_server.specs.Setup.{setup_of_config};
+ghost use Rattle.relay_server.specs.Setup.{setup_for};
 
 use crate::intake::{Intake, Taken};
 use crate::listen::{End, Listened};
@@ -34,15 +34,15 @@ impl Intake<'_> {
         session: &mut Session,
         piece: &[u8],
     ) -> Result<Spoken, NodeFault>
-        requires { HasHistory self.now.config.now session.old }
+        requires { HasHistory self.now.config.now self.now.peer session.old }
         ensures speaks { IfOk result (λ spoken. (said : Said)
-            → SessionHasSaid (setup_of_config self.now.config.now) session.old said
+            → SessionHasSaid (setup_for self.now.config.now self.now.peer) session.old said
             → Speaks self.now said piece.now session.new spoken) }
         ensures spoken { IfOk result (IsSpoken self.now (length piece.now) session.new) }
         ensures full { result ≡ Err NodeFault.Full → 2 ^ 62 < self.now.number }
         ensures comes { result ≡ Err NodeFault.Full → (said : Said)
-            → SessionHasSaid (setup_of_config self.now.config.now) session.old said
-            → ComesToOffer (setup_of_config self.now.config.now) said piece.now }
+            → SessionHasSaid (setup_for self.now.config.now self.now.peer) session.old said
+            → ComesToOffer (setup_for self.now.config.now self.now.peer) said piece.now }
         ensures refused { IfErr result (λ fault. (fault ≡ NodeFault.NoMemory) ⊎ (fault ≡ NodeFault.Full)) }
     {
         let Listened { used, mut out, end } = self.listen(alloc, session, piece)?;

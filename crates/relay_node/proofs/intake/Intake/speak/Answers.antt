@@ -1,6 +1,6 @@
 -- What was listened to, and the reply to an offer that there is room for.
 use Rattle.std.proofs.Common.{refl, sym, ◌∙◌}
-use Rattle.relay_server.specs.Setup.{setup_of_config}
+use Rattle.relay_server.specs.Setup.{setup_for}
 use Rattle.relay_node.proofs.SpeakLemmas.{closes, ends_for_close, ends_for_more, ends_for_taken, speaks_last, speaks_quietly, waits_not}
 use Rattle.relay_node.proofs.intake.Intake.speak.Goals as goal
 
@@ -34,7 +34,7 @@ returns-in-Close-clause-spoken c =
 
 pub returns-in_ok-reply-in-Taken-clause-speaks : goal.returns-in_ok-reply-in-Taken-clause-speaks
 returns-in_ok-reply-in-Taken-clause-speaks c = λ said says.
-    let setup = setup_of_config c.args.self.now.config.now in
+    let setup = setup_for c.args.self.now.config.now c.args.self.now.peer in
     let by = ends_for_taken _ _ _ _ c.in_ok-used.ensures.ends c.in-Taken.taken c.in-Taken.is in
     let l = c.in_ok-used.ensures.listens said says.stands in
     speaks_last c.args.self.now said c.args.piece.now c.listen.new.session c.reply.new.self _ c.in-Taken.taken by.1.0 _ l by.1.1 by.1.2

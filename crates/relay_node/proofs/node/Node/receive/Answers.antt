@@ -3,7 +3,7 @@ use Rattle.std.proofs.Common.{◌≡◌, ◌∙◌, None, refl, sym, rules}
 use Rattle.relay_records.specs.declared.fault.NodeFault.TheVariants.{Full, Stopped}
 use Rattle.relay_slots.proofs.Theorems.{others_of_set}
 use Rattle.relay_node.proofs.AttemptLemmas.{refused_queue, same_serves}
-use Rattle.relay_node.proofs.NodeLemmas.{cuts_there, history_at, receives_by, rest_has_histories, taken_says}
+use Rattle.relay_node.proofs.NodeLemmas.{comes_there, cuts_there, history_at, receives_by, rest_has_histories, taken_says}
 use Rattle.relay_node.specs.declared.receive.Received.{Received}
 use Rattle.relay_node.proofs.SeatLemmas.{answered_at, back_histories, back_others, failed, fault_is, has_place, hears_known, leaves_unheard, left_histories, left_others, not_full, refused_hearing, refused_seat, true_is_false, was_stopped}
 use Rattle.relay_node.proofs.node.Node.receive.Goals as goal
@@ -84,7 +84,8 @@ returns-in_err-received-clause-cut g c = rw (← c.self.view_is) (λ changes pee
 pub returns-in_err-received-clause-full : goal.returns-in_err-received-clause-full
 returns-in_err-received-clause-full g c = rw (← c.self.view_is) (λ peer said at full.
     let is : c.from_residual-in_err-received.result ≡ failed Received c.in_err-received.field-0.0 = search rules in
-    c.in_err-received.ensures.full said (taken_says c.self.inside.config peer c.args.session said c.self.inside.seats c.in_ok-seat.seat at c.in_ok-seat.ensures.taken.was) (sym is ∙ full))
+    comes_there c.self.inside.config peer c.args.session said c.self.inside.seats c.in_ok-seat.seat at c.in_ok-seat.ensures.taken.was c.args.piece.now
+    (c.in_err-received.ensures.full said (taken_says c.self.inside.config peer c.args.session said c.self.inside.seats c.in_ok-seat.seat at c.in_ok-seat.ensures.taken.was) (sym is ∙ full)))
 
 pub returns-in_err-received-clause-rest : goal.returns-in_err-received-clause-rest
 returns-in_err-received-clause-rest g c = rw (← c.self.view_is) (others_of_set c.self.inside.seats c.take_seat.new.seats c.args.session None c.in_ok-seat.ensures.taken.rest, refl, c.take_seat.ensures.attempts.0)

@@ -4,7 +4,7 @@ use Rattle.relay_records.specs.declared.fault.NodeFault.TheVariants.{Full}
 use Rattle.relay_slots.proofs.Theorems.{others_of_set}
 use Rattle.relay_records.specs.Records.{Kept}
 use Rattle.relay_node.proofs.AttemptLemmas.{same_serves}
-use Rattle.relay_node.proofs.NodeLemmas.{history_at, rest_has_histories, taken_says}
+use Rattle.relay_node.proofs.NodeLemmas.{comes_there, history_at, rest_has_histories, taken_says}
 use Rattle.relay_node.proofs.StageLemmas.{receives_behind_by, unstaged}
 use Rattle.relay_node.specs.declared.receive.Received.{Received}
 use Rattle.relay_node.proofs.SeatLemmas.{answered_at, back_histories, back_others, failed, fault_is, has_place, leaves_unstaged, left_histories, left_others, not_full, refused_hearing, refused_seat, stages_known}
@@ -74,7 +74,8 @@ returns-in_err-seat-clause-refused g c =
 pub returns-in_err-received-clause-full : goal.returns-in_err-received-clause-full
 returns-in_err-received-clause-full g c = rw (← c.self.view_is) (λ peer said at full.
     let is : c.from_residual-in_err-received.result ≡ failed Received c.in_err-received.field-0.0 = search rules in
-    c.in_err-received.ensures.full said (taken_says c.self.inside.config peer c.args.session said c.self.inside.seats c.in_ok-seat.seat at c.in_ok-seat.ensures.taken.was) (sym is ∙ full))
+    comes_there c.self.inside.config peer c.args.session said c.self.inside.seats c.in_ok-seat.seat at c.in_ok-seat.ensures.taken.was c.args.piece.now
+    (c.in_err-received.ensures.full said (taken_says c.self.inside.config peer c.args.session said c.self.inside.seats c.in_ok-seat.seat at c.in_ok-seat.ensures.taken.was) (sym is ∙ full)))
 
 pub returns-in_err-received-clause-rest : goal.returns-in_err-received-clause-rest
 returns-in_err-received-clause-rest g c = rw (← c.self.view_is) (others_of_set c.self.inside.seats c.take_seat.new.seats c.args.session None c.in_ok-seat.ensures.taken.rest, refl, c.take_seat.ensures.attempts.0)
