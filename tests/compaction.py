@@ -8,6 +8,7 @@ ends at the first difference.
 import os
 import pathlib
 import random
+import re
 import resource
 import signal
 import smtplib
@@ -262,7 +263,7 @@ def list_beside_a_run_that_compacts(field):
             answers.append(field.relay.ended(20, "list"))
 
     def is_enough():
-        return len(accepted) >= 100 and len(answers) >= 40 and len(lines_of(field.relay, "spool compacted")) >= 10
+        return len(accepted) >= 100 and len(answers) >= 40 and len(lines_of(field.relay, "relayd: compacted")) >= 10
 
     threads = [threading.Thread(target=ask) for _ in range(2)]
     with field.relay.running(), clients_of(field.relay, 1) as [client]:
@@ -298,7 +299,7 @@ def serve_writes_its_spool_anew(field):
             most = max(most, len(taken_of(*field.files())))
     same("messages at the sink", len(field.sink.take_all()), 40)
     told = [line for line in lines if "compacted" in line]
-    same("a line of the log", told[0].split(" ", 3)[:3], ["relayd:", "spool", "compacted,"])
+    same("a line of the log", re.sub(r"\d+", "N", told[0]), "relayd: compacted before=N after=N")
     # After the sixth message more than 50,000 octets stand there.
     same("how often", len(told), 40 // 6)
     if most > 70000:

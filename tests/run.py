@@ -27,10 +27,12 @@ from running_relay import TEXT, TIMEOUT, TIMES, TOO_MANY, Client, Feeder, beside
 from running_relay import greeted, lines_of, no_later, number_of, play_rows, repeats_at, resident, shim, slowest
 from running_relay import tokens_at
 
-ACCEPTED = re.compile(r"relayd: message 1 accepted from 127\.0\.0\.1:\d+ for 1 recipient, \d+ octets; "
-                      r"client\.example from <a@example\.org> to <b@example\.org>")
-SENT = re.compile(r"relayd: message 1 next\.example at 127\.0\.0\.1:\d+ ended \d+ s behind its acceptance, "
-                  r"place 0 transferred")
+ACCEPTED = re.compile(r"relayd: accepted message=1 client=127\.0\.0\.1:\d+ helo=client\.example protocol=ESMTP "
+                      r"recipients=1 size=\d+ from=<a@example\.org> to=<b@example\.org>")
+CLIENT_END = re.compile(r"relayd: client-end client=127\.0\.0\.1:\d+ messages=1 rejected=0 octets=\d+ duration=\d+s "
+                        r"reason=quit")
+SENT = re.compile(r"relayd: sent message=1 hop=next\.example addr=127\.0\.0\.1:\d+ delay=\d+s to=<b@example\.org> "
+                  r'status=sent reply="250 [ -~]*"')
 MOMENT = re.compile(rb"\d{4}-\d\d-\d\dT\d\d:\d\d:\d\d(\.\d+)?Z [ -~]+")
 # At how many moments a relay is killed, and under how many sessions.
 KILLS = int(os.environ.get("KILLS", 8))
@@ -65,20 +67,21 @@ def its_log_says_when_and_quiet_says_nothing(field):
             until("an empty list", lambda: relay.held() == [])
             # A line is written at the end of the turn in which its change was made.
             if not words:
-                until("two lines of its log", lambda: relay.log.read_bytes().count(b"\n") == 2)
+                until("three lines of its log", lambda: relay.log.read_bytes().count(b"\n") == 3)
         lines = relay.log.read_bytes().splitlines()
         same("lines without a moment", [line for line in lines if not MOMENT.fullmatch(line)], [])
-        same(f"run {words} has a log", len(lines), 0 if words else 2)
+        same(f"run {words} has a log", len(lines), 0 if words else 3)
         if lines:
-            said = [line.split(b" ", 1)[1].decode() for line in lines]
+            said = sorted(line.split(b" ", 1)[1].decode() for line in lines)
             same("the line of what was accepted", bool(ACCEPTED.fullmatch(said[0])), True)
-            same("the line of what was sent", bool(SENT.fullmatch(said[1])), True)
+            same("the line of its client", bool(CLIENT_END.fullmatch(said[1])), True)
+            same("the line of what was sent", bool(SENT.fullmatch(said[2])), True)
 
 
 def what_a_client_says_is_no_line_of_the_log(field):
-    """It stands at the end of one, in printable octets."""
+    """A value with a space or a quote in it stands in quotes."""
     relay = field.relay()
-    path = '"x; accepted relayd: message 9"@example.org'
+    path = '"x relayd: accepted message=9"@example.org'
     with relay.running(), Client(relay) as client:
         same("the greeting", client.reply()[:4], "220 ")
         same("the reply to EHLO", client.say(b"EHLO [192.0.2.1]\r\n")[:4], "250 ")
@@ -88,8 +91,10 @@ def what_a_client_says_is_no_line_of_the_log(field):
         same("the reply to DATA", client.say(b"DATA\r\n")[:4], "354 ")
         number_of(client.say(TEXT))
         field.arrived(1)
-    [line] = [line for line in relay.log.read_text().splitlines() if "accepted from" in line]
-    same("the line's end", line.split("; ", 1)[1], f"[192.0.2.1] from <{path}> to <b@example.org> <c@example.org>")
+    [line] = [line for line in relay.log.read_text().splitlines() if " relayd: accepted message=1 " in line]
+    quoted = path.replace('"', '\\"')
+    same("the client's word", " helo=[192.0.2.1] " in line, True)
+    same("the line's end", line.split(" from=", 1)[1], f'"<{quoted}>" to="<b@example.org> <c@example.org>"')
 
 
 def sixty_four_sessions_stand_side_by_side(field):
@@ -396,7 +401,7 @@ def a_kill_loses_nothing(field):
         lost = [token for token, number in answered.items() if number not in held and token not in gone]
         same(f"messages lost behind kill {kill}", lost, [])
     same("numbers given twice", len(answered) - len(set(answered.values())), 0)
-    compactions = len(lines_of(relay, "spool compacted"))
+    compactions = len(lines_of(relay, "relayd: compacted"))
     if len(answered) < 2 * KILLS or compactions < KILLS // 4:
         raise Difference(f"only {len(answered)} messages were answered 250, and {compactions} compactions")
     with relay.running():
@@ -487,7 +492,7 @@ def an_address_that_comes_later_is_waited_for(field):
     with relay.running():
         hand_in(relay)
         field.arrived(1)
-    same("lines of it", len(lines_of(relay, "this machine has no such address yet: tried again for 60 s")), 1)
+    same("lines of it", len(lines_of(relay, " relayd: address-awaited addr=")), 1)
     relay.environment.update(TRIES="60")
     same("one that doesn't come", relay.refused("run")[0], 1)
     told = relay.refused("run", "--quiet")

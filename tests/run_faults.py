@@ -73,7 +73,7 @@ def a_full_device_closes_all_and_goes_on_with_room(field):
             same("what a client hears", client.rest(), NO_ROOM)
         empty(process)
         until("a greeting", lambda: greeted(relay))
-        until("a line that it is open", lambda: len(lines_of(relay, "spool opened again")) == 1)
+        until("a line that it is open", lambda: len(lines_of(relay, "relayd: reopened")) == 1)
         with Client(relay) as client:
             client.begin()
             client.hand_in()
@@ -252,7 +252,7 @@ def while_no_attempt_may_begin_it_sleeps(field):
         shim(field, "run_clocks", relay, FASTER="20")
         with relay.running() as process:
             hand_in(relay, recipients=("c@example.net",))
-            until("a next hop that is left alone", lambda: told(relay, "held off for 60 s"))
+            until("a next hop that is left alone", lambda: told(relay, "retry-in=60s"))
             take_room(others, 8 * 1024)
             same("a message without room", takes(relay, 300), False)
             until("a greeting", lambda: greeted(relay), 60)
@@ -264,7 +264,7 @@ def while_no_attempt_may_begin_it_sleeps(field):
             # 16 tests of the room.
             if switches(process) > before + 100:
                 raise Difference(f"it wakes up {switches(process) - before} times in 80 seconds of its clock")
-            same("attempts while there is no room", len(told(relay, "away.example")), 1)
+            same("attempts while there is no room", len(told(relay, "deferred message")), 1)
             others.unlink()
             until("room", lambda: told(relay, "shortage-ended"))
 
@@ -342,8 +342,8 @@ def a_reason_that_was_not_seen_is_left_out(field):
         until("a line of it", lambda: told(relay, "device-failed"))
         same("it", told(relay, "device-failed"), [f"device-failed file={relay.spool} retry-in=1s"])
         until("a greeting", lambda: greeted(relay))
-        lines = [f"device-failed file={relay.spool} retry-in=1s", "spool opened again", "shortage-ended"]
-        until("the lines then", lambda: told(relay, "s") == lines)
+        lines = [f"device-failed file={relay.spool} retry-in=1s", "reopened", "shortage-ended"]
+        until("the lines then", lambda: [line for line in told(relay, "relayd") if "client" not in line] == lines)
         hand_in(relay)
         field.arrived(1)
 
@@ -475,12 +475,12 @@ def a_next_hop_is_waited_for_by_what_it_was_told(field):
                 client.hand_in(f"b@{name}.example", b"x" * 70 * 200000 + b"\r\n.\r\n" if name == "text" else TEXT)
             while len(waited) < len(silent):
                 for name in silent:
-                    if name not in waited and lines_of(relay, f" {name}.hop at "):
+                    if name not in waited and lines_of(relay, f" hop={name}.hop addr="):
                         waited[name] = time.monotonic() - begun[name]
                 time.sleep(0.02)
                 if time.monotonic() > begun["data"] + 6 + PATIENCE:
                     raise Difference(f"of the silent ones only {sorted(waited)} are lost")
-            same("losses", len(lines_of(relay, ": silent, place 0 deferred")), len(silent))
+            same("losses", len(lines_of(relay, " status=deferred reason=timeout")), len(silent))
             early = {name: seconds for name, seconds in waited.items() if seconds < silent[name][0] / 100 - 0.05}
             same("next hops that are lost early", early, {})
             late = {name: seconds for name, seconds in waited.items() if seconds > silent[name][0] / 100 + 5 * SOON}

@@ -72,11 +72,11 @@ def says_one_line(link):
 
 # How an attempt at each of these ends, as its line says.
 BAD = {
-    drips: r" ended \d+ s behind its acceptance, place 0 transferred$",
-    cuts: r" lost \d+ s behind its acceptance: cut, place 0 deferred$",
-    floods: r" ended \d+ s behind its acceptance, place 0 deferred$",
-    never_ends: r" ended \d+ s behind its acceptance, place 0 deferred; no reply: ",
-    says_one_line: r" ended \d+ s behind its acceptance, place 0 deferred; no reply: ",
+    drips: r" status=sent reply=",
+    cuts: r' status=deferred reason="connection closed"$',
+    floods: r" status=deferred ",
+    never_ends: r' status=deferred reason="reply too long"$',
+    says_one_line: r' status=deferred reason="(bad line in reply|reply too long)"$',
 }
 
 
@@ -212,11 +212,11 @@ def a_hop_that_takes_no_connection_is_lost_after_half_a_minute(field):
             client.hand_in("c@example.net")
             client.hand_in()
             field.arrived(1, SOON)
-            until("a line", lambda: lines_of(relay, "held off for 60 s"), 30 / 20 + 5 * SOON)
+            until("a line", lambda: lines_of(relay, "retry-in=60s"), 30 / 20 + 5 * SOON)
             waited = (time.monotonic() - begun) * 20
-            lost = re.compile(r".*Z relayd: message 1 hop\.example at 127\.0\.0\.1:\d+ lost \d+ s behind its "
-                              "acceptance: silent, place 0 deferred")
-            same("what it is said", [bool(lost.fullmatch(line)) for line in lines_of(relay, "hop.example")], [True])
+            put_off = re.compile(r".*Z relayd: deferred message=1 hop=hop\.example addr=127\.0\.0\.1:\d+ delay=\d+s "
+                                 "to=<c@example.net> status=deferred reason=timeout")
+            same("what it is said", [bool(put_off.fullmatch(line)) for line in lines_of(relay, "status=")], [True])
             comes_to_rest(process, "after a hop that took no connection")
         if waited < 29:
             raise Difference(f"it is lost after {waited:.1f} s")
@@ -243,8 +243,8 @@ def bad_next_hops_delay_no_reply(field):
                     client.hand_in()
                     field.arrived(41)
                     name, wanted = more[domain][0], re.compile(BAD[bad])
-                    until("attempts that have ended", lambda name=name: len(lines_of(relay, f" {name} at ")) >= 5)
-                wrong = [line for line in lines_of(relay, f" {name} at ") if not wanted.search(line)]
+                    until("attempts that have ended", lambda name=name: len(lines_of(relay, f" hop={name} addr=")) >= 5)
+                wrong = [line for line in lines_of(relay, f" hop={name} addr=") if not wanted.search(line)]
                 same(f"lines of a next hop that {bad.__name__}", wrong, [])
             comes_to_rest(process, "after bad next hops")
 

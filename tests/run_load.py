@@ -184,7 +184,7 @@ def list_ends_beside_compactions(field):
 
     with relay.running():
         with beside(feed):
-            until("compactions", lambda: len(lines_of(relay, "spool compacted")) >= 1)
+            until("compactions", lambda: len(lines_of(relay, "relayd: compacted")) >= 1)
             for _ in range(100):
                 took, _ = listing(relay)
                 if took > SOON:

@@ -19,21 +19,23 @@ sys.dont_write_bytecode = True
 
 from mail_checks import hand_in, read_report
 from relay_program import Difference, PATIENCE, free_port, same, until
-from running_relay import SOON, TIMEOUT, TOO_MANY, Client, clients_of, lines_of, no_later, play_rows, shim
+from running_relay import SOON, TIMEOUT, TOO_MANY, Client, clients_of, hop_that_falls_silent, lines_of, no_later
+from running_relay import play_rows, shim
 from running_relay import slowest
 from spool_files import bodies_of
 
 MOMENT = re.compile(r"\d{4}-\d\d-\d\dT\d\d:\d\d:\d\dZ ")
-FULL = "relayd: spool full: mail is refused for now"
+FULL = "relayd: spool-full"
 # How many times as fast as this machine's the relay's clock goes in some rows: so its minute is a second.
 FASTER = 60
 
 
 def told(relay, text):
-    """What the lines of the log say in which a text stands, after their moments and without the ages of messages."""
+    """What the lines of the log say in which a text stands, after their times and without the ages of messages and of
+    connections."""
     lines = lines_of(relay, text)
     same("lines without a moment", [line for line in lines if not MOMENT.match(line)], [])
-    return [re.sub(r" \d+ s behind its acceptance", "", MOMENT.sub("", line)) for line in lines]
+    return [re.sub(r" (delay|duration)=\d+s", "", MOMENT.sub("", line)) for line in lines]
 
 
 def own_route(field):
@@ -57,33 +59,40 @@ def a_next_hop_that_is_away_is_left_alone_for_longer_each_time(field):
     with relay.running(), clients_of(relay, 1) as [client]:
         begun = time.monotonic()
         numbers = [client.hand_in("c@example.net") for _ in range(5)]
-        until("three lines", lambda: len(told(relay, "held off")) == 3)
+        until("three lines", lambda: len(told(relay, "hop-held")) == 3)
         minutes = (time.monotonic() - begun) * FASTER / 60
         later = [row[0] for row in relay.held() if row[3] > time.time() + 60]
     at = f"127.0.0.1:{away}"
-    same("how long", told(relay, "held off"), [f"relayd: next hop {at} held off for {it} s" for it in (60, 120, 240)])
-    same("what was tried", told(relay, "away.example"),
-         [f"relayd: message {number} away.example at {at} lost: refused to connect, place 0 deferred"
-          for number in numbers[:3]])
+    same("how long", told(relay, "hop-held"),
+         [f'relayd: hop-held hop=away.example addr={at} retry-in={it}s reason="connection refused"'
+          for it in (60, 120, 240)])
+    same("what was tried", told(relay, "deferred"),
+         [f"relayd: deferred message={number} hop=away.example addr={at} to=<c@example.net> status=deferred "
+          'reason="connection refused"' for number in numbers[:3]])
     same("what was put off", later, numbers[:3])
     if minutes < 2.9:
         raise Difference(f"it was tried three times within {minutes:.2f} minutes")
+
+
+def client_of(client):
+    """How a line names a client."""
+    return "client={}:{}".format(*client.link.getsockname())
 
 
 def a_client_that_is_cut_off_has_a_line(field):
     relay = field.relay(client_timeout=1)
     with relay.running(), clients_of(relay, 1) as [client]:
         same("what it is told", client.rest(), TIMEOUT)
-        line = f"relayd: client 127.0.0.1:{client.link.getsockname()[1]} cut off: timeout"
-        until("its line", lambda: told(relay, "client 127") == [line])
+        line = f"relayd: client-end {client_of(client)} messages=0 rejected=0 octets=0 reason=timeout"
+        until("its line", lambda: told(relay, "client-end") == [line])
 
 
 def a_client_that_is_sent_away_has_a_line(field):
     relay = field.relay(sessions_per_client=1)
     with relay.running(), clients_of(relay, 1), Client(relay) as client:
         same("what it is told", client.rest(), TOO_MANY)
-        line = f"relayd: client 127.0.0.1:{client.link.getsockname()[1]} refused: too many connections"
-        until("its line", lambda: told(relay, "client 127") == [line])
+        line = f"relayd: client-end {client_of(client)} reason=too-many count=1"
+        until("its line", lambda: told(relay, "client-end") == [line])
 
 
 def sent_away(relay, address="127.0.0.1"):
@@ -98,22 +107,22 @@ def refused_clients_have_a_line_a_minute(field):
     relay = field.relay(sessions_per_client=1, client_timeout=3600)
     shim(field, "run_clocks", relay, FASTER="15")
     with relay.running(), clients_of(relay, 1), clients_of(relay, 1, "127.0.0.2"):
-        text, many = "relayd: client {} refused: too many connections", ", 4 times"
+        text, many = "relayd: client-end client={} reason=too-many count={}", 4
         peers = [sent_away(relay) for _ in range(5)]
         other = sent_away(relay, "127.0.0.2")
-        lines = [text.format(peers[0]), text.format(other)]
-        until("the lines at once", lambda: told(relay, "refused") == lines, SOON)
-        lines.append(text.format(peers[4]) + many)
-        until("the line of the others", lambda: told(relay, "refused") == lines, 4 + SOON)
+        lines = [text.format(peers[0], 1), text.format(other, 1)]
+        until("the lines at once", lambda: told(relay, "too-many") == lines, SOON)
+        lines.append(text.format(peers[4], many))
+        until("the line of the others", lambda: told(relay, "too-many") == lines, 4 + SOON)
         # A minute begins with each line.
         last = sent_away(relay)
-        same("the lines then", told(relay, "refused"), lines)
-        lines.append(text.format(last))
-        until("the line of one more", lambda: told(relay, "refused") == lines, 4 + SOON)
+        same("the lines then", told(relay, "too-many"), lines)
+        lines.append(text.format(last, 1))
+        until("the line of one more", lambda: told(relay, "too-many") == lines, 4 + SOON)
         # After two minutes without one it's told at once again.
         time.sleep(2 * 4 + 1)
-        lines.append(text.format(sent_away(relay)))
-        until("the last line, at once", lambda: told(relay, "refused") == lines, SOON)
+        lines.append(text.format(sent_away(relay), 1))
+        until("the last line, at once", lambda: told(relay, "too-many") == lines, SOON)
 
 
 def each_refusal_is_told_of_where_many_addresses_are_refused(field):
@@ -129,27 +138,65 @@ def each_refusal_is_told_of_where_many_addresses_are_refused(field):
 
         def counted():
             found = {address: 0 for address in addresses}
-            for line in told(relay, "refused"):
+            for line in told(relay, "too-many"):
                 address, times = re.fullmatch(
-                    r"relayd: client ([0-9.]+):\d+ refused: too many connections(?:, (\d+) times)?", line).groups()
-                found[address] += int(times or 1)
+                    r"relayd: client-end client=([0-9.]+):\d+ reason=too-many count=(\d+)", line).groups()
+                found[address] += int(times)
             return found
 
         until("all of them", lambda: counted() == counts, 4 + SOON)
 
 
 def what_came_of_each_recipient_has_a_line(field):
-    """With the number of the report that is queued, and the reply that put one off."""
+    """With the reply that settles it: that to its RCPT if this isn't 2yz, and else that to the mail data. The report
+    has a line with its number."""
     relay = field.relay()
     field.sink.manners.refusals = {"<r@example.org>": "550 no such user", "<l@example.org>": "450 mailbox busy"}
-    attempt = f"next.example at 127.0.0.1:{field.sink.port} ended"
-    first = (f"relayd: message 1 {attempt}, place 0 transferred, place 1 refused 550, place 2 deferred, "
-             "report queued as 2; deferred by 450 mailbox busy")
+    field.sink.manners.content_reply = "250 queued as 77"
+    hop = f"hop=next.example addr=127.0.0.1:{field.sink.port}"
+    lines = [f'relayd: sent message=1 {hop} to=<b@example.org> status=sent reply="250 queued as 77"',
+             f'relayd: failed message=1 {hop} to=<r@example.org> status=failed reply="550 no such user"',
+             f'relayd: deferred message=1 {hop} to=<l@example.org> status=deferred reply="450 mailbox busy"',
+             "relayd: report message=2 of=1 to=<a@example.org> kind=failed",
+             f'relayd: sent message=2 {hop} to=<a@example.org> status=sent reply="250 queued as 77"']
     with relay.running():
         same("refused", hand_in(relay, recipients=("b@example.org", "r@example.org", "l@example.org")), {})
         read_report(field.arrived(2)[1], 2, 1)
-        until("their lines", lambda: told(relay, " ended")
-              == [first, f"relayd: message 2 {attempt}, place 0 transferred"])
+        until("their lines", lambda: [line for line in told(relay, "relayd: ") if "client" not in line] == lines)
+
+
+def each_recipient_has_the_reply_that_settles_it(field):
+    """Where a next hop greets, answers EHLO, MAIL, a RCPT, DATA or the mail data by something else than it should, that
+    reply is each recipient's, but for a RCPT's own (RFC 5321, sections 3.1 to 3.3)."""
+    good = [b"220 hop.example", b"250 hop.example", b"250 ok", b"250 ok", b"250 ok", b"354 go on"]
+    for count, last in enumerate([b"421 busy", b"450 not now", b"451 later", None, None, b"452 no room", b"471 full"]):
+        if last is None:
+            continue
+        reply = last.decode()
+        with hop_that_falls_silent(*good[:count], last) as port:
+            relay = field.relay(f"relay-{count}", more={"example.net": ("odd.example", port)})
+            with relay.running():
+                hand_in(relay, recipients=("c@example.net", "d@example.net"))
+                until("its lines", lambda: len(told(relay, "status=deferred")) == 2)
+            ends = [line.split(" to=")[1] for line in told(relay, "status=deferred")]
+            same(f"after {count} replies", ends,
+                 [f'<{name}@example.net> status=deferred reply="{reply}"' for name in "cd"])
+
+
+def what_clients_are_refused_has_ten_lines_a_minute(field):
+    """And then a line says how many more; so does the line of the client's end."""
+    relay = field.relay()
+    with relay.running(), Client(relay) as client:
+        client.begin()
+        for _ in range(25):
+            same("a reply", client.say(b"NONSENSE\r\n"), "500 unknown command")
+        same("the last reply", client.say(b"QUIT\r\n")[:4], "221 ")
+        name = client_of(client)
+        until("its end", lambda: told(relay, "client-end"))
+    same("its lines", told(relay, "rejected client"), [f'relayd: rejected {name} reply="500 unknown command"'] * 10
+         + [f"relayd: rejected {name} count=15"])
+    same("its end", [line.split()[3:5] + line.split()[6:] for line in told(relay, "client-end")],
+         [["messages=0", "rejected=25", "reason=quit"]])
 
 
 def a_full_spool_has_a_line_once_a_minute(field):
@@ -165,9 +212,14 @@ def a_full_spool_has_a_line_once_a_minute(field):
             same("the reply", client.say(text_of(4000)), "452 spool full")
             refused += 1
         minutes = (time.monotonic() - begun) * FASTER / 60
-    same("its lines", told(relay, "spool"), [FULL] * 3)
+    same("its lines", told(relay, FULL), [FULL] * 3)
     if minutes < 1.9 or refused < 10:
         raise Difference(f"three lines within {minutes:.2f} minutes, for {refused} messages")
+
+
+def of_spool(relay):
+    """The lines that tell of the spool."""
+    return [line for line in told(relay, "relayd: ") if line.split()[1] in ("spool-full", "compacted")]
 
 
 def a_full_spool_is_noted_where_quit_stands_after_the_mail(field):
@@ -183,11 +235,11 @@ def a_full_spool_is_noted_where_quit_stands_after_the_mail(field):
         with Client(relay) as other:
             other.begin()
             other.ask_for_text()
-            same("lines of the spool", told(relay, "spool"), [])
+            same("lines of the spool", of_spool(relay), [])
             other.link.sendall(text_of(4000) + b"QUIT\r\n")
             same("the last replies", other.rest(), b"452 spool full\r\n221 relay.example closing\r\n")
-        until("two lines of the spool", lambda: len(told(relay, "spool")) == 2, 1 + SOON)
-        same("the first", told(relay, "spool")[0], FULL)
+        until("two lines of the spool", lambda: len(of_spool(relay)) == 2, 1 + SOON)
+        same("the first", of_spool(relay)[0], FULL)
         client.hand_in(text=text_of(4000))
         field.arrived(1)
 
@@ -198,9 +250,9 @@ def a_spool_that_is_written_anew_has_a_line(field):
     with relay.running(), clients_of(relay, 1) as [client]:
         client.hand_in(text=text_of(6000))
         field.arrived(1)
-        until("a line", lambda: len(told(relay, "spool")) == 1)
+        until("a line", lambda: len(told(relay, "compacted")) == 1)
     before, now = (bodies_of(file.read_bytes())[1] for file in (relay.spool, relay.second))
-    same("it", told(relay, "spool"), [f"relayd: spool compacted, {before} octets before, {now} now"])
+    same("it", told(relay, "compacted"), [f"relayd: compacted before={before} after={now}"])
     if not now < 100 < 6000 < before:
         raise Difference(f"{before} octets, and then {now}")
 
@@ -231,6 +283,17 @@ def flood(client, messages):
         same("the reply", client.say(text_of(10))[:4], "250 ")
 
 
+def lines_of_paths(paths):
+    """How many lines a message of these recipients has that was accepted: the first has 320 octets for the client's
+    word, the reverse path and recipients, and each further one as many for recipients."""
+    count, size = 1, len("client.example") + len("<a@example.org>")
+    for path in paths:
+        if size + len(path) >= 320:
+            count, size = count + 1, 0
+        size += len(path) + 1
+    return count
+
+
 def a_log_that_nobody_reads_stops_no_mail(field):
     """More than a pipe and 1 MiB hold: lines are dropped, mail goes on as fast, and a line tells how many they are as
     soon as somebody reads."""
@@ -246,15 +309,17 @@ def a_log_that_nobody_reads_stops_no_mail(field):
         reader.start()
         until("a line of those that were dropped", lambda: [line for line in list(read) if "log-dropped" in line])
         last = client.hand_in()
-        until("what came of the last", lambda: f"message {last} next.example" in read[-1])
+        until("what came of the last", lambda: f"sent message={last} " in read[-1])
         process.kill()
         reader.join()
     same("lines without a moment", [line for line in read if not MOMENT.match(line)], [])
     [place] = [place for place, line in enumerate(read) if "log-dropped" in line]
     dropped = int(re.fullmatch(r"relayd: log-dropped lines=(\d+)", MOMENT.sub("", read[place]))[1])
-    # Two lines each: that it was accepted, and what came of it.
-    same("lines, and dropped ones", len(read) - 1 + dropped, 2 * (messages + 21))
-    same("the lines after them", [line.split()[2:4] for line in read[place + 1:]], [["message", str(last)]] * 2)
+    # Of each of the flood 100 recipients in lines of 320 octets, and a line for each; of each of the others two lines.
+    paths = [f"<{'x' * 60}{number}@example.org>" for number in range(100)]
+    same("lines, and dropped ones", len(read) - 1 + dropped, messages * (100 + lines_of_paths(paths)) + 2 * 21)
+    same("the lines after them", [line.split()[2:4] for line in read[place + 1:]],
+         [["accepted", f"message={last}"], ["sent", f"message={last}"]])
     field.sink.take_all()
 
 
@@ -270,9 +335,9 @@ def who_reads_the_log_misses_no_line(field):
         for thread in threads:
             thread.join()
         field.sink.wait_for(8 * each, 120)
-        until("all lines", lambda: len(told(relay, "next.example")) == 8 * each)
-    for text in ("accepted", "next.example"):
-        found = [int(line.split()[2]) for line in told(relay, text)]
+        until("all lines", lambda: len(told(relay, "sent message")) == 8 * each)
+    for text in ("accepted message", "sent message"):
+        found = [int(re.search(r" message=(\d+)", line)[1]) for line in told(relay, text)]
         same(f"messages with a line of {text}", sorted(found), sorted(numbers))
     same("messages", len(numbers), 8 * each)
     same("dropped ones", told(relay, "dropped"), [])
@@ -300,6 +365,8 @@ ROWS = [
     refused_clients_have_a_line_a_minute,
     each_refusal_is_told_of_where_many_addresses_are_refused,
     what_came_of_each_recipient_has_a_line,
+    each_recipient_has_the_reply_that_settles_it,
+    what_clients_are_refused_has_ten_lines_a_minute,
     a_full_spool_has_a_line_once_a_minute,
     a_full_spool_is_noted_where_quit_stands_after_the_mail,
     a_spool_that_is_written_anew_has_a_line,

@@ -107,7 +107,7 @@ class Late:
         self.handed_in = self.clocks.now()
         self.numbers = self.numbers_to("<c@example.net>")
         same("how many are queued", len(self.numbers), self.count)
-        until("a next hop that is left alone", lambda: lines_of(self.relay, "held off for 60 s"))
+        until("a next hop that is left alone", lambda: lines_of(self.relay, "retry-in=60s"))
 
     def queued_to(self, path):
         return [row for row in self.relay.held() if row[2] == path]
@@ -416,7 +416,7 @@ def a_reply_from_before_a_reopening_ends_no_attempt(field):
             same("a message without room", refused_or_lost(client), True)
             until("a line of it", lambda: lines_of(relay, "device-failed"))
             empty(process)
-            until("a line that it is open", lambda: lines_of(relay, "spool opened again"))
+            until("a line that it is open", lambda: lines_of(relay, "relayd: reopened"))
             until("a new text that waits for its reply", lambda: len(other.texts) == 1)
             answers.set()
             time.sleep(0.3)

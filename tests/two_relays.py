@@ -301,6 +301,13 @@ def serve_takes_so_many_connections(field):
     same("the lines of serve", lines, [])
 
 
+def recipient(field, message, name, status, why, port=None):
+    """The line of a recipient at example.org."""
+    addr = f"127.0.0.1:{port or field.sink.port}"
+    attempt = f"message={message} hop=next.example addr={addr}"
+    return f"relayd: {status} {attempt} to=<{name}@example.org> status={status} {why}"
+
+
 def a_log_says_what_was_done_and_nothing_of_a_content(field):
     refusals = {"<r@example.org>": "550 \x1b[1mno \x07such user", "<l@example.org>": "450 later"}
     field.sink.manners, log = Manners(refusals=refusals), []
@@ -314,14 +321,17 @@ def a_log_says_what_was_done_and_nothing_of_a_content(field):
             pass
     same("the lines of serve", lines, ["1 next.example ended"])
     same("the log", log, [
-        f"relayd: listening on 127.0.0.1:{field.relay.port}",
-        f"relayd: client 127.0.0.1:{peer} ended, 154 octets, 0 refused, message 1 for 3 recipients",
-        "relayd: message 1 next.example ended, place 0 transferred, place 1 refused 550, place 2 deferred, report queued as 2;"
-        " deferred by 450 later"])
+        f"relayd: listening addr=127.0.0.1:{field.relay.port}",
+        f"relayd: client-end client=127.0.0.1:{peer} messages=1 rejected=0 octets=154 reason=closed",
+        recipient(field, 1, "b", "sent", 'reply="250 taken"'),
+        # A refusal is kept with `?` in place of what isn't printable, as the report has it.
+        recipient(field, 1, "r", "failed", 'reply="550 ?[1mno ?such user"'),
+        recipient(field, 1, "l", "deferred", 'reply="450 later"'),
+        "relayd: report message=2 of=1 to=<a@example.org> kind=failed"])
     # A report that is refused is dropped, and none is made of it.
     field.sink.manners = Manners(content_reply="554 no")
     same("push", field.relay.logged("push"),
-         (["2 next.example ended"], ["relayd: message 2 next.example ended, place 0 refused 554"]))
+         (["2 next.example ended"], [recipient(field, 2, "a", "failed", 'reply="554 no"')]))
     same("push with nothing due", field.relay.logged("push"), ([], []))
 
 
@@ -339,28 +349,28 @@ def a_log_has_a_line_for_each_connection(field):
     hundred = [b"MAIL FROM:<>", *[b"RCPT TO:<b%d@example.org>" % number for number in range(100)], b"DATA", b"."]
     # The lines of each connection, and its end. A line has two octets more than are written here.
     visits = [
-        ([], "ended, 0 octets, 0 refused, no message"),
+        ([], "messages=0 rejected=0 octets=0 reason=closed"),
         # 8; 27, twice 25, 6 and 3; 14, 25, 6 and 3; 6.
         ([b"EHLO x", *two, *one, b"QUIT"],
-         "ended, 148 octets, 0 refused, message 1 for 2 recipients, message 2 for 1 recipient"),
-        ([b"EHLO x", b"MAIL FROM:<a@example.org>"], "ended, 35 octets, 0 refused, no message"),
+         "messages=2 rejected=0 octets=148 reason=closed"),
+        ([b"EHLO x", b"MAIL FROM:<a@example.org>"], "messages=0 rejected=0 octets=35 reason=closed"),
         # 8, 8, 27, 21 and 6: an argument too many, a domain without a route, and no recipient.
         ([b"EHLO x", b"DATA 1", b"MAIL FROM:<a@example.org>", b"RCPT TO:<b@example>", b"DATA"],
-         "ended, 70 octets, 3 refused, no message"),
-        # 8; 14, ten times 26, ninety times 27, 6 and 3. The changes 3 and 4 were the outcomes of two messages.
-        ([b"EHLO x", *hundred], "ended, 2721 octets, 0 refused, message 5 for 100 recipients"),
+         "messages=0 rejected=3 octets=70 reason=closed"),
+        # 8; 14, ten times 26, ninety times 27, 6 and 3.
+        ([b"EHLO x", *hundred], "messages=1 rejected=0 octets=2721 reason=closed"),
     ]
     wanted, log = [], []
     with field.relay.serving("--rounds", str(len(visits) + 1), log=log):
         for lines, end in visits:
-            wanted.append(f"relayd: client 127.0.0.1:{visit(field.relay, *lines)} {end}")
+            wanted.append(f"relayd: client-end client=127.0.0.1:{visit(field.relay, *lines)} {end}")
         with connected(field.relay) as link:
             talk(link, b"NOOP\r\n")
-            fault = "broken off by a fault: input, 6 octets, 0 refused, no message"
-            wanted.append(f"relayd: client 127.0.0.1:{link.getsockname()[1]} {fault}")
+            fault = "messages=0 rejected=0 octets=6 reason=input"
+            wanted.append(f"relayd: client-end client=127.0.0.1:{link.getsockname()[1]} {fault}")
             # The connection is reset, and not ended.
             link.setsockopt(socket.SOL_SOCKET, socket.SO_LINGER, struct.pack("ii", 1, 0))
-    same("the lines of connections", [line for line in log if line.startswith("relayd: client ")], wanted)
+    same("the lines of connections", [line for line in log if line.startswith("relayd: client-end ")], wanted)
 
 
 def a_log_says_why_a_place_has_left(field):
@@ -370,17 +380,21 @@ def a_log_says_why_a_place_has_left(field):
         parts = [b"EHLO x\r\n", b"MAIL FROM:<a@example.org>\r\n", b"RCPT TO:<b@example.org>\r\n"]
         converse(field.relay, *parts, b"BDAT 3 LAST\r\nend")
     same("the line of the attempt", log[2:],
-         ["relayd: message 1 next.example ended, place 0 unsendable, report queued as 2"])
+         [recipient(field, 1, "b", "failed", 'reason="CHUNKING not offered"'),
+          "relayd: report message=2 of=1 to=<a@example.org> kind=failed"])
     same("push", field.relay.run("push"), ["2 next.example ended"])
     # Where no connection can be made, and then without a route.
-    field.relay.route({"example.org": ("next.example", free_port())})
-    log = []
+    port, log = free_port(), []
+    field.relay.route({"example.org": ("next.example", port)})
     with field.relay.serving(log=log):
         hand_in(field.relay, recipients=["b@example.org", "c@example.org"])
-    same("the line of the attempt", log[2:], ["relayd: message 4 next.example lost: refused to connect, place 0 deferred, place 1 deferred"])
+    same("the lines of the attempt", log[2:],
+         [recipient(field, 4, name, "deferred", 'reason="connection refused"', port) for name in "bc"])
     field.relay.route({"example.com": ("next.example", field.sink.port)})
     same("push", field.relay.logged("push"), (
-        ["4 noroute"], ["relayd: message 4 noroute, place 0 unroutable, place 1 unroutable, report queued as 6"]))
+        ["4 noroute"],
+        [*[f'relayd: no-route message=4 to=<{name}@example.org> status=no-route reason="no route"' for name in "bc"],
+         "relayd: report message=6 of=4 to=<a@example.org> kind=failed"]))
 
 
 def a_log_says_which_places_have_expired(field):
@@ -388,13 +402,16 @@ def a_log_says_which_places_have_expired(field):
     log = []
     with field.relay.serving(log=log):
         hand_in(field.relay, recipients=["b@example.org", "c@example.org"])
-    same("the line of the attempt", log[2:], ["relayd: message 1 next.example ended, place 0 deferred, place 1 deferred; deferred by 450 later"])
+    same("the lines of the attempt", log[2:],
+         [recipient(field, 1, name, "deferred", 'reply="450 later"') for name in "bc"])
     # Five days after its acceptance a message is tried for the last time.
     field.later(field.relay, 5 * 86400 + 60)
     field.sink.manners = Manners(refusals={"<b@example.org>": "450 later"})
     same("push", field.relay.logged("push"), (
         ["1 next.example ended"],
-        ["relayd: message 1 next.example ended, place 0 expired, place 1 transferred, report queued as 3; deferred by 450 later"]))
+        [recipient(field, 1, "b", "expired", 'reply="450 later"'),
+         recipient(field, 1, "c", "sent", 'reply="250 taken"'),
+         "relayd: report message=3 of=1 to=<a@example.org> kind=failed"]))
 
 
 def a_sender_who_asked_hears_once_that_mail_is_late(field):
@@ -405,14 +422,15 @@ def a_sender_who_asked_hears_once_that_mail_is_late(field):
     field.later(field.relay, 4 * 3600 + 60)
     same("push of late mail", field.relay.logged("push"), (
         ["1 next.example ended"],
-        ["relayd: message 1 next.example ended, place 0 delayed, report queued as 3; deferred by 450 later"]))
+        [recipient(field, 1, "b", "delayed", 'reply="450 later"'),
+         "relayd: report message=3 of=1 to=<a@example.org> kind=delayed"]))
     same("list", [held[:2] for held in field.relay.held()], [(1, 0), (3, 0)])
     field.sink.take_all()
     field.later(field.relay, 8 * 3600)
     same("push after that", field.relay.logged("push"), (
         ["1 next.example ended", "3 next.example ended"],
-        ["relayd: message 1 next.example ended, place 0 deferred; deferred by 450 later",
-         "relayd: message 3 next.example ended, place 0 transferred"]))
+        [recipient(field, 1, "b", "deferred", 'reply="450 later"'),
+         recipient(field, 3, "a", "sent", 'reply="250 taken"')]))
     report = read_report(one_message(field.sink), 3, 1)
     arrival = email.utils.parsedate_to_datetime(report[1].get_payload()[0]["Arrival-Date"])
     status = fields(report, 1)
@@ -451,16 +469,14 @@ def a_hop_that_is_silent_is_tried_once_a_push(field):
         hand_in(field.relay)
         hand_in(field.relay)
     same("the lines of serve", lines, ["1 next.example lost", "3 next.example lost"])
-    same("the lines of attempts", [line for line in log if " message " in line and "client" not in line], [
-        "relayd: message 1 next.example lost: refused to connect, place 0 deferred",
-        "relayd: message 3 next.example lost: refused to connect, place 0 deferred"])
+    same("the lines of attempts", [line for line in log if "status=" in line],
+         [recipient(field, number, "b", "deferred", 'reason="connection refused"', port) for number in (1, 3)])
     # A next hop that takes connections and doesn't greet is waited for once, and the other message isn't tried.
     with socket.create_server(("127.0.0.1", port)) as silent:
         field.preload(field.relay, "shorter_waits", LATER="1900")
         same("push", field.relay.logged("push"), (
             ["1 next.example lost", "3 next.example lost"],
-            ["relayd: message 1 next.example lost: silent, place 0 deferred",
-             "relayd: message 3 next.example lost: silent, place 0 deferred"]))
+            [recipient(field, number, "b", "deferred", "reason=timeout", port) for number in (1, 3)]))
         silent.settimeout(0)
         silent.accept()[0].close()
         try:
@@ -475,13 +491,13 @@ def a_hop_that_cuts_a_connection_is_tried_again(field):
     field.sink.manners, log = Manners(hangs_up_at="MAIL"), []
     with field.relay.serving(log=log):
         hand_in(field.relay)
-    same("the line of the attempt", log[2:], ["relayd: message 1 next.example lost: cut, place 0 deferred"])
-    # What a reply says is shown in printable octets, 200 of them at most.
+    same("the line of the attempt", log[2:], [recipient(field, 1, "b", "deferred", 'reason="connection closed"')])
+    # What a reply says is shown in printable octets, 200 of its own at most.
     field.sink.manners, log = Manners(content_reply="451 \x1b" + "x" * 300), []
     with field.relay.serving(log=log):
         hand_in(field.relay)
     same("the line of the attempt", log[2:],
-         ["relayd: message 3 next.example ended, place 0 deferred; deferred by 451 ?" + "x" * 199])
+         [recipient(field, 3, "b", "deferred", 'reply="451 \\x1b' + "x" * 199 + '"')])
 
 
 def faults_come_in_their_order(field):

@@ -62,8 +62,8 @@ def ended_as(link):
     return b""
 
 
-def log_line(link_name, octets, refused, messages):
-    return f"relayd: client {link_name} ended, {octets} octets, {refused} refused, {messages}"
+def log_line(link_name, octets, messages, reason="closed"):
+    return f"relayd: client-end client={link_name} messages={messages} rejected=0 octets={octets} reason={reason}"
 
 
 # The rows. Each says in its name what holds.
@@ -105,11 +105,9 @@ def each_of_64_has_its_reply_whatever_the_others_do(program, folder, sink):
     same("list", relay.held(), [])
     same("messages at the sink", len(sink.take_all()), 32)
     octets = sum(map(len, GROUP)) + len(TEXT)
-    wanted = [f"relayd: client {names[0]} broken off by a fault: input, 0 octets, 0 refused, no message"]
-    for name, number in zip(names[1:33], numbers):
-        wanted.append(log_line(name, octets + 6, 0, f"message {number} for 1 recipient"))
-    wanted += [log_line(name, octets - 3, 0, "no message") for name in names[33:]]
-    same("the log of clients", [line for line in log if line.startswith("relayd: client")], wanted)
+    wanted = [log_line(names[0], 0, 0, "input"), *[log_line(name, octets + 6, 1) for name in names[1:33]],
+              *[log_line(name, octets - 3, 0) for name in names[33:]]]
+    same("the log of clients", [line for line in log if line.startswith("relayd: client-end ")], wanted)
 
 
 def a_full_spool_takes_one_of_two(program, folder, sink):
@@ -136,7 +134,7 @@ def a_client_without_a_thread_hears_nothing(program, folder, sink):
         same("what the second hears", ended_as(links[1]), b"")
     same("the lines of serve", lines, ["1 next.example ended", "2 next.example ended"])
     same("the log of the second", [line for line in log if name in line],
-         [f"relayd: client {name} not served: no thread or no memory"])
+         [f"relayd: client-end client={name} reason=no-memory"])
     sink.take_all()
 
 

@@ -1,1 +1,2 @@
+pub mod LogLine
 pub mod Waiting

@@ -3,9 +3,11 @@
 #![tactic(auto)]
 
 mod backlog;
+mod log_line;
 mod stamp;
 mod writer;
 
 pub use backlog::Backlog;
+pub use log_line::{Form, LogLine};
 pub use stamp::write_stamp;
 pub use writer::LogWriter;

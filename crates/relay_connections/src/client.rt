@@ -12,7 +12,7 @@ use crate::clocks::Now;
 use crate::ending::{drop_session, end_session};
 use crate::stream::Stream;
 use relay_disk::Disk;
-use relay_log::Log;
+use relay_log::{ClientRecord, Log};
 use relay_loop::{Heard, Outbox, Relay};
 use relay_node::NodeFault;
 use std::net::SocketAddrV4;
@@ -53,6 +53,8 @@ pub(crate) struct Client<S> {
     has_accepted: bool,
     /// The tick at which it is cut off, unless mail of it is accepted before.
     session_deadline: u64,
+    /// What the log tells of it at its end.
+    pub(crate) record: ClientRecord,
 }
 
 // Written out, so that what drops it calls this, and doesn't look into its connection.
@@ -68,6 +70,7 @@ impl<S: Drop> Drop for Client<S> {
             crowded_deadline: _,
             has_accepted: _,
             session_deadline: _,
+            record: _,
         } = self;
     }
 }
@@ -108,6 +111,7 @@ impl<S: Stream> Client<S> {
             crowded_deadline: now.behind(CROWDED_SECONDS),
             has_accepted: false,
             session_deadline: now.behind(SESSION_SECONDS),
+            record: ClientRecord::new(now.tick),
         }
     }
 
@@ -125,6 +129,7 @@ impl<S: Stream> Client<S> {
             crowded_deadline: _,
             has_accepted: _,
             session_deadline: _,
+            record: _,
         } = self;
         channel
     }
@@ -289,6 +294,7 @@ impl<S: Stream> Client<S> {
         ensures peer { self.new.peer ≡ self.old.peer }
     {
         let piece = self.channel.piece();
+        self.record.read(piece.len());
         let is_first = self.unanswered == 0;
         let has_line_end = piece.contains(&b'\n');
         self.unanswered = self.unanswered.saturating_add(piece.len());
@@ -344,11 +350,12 @@ impl<S: Stream> Client<S> {
         if let Some(number) = change {
             self.session_deadline = now.behind(SESSION_SECONDS);
             self.has_accepted = true;
-            tell_accepted(relay, self.peer, number, log);
+            tell_accepted(relay, self.peer, number, &mut self.record, log);
         }
+        let (peer, record) = (self.peer, &mut self.record);
         let was_full = match &last {
-            Some(outbox) => tells_full(outbox.as_slice()),
-            None => tells_full(relay.to_client(session)),
+            Some(outbox) => tell_replies(peer, outbox.as_slice(), record, now, log),
+            None => tell_replies(peer, relay.to_client(session), record, now, log),
         };
         intake.was_full = intake.was_full || was_full;
         match last {
@@ -360,15 +367,28 @@ impl<S: Stream> Client<S> {
     }
 }
 
+/// Logs what a client was replied. Returns whether that says that the spool is full.
+fn tell_replies(
+    peer: SocketAddrV4,
+    replies: &[u8],
+    record: &mut ClientRecord,
+    now: &Now,
+    log: &mut Log<'_, Vec<u8>>,
+) -> bool {
+    log.replied(peer, replies, record, now.tick);
+    tells_full(replies)
+}
+
 /// Tells of the mail that was accepted as the message of a number.
 fn tell_accepted<D: Disk>(
     relay: &Relay<D>,
     peer: SocketAddrV4,
     number: u64,
+    record: &mut ClientRecord,
     log: &mut Log<'_, Vec<u8>>,
 ) {
     if let Some(message) = relay.node().message(number) {
-        log.accepted(peer, message);
+        log.accepted(peer, message, record);
     }
 }
 

@@ -21,7 +21,7 @@ use crate::leaving::Leaving;
 use crate::stream::Stream;
 use crate::table::{holds, turned};
 use relay_disk::Disk;
-use relay_log::Log;
+use relay_log::{ClientEnd, Log};
 use relay_loop::{Relay, ReplyPiece};
 use relay_node::NodeFault;
 use relay_slots::SLOT_COUNT;
@@ -206,6 +206,14 @@ impl<S: Stream + Drop> Clients<S> {
             self.clients.put(number, client);
             return Ok(true);
         };
+        tell_end(
+            &client,
+            &next,
+            ClientEnd::Closed,
+            ClientEnd::Reset,
+            now,
+            log,
+        );
         self.settle(
             number, client, next, registry, relay, leaving, now, intake, log,
         )?;
@@ -242,6 +250,14 @@ impl<S: Stream + Drop> Clients<S> {
         let next = client.answer(relay, number, heard, holds, self.timeout, now, intake, log)?;
         let hears = client.has_more(relay, number);
         client.hears = hears;
+        tell_end(
+            &client,
+            &next,
+            ClientEnd::Quit,
+            ClientEnd::NoMemory,
+            now,
+            log,
+        );
         self.settle(
             number, client, next, registry, relay, leaving, now, intake, log,
         )?;
@@ -333,7 +349,7 @@ impl<S: Stream + Drop> Clients<S> {
     {
         match next {
             Next::Stays if client.deadline(self.is_crowded) <= now.tick => {
-                log.cut_off(client.peer);
+                log.client_ended(client.peer, &client.record, ClientEnd::Timeout, now.tick);
                 if client.channel.is_holding() {
                     // It takes nothing.
                     drop_session(relay, number)
@@ -343,5 +359,22 @@ impl<S: Stream + Drop> Clients<S> {
             }
             next => Ok(next),
         }
+    }
+}
+
+/// Logs that a client's connection has ended, unless it stays: for the one reason if its last octets are still written,
+/// and else for the other.
+fn tell_end<S: Stream>(
+    client: &Client<S>,
+    next: &Next,
+    leaves: ClientEnd,
+    gone: ClientEnd,
+    now: &Now,
+    log: &mut Log<'_, Vec<u8>>,
+) {
+    match next {
+        Next::Stays => {}
+        Next::Leaves(_) => log.client_ended(client.peer, &client.record, leaves, now.tick),
+        Next::Gone => log.client_ended(client.peer, &client.record, gone, now.tick),
     }
 }

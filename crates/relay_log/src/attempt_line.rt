@@ -1,10 +1,13 @@
-//! The line of the log for an attempt.
-use crate::hop_link::Why;
-use crate::replies::Deferral;
-use relay_book::{Change, PlaceStep, Ruling, Verdict, decode_change};
+//! The lines of the log for an attempt.
+use crate::counters::{Counters, add};
+use crate::head::Head;
+use crate::hop_link::Loss;
+use crate::talk::Talk;
+use relay_backlog::LogLine;
+use relay_book::{Change, Outcome, PlaceStep, Ruling, Verdict, Way, decode_change};
 use relay_node::Noted;
 use std::alloc::Global;
-use std::io::{self, ErrorKind, Write};
+use std::io::{self, Write};
 use std::net::SocketAddrV4;
 
 /// An attempt for a message that has ended, or what was done in place of one.
@@ -12,87 +15,88 @@ use std::net::SocketAddrV4;
 pub struct Attempt<'a> {
     /// The number of the message.
     pub number: u64,
-    /// The next hop, where there is one.
+    /// The next hop, if there is one.
     pub hop: Option<&'a [u8]>,
-    /// Where the next hop is, where that is to be told.
+    /// Where the next hop is, if that is known.
     pub at: Option<SocketAddrV4>,
-    /// How many seconds ago the message was accepted, where that is to be told.
+    /// How many seconds ago the message was accepted, if that is known.
     pub age: Option<u64>,
-    /// How it has ended.
-    pub end: &'a str,
-    /// Why it has settled less than it might.
-    pub why: Why,
-    /// Its outcome as the node has noted it, where there is one.
+    /// What its connection failed for, if it did.
+    pub loss: Option<Loss>,
+    /// Its outcome as the node has noted it, if there is one.
     pub noted: Option<Noted>,
 }
 
-/// Says of an attempt the message, the hop and how it has ended, what was said of each place, and what has put off
-/// those that wait.
-pub(crate) fn attempt_text(alloc: Global, attempt: &Attempt<'_>) -> io::Result<Vec<u8>> {
-    let mut text = Vec::new(alloc);
-    write!(text, "relayd: message {} ", attempt.number)?;
-    if let Some(hop) = attempt.hop {
-        text.write_all(hop)?;
-        write!(text, " ")?;
-    }
-    if let Some(at) = attempt.at {
-        write!(text, "at {at} ")?;
-    }
-    write!(text, "{}", attempt.end)?;
-    if let Some(age) = attempt.age {
-        write!(text, " {age} s behind its acceptance")?;
-    }
-    if let Some(loss) = attempt.why.loss {
-        write!(text, ": {}", loss.text())?;
-    }
-    if let Some(noted) = &attempt.noted {
-        write_outcome(alloc, &mut text, noted, &attempt.why)?;
-    }
-    Ok(text)
+/// What became of a recipient.
+#[derive(Clone, Copy, Debug, PartialEq, Eq)]
+enum Status {
+    Sent,
+    Deferred,
+    Delayed,
+    Failed,
+    Expired,
+    NoRoute,
 }
 
-/// Writes what an outcome says of each place, the number of the report that it queues, and what has put off the places
-/// that wait. The note has the places that left or are late and not why, so its record is read.
-fn write_outcome(alloc: Global, text: &mut Vec<u8>, noted: &Noted, why: &Why) -> io::Result<()> {
+impl Status {
+    /// What a verdict made of a recipient, to which the node's note adds what became of one that may be tried again.
+    fn of(verdict: &Verdict, step: Option<PlaceStep>) -> Self {
+        match verdict {
+            Verdict::Taken { .. } => Status::Sent,
+            Verdict::Refused { .. } | Verdict::CantSend => Status::Failed,
+            Verdict::NoRoute => Status::NoRoute,
+            Verdict::Later => match step {
+                Some(PlaceStep::Left(_)) => Status::Expired,
+                Some(PlaceStep::Delayed) => Status::Delayed,
+                None => Status::Deferred,
+            },
+        }
+    }
+
+    /// The word of the log for it.
+    fn word(self) -> &'static [u8] {
+        match self {
+            Status::Sent => b"sent",
+            Status::Deferred => b"deferred",
+            Status::Delayed => b"delayed",
+            Status::Failed => b"failed",
+            Status::Expired => b"expired",
+            Status::NoRoute => b"no-route",
+        }
+    }
+
+    /// Adds it to its count.
+    fn count(self, counters: &mut Counters) {
+        let count = match self {
+            Status::Sent => &mut counters.sent,
+            Status::Deferred | Status::Delayed => &mut counters.deferred,
+            Status::Failed | Status::NoRoute => &mut counters.failed,
+            Status::Expired => &mut counters.expired,
+        };
+        add(count, 1);
+    }
+}
+
+/// The outcome that a note has the record of. The note has the places that left or are late and not why, so the record
+/// is read.
+pub(crate) fn outcome_of(alloc: Global, noted: &Noted) -> Option<Outcome> {
     match decode_change(alloc, noted.octets.as_slice()) {
-        Ok(Change::Outcome(outcome)) => {
-            let rulings = outcome.rulings.as_slice();
-            write_rulings(text, rulings, noted)?;
-            match &why.deferral {
-                Some(deferral) if rulings.iter().any(is_later) => write_deferral(text, deferral),
-                _ => Ok(()),
-            }
-        }
-        _ => Err(io::Error::from(ErrorKind::OutOfMemory)),
+        Ok(Change::Outcome(outcome)) => Some(outcome),
+        _ => None,
     }
 }
 
-fn is_later(ruling: &Ruling) -> bool {
-    matches!(ruling.verdict, Verdict::Later)
-}
-
-/// Writes what has put off places.
-fn write_deferral(text: &mut Vec<u8>, deferral: &Deferral) -> io::Result<()> {
-    match deferral {
-        Deferral::Reply { code, text: said } => {
-            write!(text, "; deferred by {code} ")?;
-            text.write_all(said.as_slice())
-        }
-        Deferral::NoReply(fault) => write!(text, "; no reply: {fault}"),
-    }
-}
-
-fn write_rulings(text: &mut Vec<u8>, rulings: &[Ruling], noted: &Noted) -> io::Result<()> {
-    for ruling in rulings {
-        write_ruling(text, ruling, step_of(noted, ruling.place))?;
+/// Counts what an outcome says of each recipient, and the report that it queues.
+pub(crate) fn count_outcome(noted: &Noted, outcome: &Outcome, counters: &mut Counters) {
+    for ruling in outcome.rulings.as_slice() {
+        Status::of(&ruling.verdict, step_of(noted, ruling.place)).count(counters);
     }
     if noted.report {
-        write!(text, ", report queued as {}", noted.number)?;
+        add(&mut counters.reports, 1);
     }
-    Ok(())
 }
 
-/// What became of a place, where the note tells it.
+/// What became of a place, if the note tells it.
 fn step_of(noted: &Noted, place: u8) -> Option<PlaceStep> {
     for (other, step) in noted.left.as_slice() {
         if *other == place {
@@ -102,18 +106,131 @@ fn step_of(noted: &Noted, place: u8) -> Option<PlaceStep> {
     None
 }
 
-/// Writes what was said of a place, and of one that may be tried again what became of it.
-fn write_ruling(text: &mut Vec<u8>, ruling: &Ruling, step: Option<PlaceStep>) -> io::Result<()> {
-    write!(text, ", place {} ", ruling.place)?;
-    match &ruling.verdict {
-        Verdict::Taken { .. } => write!(text, "transferred"),
-        Verdict::Refused { code, .. } => write!(text, "refused {code}"),
-        Verdict::Later => match step {
-            Some(PlaceStep::Left(_)) => write!(text, "expired"),
-            Some(PlaceStep::Delayed) => write!(text, "delayed"),
-            None => write!(text, "deferred"),
-        },
-        Verdict::CantSend => write!(text, "unsendable"),
-        Verdict::NoRoute => write!(text, "unroutable"),
+/// The line of an attempt whose outcome wasn't recorded: all of its recipients stay due.
+pub(crate) fn unrecorded_line(head: Head, attempt: &Attempt<'_>) -> io::Result<LogLine> {
+    let mut line = head.line(b"unrecorded")?;
+    add_attempt(head, &mut line, attempt)?;
+    if let Some(loss) = attempt.loss {
+        line.octets(b"reason", loss.text())?;
     }
+    Ok(line)
+}
+
+/// The line of a recipient, whose ruling has this index among those of the attempt.
+pub(crate) fn recipient_line(
+    head: Head,
+    attempt: &Attempt<'_>,
+    talk: &Talk,
+    noted: &Noted,
+    rulings: &[Ruling],
+    index: usize,
+) -> io::Result<Option<LogLine>> {
+    let Some(ruling) = rulings.get(index) else {
+        return Ok(None);
+    };
+    let status = Status::of(&ruling.verdict, step_of(noted, ruling.place));
+    let mut line = head.line(status.word())?;
+    add_attempt(head, &mut line, attempt)?;
+    match talk.recipient(ruling.place) {
+        Some(path) => line.octets(b"to", path)?,
+        None => line.number(b"place", u64::from(ruling.place), b"")?,
+    }
+    line.octets(b"status", status.word())?;
+    match &ruling.verdict {
+        Verdict::Refused { code, text } => add_reply(head, &mut line, *code, text.as_slice())?,
+        Verdict::Taken { .. } => add_settling(head, &mut line, talk, rulings.len(), index)?,
+        Verdict::Later => add_reason(head, &mut line, attempt, talk, rulings.len(), index)?,
+        Verdict::CantSend => line.octets(b"reason", b"CHUNKING not offered")?,
+        Verdict::NoRoute => line.octets(b"reason", b"no route")?,
+    }
+    Ok(Some(line))
+}
+
+/// Adds the message, the next hop, its address, and how long ago the message was accepted.
+fn add_attempt(head: Head, line: &mut LogLine, attempt: &Attempt<'_>) -> io::Result<()> {
+    line.number(b"message", attempt.number, b"")?;
+    if let Some(hop) = attempt.hop {
+        line.octets(b"hop", hop)?;
+    }
+    if let Some(at) = attempt.at {
+        head.add_address(line, b"addr", at)?;
+    }
+    if let Some(age) = attempt.age {
+        line.number(b"delay", age, b"s")?;
+    }
+    Ok(())
+}
+
+/// Adds why a recipient may be tried again: what the connection failed for, why octets were no reply, or a reply.
+fn add_reason(
+    head: Head,
+    line: &mut LogLine,
+    attempt: &Attempt<'_>,
+    talk: &Talk,
+    count: usize,
+    index: usize,
+) -> io::Result<()> {
+    if let Some(loss) = attempt.loss {
+        line.octets(b"reason", loss.text())?;
+        return Ok(());
+    }
+    if let Some(fault) = talk.fault() {
+        let text = format!(in head.alloc; "{fault}")?;
+        line.octets(b"reason", text.as_bytes())?;
+        return Ok(());
+    }
+    add_settling(head, line, talk, count, index)
+}
+
+/// Adds the reply that settles a recipient, if it is known.
+fn add_settling(
+    head: Head,
+    line: &mut LogLine,
+    talk: &Talk,
+    count: usize,
+    index: usize,
+) -> io::Result<()> {
+    match talk.settling_reply(count, index) {
+        Some((code, text)) => add_reply(head, line, code, text),
+        None => Ok(()),
+    }
+}
+
+/// Adds a reply of a next hop.
+fn add_reply(head: Head, line: &mut LogLine, code: u16, text: &[u8]) -> io::Result<()> {
+    let mut reply = Vec::new(head.alloc);
+    write!(reply, "{code} ")?;
+    reply.extend_from_slice(text)?;
+    line.octets(b"reply", reply.as_slice())?;
+    Ok(())
+}
+
+/// The line of a report that an outcome has queued: its number, the message, whom it is for, and of what it tells.
+pub(crate) fn report_line(
+    head: Head,
+    attempt: &Attempt<'_>,
+    talk: &Talk,
+    noted: &Noted,
+) -> io::Result<LogLine> {
+    let mut line = head.line(b"report")?;
+    line.number(b"message", noted.number, b"")?;
+    line.number(b"of", attempt.number, b"")?;
+    if !talk.reverse_path().is_empty() {
+        line.octets(b"to", talk.reverse_path())?;
+    }
+    line.octets(b"kind", report_kind(noted))?;
+    Ok(line)
+}
+
+/// What a report tells of first: a recipient that failed, one that is delayed, or one that was relayed.
+fn report_kind(noted: &Noted) -> &'static [u8] {
+    let mut kind: &'static [u8] = b"relayed";
+    for (_place, step) in noted.left.as_slice() {
+        match step {
+            PlaceStep::Left(Way::ByEnd) => return b"failed",
+            PlaceStep::Delayed => kind = b"delayed",
+            PlaceStep::Left(Way::ByTransfer) => {}
+        }
+    }
+    kind
 }

@@ -1,13 +1,29 @@
-//! The line of the log for a client's connection.
-ghost use Rattle.std.specs.Prelude.{◌≡◌, length, option_map};
-ghost use Rattle.relay_book.specs.Queue.{message_of};
-
+//! The lines of the log for clients.
+use crate::client_record::ClientRecord;
+use crate::head::Head;
+use memchr::memmem;
+use relay_backlog::LogLine;
+use relay_book::Message;
 use relay_disk::Disk;
+use relay_envelope::Recipient;
 use relay_node::Node;
-use std::alloc::Global;
 use std::fmt::Display;
-use std::io::{self, Write};
+use std::io;
 use std::net::SocketAddrV4;
+
+/// How the time stamp line of a message begins that a client brought; the client's word stands after it, up to a space
+/// (RFC 5321, section 4.4).
+const STAMP_BEGINNING: &[u8] = b"Received: from ";
+
+/// What a time stamp line says of a client that said EHLO.
+const WITH_ESMTP: &[u8] = b" with ESMTP id ";
+
+/// How many octets of a message are searched for that: more than a time stamp line has.
+const STAMP_LIMIT: usize = 1_024;
+
+/// How many octets the paths of recipients have in one line. Even if each has to stand behind a backslash, the line has
+/// room for them.
+const LIST_LIMIT: usize = 320;
 
 /// The messages that the node has taken on a connection.
 #[derive(Clone, Copy, Debug)]
@@ -33,84 +49,200 @@ pub struct Connection<'a, F> {
     pub messages: Messages<'a>,
 }
 
-/// Says how a connection has ended, how many octets were read on it, how many commands and contents were refused, and
-/// of each message that the node has taken on it the number and how many recipients it has. No attempt was made for
-/// them yet.
-pub(crate) fn client_text<D: Disk, F: Display>(
-    alloc: Global,
+/// Why a client's connection has ended.
+#[derive(Clone, Copy, Debug, PartialEq, Eq)]
+pub enum ClientEnd {
+    /// It said QUIT, or the relay has closed the connection by 421.
+    Quit,
+    /// It has closed the connection.
+    Closed,
+    /// It said or took nothing for too long.
+    Timeout,
+    /// The connection broke.
+    Reset,
+    /// There was no memory for it.
+    NoMemory,
+}
+
+impl ClientEnd {
+    /// The word of the log for it.
+    fn word(self) -> &'static [u8] {
+        match self {
+            ClientEnd::Quit => b"quit",
+            ClientEnd::Closed => b"closed",
+            ClientEnd::Timeout => b"timeout",
+            ClientEnd::Reset => b"reset",
+            ClientEnd::NoMemory => b"no-memory",
+        }
+    }
+}
+
+/// The line of a connection that has ended at this tick.
+pub(crate) fn client_end_line(
+    head: Head,
+    peer: SocketAddrV4,
+    record: &ClientRecord,
+    end: ClientEnd,
+    tick: u64,
+) -> io::Result<LogLine> {
+    let mut line = head.line(b"client-end")?;
+    head.add_address(&mut line, b"client", peer)?;
+    line.number(b"messages", record.messages(), b"")?;
+    line.number(b"rejected", record.refusals(), b"")?;
+    line.number(b"octets", record.octets(), b"")?;
+    line.number(b"duration", record.seconds(tick), b"s")?;
+    line.octets(b"reason", end.word())?;
+    Ok(line)
+}
+
+/// The line of a connection that one call has served.
+pub(crate) fn connection_line<D: Disk, F: Display>(
+    head: Head,
     node: &Node<D>,
     connection: &Connection<'_, F>,
-) -> io::Result<Vec<u8>> {
-    let mut text = Vec::new(alloc);
-    write!(text, "relayd: client {} ", connection.peer)?;
+) -> io::Result<LogLine> {
+    let mut line = head.line(b"client-end")?;
+    head.add_address(&mut line, b"client", connection.peer)?;
+    line.number(b"messages", count_of(node, connection.messages), b"")?;
+    line.number(b"rejected", connection.refusals, b"")?;
+    line.number(b"octets", connection.octets, b"")?;
     match &connection.end {
-        Ok(()) => write!(text, "ended")?,
-        Err(fault) => write!(text, "broken off by a fault: {fault}")?,
+        Ok(()) => line.octets(b"reason", b"closed")?,
+        Err(fault) => {
+            let text = format!(in head.alloc; "{fault}")?;
+            line.octets(b"reason", text.as_bytes())?;
+        }
     }
-    write!(
-        text,
-        ", {} octets, {} refused",
-        connection.octets, connection.refusals
-    )?;
-    write_messages(&mut text, node, connection.messages)?;
-    Ok(text)
+    Ok(line)
 }
 
-/// Says that the connection of a client was closed before anything was read or written on it.
-pub(crate) fn unserved_text(alloc: Global, peer: SocketAddrV4) -> io::Result<Vec<u8>> {
-    let mut text = Vec::new(alloc);
-    write!(
-        text,
-        "relayd: client {peer} not served: no thread or no memory"
-    )?;
-    Ok(text)
-}
-
-/// Writes each message, or that there is none.
-fn write_messages<D: Disk>(
-    text: &mut Vec<u8>,
-    node: &Node<D>,
-    messages: Messages<'_>,
-) -> io::Result<()> {
-    let begun = text.len();
+/// How many messages the node has taken.
+pub(crate) fn count_of<D: Disk>(node: &Node<D>, messages: Messages<'_>) -> u64 {
     match messages {
-        Messages::From(first) => {
-            for number in first..node.next_number() {
-                write_message(text, node, number)?;
-            }
+        Messages::From(first) => node.next_number().saturating_sub(first),
+        Messages::Numbered(numbers) => numbers.len() as u64,
+    }
+}
+
+/// The line of a client whose connection was closed before anything was read or written on it.
+pub(crate) fn unserved_line(head: Head, peer: SocketAddrV4) -> io::Result<LogLine> {
+    let mut line = head.line(b"client-end")?;
+    head.add_address(&mut line, b"client", peer)?;
+    line.octets(b"reason", b"no-memory")?;
+    Ok(line)
+}
+
+/// The line of clients of an address that were told that there are too many connections, with the address and port of
+/// the last.
+pub(crate) fn turned_away_line(head: Head, peer: SocketAddrV4, count: u64) -> io::Result<LogLine> {
+    let mut line = head.line(b"client-end")?;
+    head.add_address(&mut line, b"client", peer)?;
+    line.octets(b"reason", b"too-many")?;
+    line.number(b"count", count, b"")?;
+    Ok(line)
+}
+
+/// The line of a reply to a client that refuses something.
+pub(crate) fn rejected_line(head: Head, peer: SocketAddrV4, reply: &[u8]) -> io::Result<LogLine> {
+    let mut line = head.line(b"rejected")?;
+    head.add_address(&mut line, b"client", peer)?;
+    line.octets(b"reply", reply.trim_ascii())?;
+    Ok(line)
+}
+
+/// The line of replies that refuse something and have no line of their own.
+pub(crate) fn more_rejected_line(
+    head: Head,
+    peer: SocketAddrV4,
+    count: u64,
+) -> io::Result<LogLine> {
+    let mut line = head.line(b"rejected")?;
+    head.add_address(&mut line, b"client", peer)?;
+    line.number(b"count", count, b"")?;
+    Ok(line)
+}
+
+/// The first line of a message that was accepted: its number, the client's address and word, the protocol, how many
+/// recipients it has, how many octets are relayed, the reverse path, and the first recipients. It returns how many of
+/// these it has.
+pub(crate) fn accepted_line(
+    head: Head,
+    peer: SocketAddrV4,
+    message: &Message,
+) -> io::Result<(LogLine, usize)> {
+    let accept = &message.accept;
+    let stored_text = accept.stored_text.as_slice();
+    let word = client_word(stored_text);
+    let reverse_path = accept.envelope.reverse_path.as_slice();
+    let recipients = accept.envelope.recipients.as_slice();
+    let mut line = head.line(b"accepted")?;
+    line.number(b"message", message.number, b"")?;
+    head.add_address(&mut line, b"client", peer)?;
+    line.octets(b"helo", word)?;
+    line.octets(b"protocol", protocol(stored_text))?;
+    line.number(b"recipients", recipients.len() as u64, b"")?;
+    line.number(b"size", stored_text.len() as u64, b"")?;
+    line.octets(b"from", reverse_path)?;
+    let limit = LIST_LIMIT.saturating_sub(word.len());
+    let limit = limit.saturating_sub(reverse_path.len());
+    let count = add_recipients(head, &mut line, recipients, limit)?;
+    Ok((line, count))
+}
+
+/// A further line of a message that was accepted, with the next recipients, and how many of these it has.
+pub(crate) fn more_accepted_line(
+    head: Head,
+    number: u64,
+    recipients: &[Recipient],
+) -> io::Result<(LogLine, usize)> {
+    let mut line = head.line(b"accepted")?;
+    line.number(b"message", number, b"")?;
+    let count = add_recipients(head, &mut line, recipients, LIST_LIMIT)?;
+    Ok((line, count))
+}
+
+/// Adds the paths of recipients to a line, with spaces between, as many as so many octets hold. It returns how many.
+fn add_recipients(
+    head: Head,
+    line: &mut LogLine,
+    recipients: &[Recipient],
+    limit: usize,
+) -> io::Result<usize> {
+    let mut value = Vec::new(head.alloc);
+    let mut count: usize = 0;
+    for recipient in recipients {
+        let path = recipient.path.as_slice();
+        if limit <= value.len().saturating_add(path.len()) {
+            break;
         }
-        Messages::Numbered(numbers) => {
-            for number in numbers {
-                write_message(text, node, *number)?;
-            }
+        if !value.is_empty() {
+            value.push(b' ')?;
         }
+        value.extend_from_slice(path)?;
+        count = count.saturating_add(1);
     }
-    if text.len() == begun {
-        write!(text, ", no message")?;
+    if !value.is_empty() {
+        line.octets(b"to", value.as_slice())?;
     }
-    Ok(())
+    Ok(count)
 }
 
-/// Writes the number of a message and how many recipients it has.
-fn write_message<D: Disk>(text: &mut Vec<u8>, node: &Node<D>, number: u64) -> io::Result<()> {
-    write!(text, ", message {number}")?;
-    write_recipients(text, recipients(node, number))
-}
-
-/// Writes how many recipients a message has, where that is known.
-fn write_recipients(text: &mut Vec<u8>, recipients: Option<usize>) -> io::Result<()> {
-    match recipients {
-        Some(1) => write!(text, " for 1 recipient"),
-        Some(count) => write!(text, " for {count} recipients"),
-        None => Ok(()),
+/// The word that a client gave of itself; none where the text begins with another line than its time stamp.
+fn client_word(stored_text: &[u8]) -> &[u8] {
+    let Some(rest) = stored_text.strip_prefix(STAMP_BEGINNING) else {
+        return &[];
+    };
+    match rest.split(|octet| *octet == b' ').next() {
+        Some(word) => word,
+        None => &[],
     }
 }
 
-/// How many recipients a message has, as long as it is queued.
-fn recipients<D: Disk>(node: &Node<D>, number: u64) -> Option<usize>
-    ensures { result ≡ option_map (λ message. length message.accept.envelope.recipients)
-        (message_of node.now.records.queue.messages number) }
-{
-    let message = node.message(number)?;
-    Some(message.accept.envelope.recipients.len())
+/// The protocol that a time stamp line names.
+fn protocol(stored_text: &[u8]) -> &'static [u8] {
+    let stamp = &stored_text[..stored_text.len().min(STAMP_LIMIT)];
+    match memmem::find(stamp, WITH_ESMTP) {
+        Some(_) => b"ESMTP",
+        None => b"SMTP",
+    }
 }

@@ -1,10 +1,9 @@
 //! The connection of an attempt, watched for the log.
-use crate::replies::{Deferral, Replies};
-use std::alloc::Global;
+use crate::talk::Talk;
 use std::io::{Error, ErrorKind, Read, Result, Write};
 use std::net::TcpStream;
 
-/// What the connection of an attempt was lost for.
+/// What the connection of an attempt failed for.
 #[derive(Clone, Copy, Debug, PartialEq, Eq)]
 pub enum Loss {
     /// Nobody listens there, or the next hop refuses connections.
@@ -27,35 +26,27 @@ impl Loss {
         }
     }
 
-    /// The word of the log for it.
-    pub(crate) fn text(self) -> &'static str {
+    /// The words of the log for it.
+    pub(crate) fn text(self) -> &'static [u8] {
         match self {
-            Loss::Refused => "refused to connect",
-            Loss::Unreachable => "unreachable",
-            Loss::Silent => "silent",
-            Loss::Cut => "cut",
+            Loss::Refused => b"connection refused",
+            Loss::Unreachable => b"unreachable",
+            Loss::Silent => b"timeout",
+            Loss::Cut => b"connection closed",
         }
     }
 }
 
 /// Why an attempt has settled less than it might.
-#[derive(Debug, Drop)]
+#[derive(Drop)]
 pub struct Why {
-    /// What its connection was lost for, where it was.
+    /// What its connection failed for, if it did.
     pub loss: Option<Loss>,
-    /// The last that put something off, where there was one.
-    pub deferral: Option<Deferral>,
+    /// What was said on its connection.
+    pub talk: Talk,
 }
 
 impl Why {
-    /// A connection that was lost before anything was said on it, or none that was lost.
-    pub fn at_once(loss: Option<Loss>) -> Self {
-        Why {
-            loss,
-            deferral: None,
-        }
-    }
-
     /// What reader and writer of a connection tell, which was lost or not.
     pub fn told_by(reader: HopReader<'_>, writer: HopWriter<'_>, is_lost: bool) -> Self {
         let is_silent = reader.is_silent || writer.is_silent;
@@ -68,7 +59,7 @@ impl Why {
         };
         Why {
             loss,
-            deferral: reader.replies.into_deferral(),
+            talk: reader.talk,
         }
     }
 }
@@ -77,17 +68,16 @@ impl Why {
 #[derive(Drop)]
 pub struct HopReader<'a> {
     stream: &'a TcpStream,
-    replies: Replies,
+    talk: Talk,
     is_silent: bool,
 }
 
 impl<'a> HopReader<'a> {
-    /// A reader of this connection, of which nothing was read yet. Its replies are kept in mind where
-    /// they are to be told.
-    pub fn new(alloc: Global, stream: &'a TcpStream, tells: bool) -> Self {
+    /// A reader of this connection, of which nothing was read yet, whose replies the talk hears.
+    pub fn new(stream: &'a TcpStream, talk: Talk) -> Self {
         HopReader {
             stream,
-            replies: Replies::new(alloc, tells),
+            talk,
             is_silent: false,
         }
     }
@@ -98,7 +88,7 @@ impl Read for HopReader<'_> {
         let mut stream = self.stream;
         match stream.read(into) {
             Ok(count) => {
-                self.replies.hear(&into[..count]);
+                self.talk.hear(&into[..count]);
                 Ok(count)
             }
             Err(error) => {

@@ -4,16 +4,23 @@
 
 mod attempt_line;
 mod client_line;
+mod client_record;
 mod client_writer;
+mod counters;
+mod head;
 mod hop_link;
 mod log;
-mod replies;
 mod run_line;
+mod settling;
+mod talk;
 
 pub use attempt_line::Attempt;
-pub use client_line::{Connection, Messages};
+pub use client_line::{ClientEnd, Connection, Messages};
+pub use client_record::ClientRecord;
 pub use client_writer::ClientWriter;
+pub use counters::{Counters, Rejection, Rejections};
 pub use hop_link::{HopReader, HopWriter, Loss, Why};
 pub use log::Log;
-pub use replies::{Deferral, Replies};
 pub use run_line::DeviceFailure;
+pub use settling::settling_place;
+pub use talk::Talk;

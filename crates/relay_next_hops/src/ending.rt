@@ -5,13 +5,13 @@ ghost use Rattle.relay_next_hops.specs.Losses.{EndsLost, IsRecordedOrRefused, Lo
 ghost use Rattle.relay_next_hops.specs.Losses.{RefusesLoss, StartsAndLoses, StartsNothing};
 ghost use Rattle.relay_next_hops.specs.Paces.{RunsOneLess};
 
-use crate::errand::{Aim, Course, Errand};
+use crate::errand::{Course, Errand};
 use crate::lanes::Lanes;
 use mio::Registry;
 use relay_connections::{Channel, Leaving, Now};
 use relay_disk::FileDisk;
 use relay_files::Fault;
-use relay_log::{Attempt, Log, Loss, Why};
+use relay_log::{Attempt, Log, Loss, Talk};
 use relay_loop::{Outbox, Relay};
 use relay_node::{NodeFault, Noted};
 use relay_routes::HostName;
@@ -74,7 +74,7 @@ fn finish(
         }
         Course::Lost(loss) => lose(relay, lanes, errand, loss, now, log),
         Course::Void => {
-            tell(errand, "without an outcome", None, None, now, log);
+            tell_void(&errand, now, log);
             Ok(())
         }
     }
@@ -98,7 +98,7 @@ fn end_well(
     if errand.is_welcome {
         lanes.ended_well(lane);
     }
-    tell(errand, "ended", None, noted, now, log);
+    tell_outcome(&errand, noted, now, log);
     leaving.take(registry, channel, outbox, Some(lane), now);
     lanes.note_leaving_of(lane, leaving);
 }
@@ -122,31 +122,13 @@ pub(crate) fn lose(
     if errand.attempt.is_none() && lanes.is_held(errand.aim.lane, now) {
         return Ok(());
     }
-    let lane = errand.aim.lane;
-    let has_spoken = errand.has_spoken;
-    let recorded = record_and_note(relay, &errand, now)?;
-    tell_lost(errand, loss, recorded, now, log);
-    if !has_spoken {
-        hold(lanes, lane, log, now);
+    let talk = log.talk_of(relay.node().message(errand.message));
+    let (_, noted) = record_and_note(relay, &errand, now)?;
+    tell(&errand, Some(loss), noted, &talk, now, log);
+    if !errand.has_spoken {
+        hold(lanes, &errand, loss, log, now);
     }
     Ok(())
-}
-
-/// Tells how an errand was lost, with the note of what was recorded of that.
-fn tell_lost(
-    errand: Errand,
-    loss: Loss,
-    recorded: (bool, Option<Noted>),
-    now: &Now,
-    log: &mut Log<'_, Vec<u8>>,
-) {
-    let (is_recorded, noted) = recorded;
-    let end = if is_recorded {
-        "lost"
-    } else {
-        "without an outcome"
-    };
-    tell(errand, end, Some(loss), noted, now, log);
 }
 
 /// Records that an errand was lost to a place that is left alone.
@@ -159,9 +141,10 @@ pub(crate) fn lose_held(
     ensures lost { OnOk result (IsRecordedOrRefused now.now.moment errand relay.old relay.new) }
     ensures config { relay.new.node.config ≡ relay.old.node.config }
 {
-    let recorded = record_and_note(relay, &errand, now)?;
-    if recorded.0 {
-        tell_lost(errand, Loss::Unreachable, recorded, now, log);
+    let talk = log.talk_of(relay.node().message(errand.message));
+    let (is_recorded, noted) = record_and_note(relay, &errand, now)?;
+    if is_recorded {
+        tell(&errand, Some(Loss::Unreachable), noted, &talk, now, log);
     }
     Ok(())
 }
@@ -182,15 +165,15 @@ fn record_and_note(
     }
 }
 
-/// Leaves the place of a lane alone.
-fn hold(lanes: &mut Lanes, lane: usize, log: &mut Log<'_, Vec<u8>>, now: &Now)
+/// Leaves the place of an errand's lane alone, since its connection failed for this.
+fn hold(lanes: &mut Lanes, errand: &Errand, loss: Loss, log: &mut Log<'_, Vec<u8>>, now: &Now)
     ensures counts { KeepsCounts lanes.old lanes.new }
     ensures only { OnlyLane lane lanes.old lanes.new }
     ensures tasks { lanes.new.lanes ≡ lanes.old.lanes }
 {
-    if let Some(seconds) = lanes.hold(lane, now) {
-        if let Some(at) = lanes.place_of(lane) {
-            log.held_off(at, seconds);
+    if let Some(seconds) = lanes.hold(errand.aim.lane, now) {
+        if let Some(at) = lanes.place_of(errand.aim.lane) {
+            log.held_off(errand.name.as_slice(), at, seconds, loss);
         }
     }
 }
@@ -240,38 +223,36 @@ fn lose_attempt(relay: &mut Relay<FileDisk>, attempt: usize, now: &Now) -> Resul
     }
 }
 
-/// Tells how an attempt has ended.
-fn tell(
-    errand: Errand,
-    end: &'static str,
-    loss: Option<Loss>,
-    noted: Option<Noted>,
-    now: &Now,
-    log: &mut Log<'_, Vec<u8>>,
-) {
-    let aim = errand.aim;
-    let (message, name, deferral) = errand.into_told();
-    let why = Why { loss, deferral };
-    tell_attempt(message, name.as_slice(), aim, end, why, noted, now, log);
+/// Logs what came of an attempt, with what its next hop replied.
+fn tell_outcome(errand: &Errand, noted: Option<Noted>, now: &Now, log: &mut Log<'_, Vec<u8>>) {
+    match &errand.talk {
+        Some(talk) => tell(errand, None, noted, talk, now, log),
+        None => tell_void(errand, now, log),
+    }
 }
 
-fn tell_attempt(
-    number: u64,
-    hop: &[u8],
-    aim: Aim,
-    end: &'static str,
-    why: Why,
+/// Logs that nothing was recorded of an attempt.
+fn tell_void(errand: &Errand, now: &Now, log: &mut Log<'_, Vec<u8>>) {
+    let talk = log.talk_of(None);
+    tell(errand, None, None, &talk, now, log);
+}
+
+/// Logs what came of an attempt, whose connection failed for this if it did.
+fn tell(
+    errand: &Errand,
+    loss: Option<Loss>,
     noted: Option<Noted>,
+    talk: &Talk,
     now: &Now,
     log: &mut Log<'_, Vec<u8>>,
 ) {
-    log.attempt(&Attempt {
-        number,
-        hop: Some(hop),
-        at: Some(aim.at),
-        age: aim.age(now),
-        end,
-        why,
+    let attempt = Attempt {
+        number: errand.message,
+        hop: Some(errand.name.as_slice()),
+        at: Some(errand.aim.at),
+        age: errand.aim.age(now),
+        loss,
         noted,
-    });
+    };
+    log.attempt(&attempt, talk);
 }

@@ -3,7 +3,7 @@ ghost use Rattle.std.specs.Prelude.{◌≡◌};
 
 use crate::lane::Task;
 use relay_connections::Now;
-use relay_log::{Deferral, Loss};
+use relay_log::{Loss, Talk};
 use relay_loop::Outbox;
 use relay_node::Noted;
 use relay_routes::HostName;
@@ -44,8 +44,8 @@ pub(crate) struct Errand {
     pub(crate) has_spoken: bool,
     /// The next hop has greeted by 2yz.
     pub(crate) is_welcome: bool,
-    /// The last that the next hop put off.
-    pub(crate) deferral: Option<Deferral>,
+    /// What the next hop has replied, for the log, where a connection to it was begun.
+    pub(crate) talk: Option<Talk>,
 }
 
 // Written out, so that what drops it calls this, and doesn't look into its parts.
@@ -58,7 +58,7 @@ impl Drop for Errand {
             attempt: _,
             has_spoken: _,
             is_welcome: _,
-            deferral: _deferral,
+            talk: _talk,
         } = self;
     }
 }
@@ -68,14 +68,6 @@ impl Errand {
     pub(crate) fn into_task(self) -> Task
         ensures { (result.message ≡ self.message) × (result.hop ≡ self.name) }
     {
-        let (message, hop, _deferral) = self.into_told();
-        Task { message, hop }
-    }
-
-    /// What is told of it: the message, the next hop, and what that put off last.
-    pub(crate) fn into_told(self) -> (u64, HostName, Option<Deferral>)
-        ensures { (result.0 ≡ self.message) × (result.1 ≡ self.name) }
-    {
         let Errand {
             aim: _,
             message,
@@ -83,9 +75,9 @@ impl Errand {
             attempt: _,
             has_spoken: _,
             is_welcome: _,
-            deferral,
+            talk: _talk,
         } = self;
-        (message, name, deferral)
+        Task { message, hop: name }
     }
 }
 

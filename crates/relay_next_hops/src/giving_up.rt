@@ -7,7 +7,7 @@ use crate::lanes::Lanes;
 use relay_connections::Now;
 use relay_disk::FileDisk;
 use relay_files::Fault;
-use relay_log::{Attempt, Log, Why};
+use relay_log::{Attempt, Log, Talk};
 use relay_loop::Relay;
 use relay_node::{NodeFault, Noted};
 
@@ -45,10 +45,11 @@ fn give_up(
     ensures counts { KeepsCounts lanes.old lanes.new }
     ensures config { relay.new.node.config ≡ relay.old.node.config }
 {
+    let talk = log.talk_of(relay.node().message(message));
     match relay.give_up_unroutable(message, now.moment) {
         Ok(_) => {
             let noted = relay.take_noted();
-            tell_given_up(message, noted, log);
+            tell_given_up(message, &talk, noted, log);
             Ok(true)
         }
         Err(NodeFault::Stopped) => Err(Fault::Device),
@@ -63,14 +64,14 @@ fn give_up(
 }
 
 /// Tells that a message was given up that has no hop.
-fn tell_given_up(message: u64, noted: Option<Noted>, log: &mut Log<'_, Vec<u8>>) {
-    log.attempt(&Attempt {
+fn tell_given_up(message: u64, talk: &Talk, noted: Option<Noted>, log: &mut Log<'_, Vec<u8>>) {
+    let attempt = Attempt {
         number: message,
         hop: None,
         at: None,
         age: None,
-        end: "noroute",
-        why: Why::at_once(None),
+        loss: None,
         noted,
-    });
+    };
+    log.attempt(&attempt, talk);
 }

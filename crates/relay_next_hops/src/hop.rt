@@ -10,7 +10,7 @@ use crate::phase::Phase;
 use relay_connections::{Channel, End, Now};
 use relay_disk::FileDisk;
 use relay_files::Fault;
-use relay_log::{Loss, Replies};
+use relay_log::{Loss, Talk};
 use relay_loop::Relay;
 use relay_node::NodeFault;
 use relay_routes::HostName;
@@ -35,8 +35,8 @@ pub(crate) struct Hop {
     greeting: Option<u8>,
     /// Octets were read that its attempt hasn't heard yet, and may hear.
     pub(crate) hears: bool,
-    /// What it puts off, for the log.
-    pub(crate) replies: Replies,
+    /// What it replies, for the log.
+    pub(crate) talk: Talk,
     /// What it is waited for.
     pub(crate) phase: Phase,
     /// The tick at which it is lost, unless an octet is read or written before.
@@ -57,7 +57,7 @@ impl Drop for Hop {
             has_spoken: _,
             greeting: _,
             hears: _,
-            replies: _replies,
+            talk: _talk,
             phase: _,
             idle_deadline: _,
             answer_deadline: _,
@@ -66,7 +66,7 @@ impl Drop for Hop {
 }
 
 impl Hop {
-    /// A connection that is being made for a message. Where it `tells`, what puts the message off is kept in mind.
+    /// A connection that is being made for a message. Where it `tells`, the next hop's replies are kept in mind.
     pub(crate) fn new(
         alloc: Global,
         channel: Channel,
@@ -89,7 +89,7 @@ impl Hop {
             has_spoken: false,
             greeting: None,
             hears: false,
-            replies: Replies::new(alloc, tells),
+            talk: Talk::new(alloc, tells),
             phase: Phase::Connecting,
             idle_deadline: now.behind(Phase::Connecting.seconds(false)),
             answer_deadline: now.behind(ANSWER_SECONDS),
@@ -111,7 +111,7 @@ impl Hop {
             has_spoken,
             greeting,
             hears: _,
-            replies,
+            talk,
             phase: _,
             idle_deadline: _,
             answer_deadline: _,
@@ -123,7 +123,7 @@ impl Hop {
             attempt,
             has_spoken,
             is_welcome: greeting == Some(b'2'),
-            deferral: replies.into_deferral(),
+            talk: Some(talk),
         };
         (channel, errand)
     }
@@ -273,7 +273,8 @@ impl Hop {
             Ok(started) => {
                 self.attempt = Some(started.attempt);
                 self.wait_on(relay, started.attempt, now);
-                self.replies.hear(self.channel.piece());
+                self.talk.note_message(relay.node().message(self.message));
+                self.talk.hear(self.channel.piece());
                 self.hears = true;
                 Ok(Course::Stays)
             }
@@ -297,7 +298,7 @@ impl Hop {
         if self.channel.fill() {
             self.has_spoken = true;
             self.wait_on(relay, attempt, now);
-            self.replies.hear(self.channel.piece());
+            self.talk.hear(self.channel.piece());
         }
         if !self.channel.piece().is_empty() {
             self.hears = true;

@@ -392,6 +392,6 @@ pub(crate) fn errand_of(task: Task, aim: Aim) -> Errand
         attempt: None,
         has_spoken: false,
         is_welcome: false,
-        deferral: None,
+        talk: None,
     }
 }

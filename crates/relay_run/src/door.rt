@@ -138,6 +138,7 @@ impl Door {
                 Found::Client(stream, peer) => {
                     if clients.has_room(*peer.ip()) {
                         clients.open(registry, relay, stream, peer, now)?;
+                        log.connected();
                     } else {
                         self.refusals.note(peer, now, log);
                         turn_away(self.alloc, registry, relay, leaving, stream, now);

@@ -7,7 +7,7 @@ use mio::Registry;
 use relay_disk::FileDisk;
 use relay_files::{Fault, configuration_text, locked_node};
 use relay_limits::Limits;
-use relay_log::Log;
+use relay_log::{Counters, Log};
 use relay_loop::Relay;
 use relay_routes::{Config, ConfigFault};
 use relay_trace::clock_moment;
@@ -87,7 +87,9 @@ pub(crate) fn open_door<R: Clock + Net, E: Write>(
             Ok(door) => return Ok(door),
             Err(error) if error.kind() == ErrorKind::AddrNotAvailable => {
                 if second == 0 {
-                    let mut log = Log::stamped(alloc, errors, !quiet, clock_moment(rt));
+                    let mut counters = Counters::new();
+                    let now = clock_moment(rt);
+                    let mut log = Log::stamped(alloc, errors, !quiet, now, &mut counters);
                     log.awaits_address(at, ADDRESS_SECONDS);
                 }
                 rt.sleep(Duration::from_secs(1));

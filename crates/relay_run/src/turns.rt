@@ -7,7 +7,7 @@ use crate::shell::Shell;
 use mio::{Events, Poll};
 use relay_connections::Now;
 use relay_files::Fault;
-use relay_log::Log;
+use relay_log::{Counters, Log};
 use std::alloc::Global;
 use std::io::Write;
 use std::net::Net;
@@ -30,10 +30,20 @@ pub(crate) fn serve<R: Clock + Net, E: Write>(
     let mut events = events;
     let mut shell = shell;
     let mut lines = Vec::new(alloc);
+    let mut counters = Counters::new();
     for _ in 0..u64::MAX {
         wait(rt, &mut poll, &mut events, &mut shell);
-        let end = take_turn(alloc, rt, &poll, &mut shell, quiet, &mut lines, errors);
-        shell = behind_turn(alloc, rt, shell, end, quiet, errors)?;
+        let end = take_turn(
+            alloc,
+            rt,
+            &poll,
+            &mut shell,
+            quiet,
+            &mut counters,
+            &mut lines,
+            errors,
+        );
+        shell = behind_turn(alloc, rt, shell, end, quiet, &mut counters, errors)?;
     }
     // So many turns are never done.
     Err(Fault::Socket)
@@ -55,6 +65,7 @@ fn behind_turn<R: Clock, E: Write>(
     shell: Shell,
     end: Result<(), Fault>,
     quiet: bool,
+    counters: &mut Counters,
     errors: &mut E,
 ) -> Result<Shell, Fault> {
     let why = match end {
@@ -67,6 +78,7 @@ fn behind_turn<R: Clock, E: Write>(
         alloc,
         clock: rt,
         quiet,
+        counters,
         errors,
     };
     shell.reopened(&mut reporter, why)
@@ -80,15 +92,16 @@ fn take_turn<R: Clock + Net, E: Write>(
     poll: &Poll,
     shell: &mut Shell,
     quiet: bool,
+    counters: &mut Counters,
     lines: &mut Vec<u8>,
     errors: &mut E,
 ) -> Result<(), Fault> {
     let now = Now::of(rt);
-    let end = serve_all(alloc, rt, poll, shell, &now, quiet, lines);
+    let end = serve_all(alloc, rt, poll, shell, &now, quiet, counters, lines);
     hand_out(lines, errors);
     end?;
     shell.note_known();
-    let end = tidy(alloc, shell, &now, quiet, lines);
+    let end = tidy(alloc, shell, &now, quiet, counters, lines);
     hand_out(lines, errors);
     end?;
     shell.note_known();
@@ -103,9 +116,10 @@ fn serve_all<R: Clock + Net>(
     shell: &mut Shell,
     now: &Now,
     quiet: bool,
+    counters: &mut Counters,
     lines: &mut Vec<u8>,
 ) -> Result<(), Fault> {
-    let mut log = Log::stamped(alloc, lines, !quiet, now.moment);
+    let mut log = Log::stamped(alloc, lines, !quiet, now.moment, counters);
     shell.turn(rt, poll.registry(), now, &mut log)
 }
 
@@ -115,9 +129,10 @@ fn tidy(
     shell: &mut Shell,
     now: &Now,
     quiet: bool,
+    counters: &mut Counters,
     lines: &mut Vec<u8>,
 ) -> Result<(), Fault> {
-    let mut log = Log::stamped(alloc, lines, !quiet, now.moment);
+    let mut log = Log::stamped(alloc, lines, !quiet, now.moment, counters);
     shell.tidy(now, &mut log)
 }
 

@@ -14,14 +14,14 @@ use crate::hops::Unreached;
 use relay_disk::FileDisk;
 use relay_files::{Fault, configuration, gathering, locked_node};
 use relay_links::{LinkFault, Pushed, lose_link, push_link};
-use relay_log::{Attempt, HopReader, HopWriter, Log, Loss, Why};
-use relay_node::{Node, NodeFault, Work};
+use relay_log::{Attempt, Counters, HopReader, HopWriter, Log, Loss, Talk, Why};
+use relay_node::{Node, NodeFault, Noted, Work};
 use relay_routes::HostName;
 use relay_trace::{Moment, clock_moment};
 use std::alloc::Global;
 use std::fs::File;
 use std::io::{self, Write};
-use std::net::{Net, TcpStream};
+use std::net::{Net, SocketAddrV4, TcpStream};
 use std::rt::{Clock, Files};
 
 /// Does each work that is due at the clock's moment once, in order: an attempt for each message and hop, and an
@@ -42,7 +42,8 @@ pub fn push<R: Files<File = File> + Clock + Net<Stream = TcpStream>, W: Write, E
     let config = configuration(alloc, rt, path)?;
     let mut node = locked_node(alloc, rt, config)?;
     let mut lines = gathering(alloc, writer)?;
-    let mut log = Log::new(alloc, errors, logs);
+    let mut counters = Counters::new();
+    let mut log = Log::new(alloc, errors, logs, &mut counters);
     push_due(alloc, rt, &mut node, &mut lines, &mut log)
 }
 
@@ -118,17 +119,18 @@ fn give_up<W: Write, E: Write>(
     ensures { (changes : List Change) → Keeps ⊥ file_words node.old.records changes
         → WorksTo ⊥ file_words now (work.NoRoute number) changes node.old node.new result }
 {
+    let talk = log.talk_of(node.message(number));
     match node.give_up_unroutable(number, now) {
         Ok(_) => {
-            log.attempt(&Attempt {
+            let attempt = Attempt {
                 number,
                 hop: None,
                 at: None,
                 age: None,
-                end: "noroute",
-                why: Why::at_once(None),
+                loss: None,
                 noted: node.take_noted(),
-            });
+            };
+            log.attempt(&attempt, &talk);
             said(writeln!(writer, "{number} noroute").and_then(|()| writer.flush()))
         }
         Err(fault) => left_over(fault),
@@ -156,15 +158,16 @@ fn try_hop<R: Clock + Net<Stream = TcpStream>, W: Write, E: Write>(
         Some(at) => unreached.connect(rt, at)?,
         None => Err(Loss::Unreachable),
     };
+    let talk = log.talk_of(node.message(number));
     let attempt = match node.start(number, hop, now) {
         Ok(started) => started.attempt,
         Err(fault) => return left_over(fault),
     };
-    let handed = hand_on(alloc, rt, node, attempt, &stream, log.speaks());
+    let handed = hand_on(alloc, rt, node, attempt, &stream, talk);
     if let Some(at) = at {
         unreached.note_silence(at, &handed.why);
     }
-    conclude(node, number, hop.as_slice(), handed, writer, log)
+    conclude(node, number, hop.as_slice(), at, handed, writer, log)
 }
 
 /// What has come of an attempt, and why it has settled less than it might.
@@ -181,7 +184,7 @@ fn hand_on<C: Clock>(
     node: &mut Node<FileDisk>,
     attempt: usize,
     stream: &Result<TcpStream, Loss>,
-    tells: bool,
+    talk: Talk,
 ) -> Handed
     ensures pushed { (changes : List Change) (told : Told) → Keeps ⊥ file_words node.old.records changes
         → Tells node.old.config.host changes node.old.attempts attempt told
@@ -193,7 +196,7 @@ fn hand_on<C: Clock>(
     match stream {
         Ok(stream) => {
             let now = clock_moment(clock);
-            let mut reader = HopReader::new(alloc, stream, tells);
+            let mut reader = HopReader::new(stream, talk);
             let mut writer = HopWriter::new(stream);
             let pushed = push_link(alloc, node, attempt, &mut reader, &mut writer, now);
             let why = Why::told_by(reader, writer, is_lost(&pushed));
@@ -201,7 +204,10 @@ fn hand_on<C: Clock>(
         }
         Err(loss) => {
             let pushed = lose_link(node, attempt, clock_moment(clock));
-            let why = Why::at_once(Some(*loss));
+            let why = Why {
+                loss: Some(*loss),
+                talk,
+            };
             Handed { pushed, why }
         }
     }
@@ -217,6 +223,7 @@ fn conclude<W: Write, E: Write>(
     node: &mut Node<FileDisk>,
     number: u64,
     hop: &[u8],
+    at: Option<SocketAddrV4>,
     handed: Handed,
     writer: &mut W,
     log: &mut Log<'_, E>,
@@ -227,31 +234,36 @@ fn conclude<W: Write, E: Write>(
     match handed.pushed {
         Ok(pushed) => {
             let end = end_text(pushed);
-            log.attempt(&Attempt {
-                number,
-                hop: Some(hop),
-                at: None,
-                age: None,
-                end,
-                why: handed.why,
-                noted: node.take_noted(),
-            });
+            let noted = node.take_noted();
+            tell(number, hop, at, &handed.why, noted, log);
             said(write_end(writer, number, hop, end))
         }
         Err(fault) => {
             unless_device(fault)?;
-            log.attempt(&Attempt {
-                number,
-                hop: Some(hop),
-                at: None,
-                age: None,
-                end: "without an outcome",
-                why: handed.why,
-                noted: None,
-            });
+            tell(number, hop, at, &handed.why, None, log);
             Ok(())
         }
     }
+}
+
+/// Logs what came of an attempt.
+fn tell<E: Write>(
+    number: u64,
+    hop: &[u8],
+    at: Option<SocketAddrV4>,
+    why: &Why,
+    noted: Option<Noted>,
+    log: &mut Log<'_, E>,
+) {
+    let attempt = Attempt {
+        number,
+        hop: Some(hop),
+        at,
+        age: None,
+        loss: why.loss,
+        noted,
+    };
+    log.attempt(&attempt, &why.talk);
 }
 
 /// How an attempt has ended, as its line says it.

@@ -15,10 +15,10 @@ pub returns-else-is_holding-clause-next : goal.returns-else-is_holding-clause-ne
 returns-else-is_holding-clause-next g c = λ changes setting works has.
     let client = c.args.client.now in
     let session = subst (λ next. HasNext g.S.Stream.remaining g.S.Stream.contents changes setting c.args.relay.now c.args.number (address_of client) client.channel next) c.in-Stays.is has in
-    cut_late g.S.Stream.remaining g.S.Stream.contents changes setting c.args.relay.now c.cut_off-else-is_holding.new.relay c.args.number (address_of client) client.channel works session
-    c.cut_off-else-is_holding.ensures.freed c.cut_off-else-is_holding.result c.cut_off-else-is_holding.ensures.next
+    cut_late g.S.Stream.remaining g.S.Stream.contents changes setting c.args.relay.now c.cut_off.new.relay c.args.number (address_of client) client.channel works session
+    c.cut_off.ensures.freed c.cut_off.result c.cut_off.ensures.next
 
 pub returns-else-is_holding-clause-told : goal.returns-else-is_holding-clause-told
 returns-else-is_holding-clause-told g c =
-    told_late c.args.relay.now c.args.number c.args.client.now.channel c.args.next c.cut_off-else-is_holding.result
-    (nothing_held c.args.client.now.channel.held c.is_holding.result c.is_holding.ensures c.if-is_holding.false) c.in-Stays.is c.cut_off-else-is_holding.ensures.next
+    told_late c.args.relay.now c.args.number c.args.client.now.channel c.args.next c.cut_off.result
+    (nothing_held c.args.client.now.channel.held c.is_holding.result c.is_holding.ensures c.if-is_holding.false) c.in-Stays.is c.cut_off.ensures.next
