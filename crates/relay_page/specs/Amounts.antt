@@ -1,0 +1,30 @@
+-- Spans of time and sizes as people read them.
+use Rattle.std.specs.Prelude.{ℕ, ◌*◌, ◌/◌, ◌%◌, ◌^◌, nat_lt, List, ◌++◌, codes, decimal, if◌then◌else◌}
+
+-- profile: a span in its largest unit, in whole ones: seconds below a minute, minutes below an hour, hours below two
+-- days, and days from then on
+abbrev pub span_in_unit : ℕ → ℕ × List ℕ
+span_in_unit seconds =
+    if nat_lt seconds 60 then (seconds, codes " s")
+    else if nat_lt seconds 3600 then (seconds / 60, codes " min")
+    else if nat_lt seconds 172800 then (seconds / 3600, codes " h")
+    else (seconds / 86400, codes " d")
+
+unfoldable pub span_text : ℕ → List ℕ
+span_text seconds = decimal (span_in_unit seconds).0 ++ (span_in_unit seconds).1
+
+-- what happens in so many seconds
+unfoldable pub wait_text : ℕ → List ℕ
+wait_text seconds = if nat_lt 0 seconds then codes "in " ++ span_text seconds else codes "now"
+
+-- so many octets in a unit, with one decimal, which isn't rounded up
+abbrev pub in_unit : ℕ → ℕ → List ℕ → List ℕ
+in_unit octets unit name = decimal (octets / unit) ++ codes "." ++ decimal (octets % unit * 10 / unit) ++ name
+
+-- profile: a size in octets below 1,024, and else in its largest unit of 1,024 of the one before
+unfoldable pub size_text : ℕ → List ℕ
+size_text octets =
+    if nat_lt octets (2 ^ 10) then decimal octets ++ codes " B"
+    else if nat_lt octets (2 ^ 20) then in_unit octets (2 ^ 10) (codes " KiB")
+    else if nat_lt octets (2 ^ 30) then in_unit octets (2 ^ 20) (codes " MiB")
+    else in_unit octets (2 ^ 30) (codes " GiB")

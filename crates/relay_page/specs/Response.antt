@@ -1,0 +1,36 @@
+-- A response (RFC 9112, section 4): its status line, its fields and its body.
+use Rattle.std.specs.Prelude.{ℕ, Bool, List, [], ◌∷◌, ◌++◌, codes, decimal, length, if◌then◌else◌}
+use Rattle.relay_page.specs.Pieces.{joined}
+use Rattle.relay_page.specs.declared.response.Kind.{Kind}
+use Rattle.relay_page.specs.declared.response.Kind.TheVariants.{Html, Metrics, JsonLines, Plain}
+use Rattle.relay_page.specs.declared.response.Code.{Code}
+use Rattle.relay_page.specs.declared.response.Code.TheVariants.{Found, BadRequest, Forbidden, NotFound, BadMethod, TooLarge, Unavailable}
+use Rattle.relay_page.specs.declared.response.TheConstants.{FIELDS}
+
+-- the status code and its phrase (RFC 9110, section 15; RFC 6585, section 5)
+abbrev pub code_text : Code → List ℕ
+code_text Found = codes "200 OK"
+code_text BadRequest = codes "400 Bad Request"
+code_text Forbidden = codes "403 Forbidden"
+code_text NotFound = codes "404 Not Found"
+code_text BadMethod = codes "405 Method Not Allowed"
+code_text TooLarge = codes "431 Request Header Fields Too Large"
+code_text Unavailable = codes "503 Service Unavailable"
+
+-- the media type of the body
+abbrev pub kind_text : Kind → List ℕ
+kind_text Html = codes "text/html; charset=utf-8"
+kind_text Metrics = codes "text/plain; version=0.0.4; charset=utf-8"
+kind_text JsonLines = codes "application/x-ndjson"
+kind_text Plain = codes "text/plain; charset=utf-8"
+
+-- a response's head: what it is of, how long its body is, and the fields that each has
+abbrev pub head_text : Code → Kind → ℕ → List ℕ
+head_text code kind size = joined (
+    codes "HTTP/1.1 " ∷ code_text code ∷ codes "\r\nContent-Type: " ∷ kind_text kind
+    ∷ codes "\r\nContent-Length: " ∷ decimal size ∷ FIELDS.now ∷ [])
+
+-- its body follows, unless its head alone was asked for
+abbrev pub response_text : Code → Kind → Bool → List ℕ → List ℕ
+response_text code kind has_body body =
+    head_text code kind (length body) ++ (if has_body then body else [])

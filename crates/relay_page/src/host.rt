@@ -1,0 +1,38 @@
+//! The name by which a page is asked for (RFC 9110, section 7.2).
+ghost use Rattle.std.specs.Prelude.{◌≡◌};
+ghost use Rattle.relay_page.specs.Host.{is_host, is_loopback, is_port};
+ghost use Rattle.std.specs.List.{list_all};
+ghost use Rattle.std.specs.Char.{is_ascii_digit};
+
+use relay_lines::word::is_word;
+
+/// Whether a Host field names this machine alone: `localhost`, `127.0.0.1` or `[::1]`, with a port or without one.
+pub(crate) fn is_loopback(host: &[u8]) -> bool
+    ensures { result ≡ is_loopback host.now }
+{
+    is_host(b"localhost", host) || is_host(b"127.0.0.1", host) || is_host(b"[::1]", host)
+}
+
+/// Whether a text is this name, in any letter case, with a port or without one.
+fn is_host(name: &[u8], text: &[u8]) -> bool
+    ensures { result ≡ is_host name.now text.now }
+{
+    let end = name.len().min(text.len());
+    is_word(&text[..end], name) && is_port(&text[end..])
+}
+
+/// Whether a text is nothing, or a colon and digits.
+fn is_port(text: &[u8]) -> bool
+    ensures { result ≡ is_port text.now }
+{
+    match text {
+        [] => true,
+        [first, digits @ ..] => *first == b':' && are_digits(digits),
+    }
+}
+
+fn are_digits(text: &[u8]) -> bool
+    ensures { result ≡ list_all is_ascii_digit text.now }
+{
+    text.iter().all(|octet| octet.is_ascii_digit())
+}

@@ -1,0 +1,199 @@
+//! The page for people.
+use crate::history::{History, MINUTES};
+use crate::pieces::{Piece, push_pieces};
+use crate::plot::push_plot;
+use crate::rows::{Waiting, push_all_waiting, push_hop};
+use crate::style::{BEGINNING, STYLE};
+use crate::survey::Loads;
+use relay_trace::{Moment, TraceFault, date_text};
+use std::alloc::{AllocError, Global};
+
+/// The most next hops of the page.
+const MOST_HOPS: usize = 100;
+
+/// What was done since the relay began.
+#[derive(Clone, Copy, Debug)]
+pub struct Totals {
+    /// Messages that were accepted.
+    pub accepted: u64,
+    /// Replies to clients that refused something.
+    pub rejected: u64,
+    /// Recipients that a next hop has taken.
+    pub sent: u64,
+    /// Recipients that an attempt left in the queue.
+    pub deferred: u64,
+    /// Recipients that failed, or whose message was too old.
+    pub failed: u64,
+}
+
+/// What the page shows.
+#[derive(Drop)]
+pub struct View<'a> {
+    /// The relay's name.
+    pub host: &'a [u8],
+    pub now: Moment,
+    /// When the relay began.
+    pub since: Moment,
+    pub totals: Totals,
+    /// The octets of the spool, and how many it may have.
+    pub spool_size: u64,
+    pub spool_limit: u64,
+    /// What is queued by next hop.
+    pub loads: &'a Loads,
+    /// How many recipients are queued.
+    pub recipients: u64,
+    /// The oldest of them.
+    pub oldest: &'a [Waiting<'a>],
+    pub history: &'a History,
+}
+
+/// The text of the page. It fails where memory runs out.
+pub fn page_text(alloc: Global, view: &View<'_>) -> Result<Vec<u8>, AllocError> {
+    let mut text = Vec::new(alloc);
+    push_pieces(
+        &mut text,
+        &[
+            Piece::Markup(BEGINNING),
+            Piece::Text(view.host),
+            Piece::Markup(STYLE),
+            Piece::Text(view.host),
+            Piece::Markup(b"</h1>\n"),
+        ],
+    )?;
+    push_moment(alloc, &mut text, view)?;
+    push_totals(&mut text, view)?;
+    push_queue(&mut text, view)?;
+    push_oldest(&mut text, view)?;
+    push_day(&mut text, view.history)?;
+    push_pieces(
+        &mut text,
+        &[Piece::Markup(
+            b"<p><a href=\"/queue.json\">queue.json</a> &middot; <a href=\"/metrics\">metrics</a></p>\n\
+</main>\n</body>\n</html>\n",
+        )],
+    )?;
+    Ok(text)
+}
+
+/// Adds when the page was made, and for how long the relay has been up.
+fn push_moment(alloc: Global, text: &mut Vec<u8>, view: &View<'_>) -> Result<(), AllocError> {
+    let date = match date_text(alloc, view.now) {
+        Ok(date) => date,
+        Err(TraceFault::NoMemory | TraceFault::OutOfRange) => return Err(AllocError),
+    };
+    push_pieces(
+        text,
+        &[
+            Piece::Markup(b"<p>"),
+            Piece::Text(date.as_slice()),
+            Piece::Markup(b" &middot; up for "),
+            Piece::Span(view.now.seconds().saturating_sub(view.since.seconds())),
+            Piece::Markup(b"</p>\n"),
+        ],
+    )
+}
+
+/// Adds the numbers of the relay.
+fn push_totals(text: &mut Vec<u8>, view: &View<'_>) -> Result<(), AllocError> {
+    push_pieces(text, &[Piece::Markup(b"<section>\n<dl>\n")])?;
+    push_number(text, b"Queued recipients", view.recipients)?;
+    push_number(text, b"Accepted messages", view.totals.accepted)?;
+    push_number(text, b"Sent recipients", view.totals.sent)?;
+    push_number(text, b"Deferred", view.totals.deferred)?;
+    push_number(text, b"Failed", view.totals.failed)?;
+    push_number(text, b"Refused to clients", view.totals.rejected)?;
+    push_pieces(
+        text,
+        &[
+            Piece::Markup(b"<div><dt>Spool of "),
+            Piece::Size(view.spool_limit),
+            Piece::Markup(b"</dt><dd>"),
+            Piece::Size(view.spool_size),
+            Piece::Markup(b"</dd></div>\n</dl>\n</section>\n"),
+        ],
+    )
+}
+
+fn push_number(text: &mut Vec<u8>, name: &'static [u8], number: u64) -> Result<(), AllocError> {
+    push_pieces(
+        text,
+        &[
+            Piece::Markup(b"<div><dt>"),
+            Piece::Markup(name),
+            Piece::Markup(b"</dt><dd>"),
+            Piece::Number(number),
+            Piece::Markup(b"</dd></div>\n"),
+        ],
+    )
+}
+
+/// Adds what is queued by next hop.
+fn push_queue(text: &mut Vec<u8>, view: &View<'_>) -> Result<(), AllocError> {
+    push_pieces(
+        text,
+        &[Piece::Markup(b"<section>\n<h2>Queue by next hop</h2>\n")],
+    )?;
+    if view.loads.is_empty() {
+        return push_pieces(
+            text,
+            &[Piece::Markup(b"<p>Nothing is queued.</p>\n</section>\n")],
+        );
+    }
+    push_pieces(
+        text,
+        &[Piece::Markup(
+            b"<table>\n<thead><tr><th>Next hop</th><th>Messages</th><th>Recipients</th><th>Size</th><th>Oldest</th>\
+<th>Next try</th></tr></thead>\n<tbody>\n",
+        )],
+    )?;
+    for index in 0..view.loads.len().min(MOST_HOPS) {
+        if let Some((name, load)) = view.loads.get_index(index) {
+            push_hop(text, name.as_slice(), load, view.now.seconds())?;
+        }
+    }
+    push_pieces(text, &[Piece::Markup(b"</tbody>\n</table>\n")])?;
+    if view.loads.len() > MOST_HOPS {
+        push_pieces(
+            text,
+            &[Piece::Markup(b"<p>More next hops stand in the metrics.</p>\n")],
+        )?;
+    }
+    push_pieces(text, &[Piece::Markup(b"</section>\n")])
+}
+
+/// Adds the recipients that have waited the longest.
+fn push_oldest(text: &mut Vec<u8>, view: &View<'_>) -> Result<(), AllocError> {
+    if view.oldest.is_empty() {
+        return Ok(());
+    }
+    push_pieces(
+        text,
+        &[Piece::Markup(
+            b"<section>\n<h2>Waiting longest</h2>\n<table>\n<thead><tr><th>Message</th><th class=\"l\">From</th>\
+<th class=\"l\">To</th><th>Age</th><th>Tries</th><th>Next try</th></tr></thead>\n<tbody>\n",
+        )],
+    )?;
+    push_all_waiting(text, view.oldest, view.now.seconds())?;
+    push_pieces(text, &[Piece::Markup(b"</tbody>\n</table>\n</section>\n")])
+}
+
+/// Adds what was done in the last 24 hours.
+fn push_day(text: &mut Vec<u8>, history: &History) -> Result<(), AllocError> {
+    let day = history.sum(0, MINUTES as u64);
+    push_pieces(
+        text,
+        &[
+            Piece::Markup(
+                b"<section>\n<h2>Last 24 hours</h2>\n<p><span class=\"key\" style=\"--c:var(--came)\">",
+            ),
+            Piece::Number(day.accepted),
+            Piece::Markup(
+                b" messages accepted</span> <span class=\"key\" style=\"--c:var(--went)\">",
+            ),
+            Piece::Number(day.sent),
+            Piece::Markup(b" recipients sent</span></p>\n"),
+        ],
+    )?;
+    push_plot(text, history)?;
+    push_pieces(text, &[Piece::Markup(b"</section>\n")])
+}

@@ -1,0 +1,83 @@
+//! The pieces of a page, and what they come to as text.
+ghost use Rattle.std.specs.Prelude.{◌≡◌, ◌++◌, OnOk, decimal};
+ghost use Rattle.relay_page.specs.Pieces.{all_spelled, escaped, escaped_octet, is_plain, spelled};
+
+use crate::amounts::{push_size, push_span, push_wait};
+use itoa::Buffer;
+use relay_lines::word::is_printable;
+use std::alloc::AllocError;
+
+/// A piece of a page.
+#[derive(Clone, Copy, Debug)]
+pub(crate) enum Piece<'a> {
+    /// Markup of the relay's own, as it is.
+    Markup(&'static [u8]),
+    /// Octets of others, of which none is taken for markup.
+    Text(&'a [u8]),
+    /// A number in decimal.
+    Number(u64),
+    /// A size in octets, in its largest unit.
+    Size(u64),
+    /// A span of so many seconds, in its largest unit.
+    Span(u64),
+    /// What happens in so many seconds, of which none are now.
+    Wait(u64),
+}
+
+/// Adds the pieces of a page to its text.
+pub(crate) fn push_pieces(text: &mut Vec<u8>, pieces: &[Piece<'_>]) -> Result<(), AllocError>
+    ensures { OnOk result (text.new.items ≡ text.old.items ++ all_spelled pieces.now) }
+{
+    for piece in pieces {
+        push_piece(text, piece)?;
+    }
+    Ok(())
+}
+
+fn push_piece(text: &mut Vec<u8>, piece: &Piece<'_>) -> Result<(), AllocError>
+    ensures { OnOk result (text.new.items ≡ text.old.items ++ spelled piece.now) }
+{
+    match piece {
+        Piece::Markup(markup) => text.extend_from_slice(markup),
+        Piece::Text(octets) => push_escaped(text, octets),
+        Piece::Number(number) => push_number(text, *number),
+        Piece::Size(octets) => push_size(text, *octets),
+        Piece::Span(seconds) => push_span(text, *seconds),
+        Piece::Wait(seconds) => push_wait(text, *seconds),
+    }
+}
+
+/// Adds octets, of which each that has a meaning in HTML, or isn't printable ASCII, becomes a character reference.
+fn push_escaped(text: &mut Vec<u8>, octets: &[u8]) -> Result<(), AllocError>
+    ensures { OnOk result (text.new.items ≡ text.old.items ++ escaped octets.now) }
+{
+    for octet in octets {
+        push_octet(text, *octet)?;
+    }
+    Ok(())
+}
+
+fn push_octet(text: &mut Vec<u8>, octet: u8) -> Result<(), AllocError>
+    ensures { OnOk result (text.new.items ≡ text.old.items ++ escaped_octet octet) }
+{
+    if is_plain(octet) {
+        text.push(octet)?;
+        return Ok(());
+    }
+    text.extend_from_slice(b"&#")?;
+    push_number(text, u64::from(octet))?;
+    text.push(b';')?;
+    Ok(())
+}
+
+fn is_plain(octet: u8) -> bool
+    ensures { result ≡ is_plain octet }
+{
+    is_printable(octet) && !matches!(octet, b'<' | b'>' | b'&' | b'"' | b'\'')
+}
+
+pub(crate) fn push_number(text: &mut Vec<u8>, number: u64) -> Result<(), AllocError>
+    ensures { OnOk result (text.new.items ≡ text.old.items ++ decimal number) }
+{
+    text.extend_from_slice(Buffer::new().format(number).as_bytes())
+}

@@ -1,0 +1,133 @@
+//! What a request asks for (RFC 9112).
+ghost use Rattle.std.specs.Prelude.{◌≡◌, ◌≤◌, All, map, length, take};
+ghost use Rattle.std.specs.Option.{option_copied};
+ghost use Rattle.httparse.specs.Spans.{IsHeaderWithin, header_bytes};
+ghost use Rattle.relay_page.specs.Request.{IsJudged, asked_at, asked_by, asked_for, hosts_among, is_host_field, only};
+ghost use Rattle.relay_page.specs.Request.{target_of};
+
+use crate::host::is_loopback;
+use httparse::spans::{EMPTY_HEADER_SPAN, HeaderSpan, parse_request};
+use httparse::{Error, Status};
+use relay_lines::word::is_word;
+
+/// The most octets of a request's head.
+pub const MOST_OCTETS: usize = 4_096;
+
+/// The most fields of a request.
+const MOST_FIELDS: usize = 32;
+
+/// What can be asked for.
+#[derive(Clone, Copy, Debug, Drop, PartialEq, Eq)]
+pub enum Target {
+    /// The page for people, at `/`.
+    Page,
+    /// The metrics, at `/metrics`.
+    Metrics,
+    /// What is queued, at `/queue.json`.
+    Queue,
+}
+
+/// What a request asks for.
+#[derive(Clone, Copy, Debug, Drop, PartialEq, Eq)]
+pub struct Asked {
+    pub target: Target,
+    /// By GET; by HEAD only the response's head is asked for.
+    pub has_body: bool,
+}
+
+/// Why a request is refused (RFC 9110, section 15.5).
+#[derive(Clone, Copy, Debug, Drop, PartialEq, Eq)]
+pub enum Refusal {
+    /// 400: no head of a request, or one without a Host field or with several.
+    BadRequest,
+    /// 403: its Host isn't this machine.
+    Forbidden,
+    /// 404: nothing is there.
+    NotFound,
+    /// 405: its method is neither GET nor HEAD.
+    BadMethod,
+    /// 431: more than 32 fields, or no whole head in 4,096 octets (RFC 6585, section 5).
+    TooLarge,
+}
+
+/// What the octets of a connection ask for, or why they are refused; none where more octets have to come first. Of
+/// several reasons the first is taken, in this order: 400 or 431, 403, 405, 404.
+pub fn judge(octets: &[u8]) -> Option<Result<Asked, Refusal>>
+    ensures { IsJudged octets.now result }
+{
+    let mut headers = [EMPTY_HEADER_SPAN; MOST_FIELDS];
+    match parse_request(octets, &mut headers) {
+        Ok(Status::Complete(request)) => Some(judge_parts(
+            only_host(octets, &headers[..request.headers]),
+            request.method.of(octets),
+            request.path.of(octets),
+        )),
+        Ok(Status::Partial) if octets.len() < MOST_OCTETS => None,
+        Ok(Status::Partial) => Some(Err(Refusal::TooLarge)),
+        Err(Error::TooManyHeaders) => Some(Err(Refusal::TooLarge)),
+        Err(_) => Some(Err(Refusal::BadRequest)),
+    }
+}
+
+/// The value of the Host field, where there is one and no other.
+fn only_host<'a>(octets: &'a [u8], headers: &[HeaderSpan]) -> Option<&'a [u8]>
+    requires { All (IsHeaderWithin (length octets.now)) headers.now }
+    ensures { option_copied result ≡ only (hosts_among (map (header_bytes octets.now) headers.now)) }
+{
+    let mut found = None;
+    for header in headers {
+        if is_word(header.name.of(octets), b"host") {
+            if found.is_some() {
+                return None;
+            }
+            found = Some(header.value.of(octets));
+        }
+    }
+    found
+}
+
+/// What a request with this host, method and target asks for.
+fn judge_parts(host: Option<&[u8]>, method: &[u8], target: &[u8]) -> Result<Asked, Refusal>
+    ensures { result ≡ asked_at (option_copied host.entry) method.now target.now }
+{
+    match host {
+        None => Err(Refusal::BadRequest),
+        Some(host) if is_loopback(host) => judge_method(method, target),
+        Some(_) => Err(Refusal::Forbidden),
+    }
+}
+
+fn judge_method(method: &[u8], target: &[u8]) -> Result<Asked, Refusal>
+    ensures { result ≡ asked_by method.now target.now }
+{
+    if method == b"GET".as_slice() {
+        judge_target(true, target)
+    } else if method == b"HEAD".as_slice() {
+        judge_target(false, target)
+    } else {
+        Err(Refusal::BadMethod)
+    }
+}
+
+fn judge_target(has_body: bool, target: &[u8]) -> Result<Asked, Refusal>
+    ensures { result ≡ asked_for has_body (target_of target.now) }
+{
+    match target_of(target) {
+        Some(target) => Ok(Asked { target, has_body }),
+        None => Err(Refusal::NotFound),
+    }
+}
+
+fn target_of(text: &[u8]) -> Option<Target>
+    ensures { result ≡ target_of text.now }
+{
+    if text == b"/".as_slice() {
+        Some(Target::Page)
+    } else if text == b"/metrics".as_slice() {
+        Some(Target::Metrics)
+    } else if text == b"/queue.json".as_slice() {
+        Some(Target::Queue)
+    } else {
+        None
+    }
+}

@@ -1,0 +1,143 @@
+//! Responses (RFC 9112, section 4).
+ghost use Rattle.std.specs.Prelude.{◌≡◌, ◌++◌, ◌∷◌, [], IfOk, OnOk};
+ghost use Rattle.relay_page.specs.Response.{code_text, head_text, kind_text, response_text};
+
+use crate::pieces::{Piece, push_pieces};
+use crate::request::Refusal;
+use std::alloc::{AllocError, Global};
+
+/// The fields that each response has, and the end of its head: the connection is closed after it, nobody keeps it, and
+/// it shows nothing of another place, and nothing of itself in one.
+const FIELDS: &[u8] = b"\r\nConnection: close\r\nAllow: GET, HEAD\r\nCache-Control: no-store\r\n\
+X-Content-Type-Options: nosniff\r\nReferrer-Policy: no-referrer\r\nCross-Origin-Resource-Policy: same-origin\r\n\
+Content-Security-Policy: default-src 'none'; style-src 'unsafe-inline'; base-uri 'none'; form-action 'none'; \
+frame-ancestors 'none'\r\n\r\n";
+
+/// What a response says of its request.
+#[derive(Clone, Copy, Debug, Drop, PartialEq, Eq)]
+pub enum Code {
+    /// 200
+    Found,
+    /// 400
+    BadRequest,
+    /// 403
+    Forbidden,
+    /// 404
+    NotFound,
+    /// 405
+    BadMethod,
+    /// 431
+    TooLarge,
+    /// 503: there is no memory for what was asked for.
+    Unavailable,
+}
+
+/// What a body is.
+#[derive(Clone, Copy, Debug, Drop, PartialEq, Eq)]
+pub enum Kind {
+    /// A page.
+    Html,
+    /// Metrics in Prometheus' text format.
+    Metrics,
+    /// A JSON object a line.
+    JsonLines,
+    /// A line for people.
+    Plain,
+}
+
+impl Code {
+    fn text(self) -> &'static [u8]
+        ensures { result.now ≡ code_text self }
+    {
+        match self {
+            Code::Found => b"200 OK",
+            Code::BadRequest => b"400 Bad Request",
+            Code::Forbidden => b"403 Forbidden",
+            Code::NotFound => b"404 Not Found",
+            Code::BadMethod => b"405 Method Not Allowed",
+            Code::TooLarge => b"431 Request Header Fields Too Large",
+            Code::Unavailable => b"503 Service Unavailable",
+        }
+    }
+}
+
+impl From<Refusal> for Code {
+    fn from(refusal: Refusal) -> Code {
+        match refusal {
+            Refusal::BadRequest => Code::BadRequest,
+            Refusal::Forbidden => Code::Forbidden,
+            Refusal::NotFound => Code::NotFound,
+            Refusal::BadMethod => Code::BadMethod,
+            Refusal::TooLarge => Code::TooLarge,
+        }
+    }
+}
+
+impl Kind {
+    fn text(self) -> &'static [u8]
+        ensures { result.now ≡ kind_text self }
+    {
+        match self {
+            Kind::Html => b"text/html; charset=utf-8",
+            Kind::Metrics => b"text/plain; version=0.0.4; charset=utf-8",
+            Kind::JsonLines => b"application/x-ndjson",
+            Kind::Plain => b"text/plain; charset=utf-8",
+        }
+    }
+}
+
+/// The octets of a response with this body; its head alone where the body wasn't asked for. It fails where memory runs
+/// out.
+pub fn response_octets(
+    alloc: Global,
+    code: Code,
+    kind: Kind,
+    has_body: bool,
+    body: &[u8],
+) -> Result<Vec<u8>, AllocError>
+    ensures { IfOk result (λ octets. octets.items ≡ response_text code kind has_body body.now) }
+{
+    let mut octets = Vec::new(alloc);
+    push_head(&mut octets, code, kind, body.len() as u64)?;
+    if has_body {
+        octets.extend_from_slice(body)?;
+    }
+    Ok(octets)
+}
+
+/// Adds the head of a response whose body has so many octets.
+fn push_head(octets: &mut Vec<u8>, code: Code, kind: Kind, size: u64) -> Result<(), AllocError>
+    ensures { OnOk result (octets.new.items ≡ octets.old.items ++ head_text code kind size) }
+{
+    push_pieces(
+        octets,
+        &[
+            Piece::Markup(b"HTTP/1.1 "),
+            Piece::Markup(code.text()),
+            Piece::Markup(b"\r\nContent-Type: "),
+            Piece::Markup(kind.text()),
+            Piece::Markup(b"\r\nContent-Length: "),
+            Piece::Number(size),
+            Piece::Markup(FIELDS),
+        ],
+    )
+}
+
+/// The octets of a response that refuses a request, with a line that says why.
+pub fn refusal_octets(alloc: Global, code: Code, has_body: bool) -> Result<Vec<u8>, AllocError>
+    ensures { IfOk result (λ octets. octets.items
+        ≡ response_text code Kind.Plain has_body (code_text code ++ 10 ∷ [])) }
+{
+    let line = line_of(alloc, code)?;
+    response_octets(alloc, code, Kind::Plain, has_body, line.as_slice())
+}
+
+/// The line that says what a code means.
+fn line_of(alloc: Global, code: Code) -> Result<Vec<u8>, AllocError>
+    ensures { IfOk result (λ line. line.items ≡ code_text code ++ 10 ∷ []) }
+{
+    let mut line = Vec::new(alloc);
+    line.extend_from_slice(code.text())?;
+    line.push(b'\n')?;
+    Ok(line)
+}

@@ -1,0 +1,176 @@
+//! What is queued, by next hop. It is counted in parts, so that mail never waits for a walk over a long queue.
+use indexmap::IndexMap;
+use relay_book::Message;
+use relay_routes::Table;
+use std::alloc::{AllocError, Global};
+use std::mem;
+
+/// How many recipients are counted at a turn.
+pub const PART: usize = 2_000;
+
+/// How many milliseconds what was counted serves.
+const FRESH: u64 = 1_000;
+
+/// A queued recipient: the number of its message, and its place there.
+pub type Mark = (u64, u8);
+
+/// What is queued for one next hop.
+#[derive(Clone, Copy, Debug)]
+pub struct Load {
+    /// How many messages have a recipient there.
+    pub messages: u64,
+    pub recipients: u64,
+    /// The octets of those messages.
+    pub octets: u64,
+    /// When the oldest of them was accepted, in seconds from 1970.
+    pub oldest: u64,
+    /// When a recipient is due first, in seconds from 1970.
+    pub due: u64,
+    /// The message that was counted last.
+    last: u64,
+}
+
+/// What is queued by the names of the next hops. The empty name stands for recipients without one.
+pub type Loads = IndexMap<Vec<u8>, Load>;
+
+/// What is queued, as it was counted last, and a count that goes on.
+pub struct Survey {
+    alloc: Global,
+    /// The recipients that were queued when the last count began, in the order of the queue.
+    marks: Vec<Mark>,
+    /// How many of them are counted; none where no count goes on.
+    counted: Option<usize>,
+    /// What they come to so far.
+    counting: Loads,
+    /// What the last whole count has found.
+    found: Loads,
+    /// The tick up to which that serves.
+    fresh_until: u64,
+}
+
+// Written out, so that what drops a survey calls this, and doesn't look into what it found.
+impl Drop for Survey {
+    fn drop(self) {
+        let Survey {
+            alloc: _,
+            marks: _marks,
+            counted: _,
+            counting: _counting,
+            found: _found,
+            fresh_until: _,
+        } = self;
+    }
+}
+
+impl Survey {
+    /// Nothing was counted yet. It takes no memory.
+    pub fn new(alloc: Global) -> Self {
+        Survey {
+            alloc,
+            marks: Vec::new(alloc),
+            counted: None,
+            counting: IndexMap::new(alloc),
+            found: IndexMap::new(alloc),
+            fresh_until: 0,
+        }
+    }
+
+    /// Whether what was counted last still serves at this tick.
+    pub fn is_fresh(&self, tick: u64) -> bool {
+        tick < self.fresh_until
+    }
+
+    /// Whether a count goes on.
+    pub fn is_counting(&self) -> bool {
+        self.counted.is_some()
+    }
+
+    /// Begins to count these recipients.
+    pub fn begin(&mut self, marks: Vec<Mark>) {
+        self.marks = marks;
+        self.counting = IndexMap::new(self.alloc);
+        self.counted = Some(0);
+    }
+
+    /// The next recipient to be counted.
+    pub fn next(&mut self) -> Option<Mark> {
+        let counted = self.counted?;
+        let mark = *self.marks.get(counted)?;
+        self.counted = Some(counted.saturating_add(1));
+        Some(mark)
+    }
+
+    /// Counts a recipient of this message, where it is still queued.
+    pub fn count(&mut self, table: &Table, place: u8, message: &Message) -> Result<(), AllocError> {
+        let index = usize::from(place);
+        let waiting = message.places.as_slice().get(index);
+        let recipient = message.accept.envelope.recipients.as_slice().get(index);
+        if let (Some(waiting), Some(recipient)) = (waiting, recipient) {
+            if waiting.held {
+                let name = match table.hop_at(&recipient.path) {
+                    Some(hop) => hop.name.as_slice(),
+                    None => b"",
+                };
+                let load = Load::of(message, waiting.due);
+                return add(self.alloc, &mut self.counting, name, load);
+            }
+        }
+        Ok(())
+    }
+
+    /// Ends a count at this tick: what it has found serves for a second.
+    pub fn end(&mut self, tick: u64) {
+        self.counted = None;
+        self.found = mem::replace(&mut self.counting, IndexMap::new(self.alloc));
+        self.fresh_until = tick.saturating_add(FRESH);
+    }
+
+    /// What is queued by next hop, as the last whole count has found it.
+    pub fn loads(&self) -> &Loads {
+        &self.found
+    }
+
+    /// The recipients that were queued when the last count began, in the order of the queue.
+    pub fn marks(&self) -> &[Mark] {
+        self.marks.as_slice()
+    }
+}
+
+/// Adds a recipient to the load of a next hop.
+fn add(alloc: Global, loads: &mut Loads, name: &[u8], one: Load) -> Result<(), AllocError> {
+    if let Some(load) = loads.get_mut(name) {
+        *load = load.with(one);
+        return Ok(());
+    }
+    loads.insert(Vec::from_slice(alloc, name)?, one)?;
+    Ok(())
+}
+
+impl Load {
+    /// What one recipient of a message comes to, which is due then.
+    fn of(message: &Message, due: u64) -> Self {
+        Load {
+            messages: 1,
+            recipients: 1,
+            octets: message.accept.stored_text.len() as u64,
+            oldest: message.accept.at.seconds(),
+            due,
+            last: message.number,
+        }
+    }
+
+    /// The same with one recipient more, whose message is the one that was counted last or a new one.
+    fn with(self, one: Load) -> Self {
+        let is_new = self.last != one.last;
+        Load {
+            messages: self.messages.saturating_add(u64::from(is_new)),
+            recipients: self.recipients.saturating_add(1),
+            octets: self
+                .octets
+                .saturating_add(if is_new { one.octets } else { 0 }),
+            oldest: self.oldest.min(one.oldest),
+            due: self.due.min(one.due),
+            last: one.last,
+        }
+    }
+}
