@@ -26,6 +26,7 @@ test:
 	tests/two_relays.py build/relayd
 	TIMES=10 tests/run.py build/relayd
 	TIMES=10 tests/run_log.py build/relayd
+	TIMES=10 tests/status_page.py build/relayd
 	TIMES=10 tests/run_hops.py build/relayd
 	TIMES=10 tests/run_mail.py build/relayd
 	TIMES=10 tests/run_faults.py build/relayd

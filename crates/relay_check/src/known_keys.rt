@@ -6,7 +6,7 @@ use strsim::levenshtein;
 use toml::Table;
 
 /// The keys of a configuration.
-const KEYS: [&str; 10] = [
+const KEYS: [&str; 11] = [
     "host",
     "listen",
     "spool",
@@ -17,6 +17,7 @@ const KEYS: [&str; 10] = [
     "sessions_per_client",
     "attempts_per_hop",
     "client_timeout",
+    "status_listen",
 ];
 
 /// The keys of a route's hop.

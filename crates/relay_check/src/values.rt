@@ -9,7 +9,7 @@ use std::fmt;
 use toml::{Table, Value};
 
 /// How many values there may be to replace: one for each key.
-const KEYS: usize = 10;
+const KEYS: usize = 11;
 
 /// A value that a key may have.
 #[derive(Clone, Copy, Drop)]
@@ -167,14 +167,18 @@ fn rule_of(key: Key) -> Rule {
 }
 
 fn rule_of_limit(limit: Limit) -> Rule {
-    let (may_be, number) = match limit {
-        Limit::SessionsPerClient => ("a number from 1 to 64", 32),
-        Limit::AttemptsPerHop => ("a number from 1 to 64", 20),
-        Limit::ClientTimeout => ("a number of seconds from 1 to 3600", 300),
+    let (may_be, example) = match limit {
+        Limit::SessionsPerClient => ("a number from 1 to 64", Good::Number(32)),
+        Limit::AttemptsPerHop => ("a number from 1 to 64", Good::Number(20)),
+        Limit::ClientTimeout => ("a number of seconds from 1 to 3600", Good::Number(300)),
+        Limit::StatusListen => (
+            "this machine's own address 127.0.0.1 and a port from 1 to 65535",
+            Good::Text("127.0.0.1:9925"),
+        ),
     };
     Rule {
         key: limit.text(),
         may_be,
-        example: Good::Number(number),
+        example,
     }
 }

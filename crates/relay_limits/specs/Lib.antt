@@ -1,3 +1,4 @@
 pub mod Compacting
+pub mod Port
 pub mod Limits
 pub mod Pace

@@ -1,8 +1,9 @@
 -- What a configuration says of a relay's limits: a number for each, or the first fault.
 use Rattle.std.specs.Prelude.{◌≡◌, ℕ, ◌≤◌, List, codes, Option, Some, None, Result, Ok, Err, pos}
-use Rattle.toml.specs.Data.{Data, Members, integer, get_member}
+use Rattle.toml.specs.Data.{Data, Members, integer, string, get_member}
+use Rattle.relay_limits.specs.Port.{port_in}
 use Rattle.relay_limits.specs.declared.limit.Limit.{Limit}
-use Rattle.relay_limits.specs.declared.limit.Limit.TheVariants.{SessionsPerClient, AttemptsPerHop, ClientTimeout}
+use Rattle.relay_limits.specs.declared.limit.Limit.TheVariants.{SessionsPerClient, AttemptsPerHop, ClientTimeout, StatusListen}
 use Rattle.relay_limits.specs.declared.limits.Limits.{Limits}
 
 -- each key as a document has it
@@ -10,12 +11,14 @@ abbrev pub limit_text : Limit → List ℕ
 limit_text SessionsPerClient = codes "sessions_per_client"
 limit_text AttemptsPerHop = codes "attempts_per_hop"
 limit_text ClientTimeout = codes "client_timeout"
+limit_text StatusListen = codes "status_listen"
 
--- profile: the most that each may be, of 64 sessions, 64 attempts and an hour
+-- profile: the most that each may be, of 64 sessions, 64 attempts and an hour; `status_listen` is no number
 abbrev pub most_of : Limit → ℕ
 most_of SessionsPerClient = 64
 most_of AttemptsPerHop = 64
 most_of ClientTimeout = 3600
+most_of StatusListen = 0
 
 -- profile: what each is where nothing is said: Postfix opens 20 connections to one server, and takes 50 of one client;
 -- a client is waited for five minutes (RFC 5321, 4.5.3.2.7)
@@ -23,6 +26,7 @@ abbrev pub default_of : Limit → ℕ
 default_of SessionsPerClient = 32
 default_of AttemptsPerHop = 20
 default_of ClientTimeout = 300
+default_of StatusListen = 0
 
 -- what a document has at a key
 abbrev pub value_of : Limit → Members → Option Data
@@ -42,11 +46,21 @@ ReadsLimit limit (Some value) (Err fault) = (fault ≡ limit) × ((number : ℕ)
 abbrev pub SaysOf : Members → Limit → Result ℕ Limit → Type 0
 SaysOf document limit = ReadsLimit limit (value_of limit document)
 
+-- profile: a text says the port of a page that this machine alone is shown; a value that is none is bad; where none is,
+-- there is no page
+abbrev pub ReadsPort : Option Data → Result (Option ℕ) Limit → Type 0
+ReadsPort None result = result ≡ Ok None
+ReadsPort (Some value) (Ok None) = ⊥
+ReadsPort (Some value) (Ok (Some port)) = (text : List ℕ) × (value ≡ string text) × (port_in text ≡ Some port)
+ReadsPort (Some value) (Err fault) =
+    (fault ≡ StatusListen) × ((text : List ℕ) → value ≡ string text → port_in text ≡ None)
+
 -- the document says these limits
 pub record Says (document : Members) (limits : Limits) : Type 0 where
   pub sessions : SaysOf document SessionsPerClient (Ok limits.sessions_per_client)
   pub attempts : SaysOf document AttemptsPerHop (Ok limits.attempts_per_hop)
   pub timeout : SaysOf document ClientTimeout (Ok limits.client_timeout)
+  pub status : ReadsPort (value_of StatusListen document) (Ok limits.status_port)
 
 -- the document says some number of the limit
 pub record IsGood (document : Members) (limit : Limit) : Type 0 where
@@ -60,3 +74,5 @@ pub data FirstFault (document : Members) (fault : Limit) : Type 0 where
       → FirstFault document fault
   at_timeout : IsGood document SessionsPerClient → IsGood document AttemptsPerHop
       → SaysOf document ClientTimeout (Err fault) → FirstFault document fault
+  at_status : IsGood document SessionsPerClient → IsGood document AttemptsPerHop → IsGood document ClientTimeout
+      → ReadsPort (value_of StatusListen document) (Err fault) → FirstFault document fault

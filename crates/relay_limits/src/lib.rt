@@ -6,6 +6,7 @@ mod compacting;
 mod limit;
 mod limits;
 mod pace;
+mod port;
 
 pub use compacting::is_worth_compacting;
 pub use limit::Limit;

@@ -3,7 +3,7 @@ ghost use Rattle.relay_limits.specs.Limits.{default_of, limit_text, most_of};
 
 use std::fmt;
 
-/// A key of a configuration that bounds what a relay does at once, in the order in which they are looked at.
+/// A key of a configuration that only a relay which stays up reads, in the order in which they are looked at.
 #[derive(Clone, Copy, Debug, Drop, PartialEq, Eq)]
 pub enum Limit {
     /// The most sessions of one client's address at a time.
@@ -12,6 +12,8 @@ pub enum Limit {
     AttemptsPerHop,
     /// How long a client is waited for, in seconds (RFC 5321, 4.5.3.2.7).
     ClientTimeout,
+    /// Where the page that shows the relay's state listens.
+    StatusListen,
 }
 
 impl Limit {
@@ -23,20 +25,22 @@ impl Limit {
             Limit::SessionsPerClient => "sessions_per_client",
             Limit::AttemptsPerHop => "attempts_per_hop",
             Limit::ClientTimeout => "client_timeout",
+            Limit::StatusListen => "status_listen",
         }
     }
 
-    /// The most that it may be; the least is 1.
+    /// The most that it may be, where it is a number; the least is 1.
     pub(crate) fn most(self) -> u16
         ensures most { result ≡ most_of self }
     {
         match self {
             Limit::SessionsPerClient | Limit::AttemptsPerHop => 64,
             Limit::ClientTimeout => 3_600,
+            Limit::StatusListen => 0,
         }
     }
 
-    /// What it is where a document says nothing of it.
+    /// What it is where a document says nothing of it, where it is a number.
     pub(crate) fn default(self) -> u16
         ensures default { result ≡ default_of self }
     {
@@ -44,6 +48,7 @@ impl Limit {
             Limit::SessionsPerClient => 32,
             Limit::AttemptsPerHop => 20,
             Limit::ClientTimeout => 300,
+            Limit::StatusListen => 0,
         }
     }
 }

@@ -1,8 +1,10 @@
-ghost use Rattle.std.specs.Prelude.{◌≡◌, ◌≤◌, ℕ, Ok, Err, IfOk, IfErr, option_map};
+ghost use Rattle.std.specs.Prelude.{◌≡◌, ◌≤◌, ℕ, Ok, Err, IfOk, IfErr, Some, option_map};
+ghost use Rattle.toml.specs.Data.{string};
 ghost use Rattle.toml.specs.View.{table_view, view};
-ghost use Rattle.relay_limits.specs.Limits.{FirstFault, ReadsLimit, Says, most_of, value_of};
+ghost use Rattle.relay_limits.specs.Limits.{FirstFault, ReadsLimit, ReadsPort, Says, most_of, value_of};
 
 use crate::limit::Limit;
+use crate::port::port_in;
 use toml::Value;
 
 /// What bounds a relay that serves many clients at once.
@@ -14,12 +16,16 @@ pub struct Limits {
     pub attempts_per_hop: u8,
     /// How long a client is waited for, in seconds, 1 to 3,600.
     pub client_timeout: u16,
+    /// The port of this machine's own address 127.0.0.1 at which the page listens that shows the relay's state, 1 to
+    /// 65,535; none where there is no such page.
+    pub status_port: Option<u16>,
 }
 
 impl Limits {
-    /// The limits that a document says, or the first of them, in the order of [`Limit`], whose value is no integer from
-    /// 1 to its most. Where they are missing, `sessions_per_client` is 32, `attempts_per_hop` 20 and `client_timeout`
-    /// 300; other keys are ignored. It takes no memory.
+    /// The limits that a document says, or the first of them, in the order of [`Limit`], whose value may not stand
+    /// there: the first three are integers from 1 to their most, and `status_listen` is a text `127.0.0.1:` and a port.
+    /// Where they are missing, `sessions_per_client` is 32, `attempts_per_hop` 20 and `client_timeout` 300, and there
+    /// is no page; other keys are ignored. It takes no memory.
     pub fn of_document(document: &toml::Table) -> Result<Limits, Limit>
         ensures ok { IfOk result (Says (table_view document.now)) }
         ensures err { IfErr result (FirstFault (table_view document.now)) }
@@ -27,10 +33,12 @@ impl Limits {
         let sessions_per_client = read_limit(document, Limit::SessionsPerClient)?;
         let attempts_per_hop = read_limit(document, Limit::AttemptsPerHop)?;
         let client_timeout = read_limit(document, Limit::ClientTimeout)?;
+        let status_port = read_status_port(document)?;
         Ok(Limits {
             sessions_per_client: sessions_per_client as u8,
             attempts_per_hop: attempts_per_hop as u8,
             client_timeout,
+            status_port,
         })
     }
 }
@@ -46,6 +54,29 @@ fn read_limit(document: &toml::Table, limit: Limit) -> Result<u16, Limit>
             Some(number) if 1 <= number && number <= limit.most() as i64 => Ok(number as u16),
             _ => Err(limit),
         },
+    }
+}
+
+/// The port that a document says of the page; none where nothing is said.
+fn read_status_port(document: &toml::Table) -> Result<Option<u16>, Limit>
+    ensures { ReadsPort (value_of Limit.StatusListen (table_view document.now)) result }
+{
+    match member(document, Limit::StatusListen) {
+        None => Ok(None),
+        Some(value) => match value.as_str() {
+            Some(text) => read_port(text.as_bytes()),
+            None => Err(Limit::StatusListen),
+        },
+    }
+}
+
+/// The port that a text says of the page.
+fn read_port(text: &[u8]) -> Result<Option<u16>, Limit>
+    ensures { ReadsPort (Some (string text.now)) result }
+{
+    match port_in(text) {
+        Some(port) => Ok(Some(port)),
+        None => Err(Limit::StatusListen),
     }
 }
 

@@ -11,7 +11,10 @@ mod room;
 mod serving;
 mod shell;
 mod start;
+mod status_page;
+mod status_texts;
 mod tidying;
 mod turns;
+mod waiting;
 
 pub use serving::run;

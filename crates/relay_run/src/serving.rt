@@ -1,7 +1,8 @@
 ghost use Rattle.std.specs.Prelude.{IfOk};
 
 use crate::shell::Shell;
-use crate::start::{kept_file, locked_relay, open_door, say_ready, settings};
+use crate::start::{kept_file, locked_relay, open_door, open_page, say_ready, settings};
+use crate::status_page::StatusPage;
 use crate::turns::serve;
 use mio::{Events, Poll};
 use relay_files::Fault;
@@ -13,13 +14,13 @@ use std::io::Write;
 use std::net::{Net, TcpListener, TcpStream};
 use std::rt::{Clock, Files};
 
-/// How many events a wait gives at most: one of each connection, and one of the listener.
-const EVENT_COUNT: usize = 3 * SLOT_COUNT + 1;
+/// How many events a wait gives at most: one of each connection, one of the listener, and those of the page.
+const EVENT_COUNT: usize = 3 * SLOT_COUNT + 1 + StatusPage::TOKENS;
 
 /// Serves clients and hands on what they bring, up to 64 sessions and 64 attempts side by side, in one thread. It
 /// returns only with a fault, and a stop at any moment is as safe as at any other. Faults are looked for in this order
 /// before it begins: the configuration file, its content, its limits, the spool, the listener, whose address is waited
-/// for a minute where this machine hasn't got it yet. Then a line
+/// for a minute where this machine hasn't got it yet, the page's listener. Then a line
 /// `ready HOST ADDRESS` goes to `writer`, and unless it is `quiet` a line for each thing that was done to `errors`,
 /// with the moment in front of it.
 ///
@@ -47,7 +48,8 @@ pub fn run<
         return Err(Fault::Socket);
     };
     let door = open_door(alloc, rt, poll.registry(), at, quiet, errors)?;
-    let mut shell = Shell::new(alloc, relay, door, spares, room, &limits)?;
+    let page = open_page(alloc, rt, poll.registry(), &limits, &relay)?;
+    let mut shell = Shell::new(alloc, relay, door, spares, room, page, &limits)?;
     shell.next_hops.prepare(&shell.relay)?;
     let events = Events::with_capacity(alloc, EVENT_COUNT)?;
     say_ready(alloc, &shell.relay, at, writer)?;

@@ -1,25 +1,21 @@
-ghost use Rattle.std.specs.Prelude.{◌≡◌, ◌⊎◌, ◌≤◌, ◌-◌, ◌↔◌, ℕ, None, Some, true, IfErr, IfOk, IsErr, IsTrue, OnOk};
-ghost use Rattle.relay_connections.specs.Readiness.{IsLeftClient, clients_of};
-ghost use Rattle.relay_next_hops.specs.Lanes.{next_due_of};
-ghost use Rattle.relay_next_hops.specs.Readiness.{IsLeftHop, hops_of};
+ghost use Rattle.std.specs.Prelude.{◌≡◌, ◌⊎◌, ◌↔◌, None, Some, IfErr, IfOk, IsErr, IsTrue, OnOk};
 ghost use Rattle.relay_run.specs.Reopening.{HasFailedToSync, IsWhole};
-ghost use Rattle.relay_run.specs.Room.{MayStart, next_look};
+ghost use Rattle.relay_run.specs.Room.{MayStart};
 ghost use Rattle.relay_run.specs.Tidying.{FailsToCompact, IsCompacted, compacted_size_of};
-ghost use Rattle.relay_run.specs.declared.shell.TheConstants.{LONGEST_WAIT};
 
 use crate::door::Door;
 use crate::known::Known;
 use crate::reopening::{Pauses, Why, reopen};
 use crate::reporter::Reporter;
 use crate::room::Room;
+use crate::status_page::StatusPage;
 use crate::tidying::Tidying;
-use mio::event::Event;
-use mio::{Events, Registry};
-use relay_connections::{Clients, Intake, Leaving, Now, Readiness, Replied};
+use mio::Registry;
+use relay_connections::{Clients, Intake, Leaving, Now, Replied};
 use relay_disk::FileDisk;
 use relay_files::Fault;
 use relay_limits::Limits;
-use relay_log::Log;
+use relay_log::{Counters, Log};
 use relay_loop::Relay;
 use relay_next_hops::{NextHops, Spares};
 use relay_node::NodeFault;
@@ -28,21 +24,19 @@ use std::io::Write;
 use std::net::Net;
 use std::rt::Clock;
 
-/// The most milliseconds that a wait lasts.
-const LONGEST_WAIT: u64 = 60_000;
-
 /// All connections of a relay, and what is due.
 pub(crate) struct Shell {
     pub(crate) relay: Relay<FileDisk>,
     pub(crate) door: Door,
-    clients: Clients,
+    pub(crate) clients: Clients,
     pub(crate) next_hops: NextHops,
-    leaving: Leaving,
+    pub(crate) leaving: Leaving,
     spares: Spares,
-    tidying: Tidying,
+    pub(crate) tidying: Tidying,
     pauses: Pauses,
-    room: Room,
+    pub(crate) room: Room,
     known: Known,
+    pub(crate) page: StatusPage,
 }
 
 // Written out, so that what drops it calls this, and doesn't look into its parts.
@@ -59,18 +53,21 @@ impl Drop for Shell {
             pauses: _,
             room: _room,
             known: _,
+            page: _page,
         } = self;
     }
 }
 
 impl Shell {
-    /// A relay without a connection, at this listener and within these limits. It fails where memory runs out.
+    /// A relay without a connection, at this listener, with this page and within these limits. It fails where memory
+    /// runs out.
     pub(crate) fn new(
         alloc: Global,
         relay: Relay<FileDisk>,
         door: Door,
         spares: Spares,
         room: Room,
+        page: StatusPage,
         limits: &Limits,
     ) -> Result<Self, AllocError> {
         let clients = Clients::new(alloc, limits)?;
@@ -89,6 +86,7 @@ impl Shell {
             pauses,
             room,
             known,
+            page,
         })
     }
 
@@ -118,6 +116,7 @@ impl Shell {
             pauses,
             room,
             known,
+            page,
         } = self;
         let mut door = door;
         let mut pauses = pauses;
@@ -142,6 +141,7 @@ impl Shell {
             tidying: Tidying::new(),
             pauses,
             room,
+            page,
         })
     }
 
@@ -159,32 +159,21 @@ impl Shell {
         self.room.is_renewed(now)
     }
 
+    /// Serves the page, and nothing else.
+    pub(crate) fn show(&mut self, registry: &Registry, counters: &Counters, now: &Now)
+        ensures mail { (self.new.relay ≡ self.old.relay) × (self.new.clients ≡ self.old.clients)
+            × (self.new.next_hops ≡ self.old.next_hops) × (self.new.leaving ≡ self.old.leaving)
+            × (self.new.door ≡ self.old.door) }
+        ensures known { self.new.known ≡ self.old.known }
+    {
+        self.page.turn(registry, &self.relay, counters, now);
+    }
+
     /// Whether attempts may begin.
-    fn may_start(&self) -> bool
+    pub(crate) fn may_start(&self) -> bool
         ensures { IsTrue result ↔ MayStart self.now.room self.now.relay.node.records.spool.size }
     {
         self.room.may_start(self.relay.node().size())
-    }
-
-    /// The system tells what connections may be ready for.
-    pub(crate) fn note_events(&mut self, events: &Events) {
-        for event in events.iter() {
-            self.note_event(event);
-        }
-    }
-
-    fn note_event(&mut self, event: &Event) {
-        let token = event.token().0;
-        let ready = Readiness::of(event);
-        if token < NextHops::FIRST_TOKEN {
-            self.clients.note(token, ready);
-        } else if token < Leaving::FIRST_TOKEN {
-            self.next_hops.note(token - NextHops::FIRST_TOKEN, ready);
-        } else if token < Door::TOKEN {
-            self.leaving.note(token - Leaving::FIRST_TOKEN, ready);
-        } else {
-            self.door.note();
-        }
     }
 
     /// Does for each connection what can be done at once, one thing each, and begins what is due. While the relay is
@@ -353,47 +342,5 @@ impl Shell {
             self.tidying.note_shrunk();
         }
         Ok(())
-    }
-
-    /// Whether something can be done at once.
-    fn is_ready(&self, now: &Now) -> bool
-        ensures client { (number : ℕ) → IsLeftClient (clients_of self.now.clients) self.now.relay number
-            → result ≡ true }
-        ensures hop { (number : ℕ) → IsLeftHop (hops_of self.now.next_hops) self.now.relay number
-            → result ≡ true }
-    {
-        if self.clients.is_ready(&self.relay) {
-            return true;
-        }
-        if self.next_hops.is_ready(&self.relay, self.may_start()) {
-            return true;
-        }
-        self.door.is_ready(now) || self.leaving.is_ready()
-    }
-
-    /// How many milliseconds may be waited for the system to tell of something, a minute at most: none while a
-    /// connection was left in mid-read, and never past the tick at which the node has told that work may start, or
-    /// while no attempt may begin, past that at which the room is looked at.
-    pub(crate) fn wait(&self, now: &Now) -> u64
-        ensures client { (number : ℕ) → IsLeftClient (clients_of self.now.clients) self.now.relay number
-            → result ≡ 0 }
-        ensures hop { (number : ℕ) → IsLeftHop (hops_of self.now.next_hops) self.now.relay number
-            → result ≡ 0 }
-        ensures due { MayStart self.now.room self.now.relay.node.records.spool.size
-            → result ≤ next_due_of self.now.next_hops - now.now.tick }
-        ensures look { result ≤ next_look self.now.room.standing self.now.room - now.now.tick }
-        ensures longest { result ≤ LONGEST_WAIT }
-    {
-        if self.is_ready(now) {
-            return 0;
-        }
-        let mut next = now.tick.saturating_add(LONGEST_WAIT);
-        next = self.door.next_deadline(next);
-        next = self.clients.next_deadline(next);
-        next = self.leaving.next_deadline(next);
-        next = self.tidying.next_deadline(next);
-        next = self.room.next_deadline(next);
-        next = self.next_hops.next_deadline(self.may_start(), next);
-        next.saturating_sub(now.tick)
     }
 }

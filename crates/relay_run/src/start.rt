@@ -3,6 +3,7 @@ use crate::door::Door;
 use crate::known::Known;
 use crate::reopening::open_bounded;
 use crate::room::Room;
+use crate::status_page::StatusPage;
 use mio::Registry;
 use relay_disk::FileDisk;
 use relay_files::{Fault, configuration_text, locked_node};
@@ -99,6 +100,23 @@ pub(crate) fn open_door<R: Clock + Net, E: Write>(
         }
     }
     Err(Fault::Socket)
+}
+
+/// The page at the configured port, where there is one.
+pub(crate) fn open_page<R: Clock + Net>(
+    alloc: Global,
+    rt: &R,
+    registry: &Registry,
+    limits: &Limits,
+    relay: &Relay<FileDisk>,
+) -> Result<StatusPage, Fault> {
+    let next_number = relay.node().next_number();
+    let since = clock_moment(rt);
+    match StatusPage::open(alloc, rt, registry, limits.status_port, next_number, since) {
+        Ok(page) => Ok(page),
+        Err(error) if error.kind() == ErrorKind::OutOfMemory => Err(Fault::NoMemory),
+        Err(_) => Err(Fault::Socket),
+    }
 }
 
 /// Says by a line that clients may come: `ready HOST ADDRESS`.

@@ -85,7 +85,7 @@ fn behind_turn<R: Clock, E: Write>(
 }
 
 /// A turn, whose lines of the log are written then; and what keeps the spool small behind it, which may take a while,
-/// and so comes when those lines are out.
+/// and so comes when those lines are out. The page is served last.
 fn take_turn<R: Clock + Net, E: Write>(
     alloc: Global,
     rt: &R,
@@ -105,6 +105,7 @@ fn take_turn<R: Clock + Net, E: Write>(
     hand_out(lines, errors);
     end?;
     shell.note_known();
+    shell.show(poll.registry(), counters, &now);
     Ok(())
 }
 

@@ -1,0 +1,281 @@
+//! The page that shows a relay's state, and its metrics: the listener, the visitors, and what is counted for them.
+ghost use Rattle.std.specs.Prelude.{◌≤◌};
+
+use crate::door::Door;
+use crate::status_texts::{State, text_of};
+use mio::net::{TcpListener, TcpStream};
+use mio::{Interest, Registry, Token};
+use relay_connections::{Now, Readiness};
+use relay_disk::FileDisk;
+use relay_log::Counters;
+use relay_loop::Relay;
+use relay_page::{
+    Asked, Code, History, MOST_VISITORS, Minute, PART, Survey, Visitors, refusal_octets,
+    response_octets,
+};
+use relay_trace::Moment;
+use std::alloc::{AllocError, Global};
+use std::io::{self, ErrorKind};
+use std::net::{Ipv4Addr, Net, SocketAddr, SocketAddrV4};
+
+/// The page. A fault of it ends nothing but the visit that it befalls.
+pub(crate) struct StatusPage {
+    alloc: Global,
+    /// None where there is no page.
+    listener: Option<TcpListener>,
+    /// Visitors may be waiting at it.
+    is_ready: bool,
+    visitors: Visitors,
+    survey: Survey,
+    history: History,
+    /// When the relay began.
+    since: Moment,
+    /// The number of the next change when it was looked at last.
+    next_number: u64,
+    /// When it had risen last; none where it hasn't since the relay began.
+    appended: Option<Moment>,
+}
+
+// Written out, so that what drops it calls this, and doesn't look into its parts.
+impl Drop for StatusPage {
+    fn drop(self) {
+        let StatusPage {
+            alloc: _,
+            listener: _listener,
+            is_ready: _,
+            visitors: _visitors,
+            survey: _survey,
+            history: _history,
+            since: _,
+            next_number: _,
+            appended: _,
+        } = self;
+    }
+}
+
+impl StatusPage {
+    /// The token of its listener; those of its visitors follow.
+    pub(crate) const TOKEN: usize = Door::TOKEN + 1;
+
+    /// How many tokens it has.
+    pub(crate) const TOKENS: usize = 1 + MOST_VISITORS;
+
+    /// The page at this port of 127.0.0.1, or none. It fails where the port can't be had, or memory runs out.
+    pub(crate) fn open<N: Net>(
+        alloc: Global,
+        net: &N,
+        registry: &Registry,
+        port: Option<u16>,
+        next_number: u64,
+        since: Moment,
+    ) -> io::Result<Self> {
+        let listener = match port {
+            Some(port) => Some(listener_at(net, registry, port)?),
+            None => None,
+        };
+        Ok(StatusPage {
+            alloc,
+            is_ready: listener.is_some(),
+            listener,
+            visitors: Visitors::new(alloc)?,
+            survey: Survey::new(alloc),
+            history: History::new(alloc, minute_of(since))?,
+            since,
+            next_number,
+            appended: None,
+        })
+    }
+
+    /// The system tells what the listener, whose number is 0, or a visitor, from 1 on, may be ready for.
+    pub(crate) fn note(&mut self, number: usize, ready: Readiness) {
+        if number == 0 {
+            self.is_ready = true;
+        } else {
+            self.visitors.note(number - 1, ready.reads, ready.writes);
+        }
+    }
+
+    /// Takes visitors, serves each once, and makes one response, or a part of what it takes.
+    pub(crate) fn turn(
+        &mut self,
+        registry: &Registry,
+        relay: &Relay<FileDisk>,
+        counters: &Counters,
+        now: &Now,
+    ) {
+        if self.listener.is_none() {
+            return;
+        }
+        self.note_progress(relay, counters, now);
+        self.admit(registry, now);
+        self.visitors.serve(now.tick);
+        if let Some((number, asked)) = self.visitors.asked() {
+            self.attend(number, asked, relay, counters, now);
+        }
+    }
+
+    /// Takes note of what was done since it was looked at last.
+    fn note_progress(&mut self, relay: &Relay<FileDisk>, counters: &Counters, now: &Now) {
+        let done = Minute {
+            accepted: counters.accepted,
+            sent: counters.sent,
+        };
+        self.history.note(minute_of(now.moment), done);
+        let next_number = relay.node().next_number();
+        if next_number != self.next_number {
+            self.next_number = next_number;
+            self.appended = Some(now.moment);
+        }
+    }
+
+    /// Takes the visitors that are waiting, while there is room for them.
+    fn admit(&mut self, registry: &Registry, now: &Now) {
+        for _ in 0..MOST_VISITORS {
+            if !self.is_ready {
+                return;
+            }
+            let (Some(listener), Some(number)) = (&self.listener, self.visitors.free()) else {
+                return;
+            };
+            match listener.accept() {
+                Ok((stream, _)) => {
+                    if let Some(stream) = registered(registry, stream, number) {
+                        self.visitors.put(number, stream, now.tick);
+                    }
+                }
+                Err(error) => {
+                    if error.kind() != ErrorKind::Interrupted {
+                        // One that went away, or couldn't be had, comes again by itself, if at all.
+                        self.is_ready = false;
+                    }
+                }
+            }
+        }
+    }
+
+    /// Answers a visitor, or counts a part of what is queued first.
+    fn attend(
+        &mut self,
+        number: usize,
+        asked: Asked,
+        relay: &Relay<FileDisk>,
+        counters: &Counters,
+        now: &Now,
+    ) {
+        let counted = if self.survey.is_fresh(now.tick) {
+            Ok(true)
+        } else {
+            self.count(relay, now)
+        };
+        match counted {
+            Ok(true) => {
+                let response = self.response(asked, relay, counters, now);
+                self.respond(number, asked, response);
+            }
+            Ok(false) => {}
+            Err(AllocError) => self.respond(number, asked, Err(AllocError)),
+        }
+    }
+
+    /// Gives a visitor its response, or tells it that there is none now.
+    fn respond(&mut self, number: usize, asked: Asked, response: Result<Vec<u8>, AllocError>) {
+        let response = match response {
+            Ok(octets) => Ok(octets),
+            Err(_) => refusal_octets(self.alloc, Code::Unavailable, asked.has_body),
+        };
+        self.visitors.respond(number, response);
+    }
+
+    /// Counts a part of what is queued, and tells whether that was the last. It fails where memory runs out, or the
+    /// device has failed.
+    fn count(&mut self, relay: &Relay<FileDisk>, now: &Now) -> Result<bool, AllocError> {
+        let node = relay.node();
+        if !self.survey.is_counting() {
+            let Ok(marks) = node.marks(self.alloc) else {
+                return Err(AllocError);
+            };
+            self.survey.begin(marks);
+            return Ok(false);
+        }
+        for _ in 0..PART {
+            let Some((number, place)) = self.survey.next() else {
+                self.survey.end(now.tick);
+                return Ok(true);
+            };
+            if let Some(message) = node.message(number) {
+                self.survey.count(&node.config().routes, place, message)?;
+            }
+        }
+        Ok(false)
+    }
+
+    /// The response to what was asked for.
+    fn response(
+        &self,
+        asked: Asked,
+        relay: &Relay<FileDisk>,
+        counters: &Counters,
+        now: &Now,
+    ) -> Result<Vec<u8>, AllocError> {
+        let state = State {
+            relay,
+            counters,
+            survey: &self.survey,
+            history: &self.history,
+            since: self.since,
+            appended: self.appended,
+            now: now.moment,
+        };
+        let (kind, body) = text_of(self.alloc, asked.target, &state)?;
+        response_octets(
+            self.alloc,
+            Code::Found,
+            kind,
+            asked.has_body,
+            body.as_slice(),
+        )
+    }
+
+    /// Whether something can be done at once.
+    pub(crate) fn is_ready(&self, now: &Now) -> bool {
+        self.is_waited_for()
+            || self.visitors.is_ready()
+            || self.visitors.next_deadline(u64::MAX) <= now.tick
+    }
+
+    /// Whether visitors may be waiting that can be taken, or one waits for its response.
+    fn is_waited_for(&self) -> bool {
+        (self.is_ready && self.visitors.free().is_some()) || self.visitors.asked().is_some()
+    }
+
+    /// The tick at which the next visitor is sent away, or the given one where that is earlier.
+    pub(crate) fn next_deadline(&self, otherwise: u64) -> u64
+        ensures { result ≤ otherwise }
+    {
+        self.visitors.next_deadline(otherwise)
+    }
+}
+
+/// The listener at a port of 127.0.0.1, of which the system tells.
+fn listener_at<N: Net>(net: &N, registry: &Registry, port: u16) -> io::Result<TcpListener> {
+    let at = SocketAddrV4::new(Ipv4Addr::LOCALHOST, port);
+    let mut listener = TcpListener::bind(net, SocketAddr::V4(at))?;
+    registry.register(&mut listener, Token(StatusPage::TOKEN), Interest::READABLE)?;
+    Ok(listener)
+}
+
+/// The stream of a visitor, of which the system tells; none where it doesn't.
+fn registered(registry: &Registry, stream: TcpStream, number: usize) -> Option<TcpStream> {
+    let mut stream = stream;
+    let token = Token(StatusPage::TOKEN.saturating_add(1).saturating_add(number));
+    let ways = Interest::READABLE | Interest::WRITABLE;
+    match registry.register(&mut stream, token, ways) {
+        Ok(()) => Some(stream),
+        Err(_) => None,
+    }
+}
+
+/// The minute of a moment, from 1970.
+fn minute_of(moment: Moment) -> u64 {
+    moment.seconds() / 60
+}

@@ -1,0 +1,291 @@
+//! What the page shows: the relay's state as a page, as metrics, and as a list of what is queued.
+use relay_disk::FileDisk;
+use relay_log::Counters;
+use relay_loop::Relay;
+use relay_page::{
+    Course, History, Kind, MOST_LISTED, Survey, Target, Totals, View, Waiting, page_text,
+    push_alone, push_cut, push_head, push_labelled, push_listed, push_loads,
+};
+use relay_trace::Moment;
+use std::alloc::{AllocError, Global};
+
+/// How many of the recipients that wait longest the page shows.
+const MOST_OLDEST: usize = 20;
+
+/// What is known of a relay at a moment.
+#[derive(Drop)]
+pub(crate) struct State<'a> {
+    pub(crate) relay: &'a Relay<FileDisk>,
+    pub(crate) counters: &'a Counters,
+    pub(crate) survey: &'a Survey,
+    pub(crate) history: &'a History,
+    /// When the relay began.
+    pub(crate) since: Moment,
+    /// When something was added to the spool last.
+    pub(crate) appended: Option<Moment>,
+    pub(crate) now: Moment,
+}
+
+/// The text that is asked for, and what it is. It fails where memory runs out.
+pub(crate) fn text_of(
+    alloc: Global,
+    target: Target,
+    state: &State<'_>,
+) -> Result<(Kind, Vec<u8>), AllocError> {
+    match target {
+        Target::Page => Ok((Kind::Html, page_of(alloc, state)?)),
+        Target::Metrics => Ok((Kind::Metrics, metrics_of(alloc, state)?)),
+        Target::Queue => Ok((Kind::JsonLines, list_of(alloc, state)?)),
+    }
+}
+
+fn page_of(alloc: Global, state: &State<'_>) -> Result<Vec<u8>, AllocError> {
+    let node = state.relay.node();
+    let counters = state.counters;
+    let oldest = oldest_of(alloc, state)?;
+    let view = View {
+        host: node.config().host.as_slice(),
+        now: state.now,
+        since: state.since,
+        totals: Totals {
+            accepted: counters.accepted,
+            rejected: rejections(counters),
+            sent: counters.sent,
+            deferred: counters.deferred,
+            failed: counters.failed.saturating_add(counters.expired),
+        },
+        spool_size: node.size() as u64,
+        spool_limit: node.config().spool_limit,
+        loads: state.survey.loads(),
+        recipients: state.survey.marks().len() as u64,
+        oldest: oldest.as_slice(),
+        history: state.history,
+    };
+    page_text(alloc, &view)
+}
+
+/// The recipients that wait longest: the first of the queue.
+fn oldest_of<'a>(alloc: Global, state: &State<'a>) -> Result<Vec<Waiting<'a>>, AllocError> {
+    let mut all = Vec::new(alloc);
+    let marks = state.survey.marks();
+    for index in 0..marks.len().min(MOST_OLDEST) {
+        let (number, place) = marks[index];
+        if let Some(waiting) = waiting_at(state.relay, number, place) {
+            all.push(waiting)?;
+        }
+    }
+    Ok(all)
+}
+
+/// The recipient at a place of the message of this number, where it is queued.
+fn waiting_at(relay: &Relay<FileDisk>, number: u64, place: u8) -> Option<Waiting<'_>> {
+    let message = relay.node().message(number)?;
+    let index = usize::from(place);
+    let waiting = message.places.as_slice().get(index)?;
+    let recipient = message.accept.envelope.recipients.as_slice().get(index)?;
+    if !waiting.held {
+        return None;
+    }
+    Some(Waiting {
+        number,
+        accepted: message.accept.at.seconds(),
+        reverse_path: message.accept.envelope.reverse_path.as_slice(),
+        path: recipient.path.as_slice(),
+        tries: waiting.laters,
+        due: waiting.due,
+    })
+}
+
+/// The first recipients of the queue as JSON, and where the list is cut.
+fn list_of(alloc: Global, state: &State<'_>) -> Result<Vec<u8>, AllocError> {
+    let node = state.relay.node();
+    let mut text = Vec::new(alloc);
+    let marks = state.survey.marks();
+    let listed = marks.len().min(MOST_LISTED);
+    for index in 0..listed {
+        let (number, place) = marks[index];
+        if let Some(message) = node.message(number) {
+            let routes = &node.config().routes;
+            push_listed(alloc, &mut text, routes, place, message, state.now)?;
+        }
+    }
+    if listed < marks.len() {
+        push_cut(alloc, &mut text, listed as u64, marks.len() as u64)?;
+    }
+    Ok(text)
+}
+
+/// How many replies to clients have refused something.
+fn rejections(counters: &Counters) -> u64 {
+    let mut sum: u64 = 0;
+    for (_cause, count) in rejections_by_cause(counters) {
+        sum = sum.saturating_add(count);
+    }
+    sum
+}
+
+/// How many replies to clients have refused something, by the reply's code and its cause.
+fn rejections_by_cause(counters: &Counters) -> [(&'static [u8], u64); 9] {
+    let rejected = counters.rejected;
+    [
+        (b"no_route", rejected.no_route),
+        (b"spool_full", rejected.spool_full),
+        (b"too_many_recipients", rejected.too_many_recipients),
+        (b"too_large", rejected.too_large),
+        (b"bad_content", rejected.bad_content),
+        (b"bad_sequence", rejected.bad_sequence),
+        (b"syntax", rejected.syntax),
+        (b"not_offered", rejected.not_offered),
+        (b"closing", rejected.closing),
+    ]
+}
+
+fn metrics_of(alloc: Global, state: &State<'_>) -> Result<Vec<u8>, AllocError> {
+    let mut text = Vec::new(alloc);
+    push_mail(&mut text, state.counters)?;
+    push_connections(&mut text, state.counters)?;
+    push_rejections(&mut text, state.counters)?;
+    push_loads(&mut text, state.survey.loads(), state.now.seconds())?;
+    push_spool(&mut text, state)?;
+    Ok(text)
+}
+
+/// Adds what has come of mail.
+fn push_mail(text: &mut Vec<u8>, counters: &Counters) -> Result<(), AllocError> {
+    push_count(
+        text,
+        b"relayd_messages_accepted_total",
+        b"Messages that were accepted.",
+        counters.accepted,
+    )?;
+    push_count(
+        text,
+        b"relayd_recipients_sent_total",
+        b"Recipients that a next hop has taken.",
+        counters.sent,
+    )?;
+    push_count(
+        text,
+        b"relayd_recipients_deferred_total",
+        b"Recipients that an attempt left in the queue, once for each attempt.",
+        counters.deferred,
+    )?;
+    push_count(
+        text,
+        b"relayd_recipients_failed_total",
+        b"Recipients that a next hop has refused, or to which no route leads.",
+        counters.failed,
+    )?;
+    push_count(
+        text,
+        b"relayd_recipients_expired_total",
+        b"Recipients that were given up because their message was too old.",
+        counters.expired,
+    )?;
+    push_count(
+        text,
+        b"relayd_reports_queued_total",
+        b"Delivery status notifications that were queued.",
+        counters.reports,
+    )
+}
+
+/// Adds what has come of connections.
+fn push_connections(text: &mut Vec<u8>, counters: &Counters) -> Result<(), AllocError> {
+    push_count(
+        text,
+        b"relayd_connections_total",
+        b"Client connections that were served.",
+        counters.connections,
+    )?;
+    push_count(
+        text,
+        b"relayd_connections_turned_away_total",
+        b"Client connections for which there was no room.",
+        counters.turned_away,
+    )?;
+    push_count(
+        text,
+        b"relayd_connections_timed_out_total",
+        b"Client connections that were cut off after a silence.",
+        counters.timeouts,
+    )?;
+    push_count(
+        text,
+        b"relayd_hop_holds_total",
+        b"How often a next hop was left alone because it could not be reached.",
+        counters.holds,
+    )
+}
+
+/// Adds how many replies to clients have refused something, by cause.
+fn push_rejections(text: &mut Vec<u8>, counters: &Counters) -> Result<(), AllocError> {
+    let name = b"relayd_rejections_total";
+    let help = b"Replies to clients that refused something, by cause.";
+    push_head(text, name, Course::Counter, help)?;
+    for (cause, count) in rejections_by_cause(counters) {
+        push_labelled(text, name, b"cause", cause, count)?;
+    }
+    Ok(())
+}
+
+/// Adds what the spool has, and what has come of its device.
+fn push_spool(text: &mut Vec<u8>, state: &State<'_>) -> Result<(), AllocError> {
+    let node = state.relay.node();
+    push_gauge(
+        text,
+        b"relayd_spool_bytes",
+        b"Octets of the spool file in use.",
+        node.size() as u64,
+    )?;
+    push_gauge(
+        text,
+        b"relayd_spool_limit_bytes",
+        b"Octets that the spool file may take.",
+        node.config().spool_limit,
+    )?;
+    push_count(
+        text,
+        b"relayd_spool_compactions_total",
+        b"How often the spool was compacted.",
+        state.counters.compactions,
+    )?;
+    push_count(
+        text,
+        b"relayd_device_failures_total",
+        b"How often the device of the spool failed.",
+        state.counters.device_failures,
+    )?;
+    if let Some(appended) = state.appended {
+        push_gauge(
+            text,
+            b"relayd_last_append_timestamp_seconds",
+            b"Time at which something was added to the spool last.",
+            appended.seconds(),
+        )?;
+    }
+    push_gauge(
+        text,
+        b"relayd_start_timestamp_seconds",
+        b"Time at which the relay began.",
+        state.since.seconds(),
+    )
+}
+
+fn push_count(
+    text: &mut Vec<u8>,
+    name: &'static [u8],
+    help: &'static [u8],
+    value: u64,
+) -> Result<(), AllocError> {
+    push_alone(text, name, Course::Counter, help, value)
+}
+
+fn push_gauge(
+    text: &mut Vec<u8>,
+    name: &'static [u8],
+    help: &'static [u8],
+    value: u64,
+) -> Result<(), AllocError> {
+    push_alone(text, name, Course::Gauge, help, value)
+}

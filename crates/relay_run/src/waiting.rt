@@ -1,0 +1,86 @@
+//! What a relay waits for, and for how long.
+ghost use Rattle.std.specs.Prelude.{◌≡◌, ◌≤◌, ◌-◌, ℕ, true};
+ghost use Rattle.relay_connections.specs.Readiness.{IsLeftClient, clients_of};
+ghost use Rattle.relay_next_hops.specs.Lanes.{next_due_of};
+ghost use Rattle.relay_next_hops.specs.Readiness.{IsLeftHop, hops_of};
+ghost use Rattle.relay_run.specs.Room.{MayStart, next_look};
+ghost use Rattle.relay_run.specs.declared.waiting.TheConstants.{LONGEST_WAIT};
+
+use crate::door::Door;
+use crate::shell::Shell;
+use crate::status_page::StatusPage;
+use mio::Events;
+use mio::event::Event;
+use relay_connections::{Leaving, Now, Readiness};
+use relay_next_hops::NextHops;
+
+/// The most milliseconds that a wait lasts.
+const LONGEST_WAIT: u64 = 60_000;
+
+impl Shell {
+    /// The system tells what connections may be ready for.
+    pub(crate) fn note_events(&mut self, events: &Events) {
+        for event in events.iter() {
+            self.note_event(event);
+        }
+    }
+
+    fn note_event(&mut self, event: &Event) {
+        let token = event.token().0;
+        let ready = Readiness::of(event);
+        if token < NextHops::FIRST_TOKEN {
+            self.clients.note(token, ready);
+        } else if token < Leaving::FIRST_TOKEN {
+            self.next_hops.note(token - NextHops::FIRST_TOKEN, ready);
+        } else if token < Door::TOKEN {
+            self.leaving.note(token - Leaving::FIRST_TOKEN, ready);
+        } else if token < StatusPage::TOKEN {
+            self.door.note();
+        } else {
+            self.page.note(token - StatusPage::TOKEN, ready);
+        }
+    }
+
+    /// Whether something can be done at once.
+    pub(crate) fn is_ready(&self, now: &Now) -> bool
+        ensures client { (number : ℕ) → IsLeftClient (clients_of self.now.clients) self.now.relay number
+            → result ≡ true }
+        ensures hop { (number : ℕ) → IsLeftHop (hops_of self.now.next_hops) self.now.relay number
+            → result ≡ true }
+    {
+        if self.clients.is_ready(&self.relay) {
+            return true;
+        }
+        if self.next_hops.is_ready(&self.relay, self.may_start()) {
+            return true;
+        }
+        self.door.is_ready(now) || self.leaving.is_ready() || self.page.is_ready(now)
+    }
+
+    /// How many milliseconds may be waited for the system to tell of something, a minute at most: none while a
+    /// connection was left in mid-read, and never past the tick at which the node has told that work may start, or
+    /// while no attempt may begin, past that at which the room is looked at.
+    pub(crate) fn wait(&self, now: &Now) -> u64
+        ensures client { (number : ℕ) → IsLeftClient (clients_of self.now.clients) self.now.relay number
+            → result ≡ 0 }
+        ensures hop { (number : ℕ) → IsLeftHop (hops_of self.now.next_hops) self.now.relay number
+            → result ≡ 0 }
+        ensures due { MayStart self.now.room self.now.relay.node.records.spool.size
+            → result ≤ next_due_of self.now.next_hops - now.now.tick }
+        ensures look { result ≤ next_look self.now.room.standing self.now.room - now.now.tick }
+        ensures longest { result ≤ LONGEST_WAIT }
+    {
+        if self.is_ready(now) {
+            return 0;
+        }
+        let mut next = now.tick.saturating_add(LONGEST_WAIT);
+        next = self.door.next_deadline(next);
+        next = self.clients.next_deadline(next);
+        next = self.leaving.next_deadline(next);
+        next = self.tidying.next_deadline(next);
+        next = self.room.next_deadline(next);
+        next = self.page.next_deadline(next);
+        next = self.next_hops.next_deadline(self.may_start(), next);
+        next.saturating_sub(now.tick)
+    }
+}
