@@ -3,4 +3,3 @@ pub mod Amounts
 pub mod Row
 pub mod Filter
 pub mod Picks
-pub mod Opening

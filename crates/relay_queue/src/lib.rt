@@ -10,7 +10,6 @@ mod filter;
 mod json;
 mod message_text;
 mod metrics;
-mod opening;
 mod picks;
 mod row;
 mod screen;
