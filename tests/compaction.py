@@ -21,7 +21,7 @@ import time
 sys.dont_write_bytecode = True
 
 from mail_checks import hand_in, one_message
-from relay_program import Difference, PATIENCE, Relay, same, until
+from relay_program import Difference, LOCKED, PATIENCE, Relay, same, until
 from running_relay import clients_of, lines_of, number_of, shim
 from smtp_sink import Manners, Sink
 from spool_files import bodies_of, file_of, head_of, snapshot_of, taken_of
@@ -181,8 +181,8 @@ def a_snapshot_that_is_cut_is_refused(field):
 
 def both_files_are_taken_by_serve(field):
     with field.relay.serving():
-        same("compact", field.relay.refused("compact"), (1, "relayd: device"))
-        same("push", field.relay.refused("push"), (1, "relayd: device"))
+        same("compact", field.relay.refused("compact"), LOCKED)
+        same("push", field.relay.refused("push"), LOCKED)
         hand_in(field.relay)
 
 

@@ -122,6 +122,18 @@ if [ "$(stat -c '%a %s' relay.spool)" != '600 18' ]; then
     echo "the spool has the mode and size $(stat -c '%a %s' relay.spool)" >&2
     exit 1
 fi
+# While another process holds the lock of one of its files, no subcommand that takes it does; `list` takes none.
+for file in relay.spool relay.spool.2; do
+    exec 9<> "$file"
+    flock 9
+    for word in push serve compact 'run --quiet'; do
+        # shellcheck disable=SC2086
+        refused 1 $'relayd: device\nrelayd: another relayd holds the spool: stop it, or wait until it ends' \
+            $word --config relayd.toml
+    done
+    refused 0 '' list --config relayd.toml
+    exec 9>&-
+done
 # A message of the first moment, from <a@example.org> to <b@example.org>, as its record stands in a spool by hand: an
 # open gate and the record's 57 octets; its kind and its moment; MAIL's path, and neither RET nor ENVID; one recipient,
 # its path, and neither NOTIFY nor ORCPT; the stored text, which is a line of one letter.

@@ -12,6 +12,9 @@ import time
 # How long anything may take that ought to be over at once, in seconds.
 PATIENCE = 20
 
+# What a subcommand that locks the spool ends with where another process holds the lock: its status, and its lines.
+LOCKED = (1, "relayd: device\nrelayd: another relayd holds the spool: stop it, or wait until it ends")
+
 
 class Difference(Exception):
     """Something is otherwise than it has to be."""

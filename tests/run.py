@@ -22,7 +22,7 @@ import time
 sys.dont_write_bytecode = True
 
 from mail_checks import CONTENT, CONTENTS, behind_mark, hand_in, one_message
-from relay_program import Difference, PATIENCE, same, until
+from relay_program import Difference, LOCKED, PATIENCE, same, until
 from running_relay import TEXT, TIMEOUT, TIMES, TOO_MANY, Client, Feeder, beside, clients_of, comes_to_rest
 from running_relay import greeted, lines_of, no_later, number_of, play_rows, repeats_at, resident, shim, slowest
 from running_relay import tokens_at
@@ -462,7 +462,7 @@ def its_faults_end_it_before_it_is_ready(field):
     same("without standard output", (ended.returncode, ended.stderr), (1, b"relayd: output\n"))
     with relay.running():
         for words in (["run"], ["compact"], ["push"]):
-            same(f"{words[0]} beside run", relay.refused(*words), (1, "relayd: device"))
+            same(f"{words[0]} beside run", relay.refused(*words), LOCKED)
     relay.forget()
     same("no spool", relay.refused("run"),
          (1, 'relayd: spool NotASpool\nrelayd: run "relayd init --config {}" once'.format(relay.file)))

@@ -23,7 +23,7 @@ sys.dont_write_bytecode = True
 
 from mail_checks import CONTENT, CONTENTS, FAILED, behind_mark, connected, converse, fields, hand_in, one_message
 from mail_checks import read_report, talk
-from relay_program import Difference, PATIENCE, Relay, free_port, same
+from relay_program import Difference, LOCKED, PATIENCE, Relay, free_port, same
 from smtp_sink import Manners, Sink
 
 HERE = pathlib.Path(__file__).resolve().parent
@@ -515,7 +515,7 @@ def faults_come_in_their_order(field):
             fcntl.flock(file, fcntl.LOCK_EX)
             file.write(b"no spool")
             file.flush()
-            same(word, relay.refused(word), (1, "relayd: device"))
+            same(word, relay.refused(word), LOCKED)
         same(word, relay.refused(word), (1, "relayd: spool NotASpool"))
         relay.spool.write_bytes(kept)
         relay.route({"example.org": ("next.example", field.sink.port)})
@@ -529,8 +529,8 @@ def faults_come_in_their_order(field):
         relay.spool.write_bytes(kept)
     # What serves has the lock, and gives it back.
     with relay.serving():
-        same("push beside serve", relay.refused("push"), (1, "relayd: device"))
-        same("serve beside serve", relay.refused("serve"), (1, "relayd: device"))
+        same("push beside serve", relay.refused("push"), LOCKED)
+        same("serve beside serve", relay.refused("serve"), LOCKED)
         hand_in(relay)
     same("push after serve", relay.run("push"), [])
 

@@ -96,7 +96,7 @@ pub fn command<
         Ok(Subcommand::Status { file, prometheus }) => {
             ended(status(alloc, system, file, prometheus, writer), errors)
         }
-        Ok(Subcommand::Compact(file)) => ended(compact(alloc, system, file, writer), errors),
+        Ok(Subcommand::Compact(file)) => ended_alone(compact(alloc, system, file, writer), errors),
         Ok(Subcommand::Check { file, route }) => {
             answered(look_into(alloc, system, file, route, writer), errors)
         }
@@ -111,18 +111,22 @@ pub fn command<
                 log,
             },
         ) => {
-            let options = ServeOptions {
-                rounds,
-                workers,
-                log,
-            };
-            ended(serve(alloc, system, file, options, writer, errors), errors)
+            let options = rounds_asked(rounds, workers, log);
+            ended_alone(serve(alloc, system, file, options, writer, errors), errors)
         }
         Ok(Subcommand::Push { file, log }) => {
-            let end = push(alloc, system, file, writer, errors, log);
-            ended(end, errors)
+            ended_alone(push(alloc, system, file, writer, errors, log), errors)
         }
         Err(error) => explain(&error, writer, errors),
+    }
+}
+
+/// The rounds that `serve` asks for.
+fn rounds_asked(rounds: u32, workers: u8, log: bool) -> ServeOptions {
+    ServeOptions {
+        rounds,
+        workers,
+        log,
     }
 }
 
@@ -178,8 +182,8 @@ fn run_checked<
     }
 }
 
-/// Writes the line of a fault that ended `run`, and what helps after it: what is wrong with the configuration, or how a
-/// spool is made. Answers the status.
+/// Writes the line of a fault that ended `run`, and after it what helps: the faults of the configuration, how a spool
+/// is made, or the advice on the fault. Returns the status.
 fn fail_to_run<F: Files<File = File>, E: Write>(
     alloc: Global,
     system: &F,
@@ -189,8 +193,8 @@ fn fail_to_run<F: Files<File = File>, E: Write>(
 ) -> u8
     ensures { result ≡ 1 }
 {
-    let status = fail(errors, fault);
-    // Nothing is left to do where this can't be told: the line of the fault was.
+    let status = fail_with_advice(errors, fault);
+    // Nothing is left to do where this can't be written: the line of the fault was.
     match fault {
         Fault::Config(_) | Fault::Limit(_) => {
             let _ = check(alloc, system, file, errors);
@@ -237,6 +241,17 @@ fn ended<F: Display + Drop, E: Write>(end: Result<(), F>, errors: &mut E) -> u8
     match end {
         Ok(()) => DONE,
         Err(fault) => fail(errors, fault),
+    }
+}
+
+/// The status of the end of a subcommand that locks the spool: as that of [`ended`], with the advice on a fault after
+/// its line.
+fn ended_alone<E: Write>(end: Result<(), Fault>, errors: &mut E) -> u8
+    ensures { MatchResult end (λ _. result ≡ 0) (λ _. result ≡ 1) }
+{
+    match end {
+        Ok(()) => DONE,
+        Err(fault) => fail_with_advice(errors, fault),
     }
 }
 
@@ -298,6 +313,18 @@ fn explain<W: Write, E: Write>(error: &Error, writer: &mut W, errors: &mut E) ->
             WRONG_ARGUMENTS
         }
     }
+}
+
+/// Writes the line of a fault and, on a line of its own, the advice on it, where there is one. Returns the status.
+fn fail_with_advice<E: Write>(errors: &mut E, fault: Fault) -> u8
+    ensures { result ≡ 1 }
+{
+    let status = fail(errors, fault);
+    if let Some(advice) = fault.advice() {
+        // Nothing is left to do where this can't be written: the line of the fault was.
+        let _ = writeln!(errors, "relayd: {advice}");
+    }
+    status
 }
 
 /// Writes the line of a fault, and answers the status.
