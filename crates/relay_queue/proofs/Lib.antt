@@ -1,2 +1,4 @@
+mod JoinLemmas
+mod RowLemmas
 mod ScreenLemmas
 mod TextLemmas

@@ -3,3 +3,5 @@ pub mod Amounts
 pub mod Row
 pub mod Filter
 pub mod Picks
+pub mod Table
+pub mod Printed

@@ -1,22 +1,28 @@
 //! What `list --long`, `list --json`, `show` and `status` do.
+ghost use Rattle.std.specs.Prelude.{◌≡◌, ℕ, IfErr, IfOk, OnOk};
+ghost use Rattle.relay_queue.specs.Printed.{IsListPrinted, IsMessagePrinted, IsNotQueued, IsStatusPrinted};
+ghost use Rattle.relay_queue.specs.Printed.{IsList, IsTextPrinted, ShowsFill};
+
 use crate::fault::QueueFault;
 use crate::filter::Filter;
 use crate::json::json_text;
 use crate::message_text::message_text;
 use crate::metrics::metrics_text;
-use crate::picks::listed_keys;
+use crate::picks::{Key, listed_keys};
+use crate::screen::Screen;
 use crate::status::{Fill, status_text};
-use crate::summary::summaries;
+use crate::summary::{Summaries, summaries};
 use crate::table::table_text;
 use crate::zone::Zone;
-use relay_disk::FileDisk;
-use relay_files::{Fault, configuration, open_to_read};
+use relay_book::Message;
+use relay_disk::{Disk, FileDisk};
+use relay_files::{configuration, open_to_read, write_out};
 use relay_records::Records;
-use relay_routes::Config;
-use relay_trace::clock_moment;
-use std::alloc::Global;
+use relay_routes::{Config, Table};
+use relay_trace::{Moment, clock_moment};
+use std::alloc::{AllocError, Global};
 use std::fs::File;
-use std::io::{self, Write};
+use std::io::Write;
 use std::rt::{Clock, Env, Files};
 
 /// How a list is printed.
@@ -56,19 +62,41 @@ pub fn print_list<R: Files<File = File> + Env + Clock + AllocGlobal, W: Write>(
     filter: &Filter<'_>,
     form: ListForm,
     writer: &mut W,
-) -> Result<(), QueueFault> {
+) -> Result<(), QueueFault>
+    ensures { OnOk result (IsListPrinted filter.now form (W.contents writer.old) (W.contents writer.new)) }
+{
     let config = configuration(alloc, rt, path)?;
     let records = open_to_read(alloc, rt, &config)?;
     let now = clock_moment(rt);
     let keys = listed_keys(alloc, &records, &config.routes, filter, now)?;
-    let screen = match form {
-        ListForm::Table => {
-            let zone = Zone::read(alloc, rt);
-            table_text(alloc, &records, &config.routes, keys.as_slice(), &zone, now)?
-        }
-        ListForm::Json => json_text(alloc, &records, &config.routes, keys.as_slice(), now)?,
-    };
-    write_out(writer, screen.as_slice())
+    let screen = list_text(
+        alloc,
+        rt,
+        &records,
+        &config.routes,
+        keys.as_slice(),
+        form,
+        now,
+    )?;
+    Ok(write_out(writer, screen.as_slice())?)
+}
+
+/// The recipients with these keys in a form.
+fn list_text<R: Files<File = File> + Env + AllocGlobal, D: Disk>(
+    alloc: Global,
+    rt: &R,
+    records: &Records<D>,
+    table: &Table,
+    keys: &[Key],
+    form: ListForm,
+    now: Moment,
+) -> Result<Screen, AllocError>
+    ensures { IfOk result (IsList form now table.now records.now.queue keys.now) }
+{
+    match form {
+        ListForm::Table => table_text(alloc, records, table, keys, &Zone::read(alloc, rt), now),
+        ListForm::Json => json_text(alloc, records, table, keys, now),
+    }
 }
 
 /// Prints a message. It fails with [`QueueFault::NotQueued`] where none of its recipients is queued. The files and the
@@ -80,20 +108,40 @@ pub fn print_message<R: Files<File = File> + Env + Clock + AllocGlobal, W: Write
     number: u64,
     form: MessageForm,
     writer: &mut W,
-) -> Result<(), QueueFault> {
+) -> Result<(), QueueFault>
+    ensures printed { OnOk result (IsMessagePrinted number form (W.contents writer.old) (W.contents writer.new)) }
+    ensures absent { IfErr result (λ fault. (other : ℕ) → fault ≡ QueueFault.NotQueued other
+        → (other ≡ number) × IsNotQueued number) }
+{
     let config = configuration(alloc, rt, path)?;
     let records = open_to_read(alloc, rt, &config)?;
     let Some(message) = records.message(number) else {
         return Err(QueueFault::NotQueued(number));
     };
+    print_text(alloc, rt, message, &config.routes, form, writer)
+}
+
+/// Prints a message in a form.
+fn print_text<R: Files<File = File> + Env + Clock + AllocGlobal, W: Write>(
+    alloc: Global,
+    rt: &R,
+    message: &Message,
+    table: &Table,
+    form: MessageForm,
+    writer: &mut W,
+) -> Result<(), QueueFault>
+    ensures printed { OnOk result (IsTextPrinted form message.now.accept.stored_text (W.contents writer.old)
+        (W.contents writer.new)) }
+    ensures queued { IfErr result (λ fault. (number : ℕ) → ¬ (fault ≡ QueueFault.NotQueued number)) }
+{
     match form {
         MessageForm::Shown => {
             let zone = Zone::read(alloc, rt);
             let now = clock_moment(rt);
-            let screen = message_text(alloc, message, &config.routes, &zone, now)?;
-            write_out(writer, screen.as_slice())
+            let screen = message_text(alloc, message, table, &zone, now)?;
+            Ok(write_out(writer, screen.as_slice())?)
         }
-        MessageForm::Raw => write_out(writer, message.accept.stored_text.as_slice()),
+        MessageForm::Raw => Ok(write_out(writer, message.accept.stored_text.as_slice())?),
     }
 }
 
@@ -104,36 +152,41 @@ pub fn print_status<R: Files<File = File> + Env + Clock + AllocGlobal, W: Write>
     path: &str,
     form: StatusForm,
     writer: &mut W,
-) -> Result<(), QueueFault> {
+) -> Result<(), QueueFault>
+    ensures { OnOk result (IsStatusPrinted form (W.contents writer.old) (W.contents writer.new)) }
+{
     let config = configuration(alloc, rt, path)?;
     let records = open_to_read(alloc, rt, &config)?;
     let now = clock_moment(rt);
     let summaries = summaries(alloc, &records, &config.routes)?;
     let fill = fill_of(&records, &config);
-    let screen = match form {
-        StatusForm::Table => status_text(alloc, &summaries, fill, &Zone::read(alloc, rt), now)?,
-        StatusForm::Metrics => metrics_text(alloc, &summaries, fill, now)?,
-    };
-    write_out(writer, screen.as_slice())
+    let screen = fill_in_form(alloc, rt, &summaries, fill, form, now)?;
+    Ok(write_out(writer, screen.as_slice())?)
+}
+
+/// The queue by next hop, and how full the spool is, in a form.
+fn fill_in_form<R: Files<File = File> + Env + AllocGlobal>(
+    alloc: Global,
+    rt: &R,
+    summaries: &Summaries,
+    fill: Fill,
+    form: StatusForm,
+    now: Moment,
+) -> Result<Screen, AllocError>
+    ensures { IfOk result (ShowsFill form fill.size) }
+{
+    match form {
+        StatusForm::Table => status_text(alloc, summaries, fill, &Zone::read(alloc, rt), now),
+        StatusForm::Metrics => metrics_text(alloc, summaries, fill, now),
+    }
 }
 
 /// How full a spool is.
-fn fill_of(records: &Records<FileDisk>, config: &Config) -> Fill {
+fn fill_of(records: &Records<FileDisk>, config: &Config) -> Fill
+    ensures { result.size ≡ records.now.spool.size }
+{
     Fill {
         size: records.size() as u64,
         limit: config.spool_limit,
     }
-}
-
-/// Writes octets, whole.
-fn write_out<W: Write>(writer: &mut W, octets: &[u8]) -> Result<(), QueueFault> {
-    match write_and_flush(writer, octets) {
-        Ok(()) => Ok(()),
-        Err(error) => Err(QueueFault::Files(Fault::of_output(&error))),
-    }
-}
-
-fn write_and_flush<W: Write>(writer: &mut W, octets: &[u8]) -> io::Result<()> {
-    writer.write_all(octets)?;
-    writer.flush()
 }

@@ -1,4 +1,8 @@
 //! The queue as JSON, one object a line.
+ghost use Rattle.std.specs.Prelude.{◌≡◌, ℕ, List, ◌++◌, IfOk, OnOk};
+ghost use Rattle.relay_queue.specs.Printed.{AreObjects};
+ghost use Rattle.relay_queue.specs.Screen.{shown_line};
+
 use crate::picks::Key;
 use crate::row::{Row, row_at};
 use crate::screen::Screen;
@@ -37,7 +41,9 @@ pub(crate) fn json_text<D: Disk>(
     table: &Table,
     keys: &[Key],
     now: Moment,
-) -> Result<Screen, AllocError> {
+) -> Result<Screen, AllocError>
+    ensures { IfOk result (AreObjects table.now records.now.queue keys.now) }
+{
     let mut screen = Screen::new(alloc);
     for key in keys {
         if let Some(row) = row_at(records, table, key.1, key.2) {
@@ -53,7 +59,9 @@ fn push_object(
     screen: &mut Screen,
     row: &Row<'_>,
     now: Moment,
-) -> Result<(), AllocError> {
+) -> Result<(), AllocError>
+    ensures { OnOk result ((object : List ℕ) × (screen.new ≡ screen.old ++ shown_line object)) }
+{
     let accepted = row.accepted.seconds();
     let listed = Listed {
         message: row.number,

@@ -1,4 +1,7 @@
 //! One message in full.
+ghost use Rattle.std.specs.Prelude.{◌≡◌, ℕ, List, ◌++◌, IfOk};
+ghost use Rattle.relay_queue.specs.Screen.{IsShownText};
+
 use crate::amounts::{push_age, push_size};
 use crate::screen::Screen;
 use crate::table::tries_text;
@@ -9,7 +12,7 @@ use relay_routes::{Hop, Table};
 use relay_trace::Moment;
 use std::alloc::{AllocError, Global};
 
-/// Where the texts behind the names of fields begin.
+/// The column, from 0, at which the texts of fields begin.
 const NAME_WIDTH: usize = 16;
 
 /// What stands for a parameter that wasn't given.
@@ -22,7 +25,10 @@ pub(crate) fn message_text(
     table: &Table,
     zone: &Zone,
     now: Moment,
-) -> Result<Screen, AllocError> {
+) -> Result<Screen, AllocError>
+    ensures { IfOk result (λ screen. (front : List ℕ) × (shown : List ℕ) × (screen ≡ front ++ shown)
+        × IsShownText message.now.accept.stored_text shown) }
+{
     let mut screen = Screen::new(alloc);
     push_envelope(&mut screen, message, zone, now)?;
     let places = message.places.as_slice();

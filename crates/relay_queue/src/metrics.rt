@@ -1,4 +1,8 @@
 //! The queue by next hop as metrics in Prometheus' text exposition format.
+ghost use Rattle.std.specs.Prelude.{◌≡◌, ℕ, List, [], ◌∷◌, ◌++◌, decimal, IfOk, OnOk};
+ghost use Rattle.relay_queue.specs.Printed.{spool_gauge};
+ghost use Rattle.relay_queue.specs.Screen.{shown};
+
 use crate::screen::Screen;
 use crate::status::Fill;
 use crate::summary::{Summaries, Summary};
@@ -22,25 +26,17 @@ pub(crate) fn metrics_text(
     summaries: &Summaries,
     fill: Fill,
     now: Moment,
-) -> Result<Screen, AllocError> {
+) -> Result<Screen, AllocError>
+    ensures { IfOk result (λ screen. (front rest : List ℕ) × (screen ≡ front ++ spool_gauge fill.size ++ rest)) }
+{
     let mut screen = Screen::new(alloc);
     push_by_hop(&mut screen, ByHop::Messages, summaries, now)?;
     push_by_hop(&mut screen, ByHop::Recipients, summaries, now)?;
     push_by_hop(&mut screen, ByHop::Octets, summaries, now)?;
     push_by_hop(&mut screen, ByHop::OldestAge, summaries, now)?;
     push_by_hop(&mut screen, ByHop::NextTry, summaries, now)?;
-    push_alone(
-        &mut screen,
-        b"relayd_spool_bytes",
-        b"Octets of the spool file in use.",
-        fill.size,
-    )?;
-    push_alone(
-        &mut screen,
-        b"relayd_spool_limit_bytes",
-        b"Octets that the spool file may take.",
-        fill.limit,
-    )?;
+    push_spool_size(&mut screen, fill.size)?;
+    push_spool_limit(&mut screen, fill.limit)?;
     Ok(screen)
 }
 
@@ -98,8 +94,35 @@ fn push_by_hop(
     Ok(())
 }
 
+/// Adds the gauge of the spool's size.
+fn push_spool_size(screen: &mut Screen, size: u64) -> Result<(), AllocError>
+    ensures { OnOk result ((front : List ℕ) × (screen.new ≡ front ++ spool_gauge size)) }
+{
+    push_alone(
+        screen,
+        b"relayd_spool_bytes",
+        b"Octets of the spool file in use.",
+        size,
+    )
+}
+
+/// Adds the gauge of the limit of the spool's size.
+fn push_spool_limit(screen: &mut Screen, limit: u64) -> Result<(), AllocError>
+    ensures { OnOk result ((added : List ℕ) × (screen.new ≡ screen.old ++ added)) }
+{
+    push_alone(
+        screen,
+        b"relayd_spool_limit_bytes",
+        b"Octets that the spool file may take.",
+        limit,
+    )
+}
+
 /// Adds a metric with one sample.
-fn push_alone(screen: &mut Screen, name: &[u8], help: &[u8], value: u64) -> Result<(), AllocError> {
+fn push_alone(screen: &mut Screen, name: &[u8], help: &[u8], value: u64) -> Result<(), AllocError>
+    ensures { OnOk result ((head : List ℕ) × (screen.new
+        ≡ screen.old ++ head ++ shown name.now ++ 32 ∷ decimal value ++ 10 ∷ [])) }
+{
     push_head(screen, name, help)?;
     screen.push(name)?;
     screen.push(b" ")?;
@@ -108,7 +131,9 @@ fn push_alone(screen: &mut Screen, name: &[u8], help: &[u8], value: u64) -> Resu
 }
 
 /// Adds the lines that stand before the samples of a gauge.
-fn push_head(screen: &mut Screen, name: &[u8], help: &[u8]) -> Result<(), AllocError> {
+fn push_head(screen: &mut Screen, name: &[u8], help: &[u8]) -> Result<(), AllocError>
+    ensures { OnOk result ((head : List ℕ) × (screen.new ≡ screen.old ++ head)) }
+{
     screen.push(b"# HELP ")?;
     screen.push(name)?;
     screen.push(b" ")?;

@@ -1,4 +1,7 @@
 //! The queue by next hop, and how full the spool is, for people.
+ghost use Rattle.std.specs.Prelude.{◌≡◌, ℕ, ◌*◌, ◌/◌, ◌-◌, ◌^◌, min, max, List, ◌++◌, IfOk, OnOk};
+ghost use Rattle.relay_queue.specs.Printed.{fill_text};
+
 use crate::amounts::{push_age, push_size};
 use crate::columns::{push_left, push_right};
 use crate::screen::Screen;
@@ -27,7 +30,9 @@ pub(crate) struct Fill {
 
 impl Fill {
     /// How full the spool is, in percent.
-    pub(crate) fn percent(self) -> u64 {
+    pub(crate) fn percent(self) -> u64
+        ensures { result ≡ min (self.size * 100) (2 ^ 64 - 1) / max self.limit 1 }
+    {
         self.size.saturating_mul(100) / self.limit.max(1)
     }
 }
@@ -39,7 +44,9 @@ pub(crate) fn status_text(
     fill: Fill,
     zone: &Zone,
     now: Moment,
-) -> Result<Screen, AllocError> {
+) -> Result<Screen, AllocError>
+    ensures { IfOk result (λ screen. (front : List ℕ) × (screen ≡ front ++ fill_text fill.size fill.limit)) }
+{
     let mut screen = Screen::new(alloc);
     let mut cell = Screen::new(alloc);
     if !summaries.is_empty() {
@@ -97,7 +104,9 @@ fn shown_name(name: &[u8]) -> &[u8] {
 }
 
 /// Adds how full the spool is: `spool 1.2 MiB of 64.0 MiB, 1 %`.
-fn push_fill(screen: &mut Screen, fill: Fill) -> Result<(), AllocError> {
+fn push_fill(screen: &mut Screen, fill: Fill) -> Result<(), AllocError>
+    ensures { OnOk result (screen.new ≡ screen.old ++ fill_text fill.size fill.limit) }
+{
     screen.push(b"spool ")?;
     push_size(screen, fill.size)?;
     screen.push(b" of ")?;

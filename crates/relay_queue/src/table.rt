@@ -1,4 +1,8 @@
 //! The queue as a table for people.
+ghost use Rattle.std.specs.Prelude.{◌≡◌, ℕ, List, ◌++◌, ◌-◌, IfOk, OnOk};
+ghost use Rattle.relay_queue.specs.Row.{said_by};
+ghost use Rattle.relay_queue.specs.Table.{IsTable, names_text, numbers_text, row_text, tries_and_time, tries_text};
+
 use crate::amounts::{push_age, push_size};
 use crate::columns::{push_left, push_right};
 use crate::picks::Key;
@@ -52,7 +56,9 @@ pub(crate) fn table_text<D: Disk>(
     keys: &[Key],
     zone: &Zone,
     now: Moment,
-) -> Result<Screen, AllocError> {
+) -> Result<Screen, AllocError>
+    ensures { IfOk result (IsTable now table.now records.now.queue keys.now) }
+{
     let mut screen = Screen::new(alloc);
     let mut cell = Screen::new(alloc);
     let widths = widths_of(records, table, keys);
@@ -114,7 +120,24 @@ fn push_row(
     widths: Widths,
     zone: &Zone,
     now: Moment,
-) -> Result<(), AllocError> {
+) -> Result<(), AllocError>
+    ensures { OnOk result ((time : List ℕ)
+        × (screen.new ≡ screen.old ++ row_text widths now time (said_by row.now))) }
+{
+    push_numbers(screen, cell, row, now)?;
+    push_names(screen, row, widths)?;
+    push_tries(screen, row, &zone.time(row.due))
+}
+
+/// Adds the number of a recipient's message, its age and its size.
+fn push_numbers(
+    screen: &mut Screen,
+    cell: &mut Screen,
+    row: &Row<'_>,
+    now: Moment,
+) -> Result<(), AllocError>
+    ensures { OnOk result (screen.new ≡ screen.old ++ numbers_text now (said_by row.now)) }
+{
     cell.clear();
     cell.push_number(row.number)?;
     push_right(screen, cell.as_slice(), NUMBER_WIDTH)?;
@@ -123,26 +146,42 @@ fn push_row(
     push_right(screen, cell.as_slice(), AGE_WIDTH + 2)?;
     cell.clear();
     push_size(cell, row.size as u64)?;
-    push_right(screen, cell.as_slice(), SIZE_WIDTH + 2)?;
+    push_right(screen, cell.as_slice(), SIZE_WIDTH + 2)
+}
+
+/// Adds the paths and the next hop of a recipient.
+fn push_names(screen: &mut Screen, row: &Row<'_>, widths: Widths) -> Result<(), AllocError>
+    ensures { OnOk result (screen.new ≡ screen.old ++ names_text widths (said_by row.now)) }
+{
     screen.push_spaces(2)?;
     push_left(screen, row.reverse_path, widths.reverse_path)?;
     screen.push_spaces(2)?;
     push_left(screen, row.path, widths.path)?;
     screen.push_spaces(2)?;
-    push_left(screen, row.hop.unwrap_or(NO_HOP), widths.hop)?;
+    push_left(screen, row.hop.unwrap_or(NO_HOP), widths.hop)
+}
+
+/// Adds how often a recipient was deferred and when it is due, and ends its line.
+fn push_tries(screen: &mut Screen, row: &Row<'_>, time: &[u8]) -> Result<(), AllocError>
+    ensures { OnOk result (screen.new ≡ screen.old ++ tries_and_time time.now (said_by row.now)) }
+{
     push_right(screen, tries_text(row.tries), TRIES_WIDTH + 2)?;
     screen.push_spaces(2)?;
-    screen.push(&zone.time(row.due))?;
+    screen.push(time)?;
     screen.end_line()
 }
 
 /// How many seconds ago the message of a recipient was accepted.
-fn age_of(row: &Row<'_>, now: Moment) -> u64 {
+fn age_of(row: &Row<'_>, now: Moment) -> u64
+    ensures { result ≡ now - row.now.accepted }
+{
     now.seconds().saturating_sub(row.accepted.seconds())
 }
 
 /// How often a recipient was deferred, as it is shown.
-pub(crate) fn tries_text(tries: u8) -> &'static [u8] {
+pub(crate) fn tries_text(tries: u8) -> &'static [u8]
+    ensures { result.now ≡ tries_text tries }
+{
     match tries {
         0 => b"0",
         1 => b"1",
@@ -184,7 +223,9 @@ fn size_of<D: Disk>(records: &Records<D>, number: u64) -> u64 {
 }
 
 /// Adds the last line: `12 messages, 15 recipients, 1.2 MiB; oldest 3 h`.
-fn push_totals(screen: &mut Screen, totals: Totals) -> Result<(), AllocError> {
+fn push_totals(screen: &mut Screen, totals: Totals) -> Result<(), AllocError>
+    ensures { OnOk result ((sums : List ℕ) × (screen.new ≡ screen.old ++ sums)) }
+{
     push_count(screen, totals.messages, b"message")?;
     screen.push(b", ")?;
     push_count(screen, totals.recipients, b"recipient")?;
@@ -198,7 +239,9 @@ fn push_totals(screen: &mut Screen, totals: Totals) -> Result<(), AllocError> {
 }
 
 /// Adds a number and a noun, in the plural unless there is one.
-fn push_count(screen: &mut Screen, count: u64, noun: &[u8]) -> Result<(), AllocError> {
+fn push_count(screen: &mut Screen, count: u64, noun: &[u8]) -> Result<(), AllocError>
+    ensures { OnOk result ((text : List ℕ) × (screen.new ≡ screen.old ++ text)) }
+{
     screen.push_number(count)?;
     screen.push(b" ")?;
     screen.push(noun)?;

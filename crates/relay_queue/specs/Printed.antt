@@ -1,0 +1,104 @@
+-- What `list`, `show` and `status` print: it is of the queue that files were opened to, and a terminal may see it.
+use Rattle.std.specs.Prelude.{◌≡◌, ℕ, ◌*◌, ◌/◌, ◌-◌, ◌^◌, min, max, List, [], ◌++◌, map, codes, decimal}
+use Rattle.std.specs.Prelude.{Option, None, Some}
+use Rattle.std.specs.List.{flat_map}
+use Rattle.std.specs.List.Sorted.{IsPermutation}
+use Rattle.std.specs.Option.{option_map_or}
+use Rattle.std.specs.Io.KnownBytes.{Appends}
+use Rattle.relay_disk.specs.declared.file.FileDisk.{FileDisk}
+use Rattle.relay_routes.specs.Routes.{RouteTable}
+use Rattle.relay_book.specs.declared.message.Message.{Message}
+use Rattle.relay_book.specs.Queue.{Queue, message_of}
+use Rattle.relay_records.specs.Records.{Kept}
+use Rattle.relay_files.specs.Opening.{IsOpened}
+use Rattle.relay_queue.specs.declared.calls.ListForm.{ListForm}
+use Rattle.relay_queue.specs.declared.calls.ListForm.TheVariants.{Table, Json}
+use Rattle.relay_queue.specs.declared.calls.MessageForm.{MessageForm}
+use Rattle.relay_queue.specs.declared.calls.MessageForm.TheVariants.{Shown, Raw}
+use Rattle.relay_queue.specs.declared.calls.StatusForm.{StatusForm}
+use Rattle.relay_queue.specs.declared.calls.StatusForm.TheVariants.{Table as StatusTable, Metrics}
+use Rattle.relay_queue.specs.declared.filter.Filter.{Filter}
+use Rattle.relay_queue.specs.Amounts.{size_text}
+use Rattle.relay_queue.specs.Picks.{keys_of}
+use Rattle.relay_queue.specs.Row.{queued_at}
+use Rattle.relay_queue.specs.Screen.{AreSafe, IsShownText, shown_line}
+use Rattle.relay_queue.specs.Table.{IsTable}
+
+-- the line of a recipient as an object, where it is queued
+abbrev pub object_line : RouteTable → Queue → (ℕ × ℕ × ℕ) × List ℕ → List ℕ
+object_line table queue row =
+    option_map_or (λ _. shown_line row.1) (queued_at table queue (row.0.1, row.0.2)) []
+
+-- recipients as objects: a line for each key, in their order
+pub record AreObjects (table : RouteTable) (queue : Queue) (keys : List (ℕ × ℕ × ℕ)) (text : List ℕ) : Type 0 where
+  pub rows : List ((ℕ × ℕ × ℕ) × List ℕ)
+  pub keys_are : map (λ row. row.0) rows ≡ keys
+  pub text_is : text ≡ flat_map (object_line table queue) rows
+
+-- the recipients with these keys, in a form
+abbrev pub IsList : ListForm → ℕ → RouteTable → Queue → List (ℕ × ℕ × ℕ) → List ℕ → Type 0
+IsList Table now table queue keys text = IsTable now table queue keys text
+IsList Json now table queue keys text = AreObjects table queue keys text
+
+-- the queued recipients that pass the filter were printed, by some routes and at some moment
+pub record IsListPrinted (filter : Filter) (form : ListForm) (old new : Option (List ℕ)) : Type 0 where
+  pub records : Kept FileDisk
+  pub opened : IsOpened records
+  pub table : RouteTable
+  pub now : ℕ
+  pub keys : List (ℕ × ℕ × ℕ)
+  pub picked : IsPermutation (keys_of filter now table records.queue) keys
+  pub text : List ℕ
+  pub listed : IsList form now table records.queue keys text
+  pub safe : AreSafe text
+  pub written : Appends old new text
+
+-- a message for people ends with its text, line by line
+pub record IsShown (stored_text : List ℕ) (old new : Option (List ℕ)) : Type 0 where
+  pub front : List ℕ
+  pub shown : List ℕ
+  pub text_is : IsShownText stored_text shown
+  pub safe : AreSafe (front ++ shown)
+  pub written : Appends old new (front ++ shown)
+
+-- a stored text in a form: alone, octet by octet, or after what is known of the message
+abbrev pub IsTextPrinted : MessageForm → List ℕ → Option (List ℕ) → Option (List ℕ) → Type 0
+IsTextPrinted Shown stored_text old new = IsShown stored_text old new
+IsTextPrinted Raw stored_text old new = Appends old new stored_text
+
+-- the message of this number was printed, which is queued
+pub record IsMessagePrinted (number : ℕ) (form : MessageForm) (old new : Option (List ℕ)) : Type 0 where
+  pub records : Kept FileDisk
+  pub opened : IsOpened records
+  pub message : Message
+  pub queued : message_of records.queue.messages number ≡ Some message
+  pub printed : IsTextPrinted form message.accept.stored_text old new
+
+-- no message of this number is queued
+pub record IsNotQueued (number : ℕ) : Type 0 where
+  pub records : Kept FileDisk
+  pub opened : IsOpened records
+  pub absent : message_of records.queue.messages number ≡ None
+
+-- how full a spool of a size is, by a limit, both in octets
+abbrev pub fill_text : ℕ → ℕ → List ℕ
+fill_text size limit =
+    codes "spool " ++ size_text size ++ codes " of " ++ size_text limit ++ codes ", "
+    ++ decimal (min (size * 100) (2 ^ 64 - 1) / max limit 1) ++ codes " %\n"
+
+abbrev pub spool_gauge : ℕ → List ℕ
+spool_gauge size = codes "relayd_spool_bytes " ++ decimal size ++ codes "\n"
+
+-- the size of a spool in a form: the last line, after those of the next hops, or a gauge among others
+abbrev pub ShowsFill : StatusForm → ℕ → List ℕ → Type 0
+ShowsFill StatusTable size text = (front : List ℕ) × (limit : ℕ) × (text ≡ front ++ fill_text size limit)
+ShowsFill Metrics size text = (front rest : List ℕ) × (text ≡ front ++ spool_gauge size ++ rest)
+
+-- the state of a spool was printed, whose files were opened
+pub record IsStatusPrinted (form : StatusForm) (old new : Option (List ℕ)) : Type 0 where
+  pub records : Kept FileDisk
+  pub opened : IsOpened records
+  pub text : List ℕ
+  pub fill : ShowsFill form records.spool.size text
+  pub safe : AreSafe text
+  pub written : Appends old new text
