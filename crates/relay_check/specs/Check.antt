@@ -1,8 +1,54 @@
--- What `check` answers of a configuration's text.
-use Rattle.std.specs.Prelude.{ℕ, List, Ok}
+-- What `check` answers of a configuration's text, and what it writes.
+use Rattle.std.specs.Prelude.{◌≡◌, ◌⊎◌, ℕ, Bool, true, false, not, List, ◌++◌, codes, decimal, Option, Ok, IsTrue}
+use Rattle.std.specs.List.{flat_map, list_any}
+use Rattle.std.specs.Io.KnownBytes.{Appends, Keeps}
 use Rattle.relay_routes.specs.declared.config.Config.{Config}
 use Rattle.relay_routes.specs.Config.{ReadsConfig}
+use Rattle.relay_check.specs.declared.findings.Severity.{Severity}
+use Rattle.relay_check.specs.declared.findings.Severity.TheVariants.{Error, Ignored, Warning}
+use Rattle.relay_check.specs.declared.findings.Finding.{Finding}
 
 -- the text says a configuration, by which a relay can run
 abbrev pub SaysConfiguration : List ℕ → Type 0
 SaysConfiguration text = (config : Config) × ReadsConfig text (Ok config)
+
+-- a finding is an error but for a warning: what a relay ignores is one, too
+abbrev pub is_severe : Severity → Bool
+is_severe Error = true
+is_severe Ignored = true
+is_severe Warning = false
+
+abbrev pub severity_text : Severity → List ℕ
+severity_text Error = codes "error"
+severity_text Ignored = codes "error"
+severity_text Warning = codes "warning"
+
+abbrev pub is_error : Finding → Bool
+is_error finding = is_severe finding.severity
+
+-- a finding is an error
+abbrev pub HasError : List Finding → Type 0
+HasError findings = list_any is_error findings ≡ true
+
+-- `FILE:LINE:COLUMN: error|warning: MESSAGE`
+abbrev pub finding_line : List ℕ → Finding → List ℕ
+finding_line file finding =
+    file ++ codes ":" ++ decimal finding.position.line ++ codes ":" ++ decimal finding.position.column ++ codes ": "
+    ++ severity_text finding.severity ++ codes ": " ++ finding.message ++ codes "\n"
+
+-- each finding was written on a line of its own. The answer is no exactly where one is an error, and a text that says
+-- no configuration has one
+pub record IsChecked (file : List ℕ) (passes : Bool) (old new : Option (List ℕ)) : Type 0 where
+  pub text : List ℕ
+  pub findings : List Finding
+  pub written : Appends old new (flat_map (finding_line file) findings)
+  pub passes_is : passes ≡ not (list_any is_error findings)
+  pub configuration : SaysConfiguration text ⊎ HasError findings
+
+-- warnings alone were written, each on a line of its own, of a text that says a configuration
+pub record IsWarned (file : List ℕ) (old new : Option (List ℕ)) : Type 0 where
+  pub text : List ℕ
+  pub findings : List Finding
+  pub written : Appends old new (flat_map (finding_line file) findings)
+  pub warnings : list_any is_error findings ≡ false
+  pub configuration : SaysConfiguration text

@@ -1,6 +1,6 @@
-ghost use Rattle.std.specs.Prelude.{◌↔◌, IfOk, IsTrue};
+ghost use Rattle.std.specs.Prelude.{◌≡◌, ◌⊎◌, ◌↔◌, false, IfOk, IsTrue, OnOk};
 ghost use Rattle.toml.specs.Errors.{IsMemory};
-ghost use Rattle.relay_check.specs.Check.{SaysConfiguration};
+ghost use Rattle.relay_check.specs.Check.{HasError, IsChecked, IsWarned, SaysConfiguration};
 
 use crate::document::routes_of;
 use crate::findings::Findings;
@@ -9,7 +9,7 @@ use crate::position::Place;
 use crate::risks::check_risks;
 use crate::routes::check_routes;
 use crate::values::check_values;
-use relay_files::{Fault, configuration_text, gathering};
+use relay_files::{Fault, configuration_text, write_out};
 use relay_routes::{Config, ConfigFault};
 use std::alloc::{AllocError, Global};
 use std::fs::File;
@@ -17,53 +17,59 @@ use std::io::Write;
 use std::rt::Files;
 
 /// Checks the configuration in a file. Each finding is a line on `writer`, in the order of their places:
-/// `FILE:LINE:COLUMN: error|warning: ..`. Answers whether a relay can run by the file: whether no finding is an error.
+/// `FILE:LINE:COLUMN: error|warning: ..`. Returns whether a relay can run by the file: whether no finding is an error.
 /// It fails where the file can't be read, a line can't be written, or memory runs out.
 pub fn check<F: Files<File = File>, W: Write>(
     alloc: Global,
     files: &F,
     file: &str,
     writer: &mut W,
-) -> Result<bool, Fault> {
+) -> Result<bool, Fault>
+    ensures { IfOk result (λ passes. IsChecked file.now passes (W.contents writer.old) (W.contents writer.new)) }
+{
     let text = configuration_text(alloc, files, file)?;
     let mut findings = Findings::new(alloc, text.as_str());
-    let is_configuration = check_text(alloc, files, text.as_str(), &mut findings)?;
-    match findings.write(file, &mut gathering(alloc, writer)?) {
-        Ok(()) => Ok(is_configuration && !findings.has_error()),
-        Err(error) => Err(Fault::of_output(&error)),
-    }
+    check_text(alloc, files, text.as_str(), &mut findings)?;
+    findings.sort()?;
+    let lines = findings.lines(alloc, file)?;
+    write_out(writer, lines.as_slice())?;
+    Ok(!findings.has_error())
 }
 
-/// Tells, before a relay runs by the configuration in a file, what `check` finds in it: each finding as a warning.
-/// Where no relay can run by it nothing is told. It fails as `check` does.
+/// Writes what `check` finds in the configuration in a file before a relay runs by it: each finding as a warning, and
+/// nothing where no relay can run by it. It fails as `check` does.
 pub fn warn<F: Files<File = File>, W: Write>(
     alloc: Global,
     files: &F,
     file: &str,
     writer: &mut W,
-) -> Result<(), Fault> {
+) -> Result<(), Fault>
+    ensures { OnOk result ((W.contents writer.new ≡ W.contents writer.old)
+        ⊎ IsWarned file.now (W.contents writer.old) (W.contents writer.new)) }
+{
     let text = configuration_text(alloc, files, file)?;
     let mut findings = Findings::new(alloc, text.as_str());
-    check_text(alloc, files, text.as_str(), &mut findings)?;
+    let is_configuration = check_text(alloc, files, text.as_str(), &mut findings)?;
     findings.soften();
-    if findings.has_error() {
+    if !is_configuration || findings.has_error() {
         return Ok(());
     }
-    match findings.write(file, &mut gathering(alloc, writer)?) {
-        Ok(()) => Ok(()),
-        Err(error) => Err(Fault::of_output(&error)),
-    }
+    findings.sort()?;
+    let lines = findings.lines(alloc, file)?;
+    write_out(writer, lines.as_slice())?;
+    Ok(())
 }
 
-/// Looks for all that is wrong with a text, and for what is risky where that keeps no relay from running. Answers
-/// whether the text says a configuration.
+/// Looks for all that is wrong with a text, and for what is risky where that keeps no relay from running. Returns
+/// whether the text says a configuration; where it says none, a finding is an error.
 fn check_text<F: Files<File = File>>(
     alloc: Global,
     files: &F,
     text: &str,
     findings: &mut Findings<'_>,
 ) -> Result<bool, Fault>
-    ensures { IfOk result (λ is_configuration. IsTrue is_configuration ↔ SaysConfiguration text.now) }
+    ensures answers { IfOk result (λ is_configuration. IsTrue is_configuration ↔ SaysConfiguration text.now) }
+    ensures found { IfOk result (λ is_configuration. is_configuration ≡ false → HasError findings.new.found.items) }
 {
     let document = match toml::table_from_str(alloc, text) {
         Ok(document) => document,
@@ -83,8 +89,23 @@ fn check_text<F: Files<File = File>>(
             Ok(true)
         }
         Err(fault) if fault == ConfigFault::NoMemory => Err(Fault::NoMemory),
-        Err(_) => Ok(false),
+        Err(fault) => {
+            refuse(alloc, fault, findings)?;
+            Ok(false)
+        }
     }
+}
+
+/// Sees to it that a text which says no configuration has an error: the fault of the reader, where none of the checks
+/// before has found one.
+fn refuse(alloc: Global, fault: ConfigFault, findings: &mut Findings<'_>) -> Result<(), AllocError>
+    ensures { OnOk result (HasError findings.new.found.items) }
+{
+    if findings.has_error() {
+        return Ok(());
+    }
+    let message = format!(in alloc; "{fault}")?;
+    findings.error(Place::Whole, message)
 }
 
 /// Finds where a text stops being TOML. It fails where the reader of TOML ran out of memory.
@@ -93,7 +114,8 @@ fn check_syntax(
     error: &toml::de::Error,
     findings: &mut Findings<'_>,
 ) -> Result<(), AllocError>
-    ensures { IfOk result (λ _. ¬ IsMemory error.now) }
+    ensures syntax { IfOk result (λ _. ¬ IsMemory error.now) }
+    ensures found { OnOk result (HasError findings.new.found.items) }
 {
     let Some(span) = error.span() else {
         return Err(AllocError);

@@ -1,8 +1,12 @@
 //! The findings in a text: each is an error or a warning, with its place.
+ghost use Rattle.std.specs.Prelude.{◌≡◌, ◌++◌, true, IfOk, OnOk};
+ghost use Rattle.std.specs.List.{flat_map, list_any};
+ghost use Rattle.std.specs.List.Sorted.{IsPermutation};
+ghost use Rattle.relay_check.specs.Check.{HasError, finding_line, is_error, is_severe, severity_text};
+
 use crate::position::{Place, Position, position_of};
 use std::alloc::{AllocError, Global};
 use std::fmt;
-use std::io::{self, Write};
 
 /// How much a finding matters.
 #[derive(Clone, Copy, Drop, PartialEq, Eq)]
@@ -15,7 +19,24 @@ enum Severity {
     Warning,
 }
 
+impl Severity {
+    /// Whether a text with such a finding fails the check.
+    fn is_severe(self) -> bool
+        ensures { result ≡ is_severe self }
+    {
+        match self {
+            Severity::Error | Severity::Ignored => true,
+            Severity::Warning => false,
+        }
+    }
+}
+
 impl fmt::Display for Severity {
+    ghost use Rattle.std.specs.Prelude.{Some};
+    ghost use Rattle.relay_check.specs.Check.{severity_text};
+
+    ghost output = { λ severity. Some (severity_text severity) };
+
     fn fmt<W: fmt::Write>(&self, f: &mut fmt::Formatter<W>) -> fmt::Result {
         f.write_str(match self {
             Severity::Error | Severity::Ignored => "error",
@@ -32,6 +53,19 @@ struct Finding {
     message: String,
 }
 
+impl Finding {
+    /// Adds its line.
+    fn push_line(&self, alloc: Global, file: &str, lines: &mut Vec<u8>) -> Result<(), AllocError>
+        ensures { OnOk result (lines.new.items ≡ lines.old.items ++ finding_line file.now self.now) }
+    {
+        let Position { line, column } = self.position;
+        let severity = self.severity;
+        let message = self.message.as_str();
+        let text = format!(in alloc; "{file}:{line}:{column}: {severity}: {message}\n")?;
+        lines.extend_from_slice(text.as_bytes())
+    }
+}
+
 /// What was found in a text so far.
 #[derive(Drop)]
 pub(crate) struct Findings<'t> {
@@ -40,7 +74,7 @@ pub(crate) struct Findings<'t> {
 }
 
 impl<'t> Findings<'t> {
-    /// Nothing was found in this text yet. It takes no memory.
+    /// Creates a list without findings for a text. It takes no memory.
     pub fn new(alloc: Global, text: &'t str) -> Self {
         Findings {
             text,
@@ -49,7 +83,9 @@ impl<'t> Findings<'t> {
     }
 
     /// Adds an error. It fails where memory runs out.
-    pub fn error(&mut self, place: Place<'_>, message: String) -> Result<(), AllocError> {
+    pub fn error(&mut self, place: Place<'_>, message: String) -> Result<(), AllocError>
+        ensures { OnOk result (HasError self.new.found.items) }
+    {
         self.add(Severity::Error, place, message)
     }
 
@@ -63,12 +99,15 @@ impl<'t> Findings<'t> {
         self.add(Severity::Warning, place, message)
     }
 
+    #[tactic(auto, using(crate::proofs::FindingLemmas::error_added))]
     fn add(
         &mut self,
         severity: Severity,
         place: Place<'_>,
         message: String,
-    ) -> Result<(), AllocError> {
+    ) -> Result<(), AllocError>
+        ensures { OnOk result (is_severe severity ≡ true → HasError self.new.found.items) }
+    {
         let finding = Finding {
             position: position_of(self.text, place),
             severity,
@@ -78,11 +117,13 @@ impl<'t> Findings<'t> {
         Ok(())
     }
 
-    /// Whether there is an error among them.
-    pub fn has_error(&self) -> bool {
+    /// Whether one of them is an error.
+    pub fn has_error(&self) -> bool
+        ensures { result ≡ list_any is_error self.now.found.items }
+    {
         self.found
             .iter()
-            .any(|finding| finding.severity != Severity::Warning)
+            .any(|finding| finding.severity.is_severe())
     }
 
     /// Lets what a relay ignores be no more than a warning.
@@ -94,17 +135,21 @@ impl<'t> Findings<'t> {
         }
     }
 
-    /// Writes a line for each, in the order of their places, and flushes the writer.
-    pub fn write<W: Write>(&mut self, file: &str, writer: &mut W) -> io::Result<()> {
-        self.found.sort_by_key(|finding| finding.position)?;
+    /// Puts them into the order of their places.
+    pub fn sort(&mut self) -> Result<(), AllocError>
+        ensures { IsPermutation self.old.found.items self.new.found.items }
+    {
+        self.found.sort_by_key(|finding| finding.position)
+    }
+
+    /// Returns a line for each, with the name of the file that the text is from.
+    pub fn lines(&self, alloc: Global, file: &str) -> Result<Vec<u8>, AllocError>
+        ensures { IfOk result (λ lines. lines.items ≡ flat_map (finding_line file.now) self.now.found.items) }
+    {
+        let mut lines = Vec::new(alloc);
         for finding in &self.found {
-            let Position { line, column } = finding.position;
-            writeln!(
-                writer,
-                "{file}:{line}:{column}: {}: {}",
-                finding.severity, finding.message
-            )?;
+            finding.push_line(alloc, file, &mut lines)?;
         }
-        writer.flush()
+        Ok(lines)
     }
 }

@@ -6,12 +6,12 @@ use Rattle.relay_check.specs.Check.{SaysConfiguration}
 use Rattle.relay_check.proofs.RefusalLemmas.{refused_says_none}
 use Rattle.relay_check.proofs.checking.check_text.Goals as goal
 
-pub returns-in-Ok-read : goal.returns-in-Ok-read
-returns-in-Ok-read g c = (λ yes. (c.in-Ok-read.config, c.in-Ok-read.ensures.ok), λ says. search rules)
+pub returns-in-Ok-read-clause-answers : goal.returns-in-Ok-read-clause-answers
+returns-in-Ok-read-clause-answers g c = (λ yes. (c.in-Ok-read.config, c.in-Ok-read.ensures.ok), λ says. search rules)
 
-pub returns : goal.returns
-returns g c = (λ yes. absurd (cc yes), λ says. by_fault says c.in-Err-2.ensures.err)
+pub returns-clause-answers : goal.returns-clause-answers
+returns-clause-answers g c = (λ yes. absurd (cc yes), λ says. by_fault says c.in-Err-2.ensures.err)
   where
-    by_fault : SaysConfiguration c.args.text.now → (c.in-Err-2.field-0 ≡ NoMemory) ⊎ ReadsConfig c.args.text.now (Err c.in-Err-2.field-0) → IsTrue false
+    by_fault : SaysConfiguration c.args.text.now → (c.in-Err-2.fault ≡ NoMemory) ⊎ ReadsConfig c.args.text.now (Err c.in-Err-2.fault) → IsTrue false
     by_fault says (inl memory) = search rules
-    by_fault says (inr bad) = absurd (refused_says_none c.args.text.now c.in-Err-2.field-0 bad says)
+    by_fault says (inr bad) = absurd (refused_says_none c.args.text.now c.in-Err-2.fault bad says)
