@@ -112,7 +112,7 @@ def a_push_of_serve_ends_alone(field):
     try:
         hand_in(relay)
         line = process.stderr.readline()
-        same("the line", line, b"relayd: socket: a push has ended, and what is due stays due\n")
+        same("the line", line, b"relayd: push-ended reason=socket\n")
         resource.prlimit(process.pid, resource.RLIMIT_NOFILE, (64, 64))
         with connected(relay) as link:
             leave(link)
