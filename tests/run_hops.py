@@ -216,7 +216,8 @@ def a_hop_that_takes_no_connection_is_lost_after_half_a_minute(field):
             waited = (time.monotonic() - begun) * 20
             put_off = re.compile(r".*Z relayd: deferred message=1 hop=hop\.example addr=127\.0\.0\.1:\d+ delay=\d+s "
                                  "to=<c@example.net> status=deferred reason=timeout")
-            same("what it is said", [bool(put_off.fullmatch(line)) for line in lines_of(relay, "status=")], [True])
+            lines = lines_of(relay, " to=<c@example.net> status=")
+            same("what it is said", [bool(put_off.fullmatch(line)) for line in lines], [True])
             comes_to_rest(process, "after a hop that took no connection")
         if waited < 29:
             raise Difference(f"it is lost after {waited:.1f} s")
