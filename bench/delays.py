@@ -86,7 +86,7 @@ def compactions(field, crowd):
         for _ in range(PASSING):
             other.hand_in(text=MEGABYTE)
         waits = waits_of(client)
-        until("a compaction", lambda: waits.extend(waits_of(client, 1)) or lines_of(relay, "spool compacted"))
+        until("a compaction", lambda: waits.extend(waits_of(client, 1)) or lines_of(relay, "relayd: compacted"))
         tell(crowd, waits)
 
 

@@ -83,7 +83,8 @@ def a_client_that_is_cut_off_has_a_line(field):
     relay = field.relay(client_timeout=1)
     with relay.running(), clients_of(relay, 1) as [client]:
         same("what it is told", client.rest(), TIMEOUT)
-        line = f"relayd: client-end {client_of(client)} messages=0 rejected=0 octets=0 reason=timeout"
+        octets = len(b"EHLO client.example\r\n")
+        line = f"relayd: client-end {client_of(client)} messages=0 rejected=0 octets={octets} reason=timeout"
         until("its line", lambda: told(relay, "client-end") == [line])
 
 

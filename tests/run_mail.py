@@ -182,7 +182,7 @@ def next_hops_at_one_port_get_each_its_own(field):
             same("mail for the other", paths_of(other.take_all()), ["<c@example.net>"] * 11)
             for number, name, address in [(first[0], "next.example", "127.0.0.1"),
                                           (first[1], "other.example", "127.0.0.2")]:
-                line = f" message {number} {name} at {address}:{field.sink.port} ended "
+                line = f" relayd: sent message={number} hop={name} addr={address}:{field.sink.port} "
                 until(f"the line of message {number}", lambda line=line: len(lines_of(relay, line)) == 1)
         same("breaches", other.breaches, [])
     away = Sink(address="127.0.0.2")
@@ -193,7 +193,7 @@ def next_hops_at_one_port_get_each_its_own(field):
                                             "example.com": ("away.example", there.port, "127.0.0.2")})
         with relay.running(), clients_of(relay, 1) as [client]:
             waits = client.hand_in("d@example.com")
-            until("one that is put off", lambda: lines_of(relay, f" message {waits} away.example at 127.0.0.2:"))
+            until("one that is put off", lambda: lines_of(relay, f" message={waits} hop=away.example addr=127.0.0.2:"))
             client.hand_in("c@example.net")
             same("mail at the one that is there", there.wait_for(1, SOON), True)
             until("the other's mail alone", lambda: [row[0] for row in relay.held()] == [waits])
@@ -215,7 +215,8 @@ def a_trace_header_names_the_client_s_address(field):
         for number, address in zip(numbers, addresses):
             text = behind_mark(arrived[number], "relay.example", number, address=address)
             same(f"the text from {address}", text, TEXT[:-len(b".\r\n")])
-            until("its line", lambda told=f" message {number} accepted from {address}:": lines_of(relay, told))
+            told = f" accepted message={number} client={address}:"
+            until("its line", lambda told=told: lines_of(relay, told))
 
 
 def a_large_text_reaches_a_slow_next_hop_whole(field):
@@ -256,17 +257,19 @@ def mail_whose_route_is_gone_is_reported(field):
         same("mail that has a route", paths_of(field.arrived(1)), ["<b@example.org>"])
         until("what is queued", lambda: sorted(row[2] for row in relay.held())
               == ["<c@example.net>"] * 3 + ["<d@example.com>"])
-        queued = {row[0]: row[1] for row in relay.held() if row[2] == "<c@example.net>"}
+        queued = [row[0] for row in relay.held() if row[2] == "<c@example.net>"]
         kept = [row[0] for row in relay.held() if row[2] == "<d@example.com>"]
     relay.route({"example.org": ("next.example", field.sink.port), "example.com": ("also-away.example", free_port())})
-    line = re.compile(r" message (\d+) noroute, place (\d+) unroutable(?:, report queued as (\d+))?$")
+    gone = re.compile(r' relayd: no-route message=(\d+) to=<c@example\.net> status=no-route reason="no route"$')
+    report_of = re.compile(r" relayd: report message=(\d+) of=(\d+) to=<a@example\.org> kind=failed$")
     with relay.running():
         until("what has a route alone", lambda: [row[0] for row in relay.held()] == kept)
         reports = field.arrived(2)
-        until("a line of each", lambda: len(lines_of(relay, " noroute")) == 3)
-    ended = [line.search(found).groups() for found in lines_of(relay, " noroute")]
-    same("what has ended", {int(number): int(place) for number, place, _ in ended}, queued)
-    of = {int(report): int(number) for number, _, report in ended if report}
+        until("a line of each", lambda: len(lines_of(relay, " relayd: no-route ")) == 3)
+    ended = [int(gone.search(line)[1]) for line in lines_of(relay, " relayd: no-route ")]
+    same("what has ended", sorted(ended), sorted(queued))
+    told = [report_of.search(line).groups() for line in lines_of(relay, " relayd: report ")]
+    of = {int(report): int(number) for report, number in told}
     same("how many have a report", len(of), 2)
     for message in reports:
         number = int(re.search(rb"Message-ID: <(\d+)@", message.content)[1])

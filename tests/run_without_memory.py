@@ -105,7 +105,7 @@ def an_allocation_that_is_refused_ends_one_connection_at_most(field):
                 process.kill()
                 process.communicate()
             met["cut off"] += ends
-            met["without an outcome"] += len(lines_of(relay, "without an outcome"))
+            met["unrecorded"] += len(lines_of(relay, " relayd: unrecorded "))
         else:
             met["not ready"] += 1
         same(f"messages lost without allocation {number}", lost_of(relay, field.sink, answered), [])
@@ -116,7 +116,7 @@ def an_allocation_that_is_refused_ends_one_connection_at_most(field):
         until("nothing that is due", lambda: is_done(relay))
     same("messages that are lost", lost_of(relay, field.sink, answered), [])
     # What was never met isn't counted.
-    same("what was met", sorted(+met), ["cut off", "not ready", "without an outcome"])
+    same("what was met", sorted(+met), ["cut off", "not ready", "unrecorded"])
 
 
 ROWS = [
