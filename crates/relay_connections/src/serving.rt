@@ -12,6 +12,7 @@ ghost use Rattle.relay_connections.specs.Served.{ActsOn, AreServed, AreServedBeh
 ghost use Rattle.relay_connections.specs.Served.{HaveAnswered, LeavesRest, Serves, WorksWith, address_of};
 ghost use Rattle.relay_connections.specs.Sessions.{EndsLate};
 
+use crate::channel::End;
 use crate::client::{Client, Intake, Next};
 use crate::clients::Clients;
 use crate::clocks::Now;
@@ -137,7 +138,7 @@ impl<S: Stream + Drop> Clients<S> {
             },
         ) = hear_all(self.alloc, clients, first, replies, relay, now)?
         else {
-            self.give_one_up(relay, intake)?;
+            self.give_one_up(relay, now, intake, log)?;
             return Ok((false, None));
         };
         let hears = self.answer_each(
@@ -206,14 +207,8 @@ impl<S: Stream + Drop> Clients<S> {
             self.clients.put(number, client);
             return Ok(true);
         };
-        tell_end(
-            &client,
-            &next,
-            ClientEnd::Closed,
-            ClientEnd::Reset,
-            now,
-            log,
-        );
+        let end = read_end(&client);
+        tell_end(&client, &next, end, end, now, log);
         self.settle(
             number, client, next, registry, relay, leaving, now, intake, log,
         )?;
@@ -268,7 +263,9 @@ impl<S: Stream + Drop> Clients<S> {
     fn give_one_up<D: Disk>(
         &mut self,
         relay: &mut Relay<D>,
+        now: &Now,
         intake: &mut Intake,
+        log: &mut Log<'_, Vec<u8>>,
     ) -> Result<(), NodeFault>
         ensures served { (changes : List Change) (setting : Setting)
             → AreServed D.honest D.words S.remaining S.contents changes setting (clients_of self.old) relay.old
@@ -281,6 +278,7 @@ impl<S: Stream + Drop> Clients<S> {
             let number = turned(self.first, step, count);
             match client_at(self.clients.standing(), number) {
                 Some(client) if client.hears => {
+                    log.client_ended(client.peer, &client.record, ClientEnd::NoMemory, now.tick);
                     let _client = self.clients.take(number);
                     let _gone = drop_session(relay, number)?;
                     intake.closed = true;
@@ -359,6 +357,14 @@ impl<S: Stream + Drop> Clients<S> {
             }
             next => Ok(next),
         }
+    }
+}
+
+/// Why the connection of a client has ended, unless something is left to be read of it.
+fn read_end<S: Stream>(client: &Client<S>) -> ClientEnd {
+    match client.channel.end() {
+        Some(End::Broken) => ClientEnd::Reset,
+        _ => ClientEnd::Closed,
     }
 }
 
