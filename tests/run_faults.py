@@ -252,7 +252,7 @@ def while_no_attempt_may_begin_it_sleeps(field):
         shim(field, "run_clocks", relay, FASTER="20")
         with relay.running() as process:
             hand_in(relay, recipients=("c@example.net",))
-            until("a next hop that is left alone", lambda: told(relay, "retry-in=60s"))
+            until("a next hop that is left alone", lambda: told(relay, "retry_in=60s"))
             take_room(others, 8 * 1024)
             same("a message without room", takes(relay, 300), False)
             until("a greeting", lambda: greeted(relay), 60)
@@ -320,7 +320,7 @@ def a_failure_has_one_line_with_its_reason_and_file(field):
             until("a line of it", lambda: told(relay, "device-failed"))
             reason, seconds = os.strerror(errno.ENOSPC), 1
             same("it", told(relay, "device-failed"),
-                 [f'device-failed reason="{reason}" file={relay.spool} retry-in={seconds}s'])
+                 [f'device-failed reason="{reason}" file={relay.spool} retry_in={seconds}s'])
             until("a greeting", lambda: greeted(relay), 60)
             same("lines of its end, without room", told(relay, "shortage-ended"), [])
             others.unlink()
@@ -340,9 +340,9 @@ def a_reason_that_was_not_seen_is_left_out(field):
             client.begin()
             same("a message", refused_or_lost(client), True)
         until("a line of it", lambda: told(relay, "device-failed"))
-        same("it", told(relay, "device-failed"), [f"device-failed file={relay.spool} retry-in=1s"])
+        same("it", told(relay, "device-failed"), [f"device-failed file={relay.spool} retry_in=1s"])
         until("a greeting", lambda: greeted(relay))
-        lines = [f"device-failed file={relay.spool} retry-in=1s", "reopened", "shortage-ended"]
+        lines = [f"device-failed file={relay.spool} retry_in=1s", "reopened", "shortage-ended"]
         until("the lines then", lambda: [line for line in told(relay, "relayd") if "client" not in line] == lines)
         hand_in(relay)
         field.arrived(1)
@@ -359,7 +359,7 @@ def a_file_that_keeps_room_and_fails_ends_nothing(field):
             same("a message", refused_or_lost(client), True)
         until("a line of it", lambda: told(relay, "device-failed"))
         same("it", told(relay, "device-failed"),
-             [f'device-failed reason="{os.strerror(errno.EIO)}" file={relay.spool} retry-in=1s'])
+             [f'device-failed reason="{os.strerror(errno.EIO)}" file={relay.spool} retry_in=1s'])
         # Its first two tests fail.
         time.sleep(4)
         with Client(relay) as client:
@@ -381,7 +381,7 @@ def a_compaction_whose_last_write_is_said_to_have_failed_ends_nothing(field):
                 client.hand_in(text=b"Subject: long\r\n\r\n" + b"x" * 6000 + b"\r\n.\r\n")
                 field.arrived(1)
                 until("a line of it", lambda: told(relay, "device-failed"))
-            same(f"{write}: it", told(relay, "device-failed"), [f"device-failed file={relay.second} retry-in=1s"])
+            same(f"{write}: it", told(relay, "device-failed"), [f"device-failed file={relay.second} retry_in=1s"])
             until("a greeting", lambda: greeted(relay))
             same(f"{write}: what is queued", [row[0] for row in relay.held()], [kept])
             hand_in(relay)

@@ -212,7 +212,7 @@ def a_hop_that_takes_no_connection_is_lost_after_half_a_minute(field):
             client.hand_in("c@example.net")
             client.hand_in()
             field.arrived(1, SOON)
-            until("a line", lambda: lines_of(relay, "retry-in=60s"), 30 / 20 + 5 * SOON)
+            until("a line", lambda: lines_of(relay, "retry_in=60s"), 30 / 20 + 5 * SOON)
             waited = (time.monotonic() - begun) * 20
             put_off = re.compile(r".*Z relayd: deferred message=1 hop=hop\.example addr=127\.0\.0\.1:\d+ delay=\d+s "
                                  "to=<c@example.net> status=deferred reason=timeout")

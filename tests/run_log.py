@@ -64,7 +64,7 @@ def a_next_hop_that_is_away_is_left_alone_for_longer_each_time(field):
         later = [row[0] for row in relay.held() if row[3] > time.time() + 60]
     at = f"127.0.0.1:{away}"
     same("how long", told(relay, "hop-held"),
-         [f'relayd: hop-held hop=away.example addr={at} retry-in={it}s reason="connection refused"'
+         [f'relayd: hop-held hop=away.example addr={at} retry_in={it}s reason="connection refused"'
           for it in (60, 120, 240)])
     same("what was tried", told(relay, "deferred"),
          [f"relayd: deferred message={number} hop=away.example addr={at} to=<c@example.net> status=deferred "

@@ -107,7 +107,7 @@ class Late:
         self.handed_in = self.clocks.now()
         self.numbers = self.numbers_to("<c@example.net>")
         same("how many are queued", len(self.numbers), self.count)
-        until("a next hop that is left alone", lambda: lines_of(self.relay, "retry-in=60s"))
+        until("a next hop that is left alone", lambda: lines_of(self.relay, "retry_in=60s"))
 
     def queued_to(self, path):
         return [row for row in self.relay.held() if row[2] == path]

@@ -24,7 +24,7 @@ pub(crate) fn hop_held_line(
     let mut line = head.line(b"hop-held")?;
     line.octets(b"hop", hop)?;
     head.add_address(&mut line, b"addr", at)?;
-    line.number(b"retry-in", seconds, b"s")?;
+    line.number(b"retry_in", seconds, b"s")?;
     line.octets(b"reason", loss.text())?;
     Ok(line)
 }
@@ -69,7 +69,7 @@ pub struct DeviceFailure<'a> {
 }
 
 /// The line of a failure of a device:
-/// `device-failed reason="No space left on device" file=/var/spool/relayd/a retry-in=1s`.
+/// `device-failed reason="No space left on device" file=/var/spool/relayd/a retry_in=1s`.
 pub(crate) fn device_failed_line(head: Head, failure: &DeviceFailure<'_>) -> io::Result<LogLine> {
     let mut line = head.line(b"device-failed")?;
     if let Some(reason) = failure.reason {
@@ -79,7 +79,7 @@ pub(crate) fn device_failed_line(head: Head, failure: &DeviceFailure<'_>) -> io:
     if let Some(file) = failure.file {
         line.octets(b"file", file.as_bytes())?;
     }
-    line.number(b"retry-in", failure.retry_in, b"s")?;
+    line.number(b"retry_in", failure.retry_in, b"s")?;
     Ok(line)
 }
 
