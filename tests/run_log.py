@@ -9,6 +9,7 @@ With the names of rows it runs these alone. What has to be prompt may take as ma
 environment (2 where it says nothing).
 """
 import contextlib
+import json
 import os
 import re
 import sys
@@ -182,6 +183,45 @@ def each_recipient_has_the_reply_that_settles_it(field):
             ends = [line.split(" to=")[1] for line in told(relay, "status=deferred")]
             same(f"after {count} replies", ends,
                  [f'<{name}@example.net> status=deferred reply="{reply}"' for name in "cd"])
+
+
+def lines_of_json_have_the_same_fields(field):
+    """A time, the event, and the fields in their order; numbers have no unit, and an octet that isn't printable is the
+    character of its number."""
+    relay = field.relay(more=own_route(field), log='"json"')
+    field.sink.manners.refusals = {"<r@example.org>": '550 no "user" \\', "<l@example.org>": "450 mailbox busy"}
+    field.sink.manners.content_reply = "250 queued\tas 77"
+    with relay.running(), Client(relay) as client:
+        client.begin()
+        same("a reply", client.say(b"NONSENSE\r\n"), "500 unknown command")
+        same("the last reply", client.say(b"QUIT\r\n")[:4], "221 ")
+        peer = "{}:{}".format(*client.link.getsockname())
+        until("its end", lambda: lines_of(relay, "client-end"))
+        same("refused", hand_in(relay, recipients=("b@example.org", "r@example.org", "l@example.org")), {})
+        read_report(field.arrived(2)[1], 2, 1)
+        until("the last lines", lambda: [len(lines_of(relay, it)) for it in ("client-end", '"sent"')] == [2, 2])
+    lines = [json.loads(line, object_pairs_hook=list) for line in lines_of(relay, "")]
+    same("lines without a time", [it for it in lines if it[0][0] != "time" or not MOMENT.match(it[0][1] + " ")], [])
+    ages = [value for line in lines for key, value in line if key in ("delay", "duration")]
+    same("how old things are", (len(ages), {type(age) for age in ages}), (6, {int}))
+    lines = [[it for it in line if it[0] not in ("time", "delay", "duration")] for line in lines]
+
+    def result(event, number, path, reply):
+        return [("event", event), ("message", number), ("hop", "next.example"),
+                ("addr", f"127.0.0.1:{field.sink.port}"), ("to", path), ("status", event), ("reply", reply)]
+
+    octets = len(b"EHLO client.example\r\nNONSENSE\r\nQUIT\r\n")
+    same("the first lines", lines[:2],
+         [[("event", "rejected"), ("client", peer), ("reply", "500 unknown command")],
+          [("event", "client-end"), ("client", peer), ("messages", 0), ("rejected", 1), ("octets", octets),
+           ("reason", "quit")]])
+    others = [line for line in lines[2:] if line[0][1] not in ("accepted", "client-end")]
+    same("the others", others,
+         [result("sent", 1, "<b@example.org>", "250 queued\tas 77"),
+          result("failed", 1, "<r@example.org>", '550 no "user" \\'),
+          result("deferred", 1, "<l@example.org>", "450 mailbox busy"),
+          [("event", "report"), ("message", 2), ("of", 1), ("to", "<a@example.org>"), ("kind", "failed")],
+          result("sent", 2, "<a@example.org>", "250 queued\tas 77")])
 
 
 def what_clients_are_refused_has_ten_lines_a_minute(field):
@@ -367,6 +407,7 @@ ROWS = [
     each_refusal_is_told_of_where_many_addresses_are_refused,
     what_came_of_each_recipient_has_a_line,
     each_recipient_has_the_reply_that_settles_it,
+    lines_of_json_have_the_same_fields,
     what_clients_are_refused_has_ten_lines_a_minute,
     a_full_spool_has_a_line_once_a_minute,
     a_full_spool_is_noted_where_quit_stands_after_the_mail,

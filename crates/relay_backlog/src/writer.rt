@@ -1,5 +1,5 @@
 use crate::backlog::Backlog;
-use crate::stamp::write_stamp;
+use crate::log_line::{Form, LogLine};
 use relay_trace::{Moment, clock_moment};
 use std::alloc::{AllocError, Global};
 use std::io::{self, Write};
@@ -10,8 +10,8 @@ use std::thread::{self, Threads};
 use std::time::Duration;
 
 /// A writer of whole lines that waits for no reader: another thread writes them, and what that one hasn't taken waits
-/// in a backlog. Where lines were dropped from that, a line with a timestamp tells how many, once there is room:
-/// `relayd: log-dropped lines=17`.
+/// in a backlog. Where lines were dropped from that, a line with a timestamp tells how many, once there is room, in the
+/// form of the lines before it: `relayd: log-dropped lines=17`.
 #[derive(Drop)]
 pub struct LogWriter<R: Wait + Clock> {
     rt: R,
@@ -46,8 +46,7 @@ impl<R: Threads + Wait + Clock + Copy + Send + 'static> LogWriter<R> {
         let shared = Arc::new(alloc, Shared::new(alloc)?)?;
         let theirs = Arc::try_clone(&shared)?;
         let taken = Backlog::new(alloc)?;
-        let notice = Vec::new(alloc);
-        match thread::spawn(&rt, move || write_out(rt, theirs, taken, notice, errors)) {
+        match thread::spawn(&rt, move || write_out(alloc, rt, theirs, taken, errors)) {
             Ok(_thread) => Ok(LogWriter {
                 rt,
                 shared,
@@ -130,23 +129,20 @@ impl Shared {
 
 /// Writes lines as they come, up to the end of the log.
 fn write_out<R: Wait + Clock + Copy, E: Write + Drop>(
+    alloc: Global,
     rt: R,
     shared: Arc<Shared, Global>,
     taken: Backlog,
-    notice: Vec<u8>,
     errors: E,
 ) {
     let mut taken = taken;
-    let mut notice = notice;
     let mut errors = errors;
     for _ in rt.forever() {
         let is_last = shared.take(&rt, &mut taken);
         // Nothing is left to do where lines can't be written.
         let _ = errors.write_all(taken.lines());
         if 0 < taken.dropped() {
-            notice.clear();
-            let _ = write_notice(&mut notice, clock_moment(&rt), taken.dropped());
-            let _ = errors.write_all(notice.as_slice());
+            let _ = write_notice(alloc, &taken, clock_moment(&rt), &mut errors);
         }
         let _ = errors.flush();
         if is_last {
@@ -156,8 +152,24 @@ fn write_out<R: Wait + Clock + Copy, E: Write + Drop>(
     }
 }
 
-/// Writes a line that tells how many were dropped.
-fn write_notice(notice: &mut Vec<u8>, now: Moment, dropped: u64) -> io::Result<()> {
-    write_stamp(notice, now)?;
-    writeln!(notice, "relayd: log-dropped lines={dropped}")
+/// Writes a line that tells how many were dropped, in the form of those that were not.
+fn write_notice<E: Write>(
+    alloc: Global,
+    taken: &Backlog,
+    now: Moment,
+    errors: &mut E,
+) -> io::Result<()> {
+    let form = form_of(taken.lines());
+    let mut line = LogLine::new(alloc, form, Some(now), b"log-dropped")?;
+    line.number(b"lines", taken.dropped(), b"")?;
+    let octets = line.ended()?;
+    errors.write_all(octets.as_slice())
+}
+
+/// The form of lines.
+fn form_of(lines: &[u8]) -> Form {
+    match lines.first() {
+        Some(b'{') => Form::Json,
+        _ => Form::Text,
+    }
 }

@@ -6,7 +6,7 @@ use strsim::levenshtein;
 use toml::Table;
 
 /// The keys of a configuration.
-const KEYS: [&str; 11] = [
+const KEYS: [&str; 12] = [
     "host",
     "listen",
     "spool",
@@ -18,6 +18,7 @@ const KEYS: [&str; 11] = [
     "attempts_per_hop",
     "client_timeout",
     "status_listen",
+    "log",
 ];
 
 /// The keys of a route's hop.

@@ -9,7 +9,7 @@ use std::fmt;
 use toml::{Table, Value};
 
 /// How many values there may be to replace: one for each key.
-const KEYS: usize = 11;
+const KEYS: usize = 12;
 
 /// A value that a key may have.
 #[derive(Clone, Copy, Drop)]
@@ -175,6 +175,7 @@ fn rule_of_limit(limit: Limit) -> Rule {
             "this machine's own address 127.0.0.1 and a port from 1 to 65535",
             Good::Text("127.0.0.1:9925"),
         ),
+        Limit::Log => ("\"text\" or \"json\"", Good::Text("json")),
     };
     Rule {
         key: limit.text(),

@@ -3,8 +3,10 @@ use Rattle.std.specs.Prelude.{◌≡◌, ℕ, ◌≤◌, List, codes, Option, So
 use Rattle.toml.specs.Data.{Data, Members, integer, string, get_member}
 use Rattle.relay_limits.specs.Port.{port_in}
 use Rattle.relay_limits.specs.declared.limit.Limit.{Limit}
-use Rattle.relay_limits.specs.declared.limit.Limit.TheVariants.{SessionsPerClient, AttemptsPerHop, ClientTimeout, StatusListen}
+use Rattle.relay_limits.specs.declared.limit.Limit.TheVariants.{SessionsPerClient, AttemptsPerHop, ClientTimeout, StatusListen, Log}
 use Rattle.relay_limits.specs.declared.limits.Limits.{Limits}
+use Rattle.relay_limits.specs.declared.log_form.LogForm.{LogForm}
+use Rattle.relay_limits.specs.declared.log_form.LogForm.TheVariants.{Text, Json}
 
 -- each key as a document has it
 abbrev pub limit_text : Limit → List ℕ
@@ -12,13 +14,15 @@ limit_text SessionsPerClient = codes "sessions_per_client"
 limit_text AttemptsPerHop = codes "attempts_per_hop"
 limit_text ClientTimeout = codes "client_timeout"
 limit_text StatusListen = codes "status_listen"
+limit_text Log = codes "log"
 
--- profile: the most that each may be, of 64 sessions, 64 attempts and an hour; `status_listen` is no number
+-- profile: the most that each may be, of 64 sessions, 64 attempts and an hour; the last two are no numbers
 abbrev pub most_of : Limit → ℕ
 most_of SessionsPerClient = 64
 most_of AttemptsPerHop = 64
 most_of ClientTimeout = 3600
 most_of StatusListen = 0
+most_of Log = 0
 
 -- profile: what each is where nothing is said: Postfix opens 20 connections to one server, and takes 50 of one client;
 -- a client is waited for five minutes (RFC 5321, 4.5.3.2.7)
@@ -27,6 +31,7 @@ default_of SessionsPerClient = 32
 default_of AttemptsPerHop = 20
 default_of ClientTimeout = 300
 default_of StatusListen = 0
+default_of Log = 0
 
 -- what a document has at a key
 abbrev pub value_of : Limit → Members → Option Data
@@ -55,17 +60,34 @@ ReadsPort (Some value) (Ok (Some port)) = (text : List ℕ) × (value ≡ string
 ReadsPort (Some value) (Err fault) =
     (fault ≡ StatusListen) × ((text : List ℕ) → value ≡ string text → port_in text ≡ None)
 
+-- each form of the log's lines as a document has it
+abbrev pub log_form_text : LogForm → List ℕ
+log_form_text Text = codes "text"
+log_form_text Json = codes "json"
+
+-- profile: a text names the form of the log's lines; a value that names none is bad; where none is, they are text
+abbrev pub ReadsLogForm : Option Data → Result LogForm Limit → Type 0
+ReadsLogForm None result = result ≡ Ok Text
+ReadsLogForm (Some value) (Ok form) = value ≡ string (log_form_text form)
+ReadsLogForm (Some value) (Err fault) = (fault ≡ Log) × ((form : LogForm) → ¬ (value ≡ string (log_form_text form)))
+
 -- the document says these limits
 pub record Says (document : Members) (limits : Limits) : Type 0 where
   pub sessions : SaysOf document SessionsPerClient (Ok limits.sessions_per_client)
   pub attempts : SaysOf document AttemptsPerHop (Ok limits.attempts_per_hop)
   pub timeout : SaysOf document ClientTimeout (Ok limits.client_timeout)
   pub status : ReadsPort (value_of StatusListen document) (Ok limits.status_port)
+  pub log : ReadsLogForm (value_of Log document) (Ok limits.log)
 
 -- the document says some number of the limit
 pub record IsGood (document : Members) (limit : Limit) : Type 0 where
   pub number : ℕ
   pub says : SaysOf document limit (Ok number)
+
+-- the document says some port of the page, or none
+pub record IsGoodPort (document : Members) : Type 0 where
+  pub port : Option ℕ
+  pub says : ReadsPort (value_of StatusListen document) (Ok port)
 
 -- the first fault of a document: the keys are looked at in this order, and those before are good
 pub data FirstFault (document : Members) (fault : Limit) : Type 0 where
@@ -76,3 +98,5 @@ pub data FirstFault (document : Members) (fault : Limit) : Type 0 where
       → SaysOf document ClientTimeout (Err fault) → FirstFault document fault
   at_status : IsGood document SessionsPerClient → IsGood document AttemptsPerHop → IsGood document ClientTimeout
       → ReadsPort (value_of StatusListen document) (Err fault) → FirstFault document fault
+  at_log : IsGood document SessionsPerClient → IsGood document AttemptsPerHop → IsGood document ClientTimeout
+      → IsGoodPort document → ReadsLogForm (value_of Log document) (Err fault) → FirstFault document fault

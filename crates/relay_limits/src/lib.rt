@@ -5,10 +5,12 @@
 mod compacting;
 mod limit;
 mod limits;
+mod log_form;
 mod pace;
 mod port;
 
 pub use compacting::is_worth_compacting;
 pub use limit::Limit;
 pub use limits::Limits;
+pub use log_form::LogForm;
 pub use pace::Pace;

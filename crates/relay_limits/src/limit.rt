@@ -14,6 +14,8 @@ pub enum Limit {
     ClientTimeout,
     /// Where the page that shows the relay's state listens.
     StatusListen,
+    /// How the lines of the log are written.
+    Log,
 }
 
 impl Limit {
@@ -26,6 +28,7 @@ impl Limit {
             Limit::AttemptsPerHop => "attempts_per_hop",
             Limit::ClientTimeout => "client_timeout",
             Limit::StatusListen => "status_listen",
+            Limit::Log => "log",
         }
     }
 
@@ -36,7 +39,7 @@ impl Limit {
         match self {
             Limit::SessionsPerClient | Limit::AttemptsPerHop => 64,
             Limit::ClientTimeout => 3_600,
-            Limit::StatusListen => 0,
+            Limit::StatusListen | Limit::Log => 0,
         }
     }
 
@@ -48,7 +51,7 @@ impl Limit {
             Limit::SessionsPerClient => 32,
             Limit::AttemptsPerHop => 20,
             Limit::ClientTimeout => 300,
-            Limit::StatusListen => 0,
+            Limit::StatusListen | Limit::Log => 0,
         }
     }
 }

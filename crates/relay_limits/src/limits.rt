@@ -1,9 +1,10 @@
 ghost use Rattle.std.specs.Prelude.{◌≡◌, ◌≤◌, ℕ, Ok, Err, IfOk, IfErr, Some, option_map};
 ghost use Rattle.toml.specs.Data.{string};
 ghost use Rattle.toml.specs.View.{table_view, view};
-ghost use Rattle.relay_limits.specs.Limits.{FirstFault, ReadsLimit, ReadsPort, Says, most_of, value_of};
+ghost use Rattle.relay_limits.specs.Limits.{FirstFault, ReadsLimit, ReadsLogForm, ReadsPort, Says, most_of, value_of};
 
 use crate::limit::Limit;
+use crate::log_form::LogForm;
 use crate::port::port_in;
 use toml::Value;
 
@@ -19,13 +20,15 @@ pub struct Limits {
     /// The port of this machine's own address 127.0.0.1 at which the page listens that shows the relay's state, 1 to
     /// 65,535; none where there is no such page.
     pub status_port: Option<u16>,
+    /// How the lines of the log are written.
+    pub log: LogForm,
 }
 
 impl Limits {
     /// The limits that a document says, or the first of them, in the order of [`Limit`], whose value may not stand
-    /// there: the first three are integers from 1 to their most, and `status_listen` is a text `127.0.0.1:` and a port.
-    /// Where they are missing, `sessions_per_client` is 32, `attempts_per_hop` 20 and `client_timeout` 300, and there
-    /// is no page; other keys are ignored. It takes no memory.
+    /// there: the first three are integers from 1 to their most, `status_listen` is a text `127.0.0.1:` and a port, and
+    /// `log` is `text` or `json`. Where they are missing, `sessions_per_client` is 32, `attempts_per_hop` 20 and
+    /// `client_timeout` 300, there is no page, and the log is text; other keys are ignored. It takes no memory.
     pub fn of_document(document: &toml::Table) -> Result<Limits, Limit>
         ensures ok { IfOk result (Says (table_view document.now)) }
         ensures err { IfErr result (FirstFault (table_view document.now)) }
@@ -34,11 +37,13 @@ impl Limits {
         let attempts_per_hop = read_limit(document, Limit::AttemptsPerHop)?;
         let client_timeout = read_limit(document, Limit::ClientTimeout)?;
         let status_port = read_status_port(document)?;
+        let log = read_log_form(document)?;
         Ok(Limits {
             sessions_per_client: sessions_per_client as u8,
             attempts_per_hop: attempts_per_hop as u8,
             client_timeout,
             status_port,
+            log,
         })
     }
 }
@@ -77,6 +82,22 @@ fn read_port(text: &[u8]) -> Result<Option<u16>, Limit>
     match port_in(text) {
         Some(port) => Ok(Some(port)),
         None => Err(Limit::StatusListen),
+    }
+}
+
+/// The form that a document says of the log's lines; text where nothing is said.
+fn read_log_form(document: &toml::Table) -> Result<LogForm, Limit>
+    ensures { ReadsLogForm (value_of Limit.Log (table_view document.now)) result }
+{
+    let Some(value) = member(document, Limit::Log) else {
+        return Ok(LogForm::Text);
+    };
+    let Some(text) = value.as_str() else {
+        return Err(Limit::Log);
+    };
+    match LogForm::read(text) {
+        Some(form) => Ok(form),
+        None => Err(Limit::Log),
     }
 }
 

@@ -21,6 +21,7 @@ pub use client_writer::ClientWriter;
 pub use counters::{Counters, Rejection, Rejections};
 pub use hop_link::{HopReader, HopWriter, Loss, Why};
 pub use log::Log;
+pub use relay_backlog::Form;
 pub use run_line::DeviceFailure;
 pub use settling::settling_place;
 pub use talk::Talk;

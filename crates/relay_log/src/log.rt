@@ -41,7 +41,7 @@ pub struct Log<'a, E: Write> {
 }
 
 impl<'a, E: Write> Log<'a, E> {
-    /// A log on this writer that speaks, or says nothing.
+    /// A log on this writer that speaks, by lines of text without a time, or says nothing.
     pub fn new(alloc: Global, errors: &'a mut E, speaks: bool, counters: &'a mut Counters) -> Self {
         Log {
             head: Head {
@@ -55,22 +55,26 @@ impl<'a, E: Write> Log<'a, E> {
         }
     }
 
-    /// Such a log, whose lines have this time in front of them, in UTC (RFC 3339).
+    /// A log on this writer whose lines have this form and this time, in UTC (RFC 3339). Without a form it says
+    /// nothing.
     pub fn stamped(
         alloc: Global,
         errors: &'a mut E,
-        speaks: bool,
+        form: Option<Form>,
         moment: Moment,
         counters: &'a mut Counters,
     ) -> Self {
         Log {
             head: Head {
                 alloc,
-                form: Form::Text,
+                form: match form {
+                    Some(form) => form,
+                    None => Form::Text,
+                },
                 moment: Some(moment),
             },
             errors,
-            speaks,
+            speaks: form.is_some(),
             counters,
         }
     }

@@ -1,6 +1,6 @@
 //! Lines of the log about a spool that isn't open.
 use relay_disk::Side;
-use relay_log::{Counters, DeviceFailure, Log};
+use relay_log::{Counters, DeviceFailure, Form, Log};
 use relay_routes::Config;
 use relay_trace::clock_moment;
 use std::alloc::{AllocError, Global};
@@ -12,7 +12,7 @@ use std::rt::Clock;
 pub(crate) struct Reporter<'a, C: Clock, E: Write> {
     pub(crate) alloc: Global,
     pub(crate) clock: &'a C,
-    pub(crate) quiet: bool,
+    pub(crate) form: Option<Form>,
     pub(crate) counters: &'a mut Counters,
     pub(crate) errors: &'a mut E,
 }
@@ -41,8 +41,7 @@ impl<'a, C: Clock, E: Write> Reporter<'a, C, E> {
             retry_in: seconds,
         };
         let moment = clock_moment(self.clock);
-        let speaks = !self.quiet;
-        Log::stamped(self.alloc, self.errors, speaks, moment, self.counters).device_failed(
+        Log::stamped(self.alloc, self.errors, self.form, moment, self.counters).device_failed(
             &failure,
         );
     }
@@ -50,8 +49,7 @@ impl<'a, C: Clock, E: Write> Reporter<'a, C, E> {
     /// Tells that the spool is open again, and that there is room again where it isn't short of it.
     pub(crate) fn opened_again(&mut self, is_short: bool) {
         let moment = clock_moment(self.clock);
-        let speaks = !self.quiet;
-        let mut log = Log::stamped(self.alloc, self.errors, speaks, moment, self.counters);
+        let mut log = Log::stamped(self.alloc, self.errors, self.form, moment, self.counters);
         log.opened_again();
         if !is_short {
             log.shortage_ended();

@@ -1,7 +1,9 @@
 ghost use Rattle.std.specs.Prelude.{IfOk};
 
 use crate::shell::Shell;
-use crate::start::{kept_file, locked_relay, open_door, open_page, say_ready, settings};
+use crate::start::{
+    kept_file, locked_relay, log_form, open_door, open_page, say_ready, settings,
+};
 use crate::status_page::StatusPage;
 use crate::turns::serve;
 use mio::{Events, Poll};
@@ -22,7 +24,7 @@ const EVENT_COUNT: usize = 3 * SLOT_COUNT + 1 + StatusPage::TOKENS;
 /// before it begins: the configuration file, its content, its limits, the spool, the listener, whose address is waited
 /// for a minute where this machine hasn't got it yet, the page's listener. Then a line
 /// `ready HOST ADDRESS` goes to `writer`, and unless it is `quiet` a line for each thing that was done to `errors`,
-/// with the moment in front of it.
+/// with its moment, in the configured form.
 ///
 /// A connection that breaks ends alone. Where the device fails, all do, and the spool is opened again when there may be
 /// room; only a sync that failed, and want of memory or descriptors before the first client, end the relay.
@@ -42,16 +44,17 @@ pub fn run<
 {
     let (config, limits) = settings(alloc, rt, path)?;
     let at = config.listen;
+    let form = log_form(quiet, &limits);
     let (relay, room) = locked_relay(alloc, rt, config)?;
     let spares = Spares::new(alloc, kept_file(rt, path)?)?;
     let Ok(poll) = Poll::new(rt) else {
         return Err(Fault::Socket);
     };
-    let door = open_door(alloc, rt, poll.registry(), at, quiet, errors)?;
+    let door = open_door(alloc, rt, poll.registry(), at, form, errors)?;
     let page = open_page(alloc, rt, poll.registry(), &limits, &relay)?;
     let mut shell = Shell::new(alloc, relay, door, spares, room, page, &limits)?;
     shell.next_hops.prepare(&shell.relay)?;
     let events = Events::with_capacity(alloc, EVENT_COUNT)?;
     say_ready(alloc, &shell.relay, at, writer)?;
-    serve(alloc, rt, poll, events, shell, quiet, errors)
+    serve(alloc, rt, poll, events, shell, form, errors)
 }

@@ -7,8 +7,8 @@ use crate::status_page::StatusPage;
 use mio::Registry;
 use relay_disk::FileDisk;
 use relay_files::{Fault, configuration_text, locked_node};
-use relay_limits::Limits;
-use relay_log::{Counters, Log};
+use relay_limits::{Limits, LogForm};
+use relay_log::{Counters, Form, Log};
 use relay_loop::Relay;
 use relay_routes::{Config, ConfigFault};
 use relay_trace::clock_moment;
@@ -35,6 +35,17 @@ pub(crate) fn settings<F: Files<File = File>>(
     let config = Config::of_document(alloc, &document)?;
     let limits = Limits::of_document(&document)?;
     Ok((config, limits))
+}
+
+/// The form of the log's lines; none where it is quiet.
+pub(crate) fn log_form(quiet: bool, limits: &Limits) -> Option<Form> {
+    if quiet {
+        return None;
+    }
+    match limits.log {
+        LogForm::Text => Some(Form::Text),
+        LogForm::Json => Some(Form::Json),
+    }
 }
 
 /// An open file, of which copies may be made: the configuration's, since that is there.
@@ -80,7 +91,7 @@ pub(crate) fn open_door<R: Clock + Net, E: Write>(
     rt: &R,
     registry: &Registry,
     at: SocketAddrV4,
-    quiet: bool,
+    form: Option<Form>,
     errors: &mut E,
 ) -> Result<Door, Fault> {
     for second in 0..ADDRESS_SECONDS {
@@ -90,7 +101,7 @@ pub(crate) fn open_door<R: Clock + Net, E: Write>(
                 if second == 0 {
                     let mut counters = Counters::new();
                     let now = clock_moment(rt);
-                    let mut log = Log::stamped(alloc, errors, !quiet, now, &mut counters);
+                    let mut log = Log::stamped(alloc, errors, form, now, &mut counters);
                     log.awaits_address(at, ADDRESS_SECONDS);
                 }
                 rt.sleep(Duration::from_secs(1));

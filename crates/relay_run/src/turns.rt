@@ -7,7 +7,7 @@ use crate::shell::Shell;
 use mio::{Events, Poll};
 use relay_connections::Now;
 use relay_files::Fault;
-use relay_log::{Counters, Log};
+use relay_log::{Counters, Form, Log};
 use std::alloc::Global;
 use std::io::Write;
 use std::net::Net;
@@ -21,7 +21,7 @@ pub(crate) fn serve<R: Clock + Net, E: Write>(
     poll: Poll,
     events: Events,
     shell: Shell,
-    quiet: bool,
+    form: Option<Form>,
     errors: &mut E,
 ) -> Result<(), Fault>
     ensures { IfOk result (λ _. ⊥) }
@@ -38,12 +38,12 @@ pub(crate) fn serve<R: Clock + Net, E: Write>(
             rt,
             &poll,
             &mut shell,
-            quiet,
+            form,
             &mut counters,
             &mut lines,
             errors,
         );
-        shell = behind_turn(alloc, rt, shell, end, quiet, &mut counters, errors)?;
+        shell = behind_turn(alloc, rt, shell, end, form, &mut counters, errors)?;
     }
     // So many turns are never done.
     Err(Fault::Socket)
@@ -64,7 +64,7 @@ fn behind_turn<R: Clock, E: Write>(
     rt: &R,
     shell: Shell,
     end: Result<(), Fault>,
-    quiet: bool,
+    form: Option<Form>,
     counters: &mut Counters,
     errors: &mut E,
 ) -> Result<Shell, Fault> {
@@ -77,7 +77,7 @@ fn behind_turn<R: Clock, E: Write>(
     let mut reporter = Reporter {
         alloc,
         clock: rt,
-        quiet,
+        form,
         counters,
         errors,
     };
@@ -91,17 +91,17 @@ fn take_turn<R: Clock + Net, E: Write>(
     rt: &R,
     poll: &Poll,
     shell: &mut Shell,
-    quiet: bool,
+    form: Option<Form>,
     counters: &mut Counters,
     lines: &mut Vec<u8>,
     errors: &mut E,
 ) -> Result<(), Fault> {
     let now = Now::of(rt);
-    let end = serve_all(alloc, rt, poll, shell, &now, quiet, counters, lines);
+    let end = serve_all(alloc, rt, poll, shell, &now, form, counters, lines);
     hand_out(lines, errors);
     end?;
     shell.note_known();
-    let end = tidy(alloc, shell, &now, quiet, counters, lines);
+    let end = tidy(alloc, shell, &now, form, counters, lines);
     hand_out(lines, errors);
     end?;
     shell.note_known();
@@ -116,11 +116,11 @@ fn serve_all<R: Clock + Net>(
     poll: &Poll,
     shell: &mut Shell,
     now: &Now,
-    quiet: bool,
+    form: Option<Form>,
     counters: &mut Counters,
     lines: &mut Vec<u8>,
 ) -> Result<(), Fault> {
-    let mut log = Log::stamped(alloc, lines, !quiet, now.moment, counters);
+    let mut log = Log::stamped(alloc, lines, form, now.moment, counters);
     shell.turn(rt, poll.registry(), now, &mut log)
 }
 
@@ -129,11 +129,11 @@ fn tidy(
     alloc: Global,
     shell: &mut Shell,
     now: &Now,
-    quiet: bool,
+    form: Option<Form>,
     counters: &mut Counters,
     lines: &mut Vec<u8>,
 ) -> Result<(), Fault> {
-    let mut log = Log::stamped(alloc, lines, !quiet, now.moment, counters);
+    let mut log = Log::stamped(alloc, lines, form, now.moment, counters);
     shell.tidy(now, &mut log)
 }
 
