@@ -1,9 +1,7 @@
 ghost use Rattle.std.specs.Prelude.{IfOk};
 
 use crate::shell::Shell;
-use crate::start::{
-    kept_file, locked_relay, log_form, open_door, open_page, say_ready, settings,
-};
+use crate::start::{kept_file, locked_relay, log_form, open_door, open_page, say_ready, settings};
 use crate::status_page::StatusPage;
 use crate::turns::serve;
 use mio::{Events, Poll};
