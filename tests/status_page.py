@@ -1,7 +1,7 @@
 #!/usr/bin/env python3
-"""Asks `relayd run` for its page, its metrics and its list over 127.0.0.1, as browsers do and as they don't, and looks at
-what they are told and at the mail meanwhile. Where `promtool` and `chromium` are there, they read the answers too. It
-ends at the first difference.
+"""Asks `relayd run` for its page, its metrics and its list over 127.0.0.1, as browsers do and as they don't, and looks
+at what they are told and at the mail meanwhile. Where `promtool` and `chromium` are there, they read the answers too.
+It ends at the first difference.
 
     tests/status_page.py build/relayd [ROW..]
 

@@ -1,6 +1,6 @@
 -- Which reply of a next hop settles a recipient, by its place among the replies of an attempt (RFC 5321, sections 3.1
--- to 3.3; RFC 2920, section 3.1; RFC 3030, section 2). A reply answers what was written earliest and isn't answered yet:
--- the greeting comes first, then the replies to EHLO, MAIL, one RCPT for each recipient, DATA and the mail data.
+-- to 3.3; RFC 2920, section 3.1; RFC 3030, section 2). A reply answers what was written earliest and isn't answered
+-- yet: the greeting comes first, then the replies to EHLO, MAIL, one RCPT for each recipient, DATA and the mail data.
 use Rattle.std.specs.Prelude.{ℕ, ◌+◌, Bool, List, [], ◌∷◌, slice_index_or, if◌then◌else◌}
 use Rattle.std.specs.Int.{is_in_range}
 

@@ -30,8 +30,8 @@ use std::io::{self, Write};
 use std::net::SocketAddrV4;
 
 /// Writes a line for each thing that was done, if it is asked to, and counts these things anyway. A line is an event
-/// and its fields; it holds nothing of a content, and printable octets alone. A line that can't be made or written is left
-/// out, and the mail goes on.
+/// and its fields; it holds nothing of a content, and printable octets alone. A line that can't be made or written is
+/// left out, and the mail goes on.
 #[derive(Drop)]
 pub struct Log<'a, E: Write> {
     head: Head,
