@@ -364,6 +364,24 @@ def a_log_that_nobody_reads_stops_no_mail(field):
     field.sink.take_all()
 
 
+def dropped_lines_of_json_have_a_line_of_json(field):
+    relay, messages = field.relay(more=own_route(field), spool_limit=1 << 30, log='"json"'), 150
+    with unread_log(relay) as (process, lines), clients_of(relay, 1) as [client]:
+        flood(client, messages)
+        field.sink.wait_for(messages, 60)
+        until("an empty list", lambda: relay.held() == [])
+        read = []
+        reader = threading.Thread(target=lambda: [read.append(json.loads(line)) for line in lines])
+        reader.start()
+        until("a line of those that were dropped", lambda: read and read[-1]["event"] == "log-dropped")
+        process.kill()
+        reader.join()
+    same("its fields", list(read[-1]), ["time", "event", "lines"])
+    paths = [f"<{'x' * 60}{number}@example.org>" for number in range(100)]
+    same("lines, and dropped ones", len(read) - 1 + read[-1]["lines"], messages * (100 + lines_of_paths(paths)))
+    field.sink.take_all()
+
+
 def who_reads_the_log_misses_no_line(field):
     """Of thousands of messages of eight clients at once."""
     relay, each = field.relay(more=own_route(field), spool_limit=1 << 30), 400
@@ -413,6 +431,7 @@ ROWS = [
     a_full_spool_is_noted_where_quit_stands_after_the_mail,
     a_spool_that_is_written_anew_has_a_line,
     a_log_that_nobody_reads_stops_no_mail,
+    dropped_lines_of_json_have_a_line_of_json,
     who_reads_the_log_misses_no_line,
     a_log_that_nobody_reads_stops_no_end,
 ]
