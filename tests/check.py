@@ -96,6 +96,8 @@ bare_newlines = "no"
 sessions_per_client = 65
 attempts_per_hop = "many\\n"
 client_timeout = [1]
+status_listen = "0.0.0.0:9925"
+log = "xml"
 routes = 1
 """, [
         '1:1: error: host = "relay example": write a name of 1 to 255 letters, digits, hyphens and periods, such as '
@@ -109,7 +111,10 @@ routes = 1
         "7:1: error: sessions_per_client = 65: write a number from 1 to 64, such as sessions_per_client = 32",
         '8:1: error: attempts_per_hop = "many\\n": write a number from 1 to 64, such as attempts_per_hop = 20',
         "9:1: error: client_timeout = (array): write a number of seconds from 1 to 3600, such as client_timeout = 300",
-        '10:1: error: routes = 1: write a table, such as routes = '
+        '10:1: error: status_listen = "0.0.0.0:9925": write this machine\'s own address 127.0.0.1 and a port from 1 to '
+        '65535, such as status_listen = "127.0.0.1:9925"',
+        '11:1: error: log = "xml": write "text" or "json", such as log = "json"',
+        '12:1: error: routes = 1: write a table, such as routes = '
         '{ "example.org" = { name = "mx.example.org", at = "192.0.2.1:25" } }'])
 
 
