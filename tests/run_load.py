@@ -76,7 +76,8 @@ def descriptors(process):
 
 def mail_for_63_hops_that_are_away_holds_up_no_other(field):
     """A new message for a hop that is there leaves within a second, whatever is due elsewhere."""
-    away = {f"away-{number}.example": (f"hop-{number}.example", free_port()) for number in range(AWAY)}
+    # At an address where no relay of another test listens either.
+    away = {f"away-{number}.example": (f"hop-{number}.example", free_port(), "127.0.0.9") for number in range(AWAY)}
     relay = field.relay(more=away, spool_limit=1 << 30)
     with relay.running("--quiet") as process, clients_of(relay, 1, "127.0.0.2") as [client]:
         pour(relay, list(away), DUE)
