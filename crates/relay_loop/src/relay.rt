@@ -1,12 +1,13 @@
-ghost use Rattle.std.specs.Prelude.{◌≡◌, List, None, Err, IfErr, IfOk, MatchResult, OnOk, false};
+ghost use Rattle.std.specs.Prelude.{◌≡◌, List, None, Err, IfErr, IfOk, MatchResult, OnOk, false, true};
 ghost use Rattle.relay_attempts.specs.Outcomes.{AddsUnroutable, CutsUnroutable, EndsUnroutable, RefusesToGiveUp};
 ghost use Rattle.relay_book.specs.declared.change.Change.{Change};
 ghost use Rattle.relay_book.specs.StandsFor.{StandsFor};
 ghost use Rattle.relay_node.specs.Compaction.{RefusesToCompact};
-ghost use Rattle.relay_records.specs.Records.{Compacts, Halted, Keeps};
+ghost use Rattle.relay_records.specs.Records.{Compacts, Halted, IsStopped, Keeps};
 ghost use Rattle.relay_slots.specs.Slots.{AreFree};
 ghost use Rattle.relay_spool.specs.Pair.{HasBodies};
 ghost use Rattle.relay_spool.specs.Spool.{AtEachMoment};
+ghost use Rattle.relay_spool.specs.Trim.{IsTrimmed};
 
 use crate::outboxes::Outboxes;
 use relay_disk::Disk;
@@ -124,6 +125,31 @@ impl<D: Disk> Relay<D> {
         ensures refused { RefusesToCompact D.words self.old.node self.new.node result }
     {
         self.node.compact()
+    }
+
+    /// As [`Node::trim`]. All connections stay.
+    pub fn trim(&mut self, most: usize) -> Result<bool, NodeFault>
+        ensures kept { (changes : List Change) → Keeps D.honest D.words self.old.node.records changes
+            → OnOk result (Keeps D.honest D.words self.new.node.records changes) }
+        ensures cut { (changes : List Change) → Keeps D.honest D.words self.old.node.records changes
+            → result ≡ Err NodeFault.Stopped → Halted D.honest D.words self.new.node.records changes None }
+        // A stop at any moment of the call leaves the changes as they were.
+        ensures stop { (changes : List Change) → Keeps D.honest D.words self.old.node.records changes → D.honest
+            → AtEachMoment D.words self.old.node.records.spool.disk self.new.node.records.spool.disk
+            (HasBodies (λ bodies. StandsFor bodies changes)) }
+        ensures trimmed { IfOk result
+            (IsTrimmed D.honest D.words most self.old.node.records.spool self.new.node.records.spool) }
+        ensures rest { (self.new.node.config ≡ self.old.node.config) × (self.new.node.seats ≡ self.old.node.seats)
+            × (self.new.node.attempts ≡ self.old.node.attempts)
+            × (self.new.node.records.queue ≡ self.old.node.records.queue)
+            × (self.new.node.records.noted ≡ self.old.node.records.noted) }
+        ensures connections { (self.new.clients ≡ self.old.clients) × (self.new.hops ≡ self.old.hops) }
+        ensures stopped { self.old.node.records.spool.live ≡ false
+            → (result ≡ Err NodeFault.Stopped) × (self.new.node ≡ self.old.node) }
+        ensures refused { self.old.node.records.spool.live ≡ true → IfErr result (λ fault.
+            (fault ≡ NodeFault.Stopped) × IsStopped D.words self.old.node.records self.new.node.records) }
+    {
+        self.node.trim(most)
     }
 
     /// As [`Node::give_up_unroutable`]. All connections stay.

@@ -18,6 +18,7 @@ mod reply_into;
 mod seat;
 mod speak;
 mod stage;
+mod trim;
 
 pub use again::NotReopened;
 pub use node::{Connected, Node};

@@ -4,6 +4,7 @@ use Rattle.relay_disk.specs.File.{file_words}
 use Rattle.relay_disk.specs.declared.file.FileDisk.{FileDisk}
 use Rattle.relay_book.specs.Snapshot.{snapshot}
 use Rattle.relay_records.specs.Records.{Compacts}
+use Rattle.relay_spool.specs.Trim.{IsTrimmed}
 use Rattle.relay_limits.specs.Compacting.{IsWorthIt}
 use Rattle.relay_loop.specs.Relay.{RelayState}
 
@@ -30,6 +31,13 @@ pub record KeepsRest (old new : RelayState FileDisk) : Type 0 where
 pub record IsCompacted (was_full : Bool) (old new : RelayState FileDisk) : Type 0 where
   pub worth : MayShrink was_full old
   pub compacts : Compacts ⊥ file_words old.node.records new.node.records
+  pub rest : KeepsRest old new
+
+-- one turn made the other file shorter, by so many octets at most, and nothing else changes
+pub record MayBeTrimmed (old new : RelayState FileDisk) : Type 0 where
+  pub most : ℕ
+  pub more : Bool
+  pub trimmed : IsTrimmed ⊥ file_words most old.node.records.spool new.node.records.spool more
   pub rest : KeepsRest old new
 
 -- it was to be written anew, which was worth it, and failed; nothing else changes

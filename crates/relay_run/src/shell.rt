@@ -1,7 +1,8 @@
 ghost use Rattle.std.specs.Prelude.{◌≡◌, ◌⊎◌, ◌↔◌, None, Some, IfErr, IfOk, IsErr, IsTrue, OnOk};
 ghost use Rattle.relay_run.specs.Reopening.{HasFailedToSync, IsWhole};
-ghost use Rattle.relay_run.specs.Room.{MayStart};
-ghost use Rattle.relay_run.specs.Tidying.{FailsToCompact, IsCompacted, compacted_size_of};
+ghost use Rattle.relay_run.specs.Room.{MayStart, next_look};
+ghost use Rattle.relay_run.specs.Tidying.{FailsToCompact, IsCompacted, KeepsRest, MayBeTrimmed, compacted_size_of};
+ghost use Rattle.relay_run.specs.declared.shell.TheConstants.{LONGEST_WAIT};
 
 use crate::door::Door;
 use crate::known::Known;
@@ -242,6 +243,18 @@ impl Shell {
             self.room.note_compacted();
         }
         Ok(())
+    }
+
+    /// Drops some octets of the spool's other file after a turn, where it may have any.
+    pub(crate) fn trim(&mut self) -> Result<(), Fault>
+        ensures trimmed { OnOk result ((self.new.relay ≡ self.old.relay)
+            ⊎ MayBeTrimmed self.old.relay self.new.relay) }
+        ensures failed { IfErr result (λ fault. (fault ≡ Fault.Device) × KeepsRest self.old.relay self.new.relay) }
+        ensures rest { (self.new.clients ≡ self.old.clients) × (self.new.next_hops ≡ self.old.next_hops)
+            × (self.new.leaving ≡ self.old.leaving) × (self.new.door ≡ self.old.door)
+            × (self.new.known ≡ self.old.known) }
+    {
+        self.tidying.trim(&mut self.relay)
     }
 
     /// Makes connections to next hops, and reads of those that reply.

@@ -1,10 +1,10 @@
 //! The spool is written anew where much of it has gone: in a quiet moment, or at once where it is more than half full,
 //! or was full.
-ghost use Rattle.std.specs.Prelude.{◌≡◌, ◌≤◌, IfErr, List, MatchResult, None, Ok, false, true};
+ghost use Rattle.std.specs.Prelude.{◌≡◌, ◌≤◌, ◌⊎◌, IfErr, List, MatchResult, None, Ok, OnOk, false, true};
 ghost use Rattle.relay_disk.specs.File.{file_words};
 ghost use Rattle.relay_book.specs.declared.change.Change.{Change};
 ghost use Rattle.relay_records.specs.Records.{Compacts, Halted, Keeps};
-ghost use Rattle.relay_run.specs.Tidying.{FailsToCompact, IsCompacted, KeepsRest, compacted_size_of};
+ghost use Rattle.relay_run.specs.Tidying.{FailsToCompact, IsCompacted, KeepsRest, MayBeTrimmed, compacted_size_of};
 
 use relay_connections::Now;
 use relay_disk::FileDisk;
@@ -21,6 +21,10 @@ const PAUSE: u64 = 1_000;
 /// others wait for some 3 ms for each MiB of them, unless mail is refused for it.
 const MOST_LEFT: usize = 32 * 1024 * 1024;
 
+/// How many octets of the spool's other file are dropped in a turn at most, while others wait for some 1.5 ms for each
+/// MiB of them.
+const MOST_TRIMMED: usize = 4 * 1024 * 1024;
+
 /// How many seconds it isn't told again that the spool is full.
 const TELLING_SECONDS: u64 = 60;
 
@@ -31,6 +35,8 @@ pub(crate) struct Tidying {
     has_shrunk: bool,
     /// Mail was refused since it is full.
     was_full: bool,
+    /// The other file may have octets to be dropped before the next compaction.
+    has_spare: bool,
     /// The tick before which it isn't written anew.
     next: u64,
     /// The tick before which it is not told again that it is full.
@@ -38,11 +44,12 @@ pub(crate) struct Tidying {
 }
 
 impl Tidying {
-    /// Nothing has happened yet.
+    /// Nothing has happened yet. The other file may be one from before the last compaction.
     pub(crate) fn new() -> Self {
         Tidying {
             has_shrunk: true,
             was_full: false,
+            has_spare: true,
             next: 0,
             next_telling: 0,
         }
@@ -80,11 +87,14 @@ impl Tidying {
         self.next = now.tick.saturating_add(PAUSE);
     }
 
-    /// The tick at which the spool is to be looked at, or the given one where that is earlier.
+    /// The tick at which the spool is to be looked at, or the given one where that is earlier. While the other file has
+    /// octets to be dropped, nothing is waited for.
     pub(crate) fn next_deadline(&self, otherwise: u64) -> u64
         ensures { result ≤ otherwise }
     {
-        if self.was_full || self.has_shrunk {
+        if self.has_spare {
+            0
+        } else if self.was_full || self.has_shrunk {
             otherwise.min(self.next)
         } else {
             otherwise
@@ -124,7 +134,30 @@ impl Tidying {
             self.has_shrunk = true;
             return Ok(false);
         }
-        compact(relay, log)
+        let is_compacted = compact(relay, log)?;
+        self.has_spare = self.has_spare || is_compacted;
+        Ok(is_compacted)
+    }
+
+    /// Drops some octets of the spool's other file, where it may have any: they count for nothing, and the next
+    /// compaction would begin with all of them.
+    pub(crate) fn trim(&mut self, relay: &mut Relay<FileDisk>) -> Result<(), Fault>
+        ensures trimmed { OnOk result ((relay.new ≡ relay.old) ⊎ MayBeTrimmed relay.old relay.new) }
+        ensures failed { IfErr result (λ fault. (fault ≡ Fault.Device) × KeepsRest relay.old relay.new) }
+        ensures kept { (changes : List Change) → Keeps ⊥ file_words relay.old.node.records changes
+            → MatchResult result (λ _. Keeps ⊥ file_words relay.new.node.records changes)
+            (λ _. Halted ⊥ file_words relay.new.node.records changes None) }
+    {
+        if !self.has_spare {
+            return Ok(());
+        }
+        match relay.trim(MOST_TRIMMED) {
+            Ok(has_more) => {
+                self.has_spare = has_more;
+                Ok(())
+            }
+            Err(_) => Err(Fault::Device),
+        }
     }
 }
 

@@ -106,7 +106,7 @@ fn take_turn<R: Clock + Net, E: Write>(
     end?;
     shell.note_known();
     shell.show(poll.registry(), counters, &now);
-    Ok(())
+    shell.trim()
 }
 
 /// Serves all connections once, and gathers the lines of the log.
