@@ -1,5 +1,5 @@
 -- How many of some kind stand in the slots of a table, slot by slot.
-use Rattle.std.proofs.Common.{◌≡◌, ◌⊎◌, inl, inr, ℕ, ◌+◌, ◌-◌, ◌<◌, zero, suc, Bool, true, false, List, [], ◌∷◌, length, drop, drop-cons, drop_of_length-le, add-one, ◌≤◌, Option, None, Some, refl, sym, ap, ◌∙◌, subst, arith, if◌then◌else◌}
+use Rattle.std.proofs.Common.{◌≡◌, ℕ, ◌+◌, ◌<◌, zero, suc, Bool, true, false, List, [], ◌∷◌, length, drop, drop-cons, drop_of_length-le, add-one, ◌≤◌, Option, None, refl, sym, ap, ◌∙◌, arith, if◌then◌else◌}
 use Rattle.relay_slots.specs.Slots.{slot_at}
 use Rattle.relay_connections.specs.Table.{count_of_such, is_such}
 

@@ -13,7 +13,7 @@ use Rattle.relay_files.specs.declared.fault.Fault.{Fault}
 use Rattle.relay_connections.specs.Hearing.{turned}
 use Rattle.relay_connections.specs.Channel.{unread_of}
 use Rattle.relay_next_hops.specs.Errands.{KeepsErrand, left_of}
-use Rattle.relay_next_hops.specs.Hearing.{AnswersEach, AnswersOne, HearsNext, IsAnswered, IsCourse, IsLate, UsesOwn, WasLeft, WentLate, hearing_at}
+use Rattle.relay_next_hops.specs.Hearing.{AnswersEach, AnswersOne, IsAnswered, IsCourse, IsLate, UsesOwn, WasLeft, hearing_at}
 use Rattle.relay_next_hops.specs.declared.errand.Course.{Course}
 use Rattle.relay_next_hops.specs.declared.errand.Course.TheVariants.{Stays, Ended, Lost, TurnedAway, Void}
 use Rattle.relay_next_hops.proofs.SlotLemmas.{none_taken, set_beside}

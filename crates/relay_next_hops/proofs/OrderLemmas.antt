@@ -1,5 +1,5 @@
 -- In which order connections are gone over: only the first of them stand, and that of all is the same without the others.
-use Rattle.std.proofs.Common.{◌≡◌, ◌≢◌, ◌⊎◌, inl, inr, ℕ, ◌+◌, ◌-◌, ◌*◌, ◌%◌, ◌<◌, ◌≤◌, zero, suc, List, [], ◌∷◌, ◌++◌, length, Option, None, Some, Result, refl, sym, ap, subst, ◌∙◌, arith}
+use Rattle.std.proofs.Common.{◌≡◌, ◌⊎◌, inl, inr, ℕ, ◌+◌, ◌-◌, ◌%◌, ◌<◌, ◌≤◌, zero, suc, List, [], ◌∷◌, ◌++◌, length, Option, None, Result, refl, sym, ap, subst, ◌∙◌, arith}
 use Rattle.std.specs.Prelude.{option_and_then}
 use Rattle.std.specs.List.{cons_option, filter_map, range_with_len}
 use Rattle.std.proofs.lemmas.Nat.{mod-mul-add}
@@ -7,7 +7,7 @@ use Rattle.relay_slots.specs.Slots.{slot_at}
 use Rattle.relay_records.specs.declared.fault.NodeFault.{NodeFault}
 use Rattle.relay_loop.specs.declared.hops.Answered.{Answered}
 use Rattle.relay_connections.specs.Hearing.{turned}
-use Rattle.relay_next_hops.specs.Hearing.{AnswersEach, HearsNext, hearing_at, hearing_of, order_of}
+use Rattle.relay_next_hops.specs.Hearing.{AnswersEach, hearing_at, hearing_of, order_of}
 use Rattle.relay_next_hops.specs.declared.hop.Hop.{Hop}
 use Rattle.relay_next_hops.specs.declared.hops.Hops.{Hops}
 use Rattle.std.proofs.lemmas.Bool.{cases_lt}

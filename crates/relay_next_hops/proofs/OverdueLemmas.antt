@@ -1,5 +1,5 @@
 -- The last tasks of a lane, which weren't checked, and the first of them that passes a test.
-use Rattle.std.proofs.Common.{◌≡◌, ℕ, zero, suc, ◌+◌, ◌-◌, ◌<◌, ◌≤◌, min, cond, Bool, true, false, List, [], ◌∷◌, ◌++◌, length, length-append, take, drop, refl, sym, ap, ◌∙◌, arith, find, option_map, option_to_list, slice_get, Option, Some, None, IfSome}
+use Rattle.std.proofs.Common.{◌≡◌, ℕ, zero, suc, ◌+◌, ◌-◌, ◌≤◌, min, cond, Bool, true, false, List, [], ◌∷◌, ◌++◌, length, length-append, take, drop, refl, sym, ap, ◌∙◌, arith, find, option_map, option_to_list, slice_get, Option, Some, None, IfSome}
 use Rattle.std.proofs.lemmas.List.{drop-drop, drop_min, take-append-drop}
 use Rattle.std.specs.Option.{option_map_or}
 use Rattle.relay_next_hops.specs.declared.lane.Lane.{Lane}

@@ -1,8 +1,7 @@
 -- What a task that was tried does to the counts of lanes, and where its connection goes.
-use Rattle.std.proofs.Common.{◌≡◌, ◌⊎◌, inl, inr, ℕ, ◌+◌, ◌<◌, ◌≤◌, Bool, true, false, List, [], ◌∷◌, length, Option, None, Some, refl, sym, ap, subst, ◌∙◌, add-one, arith}
+use Rattle.std.proofs.Common.{◌≡◌, inl, inr, ℕ, ◌+◌, ◌<◌, ◌≤◌, List, ◌∷◌, length, Option, None, Some, sym, ap, subst, ◌∙◌, add-one, arith}
 use Rattle.relay_disk.specs.declared.file.FileDisk.{FileDisk}
-use Rattle.relay_limits.specs.declared.pace.Pace.{Pace}
-use Rattle.relay_routes.specs.Routes.{Route, place_of}
+use Rattle.relay_routes.specs.Routes.{place_of}
 use Rattle.relay_slots.specs.Slots.{slot_at}
 use Rattle.relay_loop.specs.Relay.{RelayState}
 use Rattle.relay_connections.specs.Table.{count_of}
@@ -19,7 +18,7 @@ use Rattle.relay_next_hops.specs.declared.lanes.Lanes.{Lanes}
 use Rattle.relay_next_hops.specs.Spares.{held_of}
 use Rattle.relay_next_hops.specs.declared.spares.Spares.{Spares}
 use Rattle.relay_next_hops.specs.declared.starting.Begun.{Begun}
-use Rattle.relay_next_hops.specs.declared.starting.Begun.TheVariants.{AllDone, Crowded, HasMore, Full, Wanting}
+use Rattle.relay_next_hops.specs.declared.starting.Begun.TheVariants.{AllDone, Crowded, Full, Wanting}
 use Rattle.relay_next_hops.specs.declared.starting.Step.{Step}
 use Rattle.relay_next_hops.specs.declared.starting.Step.TheVariants.{Left, Back, Over, NoRoom, NoSlot}
 use Rattle.relay_next_hops.specs.declared.starting.Tried.{Tried}

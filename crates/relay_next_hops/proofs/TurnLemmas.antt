@@ -1,21 +1,18 @@
 -- Which lanes are done, while others have their turn.
-use Rattle.std.proofs.Common.{◌≡◌, ◌≢◌, ◌⊎◌, inl, inr, ℕ, ◌+◌, ◌-◌, ◌<◌, ◌≤◌, zero, suc, min, Bool, true, false, not, List, [], ◌∷◌, length, MatchOption, Option, None, Some, option_map, refl, sym, ap, subst, ◌∙◌, arith, if◌then◌else◌}
+use Rattle.std.proofs.Common.{◌≡◌, ◌≢◌, ◌⊎◌, inl, inr, ℕ, ◌+◌, ◌<◌, ◌≤◌, Bool, true, false, not, List, [], ◌∷◌, length, MatchOption, Option, None, Some, option_map, refl, sym, ap, subst, ◌∙◌, arith, if◌then◌else◌}
 use Rattle.std.specs.Prelude.{slice_get, slice_set}
 use Rattle.std.specs.Option.{option_map_or}
-use Rattle.std.proofs.lemmas.Bool.{cases_eq, cases_lt, false≢true}
-use Rattle.std.proofs.lemmas.Bool.Decides.{eqb_tells}
+use Rattle.std.proofs.lemmas.Bool.{cases_eq, false≢true}
 use Rattle.relay_limits.specs.declared.pace.Pace.{Pace}
 use Rattle.relay_limits.specs.Pace.{MayBegin}
 use Rattle.relay_slots.specs.Slots.{slot_at}
 use Rattle.relay_connections.specs.Table.{count_of_such, is_such}
 use Rattle.relay_next_hops.specs.Counts.{is_unanswered, unanswered_of}
-use Rattle.relay_next_hops.specs.Lanes.{IsNth, OnlyLane, tasks_at}
+use Rattle.relay_next_hops.specs.Lanes.{OnlyLane, tasks_at}
 use Rattle.relay_next_hops.specs.Paces.{HasLane, MayBeginAt, changed_at, has_answered_at, put_at}
-use Rattle.relay_next_hops.specs.Starting.{IsDone}
 use Rattle.relay_next_hops.specs.declared.hop.Hop.{Hop}
 use Rattle.relay_next_hops.specs.declared.lane.Lane.{Lane}
 use Rattle.relay_next_hops.specs.declared.lanes.Lanes.{Lanes}
-use Rattle.relay_next_hops.specs.declared.starting.TheConstants.{MOST_UNANSWERED}
 use Rattle.relay_next_hops.proofs.ListingLemmas.{get_beside, get_own}
 use Rattle.relay_next_hops.proofs.SlotLemmas.{count_set}
 

@@ -1,6 +1,5 @@
 -- A lane's count is the number of its connections to next hops that are being made, or whose attempts run.
-use Rattle.std.specs.Prelude.{◌≡◌, ◌+◌, ◌==◌, ℕ, Bool, not, List, Option, None, if◌then◌else◌}
-use Rattle.relay_slots.specs.Slots.{slot_at}
+use Rattle.std.specs.Prelude.{◌≡◌, ◌+◌, ◌==◌, ℕ, Bool, not, List, Option, if◌then◌else◌}
 use Rattle.relay_limits.specs.declared.pace.Pace.{Pace}
 use Rattle.relay_connections.specs.Table.{count_of_such}
 use Rattle.relay_next_hops.specs.Paces.{has_answered_at, running_at}

@@ -10,7 +10,6 @@ use Rattle.relay_envelope.specs.declared.envelope.Recipient.{Recipient}
 use Rattle.relay_routes.specs.Routes.{RouteTable, hop_at}
 use Rattle.relay_routes.specs.declared.hop.Hop.{Hop as NextHop}
 use Rattle.relay_book.specs.Queue.{message_of}
-use Rattle.relay_book.specs.declared.message.Message.{Message}
 use Rattle.relay_book.specs.declared.message.Place.{Place}
 use Rattle.relay_node.specs.Node.{NodeState}
 use Rattle.relay_next_hops.specs.Lanes.{IsListedUnroutable, tasks_at}

@@ -1,5 +1,5 @@
 -- The places of next hops by number, and the key by which the number of each is found.
-use Rattle.std.specs.Prelude.{◌≡◌, ◌≢◌, ℕ, ◌+◌, ◌*◌, List, Option, Some, nat_eq, option_map, slice_get}
+use Rattle.std.specs.Prelude.{◌≡◌, ◌≢◌, ℕ, ◌+◌, ◌*◌, List, Some, nat_eq, option_map, slice_get}
 use Rattle.std.specs.Int.{w32, from_be_bytes}
 use Rattle.std.specs.HashMap.{HashMap, get}
 use Rattle.std.specs.Net.Addr.{ipv4_octets}

@@ -1,4 +1,4 @@
-use Rattle.std.proofs.Common.{◌≡◌, ◌-◌, ◌+◌, ℕ, Bool, true, false, suc, drop, take, find, sym, ap, ◌∙◌, Some, inr, length, arith}
+use Rattle.std.proofs.Common.{◌≡◌, ◌-◌, ℕ, Bool, true, false, drop, take, find, sym, ap, ◌∙◌, Some, inr, length, arith}
 use Rattle.std.proofs.lemmas.List.{drop-drop, drop_all}
 use Rattle.relay_book.specs.Queue.{message_of}
 use Rattle.relay_next_hops.specs.declared.lane.Task.{Task}

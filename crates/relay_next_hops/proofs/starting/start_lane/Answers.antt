@@ -1,5 +1,5 @@
 -- One task more was tried.
-use Rattle.std.proofs.Common.{◌≡◌, ◌≤◌, sym, ap, subst, ◌∙◌, arith}
+use Rattle.std.proofs.Common.{sym, subst, ◌∙◌, arith}
 use Rattle.relay_next_hops.specs.Errands.{AreAimed}
 use Rattle.relay_next_hops.proofs.StartLemmas.{step_ends, step_goes_on}
 use Rattle.relay_next_hops.proofs.TurnLemmas.{only_then}

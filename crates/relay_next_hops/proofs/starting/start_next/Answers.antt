@@ -1,11 +1,10 @@
 -- The next task of the lane was tried.
-use Rattle.std.proofs.Common.{◌≡◌, ◌+◌, ◌≤◌, ℕ, List, length, sym, ap, subst, ◌∙◌, add-one, arith}
+use Rattle.std.proofs.Common.{◌≡◌, ◌+◌, ◌≤◌, List, length, sym, ap, subst, ◌∙◌, add-one, arith}
 use Rattle.relay_limits.specs.declared.pace.Pace.{Pace}
 use Rattle.relay_next_hops.specs.Counts.{CountsMatch, unanswered_of}
 use Rattle.relay_next_hops.specs.Lanes.{tasks_at}
 use Rattle.relay_next_hops.specs.Paces.{HasLane}
 use Rattle.relay_next_hops.specs.Starting.{IsStep}
-use Rattle.relay_next_hops.specs.declared.starting.Step.{Step}
 use Rattle.relay_next_hops.proofs.StartLemmas.{back_few, step_is, tried_aimed, tried_counts, tried_unanswered}
 use Rattle.relay_next_hops.proofs.TurnLemmas.{has_lane, only_then}
 use Rattle.relay_next_hops.proofs.starting.start_next.Goals as goal

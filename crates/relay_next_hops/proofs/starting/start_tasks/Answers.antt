@@ -1,5 +1,5 @@
 -- One lane more has had its turn.
-use Rattle.std.proofs.Common.{◌≡◌, sym, ap, subst, ◌∙◌}
+use Rattle.std.proofs.Common.{sym, subst, ◌∙◌}
 use Rattle.relay_next_hops.specs.Errands.{AreAimed}
 use Rattle.relay_next_hops.proofs.SlotLemmas.{counts_stay}
 use Rattle.relay_next_hops.proofs.starting.start_tasks.Goals as goal

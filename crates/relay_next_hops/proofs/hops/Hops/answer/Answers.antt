@@ -1,11 +1,10 @@
 -- Each that has something to hear is answered by the next answer; the others are passed over.
-use Rattle.std.proofs.Common.{◌≡◌, ◌≢◌, [], ◌∷◌, ◌++◌, length, List, ℕ, ◌%◌, ◌+◌, ◌-◌, refl, sym, ap, subst, ◌∙◌, arith, None, Some, Option, Result, IfSome, option_to_list}
+use Rattle.std.proofs.Common.{◌≡◌, ◌≢◌, [], length, List, ◌%◌, ◌+◌, ◌-◌, refl, sym, subst, ◌∙◌, arith, None, Option, Result}
 use Rattle.std.specs.Vec.Iter.{into_iter_steps}
 use Rattle.relay_records.specs.declared.fault.NodeFault.{NodeFault}
 use Rattle.relay_loop.specs.declared.hops.Answered.{Answered}
 use Rattle.relay_connections.specs.Hearing.{turned}
 use Rattle.relay_next_hops.specs.Hearing.{AnswersEach, hearing_at, order_of}
-use Rattle.relay_next_hops.specs.declared.hop.Hop.{Hop}
 use Rattle.relay_next_hops.proofs.HearingLemmas.{all_over, hears, if_some, none_of, passes, stops}
 use Rattle.relay_next_hops.proofs.OrderLemmas.{round_answered}
 use Rattle.relay_next_hops.proofs.SlotLemmas.{is_none}

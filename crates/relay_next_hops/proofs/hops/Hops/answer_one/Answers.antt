@@ -1,7 +1,7 @@
 -- The connection that is answered keeps its errand, and is counted until it is settled.
 use Rattle.std.proofs.Common.{refl}
 use Rattle.relay_next_hops.proofs.HearingLemmas.{answered_by, on_ok}
-use Rattle.relay_next_hops.proofs.SlotLemmas.{aimed_taken, counts_same, is_none, out_aim, out_aimed, out_counts, out_free, out_low}
+use Rattle.relay_next_hops.proofs.SlotLemmas.{out_aim, out_aimed, out_counts, out_free, out_low}
 use Rattle.relay_next_hops.proofs.hops.Hops.answer_one.Goals as goal
 
 pub returns-clause-counts : goal.returns-clause-counts

@@ -1,6 +1,5 @@
 -- The connection that is taken out keeps its errand, and is counted until it is settled.
-use Rattle.std.proofs.Common.{None}
-use Rattle.relay_next_hops.proofs.SlotLemmas.{aimed_taken, counts_same, is_none, out_aim, out_aimed, out_counts, out_free, out_low}
+use Rattle.relay_next_hops.proofs.SlotLemmas.{out_aim, out_aimed, out_counts, out_free, out_low}
 use Rattle.relay_next_hops.proofs.hops.Hops.attend_one.Goals as goal
 
 pub returns-clause-counts : goal.returns-clause-counts

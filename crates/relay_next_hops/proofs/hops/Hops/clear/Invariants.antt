@@ -1,5 +1,5 @@
 -- nothing stands before the slot that is looked at next, nor behind the last that stood
-use Rattle.std.proofs.Common.{◌≡◌, ℕ, ◌<◌, ◌≤◌, List, None}
+use Rattle.std.proofs.Common.{◌≡◌, ℕ, ◌<◌, ◌≤◌, None}
 use Rattle.relay_slots.specs.Slots.{slot_at}
 use Rattle.relay_next_hops.proofs.hops.Hops.clear.Given as goal
 

@@ -1,5 +1,5 @@
 -- What the next one has to hear is told behind what was told before.
-use Rattle.std.proofs.Common.{◌≡◌, ◌++◌, [], ◌∷◌, length, map, List, ℕ, ◌%◌, ◌+◌, ◌-◌, refl, sym, ap, subst, ◌∙◌, arith, None, Some, Option, option_map}
+use Rattle.std.proofs.Common.{◌≡◌, ◌++◌, [], ◌∷◌, length, map, List, ◌%◌, ◌+◌, ◌-◌, refl, sym, ap, ◌∙◌, None, option_map}
 use Rattle.std.specs.List.{filter_map}
 use Rattle.std.proofs.lemmas.List.{map-append}
 use Rattle.relay_loop.specs.declared.replying.ReplyPiece.{ReplyPiece}

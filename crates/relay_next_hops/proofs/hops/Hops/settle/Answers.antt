@@ -1,5 +1,5 @@
 -- A connection that stays is counted in the table again; of one that doesn't, its lane has one less.
-use Rattle.std.proofs.Common.{refl, sym, ◌∙◌, subst, ℕ, ap}
+use Rattle.std.proofs.Common.{refl, sym, ◌∙◌, subst}
 use Rattle.relay_next_hops.specs.Paces.{RunsOneLess}
 use Rattle.relay_next_hops.specs.declared.errand.Aim.{Aim}
 use Rattle.relay_next_hops.proofs.SlotLemmas.{counts_ended, left_none, put_aimed, put_counts}

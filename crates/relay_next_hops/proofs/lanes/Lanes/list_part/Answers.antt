@@ -1,5 +1,5 @@
 -- What was listed before stays so.
-use Rattle.std.proofs.Common.{ap, ◌∙◌, subst, ℕ, List, Option, Some, ◌≡◌, drop}
+use Rattle.std.proofs.Common.{ap, ◌∙◌, ℕ, List, ◌≡◌, drop}
 use Rattle.std.specs.Prelude.{slice_get}
 use Rattle.relay_next_hops.specs.Numbers.{Walk}
 use Rattle.relay_next_hops.proofs.ListingLemmas.{kept_then}

@@ -1,5 +1,4 @@
 -- What came since is listed, and stays so.
-use Rattle.std.proofs.Common.{ℕ, ◌≤◌, ◌<◌}
 use Rattle.relay_next_hops.proofs.ListingLemmas.{kept_then, message_kept, more_of}
 use Rattle.relay_next_hops.proofs.lanes.Lanes.look_ahead.Goals as goal
 

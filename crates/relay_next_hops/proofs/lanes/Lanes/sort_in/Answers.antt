@@ -1,5 +1,5 @@
 -- The task is added to the lane of its next hop's place, after what waits there.
-use Rattle.std.proofs.Common.{inl, refl, sym, ap, ◌∙◌, arith}
+use Rattle.std.proofs.Common.{inl, refl, ap, ◌∙◌, arith}
 use Rattle.relay_next_hops.specs.Listing.{is_for}
 use Rattle.relay_next_hops.proofs.ListingLemmas.{any_last, is_own, pushed_more, set_own, set_waits}
 use Rattle.relay_next_hops.proofs.lanes.Lanes.sort_in.Goals as goal

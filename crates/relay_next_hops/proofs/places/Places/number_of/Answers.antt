@@ -1,9 +1,9 @@
 -- The number that is found is that of the place, since its key is one to one.
-use Rattle.std.proofs.Common.{◌≡◌, List, Some, None, nat_eq, sym, ap, ◌∙◌}
+use Rattle.std.proofs.Common.{◌≡◌, List, Some, nat_eq, sym, ap, ◌∙◌}
 use Rattle.std.specs.Prelude.{slice_get}
 use Rattle.std.specs.HashMap.{get}
 use Rattle.std.specs.declared.net.socket_addr.SocketAddrV4.{SocketAddrV4}
-use Rattle.relay_next_hops.proofs.PlaceLemmas.{has_none, is_its_place}
+use Rattle.relay_next_hops.proofs.PlaceLemmas.{is_its_place}
 use Rattle.relay_next_hops.specs.Places.{key_of}
 use Rattle.relay_next_hops.proofs.places.Places.number_of.Goals as goal
 
