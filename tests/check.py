@@ -99,6 +99,7 @@ client_timeout = [1]
 status_listen = "0.0.0.0:9925"
 log = "xml"
 routes = 1
+trusted_clients = "127.0.0.1"
 """, [
         '1:1: error: host = "relay example": write a name of 1 to 255 letters, digits, hyphens and periods, such as '
         'host = "relay.example.org"',
@@ -115,7 +116,19 @@ routes = 1
         '65535, such as status_listen = "127.0.0.1:9925"',
         '11:1: error: log = "xml": write "text" or "json", such as log = "json"',
         '12:1: error: routes = 1: write a table, such as routes = '
-        '{ "example.org" = { name = "mx.example.org", at = "192.0.2.1:25" } }'])
+        '{ "example.org" = { name = "mx.example.org", at = "192.0.2.1:25" } }',
+         '13:1: error: trusted_clients = "127.0.0.1": write an array of IPv4 networks, such as '
+         'trusted_clients = ["127.0.0.0/8"]'])
+
+
+def each_network_is_judged_on_its_own(program):
+    no_network = 'is no network: write an address, or one such as "192.0.2.0/24" with zeros after its prefix'
+    refused(program, HEAD + 'trusted_clients = ["192.0.2.9", "192.0.2.9/24", "10.0.0.0/33", "10.0.0.0/08", 5]\n'
+            + ROUTES, [
+                f'4:1: error: trusted_clients: "192.0.2.9/24" {no_network}',
+                f'4:1: error: trusted_clients: "10.0.0.0/33" {no_network}',
+                f'4:1: error: trusted_clients: "10.0.0.0/08" {no_network}',
+                '4:1: error: trusted_clients: (integer) is no network: write a text such as "192.0.2.0/24"'])
 
 
 def unknown_keys_are_errors_though_a_relay_ignores_them(program):
@@ -166,8 +179,13 @@ def what_is_risky_is_a_warning(program):
         "raise spool_limit"])
     passed(program, HEAD + f'[routes]\n"*" = {HOP}\n', UNREAD)
     passed(program, HEAD.replace("127.0.0.1:2525", "0.0.0.0:2525") + f'[routes]\n"*" = {HOP}\n', [
-        *UNREAD, "5:1: warning: route * takes mail for every domain from everybody who can reach 0.0.0.0:2525: let a "
-        "firewall admit your hosts alone"])
+        *UNREAD, "5:1: warning: route * takes mail for every domain from everybody who can reach 0.0.0.0:2525: name "
+        "your hosts in trusted_clients"])
+    far = HEAD.replace("127.0.0.1:2525", "0.0.0.0:2525")
+    passed(program, far + f'trusted_clients = ["192.0.2.0/24"]\n[routes]\n"*" = {HOP}\n', UNREAD)
+    passed(program, far + f'trusted_clients = ["0.0.0.0/0"]\n[routes]\n"*" = {HOP}\n', [
+        *UNREAD, "6:1: warning: route * takes mail for every domain from everybody who can reach 0.0.0.0:2525: name "
+        "your hosts in trusted_clients"])
     passed(program, HEAD + ROUTES + f'".example.net" = {HOP}\n', [
         *UNREAD, "7:1: warning: route .example.net begins with a period: a route is for one domain and for none below "
         "it; write each of them"])
@@ -224,7 +242,7 @@ def main(program):
     rows = [
         a_good_configuration_has_no_findings, what_is_no_toml_is_told_with_its_place, each_missing_key_is_told,
         each_bad_value_is_told_with_what_to_write, unknown_keys_are_errors_though_a_relay_ignores_them,
-        each_route_is_judged_on_its_own, what_is_risky_is_a_warning, a_route_to_the_relay_itself_is_a_warning,
+        each_network_is_judged_on_its_own, each_route_is_judged_on_its_own, what_is_risky_is_a_warning, a_route_to_the_relay_itself_is_a_warning,
         files_that_can_not_be_read_are_told_with_the_reason, the_next_hop_of_an_address_is_told, faults_have_their_line]
     for row in rows:
         with tempfile.TemporaryDirectory() as folder:

@@ -6,7 +6,7 @@ use strsim::levenshtein;
 use toml::Table;
 
 /// The keys of a configuration.
-const KEYS: [&str; 12] = [
+const KEYS: [&str; 13] = [
     "host",
     "listen",
     "spool",
@@ -14,6 +14,7 @@ const KEYS: [&str; 12] = [
     "spool_limit",
     "bare_newlines",
     "routes",
+    "trusted_clients",
     "sessions_per_client",
     "attempts_per_hop",
     "client_timeout",

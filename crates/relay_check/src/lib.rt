@@ -6,6 +6,7 @@ mod checking;
 mod document;
 mod findings;
 mod known_keys;
+mod networks;
 mod position;
 mod risks;
 mod route;

@@ -1,6 +1,7 @@
 //! What is risky about a configuration by which a relay runs.
 use crate::document::{routes_of, text_at};
 use crate::findings::Findings;
+use crate::networks::{are_everybody, networks_of};
 use crate::position::Place;
 use relay_disk::FileDisk;
 use relay_routes::Config;
@@ -20,7 +21,7 @@ pub(crate) fn check_risks<F: Files<File = File>>(
 ) -> Result<(), AllocError> {
     check_sizes(alloc, config, findings)?;
     if let Some(routes) = routes_of(document) {
-        check_reach(alloc, config, routes, findings)?;
+        check_reach(alloc, config, document, routes, findings)?;
         check_loops(alloc, config, routes, findings)?;
     }
     let second = format!(in alloc; "{}.2", config.spool.as_str())?;
@@ -48,6 +49,7 @@ fn check_sizes(
 fn check_reach(
     alloc: Global,
     config: &Config,
+    document: &Table,
     routes: &Table,
     findings: &mut Findings<'_>,
 ) -> Result<(), AllocError> {
@@ -58,7 +60,7 @@ fn check_reach(
         return findings.warning(Place::Key("routes"), message);
     }
     if routes.contains_key("*") {
-        return check_openness(alloc, config, findings);
+        return check_openness(alloc, config, document, findings);
     }
     let host = config.host.as_slice();
     if routes.keys().any(|domain| domain.as_str().as_bytes().eq_ignore_ascii_case(host)) {
@@ -74,13 +76,19 @@ fn check_reach(
 fn check_openness(
     alloc: Global,
     config: &Config,
+    document: &Table,
     findings: &mut Findings<'_>,
 ) -> Result<(), AllocError> {
     if config.listen.ip().is_loopback() {
         return Ok(());
     }
+    if let Some(networks) = networks_of(document) {
+        if !are_everybody(networks) {
+            return Ok(());
+        }
+    }
     let message = format!(in alloc;
-        "route * takes mail for every domain from everybody who can reach {}: let a firewall admit your hosts alone",
+        "route * takes mail for every domain from everybody who can reach {}: name your hosts in trusted_clients",
         config.listen
     )?;
     findings.warning(Place::Route("*"), message)

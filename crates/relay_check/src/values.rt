@@ -9,7 +9,7 @@ use std::fmt;
 use toml::{Table, Value};
 
 /// How many values there may be to replace: one for each key.
-const KEYS: usize = 12;
+const KEYS: usize = 13;
 
 /// A value that a key may have.
 #[derive(Clone, Copy, Drop)]
@@ -17,6 +17,7 @@ enum Good {
     Text(&'static str),
     Number(i64),
     NoRoutes,
+    NoNetworks,
 }
 
 impl Good {
@@ -25,6 +26,7 @@ impl Good {
             Good::Text(text) => Value::string(alloc, text)?,
             Good::Number(number) => Value::Integer(number),
             Good::NoRoutes => Value::Table(Table::new(alloc)),
+            Good::NoNetworks => Value::Array(Vec::new(alloc)),
         })
     }
 }
@@ -37,6 +39,7 @@ impl fmt::Display for Good {
             Good::NoRoutes => f.write_str(
                 "{ \"example.org\" = { name = \"mx.example.org\", at = \"192.0.2.1:25\" } }",
             ),
+            Good::NoNetworks => f.write_str("[\"127.0.0.0/8\"]"),
         }
     }
 }
@@ -51,7 +54,7 @@ struct Rule {
 }
 
 /// Finds each value that a configuration or its limits refuse, and each key that has to be there and isn't, but for
-/// what is wrong with a single route.
+/// what is wrong with a single route or a single network.
 pub(crate) fn check_values(
     alloc: Global,
     text: &str,
@@ -62,6 +65,7 @@ pub(crate) fn check_values(
         return Err(AllocError);
     };
     set_routes_aside(alloc, &mut document)?;
+    set_networks_aside(alloc, &mut document)?;
     for _ in 0..KEYS {
         let Some(rule) = broken_rule(alloc, &document)? else {
             break;
@@ -76,6 +80,14 @@ pub(crate) fn check_values(
 fn set_routes_aside(alloc: Global, document: &mut Table) -> Result<(), AllocError> {
     match document.get("routes") {
         Some(Value::Table(_)) => replace(alloc, document, "routes", Good::NoRoutes),
+        _ => Ok(()),
+    }
+}
+
+/// Replaces an array of networks by an empty one: each network is looked at on its own.
+fn set_networks_aside(alloc: Global, document: &mut Table) -> Result<(), AllocError> {
+    match document.get("trusted_clients") {
+        Some(Value::Array(_)) => replace(alloc, document, "trusted_clients", Good::NoNetworks),
         _ => Ok(()),
     }
 }
@@ -158,6 +170,7 @@ fn rule_of(key: Key) -> Rule {
         Key::SpoolLimit => ("a number from 1 to 549755813888", Good::Number(67_108_864)),
         Key::Routes => ("a table", Good::NoRoutes),
         Key::BareNewlines => ("\"pass\" or \"refuse\"", Good::Text("refuse")),
+        Key::TrustedClients => ("an array of IPv4 networks", Good::NoNetworks),
     };
     Rule {
         key: key.text(),

@@ -8,7 +8,7 @@ use Rattle.relay_disk.specs.Device.{DiskWords}
 use Rattle.relay_slots.specs.Slots.{OthersStay, slot_at}
 use Rattle.relay_routes.specs.declared.config.Config.{Config}
 use Rattle.relay_server.specs.Dialogue.{Offered, Said}
-use Rattle.relay_server.specs.Setup.{setup_of_config}
+use Rattle.relay_server.specs.Setup.{setup_for}
 use Rattle.relay_book.specs.declared.change.Change.{Change}
 use Rattle.relay_records.specs.declared.fault.NodeFault.{NodeFault}
 use Rattle.relay_records.specs.declared.fault.NodeFault.TheVariants.{NoMemory, Stopped, Unknown, TooMany, NotDue, Busy, Open, Full, NoSecond}
@@ -112,7 +112,7 @@ module _ {D : Type 0} (before after : NodeState D) (records : List (List ℕ)) (
     -- and there was no memory for what was heard, or no number for a message
     pub session_why : (session : ℕ) (piece : List ℕ) (fault : NodeFault) → is_stop fault ≡ false → fault ≢ Unknown
         → (fault ≡ Full → (peer : List ℕ) (said : Said) → SeatHasSaid before.config before.seats session peer said
-        → ComesToOffer (setup_of_config before.config) said piece)
+        → ComesToOffer (setup_for before.config peer) said piece)
         → RefusesToReceive words session before after fault → IsWhyUnheard (Up before) session piece fault
     session_why session piece NoMemory ok known comes refuses = inl refl
     session_why session piece Stopped ok known comes refuses = absurd (true≢false ok)

@@ -4,7 +4,7 @@ use Rattle.std.specs.Prelude.{Some}
 use Rattle.relay_disk.specs.Device.{DiskWords}
 use Rattle.relay_slots.specs.Slots.{OthersStay, slot_at}
 use Rattle.relay_server.specs.Dialogue.{Said}
-use Rattle.relay_server.specs.Setup.{setup_of_config}
+use Rattle.relay_server.specs.Setup.{setup_for}
 use Rattle.relay_book.specs.declared.change.Change.{Change}
 use Rattle.relay_records.specs.declared.fault.NodeFault.{NodeFault}
 use Rattle.relay_records.specs.declared.fault.NodeFault.TheVariants as node_fault
@@ -42,7 +42,7 @@ is_stop node_fault.NoSecond = false
 pub record LacksNumber {D : Type 0} (node : NodeState D) (session : ℕ) (piece : List ℕ) : Type 0 where
   pub none_left : 2 ^ 62 < node.records.queue.next
   pub comes : (peer : List ℕ) (said : Said) → SeatHasSaid node.config node.seats session peer said
-      → ComesToOffer (setup_of_config node.config) said piece
+      → ComesToOffer (setup_for node.config peer) said piece
 
 -- why a host loses a session on which octets came: there was no memory for what it heard, or no number for a message
 abbrev pub IsWhyUnheard : {D : Type 0} → HostState D → ℕ → List ℕ → NodeFault → Type 0

@@ -11,7 +11,7 @@ use Rattle.relay_server.specs.declared.session.Next.TheVariants as next
 use Rattle.relay_server.specs.declared.session.Session.{Session}
 use Rattle.relay_server.specs.Dialogue.{Offered, Said, greeted_only, offered_by, unread_behind}
 use Rattle.relay_server.specs.Session.{Answered, Hears, IsClosed, Stands, offers_since, open_offers}
-use Rattle.relay_server.specs.Setup.{setup_of_config}
+use Rattle.relay_server.specs.Setup.{setup_for}
 use Rattle.relay_server.specs.State.{start as first_state}
 use Rattle.relay_server.specs.Unit.{IsUnit}
 use Rattle.relay_server.proofs.Theorems.{closed_is_a_dialogue, no_unit_is_empty, offers_are_answered, what_stands_is_a_dialogue}
@@ -130,20 +130,20 @@ module _ (has_answered : List ℕ → ℕ → Offered → Answer → Type 0) (co
   as_told offers answers receipts h = subst (λ (l : List Answer). HasNoted has_answered config peer at start offers l receipts) (sym (append-nil answers)) h
 
   -- of a session with an open offer that is the one without an answer
-  one_unanswered : (session : Session) (said : Said) (offer : Offered) → Stands (setup_of_config config) session said → open_offers session ≡ offer ∷ [] → length said.offers ≡ suc (length said.answers)
+  one_unanswered : (session : Session) (said : Said) (offer : Offered) → Stands (setup_for config peer) session said → open_offers session ≡ offer ∷ [] → length said.offers ≡ suc (length said.answers)
   one_unanswered session said offer s is_open =
-      let all = offers_are_answered (setup_of_config config) session said s in
+      let all = offers_are_answered (setup_for config peer) session said s in
       let one = ap length is_open in
       omega (arith, all, one)
 
-  all_answered : (session : Session) (said : Said) → Stands (setup_of_config config) session said → open_offers session ≡ [] → length said.offers ≡ length said.answers
+  all_answered : (session : Session) (said : Said) → Stands (setup_for config peer) session said → open_offers session ≡ [] → length said.offers ≡ length said.answers
   all_answered session said s none =
-      let all = offers_are_answered (setup_of_config config) session said s in
+      let all = offers_are_answered (setup_for config peer) session said s in
       let zero_open = ap length none in
       omega (arith, all, zero_open)
 
   -- the open offer has an answer of the hub
-  noted_by_hub : (session : Session) (said : Said) (offer : Offered) (given : Answer) (receipts new : List Receipt) → Stands (setup_of_config config) session said → open_offers session ≡ offer ∷ [] → HasNoted has_answered config peer at start said.offers said.answers receipts → Notes offer peer at receipts given new
+  noted_by_hub : (session : Session) (said : Said) (offer : Offered) (given : Answer) (receipts new : List Receipt) → Stands (setup_for config peer) session said → open_offers session ≡ offer ∷ [] → HasNoted has_answered config peer at start said.offers said.answers receipts → Notes offer peer at receipts given new
       → has_answered peer at offer given → HasNoted has_answered config peer at start said.offers (said.answers ++ given ∷ []) new
   noted_by_hub session said offer given receipts new s is_open h notes by_hub =
       let front = offered_by s.turns in
@@ -170,7 +170,7 @@ module _ (has_answered : List ℕ → ℕ → Offered → Answer → Type 0) (co
 
   -- octets that waited were heard
   pub heard : (old new : Session) (left held : Option (List ℕ)) (octets : List ℕ) (from to : ℕ) (out new_out : List ℕ) (receipts : List Receipt) → from ≤ to → HasSaid has_answered config peer at start old left held (drop from octets) out receipts
-      → ((said : Said) → Stands (setup_of_config config) old said → Hears (setup_of_config config) said old new (slice_range octets from to) out new_out) → HasSaid has_answered config peer at start new left held (drop to octets) new_out receipts
+      → ((said : Said) → Stands (setup_for config peer) old said → Hears (setup_for config peer) said old new (slice_range octets from to) out new_out) → HasSaid has_answered config peer at start new left held (drop to octets) new_out receipts
   heard old new left held octets from to out new_out receipts within h hears =
       let x = hears h.said h.stands in
       record {
@@ -187,7 +187,7 @@ module _ (has_answered : List ℕ → ℕ → Offered → Answer → Type 0) (co
 
   -- the open offer has its answer
   pub answered : (old new : Session) (left held : Option (List ℕ)) (waiting out new_out : List ℕ) (receipts new_receipts : List Receipt) (offer : Offered) (given : Answer) → open_offers old ≡ offer ∷ [] → HasSaid has_answered config peer at start old left held waiting out receipts
-      → ((said : Said) → Stands (setup_of_config config) old said → Answered (setup_of_config config) said new given out new_out) → Notes offer peer at receipts given new_receipts → has_answered peer at offer given → HasSaid has_answered config peer at start new left held waiting new_out new_receipts
+      → ((said : Said) → Stands (setup_for config peer) old said → Answered (setup_for config peer) said new given out new_out) → Notes offer peer at receipts given new_receipts → has_answered peer at offer given → HasSaid has_answered config peer at start new left held waiting new_out new_receipts
   answered old new left held waiting out new_out receipts new_receipts offer given is_open h answers notes by_hub =
       let x = answers h.said h.stands in
       let hub = noted_by_hub old h.said offer given receipts new_receipts h.stands is_open h.noted notes by_hub in
@@ -208,7 +208,7 @@ module _ (has_answered : List ℕ → ℕ → Offered → Answer → Type 0) (co
       → HasBegun has_answered config peer at start left held receipts fault
   breaks session left held waiting out receipts fault h whole is_open = record {
     said = h.said;
-    dialogue = what_stands_is_a_dialogue (setup_of_config config) session h.said h.stands;
+    dialogue = what_stands_is_a_dialogue (setup_for config peer) session h.said h.stands;
     unread = waiting;
     read = h.read;
     front = h.before;
@@ -261,7 +261,7 @@ module _ (has_answered : List ℕ → ℕ → Offered → Answer → Type 0) (co
       → has_answered peer at offer given → HasBegun has_answered config peer at start left held new_receipts NoMemory
   untold session left held waiting out receipts new_receipts offer given is_open h notes by_hub = record {
     said = h.said;
-    dialogue = what_stands_is_a_dialogue (setup_of_config config) session h.said h.stands;
+    dialogue = what_stands_is_a_dialogue (setup_for config peer) session h.said h.stands;
     unread = waiting;
     read = h.read;
     front = h.before;
@@ -292,7 +292,7 @@ module _ (has_answered : List ℕ → ℕ → Offered → Answer → Type 0) (co
       → HasBegun has_answered config peer at start left new_held receipts Output
   cut_off session left held new_held waiting out receipts h front rest parts wrote = record {
     said = h.said;
-    dialogue = what_stands_is_a_dialogue (setup_of_config config) session h.said h.stands;
+    dialogue = what_stands_is_a_dialogue (setup_for config peer) session h.said h.stands;
     unread = waiting;
     read = h.read;
     front = h.before ++ front;
@@ -313,7 +313,7 @@ module _ (has_answered : List ℕ → ℕ → Offered → Answer → Type 0) (co
   -- the session has closed; octets behind the close belong to the rest of the dialogue
   pub closes : (session : Session) (left held : Option (List ℕ)) (waiting : List ℕ) (receipts : List Receipt) → HasSaid has_answered config peer at start session left held waiting [] receipts → IsClosed session → open_offers session ≡ [] → HasServed has_answered config peer at start left held receipts
   closes session left held waiting receipts h closed none =
-      let end = closed_is_a_dialogue (setup_of_config config) session h.said waiting h.stands closed in
+      let end = closed_is_a_dialogue (setup_for config peer) session h.said waiting h.stands closed in
       record {
         said = unread_behind h.said waiting;
         dialogue = end.0;
@@ -357,7 +357,7 @@ module _ (has_answered : List ℕ → ℕ → Offered → Answer → Type 0) (co
   pub ends : (session : Session) (left new_left held : Option (List ℕ)) (receipts : List Receipt) → HasSaid has_answered config peer at start session left held [] [] receipts → open_offers session ≡ [] → Consumes left new_left [] → IsAtEnd new_left → HasServed has_answered config peer at start new_left held receipts
   ends session left new_left held receipts h none read end = record {
     said = h.said;
-    dialogue = what_stands_is_a_dialogue (setup_of_config config) session h.said h.stands;
+    dialogue = what_stands_is_a_dialogue (setup_for config peer) session h.said h.stands;
     read =
         subst (Consumes start.left new_left) (append-nil (h.said.input ++ []) ∙ append-nil h.said.input)
         (Consumes-trans start.left left new_left (h.said.input ++ []) [] h.read read);
@@ -412,7 +412,7 @@ module _ (has_answered : List ℕ → ℕ → Offered → Answer → Type 0) (co
       not_memory (inr number) = cc
 
   -- the session is there, and its greeting is to be written
-  pub greeted : (session : Session) (greeting : List ℕ) → Stands (setup_of_config config) session (record { input = []; answers = []; output = greeting; offers = [] })
+  pub greeted : (session : Session) (greeting : List ℕ) → Stands (setup_for config peer) session (record { input = []; answers = []; output = greeting; offers = [] })
       → HasSaid has_answered config peer at (link_start left held receipts) session left held [] greeting receipts
   greeted session greeting stands = record {
     said = record { input = []; answers = []; output = greeting; offers = [] };

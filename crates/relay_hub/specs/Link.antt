@@ -8,7 +8,7 @@ use Rattle.relay_server.specs.declared.offer.Answer.TheVariants.{Queued, Full}
 use Rattle.relay_server.specs.declared.session.Session.{Session}
 use Rattle.relay_server.specs.Dialogue.{Offered, Said, IsDialogue}
 use Rattle.relay_server.specs.Session.{Stands}
-use Rattle.relay_server.specs.Setup.{setup_of_config}
+use Rattle.relay_server.specs.Setup.{setup_for}
 use Rattle.relay_server.specs.State.{Closed}
 use Rattle.relay_links.specs.declared.fault.LinkFault.{LinkFault}
 use Rattle.relay_links.specs.declared.fault.LinkFault.TheVariants.{Input, Output, NoMemory, Full as NoNumber, Device}
@@ -41,9 +41,9 @@ AreOfHub given [] offers = Unit {0}
 AreOfHub given (answer ∷ answers) [] = ⊥
 AreOfHub given (answer ∷ answers) (offer ∷ offers) = given offer answer × AreOfHub given answers offers
 
--- something was said on the session, of which an offer may be open
-abbrev pub IsStanding : Config → Session → Type 0
-IsStanding config session = (said : Said) × Stands (setup_of_config config) session said
+-- something was said on the session of a client at this address, of which an offer may be open
+abbrev pub IsStanding : Config → List ℕ → Session → Type 0
+IsStanding config peer session = (said : Said) × Stands (setup_for config peer) session said
 
 -- the hub refused to take an offer
 abbrev pub IsOfHub : LinkFault → Type 0
@@ -74,7 +74,7 @@ module _ (has_answered : List ℕ → ℕ → Offered → Answer → Type 0) (co
   pub record HasSaid (session : Session) (left held : Option (List ℕ)) (waiting out : List ℕ) (receipts : List Receipt)
       : Type 0 where
     pub said : Said
-    pub stands : Stands (setup_of_config config) session said
+    pub stands : Stands (setup_for config peer) session said
     pub read : Consumes start.left left (said.input ++ waiting)
     pub before : List ℕ
     pub output : said.output ≡ before ++ out
@@ -84,7 +84,7 @@ module _ (has_answered : List ℕ → ℕ → Offered → Answer → Type 0) (co
   -- what was read and written is a dialogue, closed or up to the end of the input, and each of its offers has an answer
   pub record HasServed (left held : Option (List ℕ)) (receipts : List Receipt) : Type 0 where
     pub said : Said
-    pub dialogue : IsDialogue (setup_of_config config) said
+    pub dialogue : IsDialogue (setup_for config peer) said
     pub read : Consumes start.left left said.input
     pub written : Appends start.held held said.output
     pub ended : (dialogue.state ≡ Closed) ⊎ IsAtEnd left
@@ -96,7 +96,7 @@ module _ (has_answered : List ℕ → ℕ → Offered → Answer → Type 0) (co
   -- memory ran out behind the hub's answer to an offer, that isn't told, and counts for the receipts.
   pub record HasBegun (left held : Option (List ℕ)) (receipts : List Receipt) (fault : LinkFault) : Type 0 where
     pub said : Said
-    pub dialogue : IsDialogue (setup_of_config config) said
+    pub dialogue : IsDialogue (setup_for config peer) said
     pub unread : List ℕ
     pub read : Consumes start.left left (said.input ++ unread)
     pub front : List ℕ

@@ -77,7 +77,7 @@ fn converse<D: Disk, J: Opening, T: Wait, R: Read, W: Write>(
     reader: &mut R,
     writer: &mut W,
 ) -> Result<(), LinkFault>
-    requires { HasHistory terms.now.config.now session.old }
+    requires { HasHistory terms.now.config.now terms.now.peer session.old }
     ensures { (start : LinkStart)
         → HasSaid J.has_answered terms.now.config.now terms.now.peer terms.now.at start session.old
         (R.remaining reader.old) (W.contents writer.old) [] [] pass.old
@@ -115,14 +115,15 @@ fn exchange_block<D: Disk, J: Opening, T: Wait, R: Read, W: Write>(
     writer: &mut W,
 ) -> Result<bool, LinkFault>
     requires room { 0 < length block.old }
-    requires history { HasHistory terms.now.config.now session.old }
+    requires history { HasHistory terms.now.config.now terms.now.peer session.old }
     ensures goes_on { (start : LinkStart)
         → HasSaid J.has_answered terms.now.config.now terms.now.peer terms.now.at start session.old
         (R.remaining reader.old) (W.contents writer.old) [] [] pass.old
         → HasGone J.has_answered terms.now.config.now terms.now.peer terms.now.at start session.new
         (R.remaining reader.new) (W.contents writer.new) [] pass.new result }
     ensures block { length block.new ≡ length block.old }
-    ensures history { IfOk result (λ is_last. is_last ≡ false → HasHistory terms.now.config.now session.new) }
+    ensures history { IfOk result (λ is_last. is_last ≡ false
+        → HasHistory terms.now.config.now terms.now.peer session.new) }
 {
     let count = match reader.read(block) {
         Ok(0) => return Ok(true),
@@ -147,13 +148,14 @@ fn answer_block<D: Disk, J: Opening, T: Wait, W: Write>(
     octets: &[u8],
     writer: &mut W,
 ) -> Result<bool, LinkFault>
-    requires { HasHistory terms.now.config.now session.old }
+    requires { HasHistory terms.now.config.now terms.now.peer session.old }
     ensures goes_on { (start : LinkStart) (left : Option (List ℕ))
         → HasSaid J.has_answered terms.now.config.now terms.now.peer terms.now.at start session.old left
         (W.contents writer.old) octets.now [] pass.old
         → HasGone J.has_answered terms.now.config.now terms.now.peer terms.now.at start session.new left
         (W.contents writer.new) [] pass.new result }
-    ensures history { IfOk result (λ is_last. is_last ≡ false → HasHistory terms.now.config.now session.new) }
+    ensures history { IfOk result (λ is_last. is_last ≡ false
+        → HasHistory terms.now.config.now terms.now.peer session.new) }
 {
     let mut used = 0;
     while used < octets.len() {
@@ -177,7 +179,7 @@ fn answer<D: Disk, J: Opening, T: Wait, W: Write>(
     writer: &mut W,
 ) -> Result<bool, LinkFault>
     requires used { used.old < length octets.now }
-    requires history { HasHistory terms.now.config.now session.old }
+    requires history { HasHistory terms.now.config.now terms.now.peer session.old }
     ensures goes_on { (start : LinkStart) (left : Option (List ℕ))
         → HasSaid J.has_answered terms.now.config.now terms.now.peer terms.now.at start session.old left
         (W.contents writer.old) (drop used.old octets.now) [] pass.old
@@ -185,7 +187,8 @@ fn answer<D: Disk, J: Opening, T: Wait, W: Write>(
         (W.contents writer.new) (drop used.new octets.now) pass.new result }
     ensures used { IfOk result (λ is_last. (used.new ≤ length octets.now)
         × (is_last ≡ false → used.old < used.new)) }
-    ensures history { IfOk result (λ is_last. is_last ≡ false → HasHistory terms.now.config.now session.new) }
+    ensures history { IfOk result (λ is_last. is_last ≡ false
+        → HasHistory terms.now.config.now terms.now.peer session.new) }
 {
     let mut out = Vec::new(terms.alloc);
     let is_last = hear(rt, hub, pass, terms, session, octets, used, &mut out)?;
@@ -206,7 +209,7 @@ fn hear<D: Disk, J: Opening, T: Wait>(
     out: &mut Vec<u8>,
 ) -> Result<bool, LinkFault>
     requires used { used.old < length octets.now }
-    requires history { HasHistory terms.now.config.now session.old }
+    requires history { HasHistory terms.now.config.now terms.now.peer session.old }
     ensures hears { (start : LinkStart) (left held : Option (List ℕ))
         → HasSaid J.has_answered terms.now.config.now terms.now.peer terms.now.at start session.old left held
         (drop used.old octets.now) out.old.items pass.old
@@ -216,10 +219,11 @@ fn hear<D: Disk, J: Opening, T: Wait>(
         (HasBegun J.has_answered terms.now.config.now terms.now.peer terms.now.at start left held pass.new) }
     ensures used { IfOk result (λ is_last. (used.new ≤ length octets.now)
         × (is_last ≡ false → used.old < used.new)) }
-    ensures history { IfOk result (λ is_last. HasHistory terms.now.config.now session.new
+    ensures history { IfOk result (λ is_last. HasHistory terms.now.config.now terms.now.peer session.new
         × (is_last ≡ true → IsClosed session.new)) }
 {
-    match session.hear(&terms.config.routes, octets, used, out) {
+    let table = terms.config.accepted_table(terms.peer);
+    match session.hear(table, octets, used, out) {
         Ok(Next::More) => Ok(false),
         Ok(Next::Close) => Ok(true),
         Ok(Next::Offer) => match take_offer(rt, hub, pass, terms, session, out) {
@@ -240,7 +244,7 @@ fn take_offer<D: Disk, J: Opening, T: Wait>(
     out: &mut Vec<u8>,
 ) -> Result<(), LinkFault>
     requires offer { HasOffer session.old }
-    requires stands { IsStanding terms.now.config.now session.old }
+    requires stands { IsStanding terms.now.config.now terms.now.peer session.old }
     ensures takes { (start : LinkStart) (left held : Option (List ℕ)) (waiting : List ℕ)
         → HasSaid J.has_answered terms.now.config.now terms.now.peer terms.now.at start session.old left held waiting
         out.old.items pass.old
@@ -248,7 +252,7 @@ fn take_offer<D: Disk, J: Opening, T: Wait>(
         (λ _. HasSaid J.has_answered terms.now.config.now terms.now.peer terms.now.at start session.new left held
         waiting out.new.items pass.new)
         (HasBegun J.has_answered terms.now.config.now terms.now.peer terms.now.at start left held pass.new) }
-    ensures history { OnOk result (HasHistory terms.now.config.now session.new) }
+    ensures history { OnOk result (HasHistory terms.now.config.now terms.now.peer session.new) }
 {
     let Some(offer) = session.offer() else {
         unreachable!()

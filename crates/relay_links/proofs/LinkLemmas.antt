@@ -8,7 +8,7 @@ use Rattle.relay_disk.specs.Device.{DiskWords}
 use Rattle.relay_server.specs.declared.offer.Answer.{Answer}
 use Rattle.relay_server.specs.declared.offer.Answer.TheVariants.{Queued}
 use Rattle.relay_server.specs.Dialogue.{IsDialogue, Offered, Said, unread_behind}
-use Rattle.relay_server.specs.Setup.{setup_of_config}
+use Rattle.relay_server.specs.Setup.{setup_for}
 use Rattle.relay_server.proofs.Theorems.{what_stands_is_a_dialogue}
 use Rattle.relay_routes.specs.declared.config.Config.{Config}
 use Rattle.relay_book.specs.declared.change.Accept.{Accept}
@@ -55,8 +55,8 @@ others_stay old mid new number before now = (λ other differs. now.0 other diffe
 
 module _ {D : Type 0} (honest : Type 0) (words : DiskWords D) (start : Start) (at number : ℕ) where
   -- what a session has said is a dialogue
-  dialogue_at : (node : NodeState D) (said : Said) → SeatHasSaid start.config node.seats number start.peer said → IsDialogue (setup_of_config start.config) said
-  dialogue_at node said s = what_stands_is_a_dialogue (setup_of_config start.config) s.seat.session.value said s.says.stands
+  dialogue_at : (node : NodeState D) (said : Said) → SeatHasSaid start.config node.seats number start.peer said → IsDialogue (setup_for start.config start.peer) said
+  dialogue_at node said s = what_stands_is_a_dialogue (setup_for start.config start.peer) s.seat.session.value said s.says.stands
 
   -- of a fault that isn't the device's the node keeps what it has taken; it is full where changes have no numbers any more
   as_taken : (fault : LinkFault) (said : Said) (added : List Change) (records : Kept D) → (fault ≡ Device → ⊥) → (fault ≡ Full → 2 ^ 62 < records.queue.next) → HasTaken honest words start at said added records → Leaves honest words start at fault said added records
@@ -198,7 +198,7 @@ module _ {D : Type 0} (honest : Type 0) (words : DiskWords D) (start : Start) (a
           taken = record { come = gained.1.come; keeps = gained.1.keeps; note = gained.1.note };
         }
 
-    closed_or_open : (is_closed : Bool) → SessionGoesOn start.config new.seats number start.peer r.later is_closed → IsDialogue (setup_of_config start.config) r.later
+    closed_or_open : (is_closed : Bool) → SessionGoesOn start.config new.seats number start.peer r.later is_closed → IsDialogue (setup_for start.config start.peer) r.later
     closed_or_open true gone = gone.1.dialogue
     closed_or_open false says = dialogue_at new r.later says
 
@@ -301,7 +301,7 @@ module _ {D : Type 0} (honest : Type 0) (words : DiskWords D) (at number : ℕ) 
   pub begun : Keeps honest words node.records changes → SeatHasSaid node.config node.seats number peer (greeted_by out) → (front rest : List ℕ) → out ≡ front ++ rest → Appends held new_held front → HasBegun honest words (start_at left held peer node changes) at left new_held node.records Output
   begun keeps says front rest parts wrote = record {
     said = greeted_by out;
-    dialogue = what_stands_is_a_dialogue (setup_of_config node.config) says.seat.session.value (greeted_by out) says.says.stands;
+    dialogue = what_stands_is_a_dialogue (setup_for node.config peer) says.seat.session.value (greeted_by out) says.says.stands;
     unread = [];
     read = Consumes-nil left;
     front = front;

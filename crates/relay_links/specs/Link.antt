@@ -5,7 +5,7 @@ use Rattle.std.specs.Io.KnownBytes.{Appends, Consumes, IsAtEnd}
 use Rattle.relay_disk.specs.Device.{DiskWords}
 use Rattle.relay_routes.specs.declared.config.Config.{Config}
 use Rattle.relay_server.specs.Dialogue.{Said, IsDialogue}
-use Rattle.relay_server.specs.Setup.{setup_of_config}
+use Rattle.relay_server.specs.Setup.{setup_for}
 use Rattle.relay_server.specs.State.{Closed}
 use Rattle.relay_book.specs.declared.change.Change.{Change}
 use Rattle.relay_records.specs.Note.{IsNoted}
@@ -99,7 +99,7 @@ module _ {D : Type 0} (honest : Type 0) (words : DiskWords D) (start : Start) (a
   -- what was read and written is a dialogue, closed or up to the end of the input
   pub record HasServed (left held : Option (List ℕ)) (records : Kept D) : Type 0 where
     pub said : Said
-    pub dialogue : IsDialogue (setup_of_config start.config) said
+    pub dialogue : IsDialogue (setup_for start.config start.peer) said
     pub read : Consumes start.left left said.input
     pub written : Appends start.held held said.output
     pub ended : (dialogue.state ≡ Closed) ⊎ IsAtEnd left
@@ -135,7 +135,7 @@ module _ {D : Type 0} (honest : Type 0) (words : DiskWords D) (start : Start) (a
   -- where nothing more could be read
   pub record HasBegun (left held : Option (List ℕ)) (records : Kept D) (fault : LinkFault) : Type 0 where
     pub said : Said
-    pub dialogue : IsDialogue (setup_of_config start.config) said
+    pub dialogue : IsDialogue (setup_for start.config start.peer) said
     pub unread : List ℕ
     pub read : Consumes start.left left (said.input ++ unread)
     pub front : List ℕ

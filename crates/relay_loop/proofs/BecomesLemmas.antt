@@ -9,7 +9,7 @@ use Rattle.relay_slots.specs.Slots.{slot_at}
 use Rattle.relay_spool.specs.Image.{room_of}
 use Rattle.relay_routes.specs.declared.config.Config.{Config}
 use Rattle.relay_server.specs.Dialogue.{Said}
-use Rattle.relay_server.specs.Setup.{setup_of_config}
+use Rattle.relay_server.specs.Setup.{setup_for}
 use Rattle.relay_book.specs.declared.change.Change.{Change}
 use Rattle.relay_records.specs.Staged.{Row, no_row}
 use Rattle.relay_records.specs.declared.fault.NodeFault.{NodeFault}
@@ -166,7 +166,7 @@ module _ {D : Type 0} (honest : Type 0) (words : DiskWords D) (changes : List Ch
   left_stays : (session : ℕ) (pieces : List Piece) (answers : List (Result Heard NodeFault)) (pending : List Change) (mid new : RelayState D) (all : List Change) (peer : List ℕ) (later : Said) (written last : List ℕ)
       → Leaves session pieces answers pending mid new all → HasLeft (changes ++ pending) mid session peer later written last → HasLeft (changes ++ all) new session peer later written last
   left_stays session pieces answers pending mid new all peer later written last so h = record {
-    closed = subst (λ (c : Config). HasClosed (setup_of_config c) later) (sym so.config) h.closed;
+    closed = subst (λ (c : Config). HasClosed (setup_for c peer) later) (sym so.config) h.closed;
     seat = so.seat ∙ h.seat;
     connection = so.connection;
     output = h.output;
@@ -275,7 +275,7 @@ becomes_later list added mid new session peer said written pieces answers seats 
       input = closed.input;
       last = closed.last;
       left = record {
-        closed = subst (λ (c : Config). HasClosed (setup_of_config c) closed.later) (sym config) closed.left.closed;
+        closed = subst (λ (c : Config). HasClosed (setup_for c peer) closed.later) (sym config) closed.left.closed;
         seat = ap (λ l. slot_at l session) seats ∙ closed.left.seat;
         connection = ap (λ l. slot_at l session) clients ∙ closed.left.connection;
         output = closed.left.output;

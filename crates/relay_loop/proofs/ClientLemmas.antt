@@ -6,7 +6,7 @@ use Rattle.relay_slots.specs.Slots.{slot_at}
 use Rattle.relay_routes.specs.declared.config.Config.{Config}
 use Rattle.relay_server.specs.declared.offer.Answer.TheVariants.{Queued}
 use Rattle.relay_server.specs.Dialogue.{Offered, Said}
-use Rattle.relay_server.specs.Setup.{setup_of_config}
+use Rattle.relay_server.specs.Setup.{setup_for}
 use Rattle.relay_server.proofs.Theorems.{offers_are_answered}
 use Rattle.relay_book.specs.declared.change.Accept.{Accept}
 use Rattle.relay_book.specs.declared.change.Change.{Change}
@@ -55,7 +55,7 @@ module _ {D : Type 0} (list : List Change) (session : ℕ) (peer : List ℕ) (sa
   -- each offer has its answer
   pub even : length said.offers ≡ length said.answers
   even =
-      let by = offers_are_answered (setup_of_config old.node.config) t.seat.seat.session.value said t.seat.says.stands in
+      let by = offers_are_answered (setup_for old.node.config peer) t.seat.seat.session.value said t.seat.says.stands in
       let none = ap length t.seat.says.settled in
       omega (arith, by, none)
 
@@ -73,7 +73,7 @@ module _ {D : Type 0} (list : List Change) (session : ℕ) (peer : List ℕ) (sa
     goes_on true last gone at_end =
         subst (λ (octets : Option (List ℕ)). GoesOn grown new session peer later written octets) (sym at_end.1)
         (record {
-          closed = subst (λ (config : Config). HasClosed (setup_of_config config) later) (sym same) gone.1;
+          closed = subst (λ (config : Config). HasClosed (setup_for config peer) later) (sym same) gone.1;
           seat = gone.0;
           connection = at_end.0;
           output = output;

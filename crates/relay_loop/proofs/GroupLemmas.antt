@@ -5,7 +5,7 @@ use Rattle.relay_disk.specs.Device.{DiskWords}
 use Rattle.relay_slots.specs.Slots.{slot_at}
 use Rattle.relay_server.specs.declared.offer.Answer.TheVariants.{Queued}
 use Rattle.relay_server.specs.Dialogue.{Said}
-use Rattle.relay_server.specs.Setup.{setup_of_config}
+use Rattle.relay_server.specs.Setup.{setup_for}
 use Rattle.relay_book.specs.declared.change.Change.{Change}
 use Rattle.relay_book.specs.declared.change.Change.TheVariants as change
 use Rattle.relay_records.specs.Records.{Kept}
@@ -157,7 +157,7 @@ module _ {D : Type 0} (honest : Type 0) (words : DiskWords D) (changes : List Ch
   -- a piece was refused
   pub was_refused : (pending : List Change) (piece : Piece) (old new : RelayState D) (row left : Row) (fault : NodeFault) → slot_at new.clients piece.session ≡ None → RefusesToReceiveInto piece.session old.node new.node row left fault
       → (fault ≡ Unknown → IsUnknown old piece.session) → (fault ≢ Unknown → slot_at old.clients piece.session ≢ None)
-      → ((peer : List ℕ) (said : Said) → SeatHasSaid old.node.config old.node.seats piece.session peer said → fault ≡ Full → ComesToOffer (setup_of_config old.node.config) said piece.octets.now) → OnlyClient old new piece.session
+      → ((peer : List ℕ) (said : Said) → SeatHasSaid old.node.config old.node.seats piece.session peer said → fault ≡ Full → ComesToOffer (setup_for old.node.config peer) said piece.octets.now) → OnlyClient old new piece.session
       → Awaits honest words old.node.records changes pending row → AnswersOne honest words changes at pending piece old row new left [] (Err fault)
   was_refused pending piece old new row left fault gone leaves unknown known full only awaits =
       let same = leaves_records piece.session old.node new.node row left fault leaves in

@@ -4,7 +4,7 @@ use Rattle.relay_slots.specs.Slots.{slot_at}
 use Rattle.relay_routes.specs.declared.config.Config.{Config}
 use Rattle.relay_attempts.specs.declared.runs.Run.{Run}
 use Rattle.relay_attempts.specs.Reply.{Told}
-use Rattle.relay_server.specs.Setup.{setup_of_config}
+use Rattle.relay_server.specs.Setup.{setup_for}
 use Rattle.relay_server.proofs.Theorems.{what_stands_is_a_dialogue}
 use Rattle.relay_book.specs.declared.change.Change.{Change}
 use Rattle.relay_book.specs.Queue.{Fitting}
@@ -18,7 +18,7 @@ use Rattle.relay_loop.proofs.AcceptedLemmas.{accepted_stays, one_of}
 
 pub talks_are_dialogues : {D : Type 0} → TalksAreDialogues D
 talks_are_dialogues changes relay session peer said written t = (
-  what_stands_is_a_dialogue (setup_of_config relay.node.config) t.seat.seat.session.value said t.seat.says.stands,
+  what_stands_is_a_dialogue (setup_for relay.node.config peer) t.seat.seat.session.value said t.seat.says.stands,
   (t.waiting, t.output),
 )
 
@@ -31,7 +31,7 @@ talks_stay changes added old new session peer said written seats clients config 
     seat = t.seat.seat;
     at = seats ∙ t.seat.at;
     peer_is = t.seat.peer_is;
-    says = subst (λ (c : Config). SessionHasSaid (setup_of_config c) t.seat.seat.session.value said) (sym config) t.seat.says;
+    says = subst (λ (c : Config). SessionHasSaid (setup_for c peer) t.seat.seat.session.value said) (sym config) t.seat.says;
   };
   waiting = t.waiting;
   connection = clients ∙ t.connection;

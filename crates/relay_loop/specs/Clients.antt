@@ -6,7 +6,7 @@ use Rattle.relay_disk.specs.Device.{DiskWords}
 use Rattle.relay_disk.specs.Disks.{FailsNot}
 use Rattle.relay_slots.specs.Slots.{slot_at}
 use Rattle.relay_server.specs.Dialogue.{Offered, Said}
-use Rattle.relay_server.specs.Setup.{setup_of_config}
+use Rattle.relay_server.specs.Setup.{setup_for}
 use Rattle.relay_book.specs.declared.change.Change.{Change}
 use Rattle.relay_records.specs.Records.{Keeps}
 use Rattle.relay_records.specs.declared.fault.NodeFault.{NodeFault}
@@ -34,7 +34,7 @@ module _ {D : Type 0} (changes : List Change) (relay : RelayState D) (session : 
   -- The session has said this, and closed, and its connection is gone: of what it said this was written, and the rest
   -- are its last octets.
   pub record HasLeft (last : List ℕ) : Type 0 where
-    pub closed : HasClosed (setup_of_config relay.node.config) said
+    pub closed : HasClosed (setup_for relay.node.config peer) said
     pub seat : slot_at relay.node.seats session ≡ None
     pub connection : slot_at relay.clients session ≡ None
     pub output : said.output ≡ written ++ last

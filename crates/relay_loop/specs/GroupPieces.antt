@@ -7,7 +7,7 @@ use Rattle.relay_disk.specs.Device.{DiskWords}
 use Rattle.relay_slots.specs.Slots.{slot_at}
 use Rattle.relay_spool.specs.Image.{room_of}
 use Rattle.relay_server.specs.Dialogue.{Offered, Said}
-use Rattle.relay_server.specs.Setup.{setup_of_config}
+use Rattle.relay_server.specs.Setup.{setup_for}
 use Rattle.relay_book.specs.declared.change.Change.{Change}
 use Rattle.relay_records.specs.Staged.{Awaits, Row}
 use Rattle.relay_records.specs.declared.fault.NodeFault.{NodeFault}
@@ -81,7 +81,7 @@ module _ {D : Type 0} (honest : Type 0) (words : DiskWords D) (changes : List Ch
     pub known : fault ≢ Unknown → slot_at old.clients piece.session ≢ None
     pub full : (peer : List ℕ) (said : Said) (written : List ℕ)
         → TalksTo (changes ++ pending) old piece.session peer said written → fault ≡ Full
-        → ComesToOffer (setup_of_config old.node.config) said piece.octets.now
+        → ComesToOffer (setup_for old.node.config peer) said piece.octets.now
 
   abbrev pub AnswersBy
       : List Change → Piece → RelayState D → Row → RelayState D → Row → List Change → Result Heard NodeFault → Type 0

@@ -5,7 +5,7 @@ use Rattle.relay_octets.specs.Beginning.{Begins}
 use Rattle.relay_slots.specs.Slots.{slot_at}
 use Rattle.relay_attempts.specs.Reply.{Told}
 use Rattle.relay_server.specs.Dialogue.{IsDialogue, Offered, Said}
-use Rattle.relay_server.specs.Setup.{setup_of_config}
+use Rattle.relay_server.specs.Setup.{setup_for}
 use Rattle.relay_book.specs.declared.change.Change.{Change}
 use Rattle.relay_book.specs.Queue.{Fitting}
 use Rattle.relay_node.specs.Queued.{queued_in}
@@ -19,7 +19,7 @@ abbrev pub TalksAreDialogues : Type 0 → Type 0
 TalksAreDialogues D =
     (changes : List Change) (relay : RelayState D) (session : ℕ) (peer : List ℕ) (said : Said) (written : List ℕ)
     → TalksTo changes relay session peer said written
-    → IsDialogue (setup_of_config relay.node.config) said × Begins written said.output
+    → IsDialogue (setup_for relay.node.config peer) said × Begins written said.output
 
 -- Each offer of a client that was answered by a number is accepted by the change of that number.
 abbrev pub QueuedAreAccepted : Type 0 → Type 0

@@ -11,7 +11,7 @@ ghost use Rattle.relay_node.specs.Node.{CutsTalk, RefusesToConnect, greeted_by};
 ghost use Rattle.relay_node.specs.Room.{ComesToOffer};
 ghost use Rattle.relay_records.specs.Records.{Keeps};
 ghost use Rattle.relay_server.specs.Dialogue.{Said};
-ghost use Rattle.relay_server.specs.Setup.{setup_of_config};
+ghost use Rattle.relay_server.specs.Setup.{setup_for};
 ghost use Rattle.relay_slots.specs.Slots.{IsFull, IsLeastFree, OthersStay, slot_at};
 ghost use Rattle.relay_slots.specs.declared.slots.TheConstants.{SLOT_COUNT};
 
@@ -90,7 +90,7 @@ impl<D: Disk> Relay<D> {
             self.old.node.records self.new.node.records }
         ensures full { (changes : List Change) (peer : List ℕ) (said : Said) (written : List ℕ)
             → TalksTo changes self.old session peer said written → result ≡ Err NodeFault.Full
-            → ComesToOffer (setup_of_config self.old.node.config) said piece.now }
+            → ComesToOffer (setup_for self.old.node.config peer) said piece.now }
         ensures used { IfOk result (UsesOctets D.words session (length piece.now) self.old self.new) }
         ensures only { OnlyClient self.old self.new session }
         ensures refused { RefusesToRead D.words session self.old self.new result }

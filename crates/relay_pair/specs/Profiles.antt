@@ -1,5 +1,5 @@
 -- The configurations of the relays of a play: of the two that a pair begins with, and of any number of them.
-use Rattle.std.specs.Prelude.{◌≡◌, ℕ, ◌+◌, ◌==◌, nat_lt, not, List, [], ◌∷◌, ◌++◌, codes, length, map, Some, slice_get}
+use Rattle.std.specs.Prelude.{◌≡◌, ℕ, ◌+◌, ◌==◌, nat_lt, not, List, [], ◌∷◌, ◌++◌, codes, length, map, None, Some, slice_get}
 use Rattle.std.specs.Prelude.{if◌then◌else◌}
 use Rattle.std.specs.List.{filter, range_with_len}
 use Rattle.std.specs.declared.net.socket_addr.SocketAddrV4.{SocketAddrV4}
@@ -76,6 +76,7 @@ pub record IsProfile (host address : List ℕ) (routes : List Route) (config : C
   pub max_content : config.max_content ≡ 1048576
   pub spool_limit : config.spool_limit ≡ 67108864
   pub bare_newlines : config.bare_newlines ≡ Pass
+  pub trusted_clients : config.trusted_clients ≡ None
 
 -- each of these is the configuration of the node at its place among so many
 abbrev pub HaveProfiles : ℕ → List Config → Type 0

@@ -1,2 +1,3 @@
+mod ProfileLemmas
 mod SessionLemmas
 mod StatusLemmas

@@ -4,7 +4,7 @@ use Rattle.std.specs.declared.net.socket_addr.SocketAddrV4.{SocketAddrV4}
 use Rattle.relay_routes.specs.Routes.{Route}
 use Rattle.relay_routes.specs.declared.bare_newlines.BareNewlines.TheVariants.{Pass}
 use Rattle.relay_routes.specs.declared.config.Config.{Config}
-use Rattle.relay_server.specs.Setup.{Setup, setup_of_config}
+use Rattle.relay_server.specs.Setup.{Setup, setup_for}
 
 -- this host's own address, and a port
 abbrev pub loopback_at : ℕ → SocketAddrV4
@@ -45,5 +45,5 @@ session_moment = 0
 
 -- the configuration of a session from standard input, as far as its dialogue goes by it
 pub record IsProfile (config : Config) : Type 0 where
-  pub setup : setup_of_config config ≡ session_setup
+  pub setup : setup_for config session_peer ≡ session_setup
   pub limit : config.spool_limit ≡ session_limit

@@ -23,6 +23,7 @@ const SPOOL_LIMIT: u64 = 67_108_864;
 /// The configuration of a session from standard input: the host `relay.example`, contents of up to
 /// 1,048,576 octets, taken as they come, and `example.org` as the only domain that mail is taken for. It
 /// fails where memory runs out.
+#[tactic(auto, using(crate::proofs::ProfileLemmas::is_profile))]
 pub fn configuration(alloc: Global) -> Result<Config, AllocError>
     ensures { IfOk result IsProfile }
 {

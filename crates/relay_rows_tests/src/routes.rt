@@ -1,9 +1,10 @@
-//! What comes of a row of routes: a configuration, of which `;` between spaces ends a line; a file with one; or
-//! a file and a path, whose hop is looked up.
+//! What comes of a row of routes: a configuration, of which `;` between spaces ends a line; a file with one; a file and
+//! a path, whose hop is looked up; or a client, a file and a path, whose hop is looked up as the client's recipient.
 use crate::answer::{Answer, RowsFault};
 use crate::rows::read_file;
 use relay_envelope::{Path, PathBuf};
 use relay_routes::{BareNewlines, Config, Hop, Table};
+use std::net::Ipv4Addr;
 
 /// Tells what comes of the lines, of the file, or of the file and the path that a row gives.
 pub fn tell_routes(rt: &HostRuntime, answer: &mut Answer, given: &str) {
@@ -16,6 +17,12 @@ pub fn tell_routes(rt: &HostRuntime, answer: &mut Answer, given: &str) {
         "FILE" => {
             let document = read_file(rt, answer, rest);
             tell_config(answer, document.as_str());
+        }
+        "CLIENT" => {
+            let (client, rest) = rest.split_once(' ').unwrap_or((rest, ""));
+            let (name, path) = rest.split_once(' ').unwrap_or((rest, ""));
+            let document = read_file(rt, answer, name);
+            tell_accepted_hop(answer, document.as_str(), client, path.as_bytes());
         }
         name => {
             let document = read_file(rt, answer, name);
@@ -61,6 +68,20 @@ fn tell_hop_of(answer: &mut Answer, document: &str, path: &[u8]) {
     match Config::read(answer.alloc, document) {
         Ok(config) => match Path::read(path) {
             Some(path) => tell_both_hops(answer, &config.routes, path),
+            None => answer.say("no path"),
+        },
+        Err(fault) => answer.show(&fault),
+    }
+}
+
+/// Tells the hop of a path that a client at this address gives, and none where it may not send there.
+fn tell_accepted_hop(answer: &mut Answer, document: &str, client: &str, path: &[u8]) {
+    let Ok(client) = client.parse::<Ipv4Addr>() else {
+        return answer.say("no client");
+    };
+    match Config::read(answer.alloc, document) {
+        Ok(config) => match Path::read(path) {
+            Some(path) => tell_both_hops(answer, config.accepted_table(client.octets()), path),
             None => answer.say("no path"),
         },
         Err(fault) => answer.show(&fault),

@@ -4,7 +4,7 @@ use Rattle.std.proofs.KnownBytes.{Appends-nil, Consumes-nil}
 use Rattle.relay_disk.specs.Device.{DiskWords}
 use Rattle.relay_routes.specs.declared.config.Config.{Config}
 use Rattle.relay_server.specs.Dialogue.{IsDialogue, greeted_only}
-use Rattle.relay_server.specs.Setup.{Setup, setup_of_config}
+use Rattle.relay_server.specs.Setup.{Setup, setup_for}
 use Rattle.relay_server.specs.State.{start}
 use Rattle.relay_server.proofs.Theorems.{no_unit_is_empty}
 use Rattle.relay_book.specs.declared.change.Change.{Change}
@@ -37,7 +37,7 @@ pub refused : {D : Type 0} (honest : Type 0) (words : DiskWords D) (at : ℕ) (l
     → HasBegun honest words (start_at left held peer node changes) at left held node.records NoMemory
 refused honest words at left held peer node changes keeps = record {
   said = greeted_only node.config.host;
-  dialogue = greeted (setup_of_config node.config);
+  dialogue = greeted (setup_for node.config peer);
   unread = [];
   read = Consumes-nil left;
   front = [];

@@ -10,7 +10,7 @@ use Rattle.relay_server.specs.declared.offer.Answer.{Answer}
 use Rattle.relay_server.specs.declared.offer.Answer.TheVariants.{Queued, Full}
 use Rattle.relay_server.specs.Dialogue.{IsDialogue, Offered, Said}
 use Rattle.relay_server.specs.DialogueLaws.{AreNumbered}
-use Rattle.relay_server.specs.Setup.{Setup, setup_of_config}
+use Rattle.relay_server.specs.Setup.{Setup, setup_for}
 use Rattle.relay_server.proofs.Theorems.{beginnings_have_beginnings}
 use Rattle.relay_routes.specs.declared.config.Config.{Config}
 use Rattle.relay_book.specs.declared.change.Change.{Change}
@@ -84,15 +84,15 @@ module _ {D : Type 0} (honest : Type 0) (words : DiskWords D) (world : World D) 
       let serves : ServesLink served.host served.changes world.ledger told.on told.link told.end = served.serves in
       let its_host : told.host ≡ served.host =
       same_Some told.host served.host (sym told.found ∙ ap (λ n. slice_get world.hosts n) (sym told.its_node) ∙ served.stands.host_at) in
-      let dialogue : IsDialogue (setup_of_config served.host.config) told.said =
-      subst (λ (h : Host D). IsDialogue (setup_of_config h.config) told.said) its_host told.dialogue in
+      let dialogue : IsDialogue (setup_for served.host.config told.end.peer) told.said =
+      subst (λ (h : Host D). IsDialogue (setup_for h.config told.end.peer) told.said) its_host told.dialogue in
       let input : Begins told.said.input serves.said.input =
       subst (λ l. Begins told.said.input l) (sym serves.input) told.was_read in
       let output : Begins told.said.output serves.said.output =
-      begins_dialogue (setup_of_config served.host.config) told.said serves.said serves.closing dialogue serves.dialogue
+      begins_dialogue (setup_for served.host.config told.end.peer) told.said serves.said serves.closing dialogue serves.dialogue
       serves.closes input
       (begins_on told.said.output told.link.down (output_with serves.said.output serves.closing) told.written serves.wrote) in
-      last_stored P (setup_of_config served.host.config) told.said serves.said told.answers told.offers number told.offer
+      last_stored P (setup_for served.host.config told.end.peer) told.said serves.said told.answers told.offers number told.offer
       dialogue serves.dialogue serves.numbered input output told.last_answer told.last_offer told.each all
 
   pub acknowledged_added : IsBound honest words world lists → (node : ℕ) (host : Host D) (changes : List Change)

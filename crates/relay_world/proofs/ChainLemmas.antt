@@ -11,7 +11,7 @@ use Rattle.relay_server.specs.declared.offer.Answer.{Answer}
 use Rattle.relay_server.specs.declared.offer.Answer.TheVariants.{Queued, Full}
 use Rattle.relay_server.specs.Dialogue.{Offered}
 use Rattle.relay_server.specs.DialogueLaws.{MayBeStored}
-use Rattle.relay_server.specs.Setup.{setup_of_config}
+use Rattle.relay_server.specs.Setup.{setup_for}
 use Rattle.relay_server.proofs.Theorems.{offers_may_be_stored}
 use Rattle.relay_lines.specs.Reply.{Reply}
 use Rattle.relay_book.specs.declared.change.Accept.{Accept}
@@ -64,7 +64,7 @@ each_is P (offer ∷ offers) one only all =
 module _ {D : Type 0} where
   -- the fields of what is stored of an offer
   stored_fields : (host : Host D) (peer : List ℕ) (changes : List Change) (number : ℕ) (offer : Offered)
-      → MayBeStored (setup_of_config host.config) offer → (stored : IsStoredAs host.config peer changes number offer)
+      → MayBeStored (setup_for host.config peer) offer → (stored : IsStoredAs host.config peer changes number offer)
       → received_count_of stored.accept.stored_text ≡ received_count_of offer.content + 1
   stored_fields host peer changes number offer may stored =
       let config : Config = host.config in
@@ -95,8 +95,8 @@ module _ {D : Type 0} (honest : Type 0) (words : DiskWords D) (world : World D) 
       let served : IsServed world lists on link end = bound.servers on link end there server in
       let serves = served.serves in
       let one = accepted_offer served.host served.changes world.ledger on link end
-      (MayBeStored (setup_of_config served.host.config)) serves number places
-      (offers_may_be_stored (setup_of_config served.host.config) serves.said serves.dialogue) has in
+      (MayBeStored (setup_for served.host.config end.peer)) serves number places
+      (offers_may_be_stored (setup_for served.host.config end.peer) serves.said serves.dialogue) has in
       let few = one.1.received in (
         received_count_of one.0.content,
         record {
@@ -128,14 +128,14 @@ module _ {D : Type 0} (honest : Type 0) (words : DiskWords D) (world : World D) 
       let errand : Errand = errand_by tried.host tried.changes link tried.attempt passes in
       let replies : List Reply = passes.course.runs.replies in
       let only : 0 < length serves.said.offers → serves.said.offers ≡ child_by errand replies ∷ [] =
-      child_holds_its_places (setup_of_config served.host.config) errand serves.said serves.closing (take link.down_read link.down)
+      child_holds_its_places (setup_for served.host.config end.peer) errand serves.said serves.closing (take link.down_read link.down)
       passes.output replies passes.course.runs.rest (errand_is tried.host tried.changes link tried.attempt passes)
       (joined_by tried.host served.host tried.changes served.changes world.ledger on link tried.attempt end passes serves) in
-      let Its : Offered → Type 0 = λ offer. MayBeStored (setup_of_config served.host.config) offer
+      let Its : Offered → Type 0 = λ offer. MayBeStored (setup_for served.host.config end.peer) offer
       × (offer ≡ child_by errand replies) in
       let one = accepted_offer served.host served.changes world.ledger on link end Its serves number places
-      (each_is (MayBeStored (setup_of_config served.host.config)) serves.said.offers (child_by errand replies) only
-      (offers_may_be_stored (setup_of_config served.host.config) serves.said serves.dialogue)) has in
+      (each_is (MayBeStored (setup_for served.host.config end.peer)) serves.said.offers (child_by errand replies) only
+      (offers_may_be_stored (setup_for served.host.config end.peer) serves.said serves.dialogue)) has in
       let content : one.0.content ≡ passes.accept.stored_text = ap (λ (o : Offered). o.content) one.1.1 in
       let few = one.1.0.received in
       let same = ap received_count_of content in (

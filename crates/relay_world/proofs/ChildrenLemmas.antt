@@ -15,7 +15,7 @@ use Rattle.relay_body.proofs.Theorems.{one_text}
 use Rattle.relay_server.specs.declared.offer.Answer.{Answer}
 use Rattle.relay_server.specs.declared.offer.Answer.TheVariants.{Queued, Full}
 use Rattle.relay_server.specs.Dialogue.{Offered}
-use Rattle.relay_server.specs.Setup.{setup_of_config}
+use Rattle.relay_server.specs.Setup.{setup_for}
 use Rattle.relay_book.specs.declared.change.Accept.{Accept}
 use Rattle.relay_book.specs.declared.change.Change.{Change}
 use Rattle.relay_book.specs.declared.change.Verdict.{Verdict}
@@ -147,9 +147,9 @@ module _ {D : Type 0} (host : Host D) (changes : List Change) (link : Link) (att
     child_now = child_by its_errand passes.course.runs.replies
 
     -- all that both ends have said
-    pub talked : HaveTalked (setup_of_config other.config) its_errand serves.said serves.closing
+    pub talked : HaveTalked (setup_for other.config end.peer) its_errand serves.said serves.closing
         passes.course.runs.replies passes.course.runs.rest
-    talked = what_relays_say (setup_of_config other.config) its_errand serves.said serves.closing
+    talked = what_relays_say (setup_for other.config end.peer) its_errand serves.said serves.closing
         (take link.down_read link.down) passes.output
         passes.course.runs.replies passes.course.runs.rest (errand_is host changes link attempt passes)
         (joined_by host other changes others world.ledger attempt.link link attempt end passes serves)

@@ -12,7 +12,7 @@ use Rattle.relay_routes.proofs.Theorems.{config_is_named}
 use Rattle.relay_server.specs.declared.offer.Answer.{Answer}
 use Rattle.relay_server.specs.declared.offer.Answer.TheVariants.{Queued, Full}
 use Rattle.relay_server.specs.Dialogue.{Offered}
-use Rattle.relay_server.specs.Setup.{setup_of_config}
+use Rattle.relay_server.specs.Setup.{setup_for}
 use Rattle.relay_book.specs.declared.change.Accept.{Accept}
 use Rattle.relay_book.specs.declared.change.Change.{Change}
 use Rattle.relay_book.specs.Marks.{message_at}
@@ -111,7 +111,7 @@ module _ {D : Type 0} where
   pub joined_by : (host other : Host D) (changes others : List Change) (ledger : List Line) (number : ℕ) (link : Link)
       (attempt : Attempt) (end : ServerEnd) (passes : PassesOn host changes link attempt)
       (serves : ServesLink other others ledger number link end)
-      → AreJoined (setup_of_config other.config) (errand_by host changes link attempt passes) serves.said serves.closing
+      → AreJoined (setup_for other.config end.peer) (errand_by host changes link attempt passes) serves.said serves.closing
       (take link.down_read link.down) passes.output passes.course.runs.replies passes.course.runs.rest
   joined_by host other changes others ledger number link attempt end passes serves = record {
     dialogue = serves.dialogue;
@@ -148,7 +148,7 @@ module _ {D : Type 0} where
       let errand : Errand = errand_by host changes link attempt passes in
       let replies : List Reply = passes.course.runs.replies in
       let one : 0 < length serves.said.offers → serves.said.offers ≡ child_by errand replies ∷ [] =
-      child_holds_its_places (setup_of_config other.config) errand serves.said serves.closing (take link.down_read link.down)
+      child_holds_its_places (setup_for other.config end.peer) errand serves.said serves.closing (take link.down_read link.down)
       passes.output replies passes.course.runs.rest (errand_is host changes link attempt passes)
       (joined_by host other changes others ledger number link attempt end passes serves) in
       let told : Contains {X = ℕ × ℕ} (map accept_told (queued_in serves.said)) (child, places) =

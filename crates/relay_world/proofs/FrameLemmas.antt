@@ -7,7 +7,7 @@ use Rattle.std.proofs.lemmas.Bool.{false≢true}
 use Rattle.std.proofs.lemmas.List.{append-nil, append_assoc}
 use Rattle.std.proofs.lemmas.List.Concat.{flat_map-append}
 use Rattle.relay_server.specs.Dialogue.{IsDialogue, Offered, Said}
-use Rattle.relay_server.specs.Setup.{setup_of_config}
+use Rattle.relay_server.specs.Setup.{setup_for}
 use Rattle.relay_routes.specs.declared.config.Config.{Config}
 use Rattle.relay_book.specs.declared.change.Accept.{Accept}
 use Rattle.relay_book.specs.declared.change.Change.{Change}
@@ -76,7 +76,7 @@ module _ {D : Type 0} where
       → ServesLink host changes ledger number link end → ServesLink new later grown number link end
   serves_on host new changes later ledger grown number link end config stay same says serves = record {
     said = serves.said;
-    dialogue = subst (λ c. IsDialogue (setup_of_config c) serves.said) (sym config) serves.dialogue;
+    dialogue = subst (λ c. IsDialogue (setup_for c end.peer) serves.said) (sym config) serves.dialogue;
     numbered = serves.numbered;
     answered = serves.answered;
     input = serves.input;

@@ -10,7 +10,7 @@ use Rattle.std.proofs.lemmas.Option.{same_Some, slice_get-get_or, slice_get_with
 use Rattle.relay_disk.specs.Device.{DiskWords}
 use Rattle.relay_slots.specs.Slots.{OthersStay, slot_at}
 use Rattle.relay_server.specs.Dialogue.{IsDialogue, Said}
-use Rattle.relay_server.specs.Setup.{setup_of_config}
+use Rattle.relay_server.specs.Setup.{setup_for}
 use Rattle.relay_server.proofs.Theorems.{what_stands_is_a_dialogue}
 use Rattle.relay_routes.specs.declared.config.Config.{Config}
 use Rattle.relay_book.specs.declared.change.Change.{Change}
@@ -139,8 +139,8 @@ module _ {D : Type 0} (honest : Type 0) (words : DiskWords D) where
       says_now = subst (λ c. SeatHasSaid c opens.after.seats opens.connected.session peer (greeted_by opens.connected.out.items))
           its_node.config_is opens.connects.says
 
-      dialogue : IsDialogue (setup_of_config host.config) (greeted_by opens.connected.out.items)
-      dialogue = what_stands_is_a_dialogue (setup_of_config host.config) says_now.seat.session.value
+      dialogue : IsDialogue (setup_for host.config peer) (greeted_by opens.connected.out.items)
+      dialogue = what_stands_is_a_dialogue (setup_for host.config peer) says_now.seat.session.value
           (greeted_by opens.connected.out.items) says_now.says.stands
 
       its_end : ServerEnd

@@ -16,7 +16,7 @@ use Rattle.relay_server.specs.declared.reply_table.Row.TheVariants.{NoRoute}
 use Rattle.relay_server.specs.Dialogue.{Offered, offered_of}
 use Rattle.relay_server.specs.Reply.{reply_of}
 use Rattle.relay_server.specs.ReplyTable.{is_refused_by}
-use Rattle.relay_server.specs.Setup.{Setup, setup_of_config}
+use Rattle.relay_server.specs.Setup.{Setup, setup_for}
 use Rattle.relay_trace.specs.HeaderSection.{received_count_of}
 use Rattle.relay_book.specs.declared.change.Change.{Change}
 use Rattle.relay_book.specs.declared.change.Change.TheVariants as change
@@ -197,7 +197,7 @@ module _ {D : Type 0} (host : Host D) (changes : List Change) (link : Link) (att
   module _ (other : Host D) (others : List Change) (world : World D) (end : ServerEnd)
       (serves : ServesLink other others world.ledger attempt.link link end) where
     abbrev setup : Setup
-    setup = setup_of_config other.config
+    setup = setup_for other.config end.peer
 
     says : HaveTalked setup errand serves.said serves.closing passes.course.runs.replies passes.course.runs.rest
     says = talked host changes link attempt passes other others world end serves

@@ -11,7 +11,7 @@ use Rattle.relay_disk.specs.Device.{DiskWords}
 use Rattle.relay_server.specs.declared.offer.Answer.TheVariants.{Queued}
 use Rattle.relay_server.specs.Dialogue.{IsDialogue, Offered}
 use Rattle.relay_server.specs.DialogueLaws.{AreNumbered}
-use Rattle.relay_server.specs.Setup.{setup_of_config}
+use Rattle.relay_server.specs.Setup.{setup_for}
 use Rattle.relay_routes.specs.declared.config.Config.{Config}
 use Rattle.relay_book.specs.declared.change.Change.{Change}
 use Rattle.relay_book.specs.declared.change.Change.TheVariants as change
@@ -198,7 +198,7 @@ module _ {D : Type 0} (honest : Type 0) (words : DiskWords D) (old new : World D
   serves_with : ServesLink moved grown (new.ledger ++ its_lines) number (record link_now { up_read = read_to }) end_now
   serves_with = record {
     said = talk.later;
-    dialogue = subst (λ c. IsDialogue (setup_of_config c) talk.later) its_node.config_is talk.dialogue;
+    dialogue = subst (λ c. IsDialogue (setup_for c stops.of.end.peer) talk.later) its_node.config_is talk.dialogue;
     numbered = still_numbered was.said talk.later talk.refused (talk.offer ∷ []) (Queued (length listed.0 + 1) ∷ []) talk.answers
         was.numbered numbers_fit;
     answered = still_answered was.said talk.later talk.refused (talk.offer ∷ []) (Queued (length listed.0 + 1) ∷ []) talk.answers

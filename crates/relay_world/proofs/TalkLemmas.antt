@@ -11,7 +11,7 @@ use Rattle.relay_slots.specs.Slots.{OthersStay, slot_at}
 use Rattle.relay_server.specs.declared.offer.Answer.TheVariants.{Queued}
 use Rattle.relay_server.specs.Dialogue.{IsDialogue, Offered, Said}
 use Rattle.relay_server.specs.DialogueLaws.{AreNumbered}
-use Rattle.relay_server.specs.Setup.{setup_of_config}
+use Rattle.relay_server.specs.Setup.{setup_for}
 use Rattle.relay_server.proofs.Theorems.{what_stands_is_a_dialogue}
 use Rattle.relay_routes.specs.declared.config.Config.{Config}
 use Rattle.relay_book.specs.declared.change.Accept.{Accept}
@@ -97,14 +97,14 @@ module _ {D : Type 0} (honest : Type 0) (words : DiskWords D) (old : World D) (l
   module _ (new : World D) (count : ℕ) (after : NodeState D) (received : Received) (talk : Talk new count after received)
     where
       dialogue_by : (close : Bool) → SessionGoesOn of.before.config after.seats of.session of.end.peer talk.later close
-          → IsDialogue (setup_of_config of.before.config) talk.later
+          → IsDialogue (setup_for of.before.config of.end.peer) talk.later
       dialogue_by true goes = goes.1.dialogue
       dialogue_by false goes =
-          what_stands_is_a_dialogue (setup_of_config of.before.config) goes.seat.session.value talk.later goes.says.stands
+          what_stands_is_a_dialogue (setup_for of.before.config of.end.peer) goes.seat.session.value talk.later goes.says.stands
 
-      dialogue : IsDialogue (setup_of_config of.host.config) talk.later
+      dialogue : IsDialogue (setup_for of.host.config of.end.peer) talk.later
       dialogue =
-          subst (λ c. IsDialogue (setup_of_config c) talk.later) its_node.config_is (dialogue_by received.close talk.goes_on)
+          subst (λ c. IsDialogue (setup_for c of.end.peer) talk.later) its_node.config_is (dialogue_by received.close talk.goes_on)
 
       live_by : (records : List (List ℕ)) (close : Bool)
           → SessionGoesOn of.before.config after.seats of.session of.end.peer talk.later close

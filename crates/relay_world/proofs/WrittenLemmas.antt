@@ -12,7 +12,7 @@ use Rattle.relay_server.specs.declared.offer.Answer.TheVariants.{Queued, Full}
 use Rattle.relay_server.specs.declared.reply_table.Row.TheVariants.{Greeting}
 use Rattle.relay_server.specs.Dialogue.{IsDialogue, Offered, Said, Turn, Turns, answered_by, answers_in, offered_by, offers_in, read_by, written_by}
 use Rattle.relay_server.specs.Reply.{reply_of}
-use Rattle.relay_server.specs.Setup.{Setup, setup_of_config}
+use Rattle.relay_server.specs.Setup.{Setup, setup_for}
 use Rattle.relay_server.specs.State.{State, start}
 use Rattle.relay_server.specs.Unit.{HasNoUnit}
 use Rattle.relay_server.proofs.Theorems.{no_unit_is_empty}
@@ -95,7 +95,7 @@ module _ {D : Type 0} (honest : Type 0) (words : DiskWords D) (world : World D) 
   its = served.serves
 
   abbrev setup : Setup
-  setup = setup_of_config served.host.config
+  setup = setup_for served.host.config end.peer
 
   abbrev dialogue : IsDialogue setup its.said
   dialogue = its.dialogue

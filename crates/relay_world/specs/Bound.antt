@@ -11,7 +11,7 @@ use Rattle.relay_lines.specs.Reply.{Reply}
 use Rattle.relay_routes.specs.declared.config.Config.{Config}
 use Rattle.relay_server.specs.Dialogue.{IsDialogue, Offered, Said}
 use Rattle.relay_server.specs.DialogueLaws.{AreNumbered}
-use Rattle.relay_server.specs.Setup.{setup_of_config}
+use Rattle.relay_server.specs.Setup.{setup_for}
 use Rattle.relay_book.specs.declared.change.Accept.{Accept}
 use Rattle.relay_book.specs.declared.change.Change.{Change}
 use Rattle.relay_book.specs.declared.change.Change.TheVariants as change
@@ -115,7 +115,7 @@ pub record ServesLink {D : Type 0} (host : Host D) (changes : List Change) (ledg
     (link : Link)
     (end : ServerEnd) : Type 0 where
   pub said : Said
-  pub dialogue : IsDialogue (setup_of_config host.config) said
+  pub dialogue : IsDialogue (setup_for host.config end.peer) said
   pub numbered : AreNumbered said.answers
   pub answered : length said.answers ≡ length said.offers
   pub input : said.input ≡ take link.up_read link.up

@@ -11,7 +11,7 @@ use Rattle.relay_spool.specs.Spool.{EveryImageHas}
 use Rattle.relay_server.specs.declared.offer.Answer.{Answer}
 use Rattle.relay_server.specs.declared.offer.Answer.TheVariants.{Queued}
 use Rattle.relay_server.specs.Dialogue.{IsDialogue, Offered, Said}
-use Rattle.relay_server.specs.Setup.{setup_of_config}
+use Rattle.relay_server.specs.Setup.{setup_for}
 use Rattle.relay_book.specs.declared.change.Change.{Change}
 use Rattle.relay_book.specs.declared.change.Change.TheVariants as change
 use Rattle.relay_book.specs.declared.change.Verdict.{Verdict}
@@ -42,7 +42,7 @@ pub record Acknowledged {D : Type 0} (world : World D) (node number places : ℕ
   pub host : Host D
   pub found : slice_get world.hosts node ≡ Some host
   pub said : Said
-  pub dialogue : IsDialogue (setup_of_config host.config) said
+  pub dialogue : IsDialogue (setup_for host.config end.peer) said
   pub was_read : Begins said.input (take link.up_read link.up)
   pub written : Begins said.output link.down
   pub answers : List Answer

@@ -1,11 +1,11 @@
 ghost use Rattle.std.specs.Prelude.{◌≡◌, ◌≤◌, ◌↔◌, IfOk, IsTrue, length};
 ghost use Rattle.relay_rows_tests.specs.Played.{Plays};
-ghost use Rattle.relay_server.specs.Setup.{setup_of_config};
+ghost use Rattle.relay_server.specs.Setup.{setup_for};
 ghost use Rattle.relay_rows_tests.specs.Transcript.{IsTranscript};
 
 use crate::answer::RowsFault;
 use crate::comparison::Verdict;
-use crate::meeting::play::Play;
+use crate::meeting::play::{CLIENT, Play};
 use relay_routes::Config;
 use std::alloc::{AllocError, Global};
 use std::fs;
@@ -47,7 +47,7 @@ impl Dialogue {
     /// Holds the dialogue once for each cutting. It fails where memory runs out.
     pub fn verdict(&self, alloc: Global, config: &Config) -> Result<Verdict, AllocError>
         ensures { IfOk result (λ verdict. verdict ≡ Verdict.Equal
-            → IsTranscript (setup_of_config config.now) self.now.input.items self.now.replies.items
+            → IsTranscript (setup_for config.now CLIENT) self.now.input.items self.now.replies.items
             self.now.offers.items) }
     {
         for place in 0..=self.input.len() {
@@ -72,7 +72,7 @@ impl Dialogue {
         place: usize,
     ) -> Result<Play<'a>, AllocError>
         requires { place ≤ length self.now.input.items }
-        ensures { IfOk result (λ play. Plays (setup_of_config config.now) play self.now.input.items) }
+        ensures { IfOk result (λ play. Plays (setup_for config.now CLIENT) play self.now.input.items) }
     {
         let (front, rest) = self.input.as_slice().split_at(place);
         let mut play = Play::new(alloc, config)?;
@@ -83,7 +83,7 @@ impl Dialogue {
 
     /// A play of the dialogue in pieces of one octet.
     fn octet_by_octet<'a>(&self, alloc: Global, config: &'a Config) -> Result<Play<'a>, AllocError>
-        ensures { IfOk result (λ play. Plays (setup_of_config config.now) play self.now.input.items) }
+        ensures { IfOk result (λ play. Plays (setup_for config.now CLIENT) play self.now.input.items) }
     {
         let mut play = Play::new(alloc, config)?;
         for octet in self.input.as_slice() {

@@ -1,5 +1,6 @@
 use crate::meeting::child::{are_rcpts, is_child};
 use crate::meeting::errand::{Errand, HOST};
+use crate::meeting::play::CLIENT;
 use crate::meeting::row::Row;
 use crate::meeting::table::{are_all_later, are_by_table};
 use crate::meeting::wire::{Cutting, Wire};
@@ -233,7 +234,8 @@ impl<'a> Ends<'a> {
 
     /// The server reads octets. It answers how many it has used, and what comes next.
     fn feed(&mut self, octets: &[u8]) -> (usize, Next) {
-        match self.session.feed(&self.meeting.config.routes, octets) {
+        let table = self.meeting.config.accepted_table(CLIENT);
+        match self.session.feed(table, octets) {
             Ok(fed) => {
                 self.down.write(fed.out.as_slice());
                 (fed.used, fed.next)

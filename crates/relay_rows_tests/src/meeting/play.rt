@@ -1,7 +1,7 @@
 ghost use Rattle.std.specs.Prelude.{◌≡◌, ℕ, List, [], ◌++◌, false, IfOk, OnOk};
 ghost use Rattle.relay_server.specs.Dialogue.{Said};
 ghost use Rattle.relay_server.specs.Session.{HasOffer, open_offers};
-ghost use Rattle.relay_server.specs.Setup.{Setup, setup_of_config};
+ghost use Rattle.relay_server.specs.Setup.{Setup, setup_for};
 ghost use Rattle.relay_rows_tests.specs.Played.{HasPlayed, IsAnswered, Plays};
 
 use crate::meeting::offer_text::written_offer;
@@ -9,6 +9,9 @@ use relay_octets::Octets;
 use relay_routes::{Config, Table};
 use relay_server::{Answer, Next, Session};
 use std::alloc::{AllocError, Global};
+
+/// The address of the client of each dialogue.
+pub const CLIENT: [u8; 4] = [127, 0, 0, 1];
 
 /// A content that this caller has no room for.
 const UNWANTED: &[u8] = b"no room\r\n";
@@ -44,12 +47,12 @@ impl Drop for Play<'_> {
 impl<'a> Play<'a> {
     /// A play that has begun: its replies are the greeting. It fails where memory runs out.
     pub fn new(alloc: Global, config: &'a Config) -> Result<Self, AllocError>
-        ensures { IfOk result (λ play. Plays (setup_of_config config.now) play []) }
+        ensures { IfOk result (λ play. Plays (setup_for config.now CLIENT) play []) }
     {
         let (session, greeting) = Session::new(alloc, config)?;
         Ok(Play {
             alloc,
-            table: &config.routes,
+            table: config.accepted_table(CLIENT),
             session,
             replies: greeting,
             offers: Octets::from_slice(alloc, b"")?,

@@ -7,7 +7,7 @@ use Rattle.relay_hub.proofs.link.answer_block.Given as goal
 abbrev pub invariant-loop-used : goal.invariant-loop-used
 invariant-loop-used g l = record {
   within : l.used ≤ length l.fn.octets;
-  history : HasHistory l.fn.terms.config.now l.session;
+  history : HasHistory l.fn.terms.config.now l.fn.terms.peer l.session;
   so_far : (start : LinkStart) (left : Option (List ℕ))
       → HasSaid g.J.Opening.has_answered l.fn.terms.config.now l.fn.terms.peer l.fn.terms.at start l.initial.session left (g.W.Write.contents l.fn.writer) l.fn.octets [] l.fn.pass
       → HasSaid g.J.Opening.has_answered l.fn.terms.config.now l.fn.terms.peer l.fn.terms.at start l.session left (g.W.Write.contents l.writer) (drop l.used l.fn.octets) [] l.pass;

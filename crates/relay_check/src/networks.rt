@@ -1,0 +1,60 @@
+//! The networks of trusted clients, each on its own.
+use crate::findings::Findings;
+use crate::position::Place;
+use relay_routes::Network;
+use std::alloc::{AllocError, Global};
+use toml::{Table, Value};
+
+/// The key of the networks.
+const KEY: &str = "trusted_clients";
+
+/// The values of the networks, where the document has an array of them.
+pub(crate) fn networks_of(document: &Table) -> Option<&[Value]> {
+    match document.get(KEY) {
+        Some(Value::Array(values)) => Some(values.as_slice()),
+        _ => None,
+    }
+}
+
+/// Finds what is wrong with each network.
+pub(crate) fn check_networks(
+    alloc: Global,
+    networks: &[Value],
+    findings: &mut Findings<'_>,
+) -> Result<(), AllocError> {
+    for value in networks {
+        let message = match value {
+            Value::String(text) => {
+                if Network::read(text.as_bytes()).is_some() {
+                    continue;
+                }
+                no_network(alloc, text.as_str())?
+            }
+            other => format!(in alloc;
+                "{KEY}: ({}) is no network: write a text such as \"192.0.2.0/24\"",
+                other.type_str()
+            )?,
+        };
+        findings.error(Place::Key(KEY), message)?;
+    }
+    Ok(())
+}
+
+/// What is told of a text that writes no network.
+fn no_network(alloc: Global, text: &str) -> Result<String, AllocError> {
+    format!(in alloc;
+        "{KEY}: \"{}\" is no network: write an address, or one such as \"192.0.2.0/24\" with zeros after its prefix",
+        text.escape_default()
+    )
+}
+
+/// Whether the networks are all addresses, so that every client is trusted.
+pub(crate) fn are_everybody(networks: &[Value]) -> bool {
+    networks.iter().any(|value| match value {
+        Value::String(text) => match Network::read(text.as_bytes()) {
+            Some(network) => network.prefix_length == 0,
+            None => false,
+        },
+        _ => false,
+    })
+}
