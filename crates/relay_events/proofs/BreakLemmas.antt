@@ -51,7 +51,7 @@ module _ {D : Type 0} (honest : Type 0) (words : DiskWords D) where
   off_bound is_honest keeps old new number breaks bound =
       still_bound honest words is_honest keeps old new bound (off_happened old new number breaks)
 
-  -- behind other events
+  -- after other events
   pub then_broken : (old next new : World D) (number : ℕ) → HasHappened honest words old next → Breaks next new number
       → HasHappened honest words old new
   then_broken old next new number happened breaks =

@@ -1,4 +1,4 @@
--- A node that hears octets of a link: what its call, and what was put behind it, make of the relays.
+-- A node that hears octets of a link: what its call, and what was put after it, make of the relays.
 use Rattle.std.proofs.Common.{inl, inr, ◌≡◌, ◌<◌, ◌≤◌, ◌+◌, ◌-◌, ℕ, Bool, true, false, List, ◌++◌, length, take, drop, Option, None, Some, refl, sym, subst, ap, ◌∙◌, arith, length-drop}
 use Rattle.std.specs.Prelude.{slice_set}
 use Rattle.std.specs.Option.{option_map}
@@ -78,7 +78,7 @@ module _ {D : Type 0} (honest : Type 0) (words : DiskWords D) (old : World D) (n
         grows = omega (arith, one_long, other_long);
       }
 
-  -- the world behind the call, with this link, and lines in the ledger
+  -- the world after the call, with this link, and lines in the ledger
   abbrev pub called_world : Link → List Line → World D
   called_world moved lines = record old {
     hosts = slice_set old.hosts of.end.node now;

@@ -63,7 +63,7 @@ module _ {D : Type 0} where
       names_put old.hosts new.hosts drops.of.attempt.node drops.of.host (record drops.of.host { state = Up drops.after })
       drops.of.host_at drops.hosts refl
 
-  -- links that a node hears and reads one behind another
+  -- links that a node hears and reads one after another
   module _ (honest : Type 0) (words : DiskWords D) where
     heard_into : (at : ℕ) (old new : World D) (node : ℕ) (piece : Piece) (row left : Row)
         → HasHeardInto honest words at old new node piece row left → SameNames old.hosts new.hosts
@@ -219,7 +219,7 @@ module _ {D : Type 0} where
     event_names (GoesOn node stays) =
         names_put old.hosts new.hosts node stays.host (record stays.host { state = Up stays.after }) stays.host_at stays.hosts refl
 
-  -- and so do events, one behind another
+  -- and so do events, one after another
   pub run_names : (honest : Type 0) (words : DiskWords D) (count : ℕ) (old new : World D) → Happen honest words count old new
       → SameNames old.hosts new.hosts
   run_names honest words zero old new same = names_same old.hosts new.hosts (ap (λ (w : World D). w.hosts) same)

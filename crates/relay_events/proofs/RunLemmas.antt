@@ -1,4 +1,4 @@
--- Events one behind another, and what they keep.
+-- Events one after another, and what they keep.
 use Rattle.std.proofs.Common.{inl, inr, ℕ, zero, suc, refl, subst}
 use Rattle.relay_disk.specs.Device.{DiskWords}
 use Rattle.relay_world.specs.Once.{Happen, Happens, IsNotOpened, Reopens, RunsKeepAll}
@@ -22,7 +22,7 @@ module _ {D : Type 0} (honest : Type 0) (words : DiskWords D) where
   happen_on (suc one) old next new happen more =
       let rest = happen_on one happen.0 next new happen.2 more in (suc rest.0, (happen.0, happen.1, rest.1))
 
-  -- events behind events
+  -- events after events
   pub both_happened : (old next new : World D) → HasHappened honest words old next → HasHappened honest words next new
       → HasHappened honest words old new
   both_happened old next new first more = happen_on first.0 old next new first.1 more

@@ -20,7 +20,7 @@ stops_of (Shows own) = []
 stops_of (Refuses why) = []
 stops_of (Stops node) = node ∷ []
 
--- Behind an event that did so, nodes were told of links that it broke, and this is its answer.
+-- After an event that did so, nodes were told of links that it broke, and this is its answer.
 abbrev pub IsFinished : {D : Type 0} → Type 0 → DiskWords D → World D → Did → World D → Result Seen PairFault → Type 0
 IsFinished honest words middle did new answer =
     (told : AreTold honest words middle new) × IsSeen did told.stopped answer

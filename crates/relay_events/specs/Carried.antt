@@ -57,7 +57,7 @@ stops_by (loss.Ended change) = []
 stops_by (loss.Gone why) = []
 stops_by (loss.Stopped node) = node ∷ []
 
--- A link behind replies that were read there: what the node writes stands on it; or, where it writes something, and
+-- A link after replies that were read there: what the node writes stands on it; or, where it writes something, and
 -- memory runs out for that, the link is broken.
 abbrev pub IsAnswered : Link → Link → Replied → Act → Type 0
 IsAnswered old new replied (act.Shows own) =

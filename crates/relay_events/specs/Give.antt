@@ -44,7 +44,7 @@ pub record LeadsOn {D : Type 0} (world : World D) (node : ℕ) (hop : List ℕ) 
   pub host_at : slice_get world.hosts to ≡ Some host
   pub named : host.config.host ≡ hop
 
--- a node has begun an attempt on the link of this number, and it stands behind the others
+-- a node has begun an attempt on the link of this number, and it stands after the others
 pub record HasBegun {D : Type 0} (honest : Type 0) (words : DiskWords D) (old new : World D) (node message : ℕ)
     (hop : List ℕ) (number place : ℕ) : Type 0 where
   pub was : Host D

@@ -41,7 +41,7 @@ pub record IsCalledToHear {D : Type 0} (honest : Type 0) (words : DiskWords D) (
     pub hears : HearsOrNot honest words old.clock of.host now of.session (waiting_up count of.link) heard
     pub new_is : new ≡ record old { hosts = slice_set old.hosts of.end.node now }
 
--- the world with this link behind such a call, and the line of an accept
+-- the world with this link after such a call, and the line of an accept
 abbrev pub world_heard : {D : Type 0} → World D → ℕ → ℕ → Link → Received → Option Recorded → World D
 world_heard old number node link received recorded = record old {
   links = slice_set old.links (number - 1) (heard_on link received);

@@ -45,7 +45,7 @@ pub data Did : Type 0 where
 abbrev pub HaveStopped : List ℕ → Result Seen PairFault → Type 0
 HaveStopped nodes answer = (stopped : Vec ℕ) × (answer ≡ Ok (seen.Stopped stopped)) × (stopped.items ≡ nodes)
 
--- What is seen of an event that did so, when these nodes have stopped behind it: where any has stopped, all of them,
+-- What is seen of an event that did so, when these nodes have stopped after it: where any has stopped, all of them,
 -- and nothing else.
 abbrev pub IsSeen : Did → List ℕ → Result Seen PairFault → Type 0
 IsSeen (Shows own) [] answer = answer ≡ Ok own
@@ -143,7 +143,7 @@ module _ {D : Type 0} (honest : Type 0) (words : DiskWords D) where
 
   -- A node does its first work. It begins an attempt: on a new link to outside, or on one that it has opened to the
   -- node that the hop is. Or it refuses the attempt, for want of memory, or where 64 of its attempts run, and nothing
-  -- changes. Where fewer run, the other node may refuse it a session; or, behind the opened link, it has no memory for
+  -- changes. Where fewer run, the other node may refuse it a session; or, after the opened link, it has no memory for
   -- the attempt, and that link breaks. Or it gives up the places of a message that have no hop, or refuses to, or stops
   -- in that call.
   pub data Gives (old : World D) (node : ℕ) (new : World D) : Did → Type 0 where

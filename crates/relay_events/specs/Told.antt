@@ -61,7 +61,7 @@ module _ {D : Type 0} (honest : Type 0) (words : DiskWords D) where
   abbrev pub TellsSome : World D → World D → ℕ → List ℕ → List ℕ → Type 0
   TellsSome old new number were are = (one : List ℕ) × TellsOne old new number one × (are ≡ were ++ one)
 
-  -- So many ends were told, one behind the other, always that of the least broken link; and these nodes stopped in it.
+  -- So many ends were told, one after the other, always that of the least broken link; and these nodes stopped in it.
   abbrev pub Tell : ℕ → World D → World D → List ℕ → Type 0
   Tell zero old new stopped = (new ≡ old) × (stopped ≡ [])
   Tell (suc turns) old new stopped =

@@ -36,7 +36,7 @@ pub enum Seen {
     Stopped(Vec<usize>),
 }
 
-/// What is seen of an event that shows this, when these nodes have stopped behind it.
+/// What is seen of an event that shows this, when these nodes have stopped after it.
 pub(crate) fn seen_of(own: Seen, stopped: Vec<usize>) -> Seen
     ensures { IsSeen (Shows own) stopped.items (Ok result) }
 {

@@ -1,4 +1,4 @@
--- A host behind a call of its node.
+-- A host after a call of its node.
 use Rattle.std.proofs.Common.{inl, inr, ◌≡◌, ◌≢◌, ◌≤◌, ◌+◌, ℕ, true, false, cond, List, Option, None, Some, ◌-◌, refl, sym, subst, ap, ◌∙◌, arith}
 use Rattle.std.specs.Prelude.{◌⊎◌}
 use Rattle.std.specs.Option.{is_some}
@@ -202,7 +202,7 @@ notes_none before after records change config is =
     subst (λ ch. NotesChange (host_of before records) (host_of after records) after ch None) (sym is)
     (ap (λ (c : Config). record { config = c; state = Up after; records = records }) config)
 
--- what is owed behind a call for an attempt that is gone: one record less, or as much as before, where it had none
+-- what is owed after a call for an attempt that is gone: one record less, or as much as before, where it had none
 module _ {D : Type 0} (honest : Type 0) (words : DiskWords D) (before after : NodeState D) (slot len capacity owed : ℕ)
     (knows : KnowsAttempt honest words before slot) (room : OwesWithin (notes_of before) len capacity owed)
     (others : OthersStay before.attempts after.attempts slot) where
@@ -275,7 +275,7 @@ module _ {D : Type 0} (honest : Type 0) (words : DiskWords D) (before after : No
         note_is = cut.cuts.cuts.noted.is;
       }
 
--- room behind a note that was taken
+-- room after a note that was taken
 pub owes_taken : {D : Type 0} (after now : NodeState D) (old new : List (List ℕ)) (recorded : Recorded) (len capacity owed : ℕ)
     → TakesNote after now old new recorded → OwesWithin (notes_of (without_note after)) len capacity owed
     → OwesWithin (notes_of now) len capacity owed
@@ -323,7 +323,7 @@ stops_hearing honest words before after old new session now piece knows same con
       note_is = cut.cuts.noted.is;
     })
 
--- what is owed behind a call on a session: the attempts are the same
+-- what is owed after a call on a session: the attempts are the same
 pub owes_heard : {D : Type 0} (before after : NodeState D) (len capacity owed len_now capacity_now : ℕ)
     → OwesWithin (notes_of before) len capacity owed → before.records.spool.live ≡ true → after.records.spool.live ≡ true
     → after.attempts ≡ before.attempts → len_now + owed ≤ capacity_now

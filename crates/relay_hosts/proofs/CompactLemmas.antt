@@ -61,7 +61,7 @@ module _ {D : Type 0} (honest : Type 0) (words : DiskWords D) (before after : No
     new_is = same_down honest words before down records None config none;
   }
 
-  -- a node that keeps changes, and keeps changes behind a call, owes no more than before
+  -- a node that keeps changes, and keeps changes after a call, owes no more than before
   pub owes_no_more : before.records.spool.live ≡ true → after.records.spool.live ≡ true → after.attempts ≡ before.attempts
       → notes_of after ≤ notes_of before
   owes_no_more was is attempts =

@@ -11,7 +11,7 @@ use Rattle.relay_hosts.specs.Heard.{end_after, heard_on}
 module _ (link one two : Link) (received : Received) (down : List ℕ)
     (one_is : one ≡ record link { up_read = link.up_read + received.used })
     (two_is : two ≡ record one { server = option_map (end_after received.close) one.server }) where
-  -- the link that was read, with its server end behind the call
+  -- the link that was read, with its server end after the call
   abbrev moved : Link
   moved = record link {
     server = option_map (end_after received.close) link.server;

@@ -1,4 +1,4 @@
--- What waits on a link behind what was read.
+-- What waits on a link after what was read.
 use Rattle.std.proofs.Common.{◌≡◌, ◌<◌, ◌≤◌, ℕ, zero, suc, true, false, List, [], ◌∷◌, length, drop, refl, arith}
 use Rattle.relay_hosts.specs.Links.{is_nil}
 

@@ -8,7 +8,7 @@ use Rattle.relay_world.specs.Ledger.{left_lines, report_told}
 use Rattle.relay_hosts.specs.declared.recorded.Recorded.{Recorded}
 use Rattle.relay_hosts.specs.Replied.{replied_attempt, replied_lines}
 
--- what is counted and told of an attempt behind replies, by cases
+-- what is counted and told of an attempt after replies, by cases
 pub replied_none : (attempt : Attempt) (change : Option ℕ) → change ≡ None → attempt ≡ replied_attempt attempt change
 replied_none attempt change is = sym (ap (λ c. replied_attempt attempt c) is)
 

@@ -8,7 +8,7 @@ use Rattle.relay_hosts.specs.Room.{lines_held, lines_left, lines_of_attempt, lin
 one_more : (n : ℕ) → suc n ≡ n + 1
 one_more n = omega arith
 
--- what stands at a place, and what is behind it
+-- what stands at a place, and what is after it
 drop_one : {A : Type 0} (xs : List A) (place : ℕ) (x : A) → place < length xs → x ≡ slice_index_or xs place x
     → drop place xs ≡ x ∷ drop (suc place) xs
 drop_one [] place x within there = absurd (omega (arith, within))

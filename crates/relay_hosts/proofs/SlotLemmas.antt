@@ -1,4 +1,4 @@
--- How many slots are taken, behind a call that leaves all but one as they are.
+-- How many slots are taken, after a call that leaves all but one as they are.
 use Rattle.std.proofs.Common.{◌≡◌, ◌≤◌, ◌+◌, ℕ, zero, suc, List, [], ◌∷◌, Option, None, Some, refl, sym, ap, arith}
 use Rattle.std.proofs.lemmas.Option.{none-some}
 use Rattle.relay_slots.specs.Slots.{AreFree, OthersStay, slot_at}
@@ -56,7 +56,7 @@ module _ {A : Type 0} where
   count_one (None ∷ slots) (suc slot) value is = count_one slots slot value is
   count_one (Some one ∷ slots) slot value is = omega arith
 
-  -- where one was taken, no more are behind a call that leaves the others
+  -- where one was taken, no more are after a call that leaves the others
   pub count_no_more : (old new : List (Option A)) (slot : ℕ) (value : A) → OthersStay old new slot
       → slot_at old slot ≡ Some value → count_some new ≤ count_some old
   count_no_more [] new slot value others was = absurd (none-some value was)
@@ -76,7 +76,7 @@ module _ {A : Type 0} where
       let rest = count_no_more old new slot value (λ n off. others (suc n) (λ same. off (suc_same n slot same))) was in
       omega (arith, rest)
 
-  -- one more is taken at most behind a call that leaves the others
+  -- one more is taken at most after a call that leaves the others
   pub count_more : (old new : List (Option A)) (slot : ℕ) → OthersStay old new slot → count_some new ≤ suc (count_some old)
   count_more [] [] slot others = omega arith
   count_more [] (None ∷ new) zero others =

@@ -9,12 +9,12 @@ use Rattle.relay_world.specs.declared.link.ServerEnd.{ServerEnd}
 use Rattle.relay_world.specs.Steps.{unless_broken}
 use Rattle.relay_hosts.specs.declared.recorded.Recorded.{Recorded}
 
--- a server end behind a call that closes it or not
+-- a server end after a call that closes it or not
 abbrev pub end_after : Bool → ServerEnd → ServerEnd
 end_after true end = record end { session = None }
 end_after false end = end
 
--- the link behind a call in which the node at its server end has heard octets: nothing is written on a broken one
+-- the link after a call in which the node at its server end has heard octets: nothing is written on a broken one
 abbrev pub heard_on : Link → Received → Link
 heard_on link received = record link {
   server = option_map (end_after received.close) link.server;

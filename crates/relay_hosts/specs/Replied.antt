@@ -6,7 +6,7 @@ use Rattle.relay_world.specs.declared.line.Line.{Line}
 use Rattle.relay_world.specs.Ledger.{left_lines, report_told}
 use Rattle.relay_hosts.specs.declared.recorded.Recorded.{Recorded}
 
--- an attempt behind replies that led to this change, or to none
+-- an attempt after replies that led to this change, or to none
 abbrev pub replied_attempt : Attempt → Option ℕ → Attempt
 replied_attempt attempt None = attempt
 replied_attempt attempt (Some change) = record attempt { fate = fate.Replied change }

@@ -137,7 +137,7 @@ pub fn client_idles(attempts: &[Attempt], link: &Link) -> bool
     false
 }
 
-/// Whether no octet waits behind so many.
+/// Whether no octet waits after so many.
 #[tactic(auto, using(crate::proofs::LinkLemmas::all_read, crate::proofs::LinkLemmas::some_waits))]
 pub fn is_read(octets: &[u8], read: usize) -> bool
     ensures { result ≡ is_nil (drop read octets.now) }

@@ -37,7 +37,7 @@ read_nothing left new_left kept = Consumes-kept left left new_left [] (Consumes-
 pub read_none : (left new_left : Option (List ℕ)) (buffer : List ℕ) (count : ℕ) → Consumes left new_left (take count buffer) → count ≡ 0 → Consumes left new_left []
 read_none left new_left buffer count read none = subst (λ n. Consumes left new_left (take n buffer)) none read
 
--- octets behind those that are used: the next of them, and what is behind those
+-- octets after those that are used: the next of them, and what is after those
 pub next_of_rest : (octets : List ℕ) (from to : ℕ) → from ≤ to → drop from octets ≡ slice_range octets from to ++ drop to octets
 next_of_rest octets from to within =
     let sum : from + (to - from) ≡ to = omega (arith, within) in
@@ -68,7 +68,7 @@ module _ (given : Offered → Answer → Type 0) where
   of_hub_before (answer ∷ answers) [] more all = absurd all
   of_hub_before (answer ∷ answers) (offer ∷ offers) more all = (all.0, of_hub_before answers offers more all.1)
 
-  -- the offer behind those that have an answer has one too
+  -- the offer after those that have an answer has one too
   of_hub_more : (answers : List Answer) (front : List Offered) (answer : Answer) (offer : Offered) → length front ≡ length answers → AreOfHub given answers (front ++ offer ∷ []) → given offer answer → AreOfHub given (answers ++ answer ∷ []) (front ++ offer ∷ [])
   of_hub_more [] [] answer offer same all one = (one, tt)
   of_hub_more [] (first ∷ front) answer offer same all one = absurd (omega (arith, same))
@@ -86,7 +86,7 @@ module _ (peer : List ℕ) (at : ℕ) where
   noted_before (Queued number ∷ answers) (offer ∷ offers) more [] noted = absurd noted
   noted_before (Queued number ∷ answers) (offer ∷ offers) more (receipt ∷ receipts) noted = (noted.0, noted_before answers offers more receipts noted.1)
 
-  -- the offer behind those that have an answer was refused
+  -- the offer after those that have an answer was refused
   noted_full : (answers : List Answer) (front : List Offered) (offer : Offered) (receipts : List Receipt) → length front ≡ length answers → AreNoted peer at answers (front ++ offer ∷ []) receipts → AreNoted peer at (answers ++ Full ∷ []) (front ++ offer ∷ []) receipts
   noted_full [] [] offer [] same noted = tt
   noted_full [] [] offer (receipt ∷ receipts) same noted = absurd noted
@@ -110,7 +110,7 @@ module _ (peer : List ℕ) (at : ℕ) where
       (noted.0, noted_queued answers front offer number receipts last (one_less first front (Queued other) answers same) noted.1 is)
 
 module _ (has_answered : List ℕ → ℕ → Offered → Answer → Type 0) (config : Config) (peer : List ℕ) (at : ℕ) (start : LinkStart) where
-  -- one answer more, of the offer behind those that have theirs
+  -- one answer more, of the offer after those that have theirs
   noted_more : (answers : List Answer) (front : List Offered) (offer : Offered) (given : Answer) (receipts new : List Receipt) → length front ≡ length answers → HasNoted has_answered config peer at start (front ++ offer ∷ []) answers receipts → Notes offer peer at receipts given new → has_answered peer at offer given
       → HasNoted has_answered config peer at start (front ++ offer ∷ []) (answers ++ given ∷ []) new
   noted_more answers front offer Full receipts new same h notes by_hub = record {
@@ -153,7 +153,7 @@ module _ (has_answered : List ℕ → ℕ → Offered → Answer → Type 0) (co
       subst (λ (l : List Offered). HasNoted has_answered config peer at start l (said.answers ++ given ∷ []) new) (sym parts)
       (noted_more said.answers front offer given receipts new (omega (arith, count, long)) (subst (λ (l : List Offered). HasNoted has_answered config peer at start l said.answers receipts) parts h) notes by_hub)
 
-  -- what was said, written behind what was written before
+  -- what was said, written after what was written before
   said_more : (said written all before out after : List ℕ) → all ≡ said ++ written → said ≡ before ++ out → after ≡ out ++ written → all ≡ before ++ after
   said_more said written all before out after more was is = more ∙ ap (λ l. l ++ written) was ∙ append_assoc before out written ∙ ap (λ l. before ++ l) (sym is)
 
@@ -256,7 +256,7 @@ module _ (has_answered : List ℕ → ℕ → Offered → Answer → Type 0) (co
   refused_same session left held waiting out receipts new_receipts offer fault is_open h same is =
       subst (λ (l : List Receipt). HasBegun has_answered config peer at start left held l fault) (sym same) (refused session left held waiting out receipts offer fault is_open h is)
 
-  -- memory ran out behind the hub's answer
+  -- memory ran out after the hub's answer
   pub untold : (session : Session) (left held : Option (List ℕ)) (waiting out : List ℕ) (receipts new_receipts : List Receipt) (offer : Offered) (given : Answer) → open_offers session ≡ offer ∷ [] → HasSaid has_answered config peer at start session left held waiting out receipts → Notes offer peer at receipts given new_receipts
       → has_answered peer at offer given → HasBegun has_answered config peer at start left held new_receipts NoMemory
   untold session left held waiting out receipts new_receipts offer given is_open h notes by_hub = record {
@@ -310,7 +310,7 @@ module _ (has_answered : List ℕ → ℕ → Offered → Answer → Type 0) (co
       not_output (inl device) = cc
       not_output (inr number) = cc
 
-  -- the session has closed; octets behind the close belong to the rest of the dialogue
+  -- the session has closed; octets after the close belong to the rest of the dialogue
   pub closes : (session : Session) (left held : Option (List ℕ)) (waiting : List ℕ) (receipts : List Receipt) → HasSaid has_answered config peer at start session left held waiting [] receipts → IsClosed session → open_offers session ≡ [] → HasServed has_answered config peer at start left held receipts
   closes session left held waiting receipts h closed none =
       let end = closed_is_a_dialogue (setup_for config peer) session h.said waiting h.stands closed in

@@ -18,7 +18,7 @@ use Rattle.relay_hub.specs.declared.receipt.Receipt.{Receipt}
 use Rattle.relay_hub.specs.Hub.{GrowsBy, HasTaken, IsTold, with_accepts}
 use Rattle.relay_hub.specs.Receipts.{AreReceipts, AreTrueOf, IsTrueOf, Rise, count_of}
 
--- what stands behind a front
+-- what stands after a front
 behind : {X : Type 0} (front rest : List X) (place : ℕ) → slice_get (front ++ rest) (length front + place) ≡ slice_get rest place
 behind [] rest place = let is : 0 + place ≡ place = omega arith in ap (slice_get rest) is
 behind (first ∷ front) rest place =
@@ -29,7 +29,7 @@ own : (all : List Change) (found : Option Accept) → made_by all (option_map ch
 own all None = refl
 own all (Some accept) = refl
 
--- the message behind these changes is that of its accept
+-- the message after these changes is that of its accept
 pub message_behind : (changes : List Change) (accepts : List Accept) (place : ℕ) → message_at (with_accepts changes accepts) (length changes + 1 + place) ≡ slice_get accepts place
 message_behind changes accepts place =
     let all = with_accepts changes accepts in

@@ -15,17 +15,17 @@ use Rattle.relay_node.specs.Admission.{Admits}
 use Rattle.relay_hub.specs.declared.receipt.Receipt.{Receipt}
 use Rattle.relay_hub.specs.Receipts.{Rise, count_of, times}
 
--- a list of changes, and behind it one for each of these accepts
+-- a list of changes, and after it one for each of these accepts
 abbrev pub with_accepts : List Change → List Accept → List Change
 with_accepts changes accepts = changes ++ map change.Accept accepts
 
--- The receipt tells the accept of its number, where these accepts have the numbers behind the first ones.
+-- The receipt tells the accept of its number, where these accepts have the numbers after the first ones.
 pub record IsTold (before : ℕ) (accepts : List Accept) (receipt : Receipt) : Type 0 where
   pub place : ℕ
   pub number_is : receipt.number ≡ before + 1 + place
   pub accept_is : slice_get accepts place ≡ Some receipt.accept
 
--- the number is the first behind each list that was kept at the start
+-- the number is the first after each list that was kept at the start
 abbrev pub IsFirst : (List Change → Type 0) → ℕ → Type 0
 IsFirst starts number = (changes : List Change) → starts changes → number ≡ length changes + 1
 
@@ -37,13 +37,13 @@ module _ {D : Type 0} (honest : Type 0) (words : DiskWords D) where
     pub live : records.spool.live ≡ true → Keeps honest words records changes
     pub stopped : records.spool.live ≡ false → (pending : Option Change) × Halted honest words records changes pending
 
-  -- behind these changes so many accepts were added, and nothing else
+  -- after these changes so many accepts were added, and nothing else
   pub record GrowsBy (changes : List Change) (added : ℕ) (records : Kept D) : Type 0 where
     pub accepts : List Accept
     pub count : length accepts ≡ added
     pub list : HasList records (with_accepts changes accepts)
 
-  -- so it is behind each list that was kept at the start
+  -- so it is after each list that was kept at the start
   abbrev pub HasGrown : (List Change → Type 0) → ℕ → Kept D → Type 0
   HasGrown starts added records = (changes : List Change) → starts changes → GrowsBy changes added records
 
@@ -65,7 +65,7 @@ module _ {D : Type 0} (honest : Type 0) (words : DiskWords D) where
       (peer : List ℕ) (at : ℕ) (offer : Offered) (answer : Answer) → Gives starts config peer at offer answer
       → has_answered peer at offer answer
 
-  -- From the number behind these changes on, the list has one accept for each receipt of the passes, at its number and
+  -- From the number after these changes on, the list has one accept for each receipt of the passes, at its number and
   -- as the receipt tells it, and no other; the numbers of each pass rise. What is held below is what these changes
   -- hold.
   pub record HasTaken (changes : List Change) (passes : List (List Receipt)) (records : Kept D) : Type 0 where

@@ -25,7 +25,7 @@ abbrev pub link_start : Option (List ℕ) → Option (List ℕ) → List Receipt
 link_start left held receipts = record { left = left; held = held; receipts = receipts }
 
 -- Each answer is that of the offer at its place, which a client at this address gave, and these are the receipts of
--- those that were queued, in order; an offer behind them has no answer.
+-- those that were queued, in order; an offer after them has no answer.
 abbrev pub AreNoted : List ℕ → ℕ → List Answer → List Offered → List Receipt → Type 0
 AreNoted peer at [] offers [] = Unit {0}
 AreNoted peer at [] offers (receipt ∷ receipts) = ⊥
@@ -61,7 +61,7 @@ IsRefusal Device = Unit {0}
 -- from its start on, at a moment.
 module _ (has_answered : List ℕ → ℕ → Offered → Answer → Type 0) (config : Config) (peer : List ℕ) (at : ℕ)
     (start : LinkStart) where
-  -- These answers are the hub's, and behind the receipts of before stand those of the offers that were queued by them,
+  -- These answers are the hub's, and after the receipts of before stand those of the offers that were queued by them,
   -- in order.
   pub record HasNoted (offers : List Offered) (answers : List Answer) (receipts : List Receipt) : Type 0 where
     pub of_hub : AreOfHub (has_answered peer at) answers offers
@@ -93,7 +93,7 @@ module _ (has_answered : List ℕ → ℕ → Offered → Answer → Type 0) (co
 
   -- What was written is a beginning of the output of a dialogue, whose input is a beginning of what was read: all of it
   -- where nothing more could be read. Where the hub has refused an offer, it is the last, and has no answer. Where
-  -- memory ran out behind the hub's answer to an offer, that isn't told, and counts for the receipts.
+  -- memory ran out after the hub's answer to an offer, that isn't told, and counts for the receipts.
   pub record HasBegun (left held : Option (List ℕ)) (receipts : List Receipt) (fault : LinkFault) : Type 0 where
     pub said : Said
     pub dialogue : IsDialogue (setup_for config peer) said

@@ -54,7 +54,7 @@ impl<D: Disk, J: Opening> Model for Desk<D, J> {
 }
 
 impl<D: Disk, J: Opening> Desk<D, J> {
-    /// A node that threads begin to share, behind whose passes nothing is left of the ledger's share.
+    /// A node that threads begin to share, after whose passes nothing is left of the ledger's share.
     pub(crate) fn new(node: Node<D>, queued: Book<J>, rest: Share<J>) -> Desk<D, J>
         requires none { queued.total ≡ 0 }
         requires rest { (rest.parts ≡ 0) × (rest.amount ≡ 0) }
@@ -73,7 +73,7 @@ impl<D: Disk, J: Opening> Desk<D, J> {
     }
 
     /// Takes an offer into the node. The receipt and its room are taken before that, so that nothing can fail
-    /// behind it.
+    /// after it.
     pub(crate) fn admit(
         &mut self,
         pass: &mut Pass<J>,

@@ -83,7 +83,7 @@ impl<D: Disk, J: Opening> Hub<D, J> {
     }
 
     /// Takes an offer into the node, and adds its receipt to the pass where it is queued. The receipt's room is
-    /// taken first, and where memory runs out for it that is answered, whatever the node would have answered. Behind
+    /// taken first, and where memory runs out for it that is answered, whatever the node would have answered. After
     /// `Queued` each stop leaves the message.
     pub fn admit<R: Wait>(
         &self,
@@ -103,7 +103,7 @@ impl<D: Disk, J: Opening> Hub<D, J> {
         self.desk.lock(rt).admit(pass, offer, peer, now)
     }
 
-    /// Takes the node back, with all passes. Behind each list of changes that it kept at the start it has one accept
+    /// Takes the node back, with all passes. After each list of changes that it kept at the start it has one accept
     /// for each receipt, at its number and as that tells it, and no other change; live or stopped. Where that isn't so
     /// by their numbers and texts, node and passes come back as a mismatch. It takes no memory.
     pub fn close(self, passes: Vec<Pass<J>>) -> Result<(Node<D>, Vec<Pass<J>>), Mismatch<D, J>>

@@ -36,10 +36,10 @@ struct Terms<'a> {
 }
 
 /// Serves a client: writes the greeting, reads commands and mail from `reader`, and writes the replies to `writer`, all
-/// of them before the next read and behind each message. Each message is given to the hub, and only those that it
+/// of them before the next read and after each message. Each message is given to the hub, and only those that it
 /// queued add their receipts to the pass, in order; the client is told what the hub answered. It ends at a close, and
 /// at the end of the input; and where the hub refuses to take a message, without another octet. Where memory runs out
-/// behind the hub's answer, the client isn't told of it, and the message stays queued. All mail counts as accepted at
+/// after the hub's answer, the client isn't told of it, and the message stays queued. All mail counts as accepted at
 /// `now`.
 pub fn hub_link<D: Disk, J: Opening, T: Wait, R: Read, W: Write>(
     rt: &T,
@@ -67,7 +67,7 @@ pub fn hub_link<D: Disk, J: Opening, T: Wait, R: Read, W: Write>(
     converse(rt, hub, pass, &terms, &mut session, reader, writer)
 }
 
-/// Goes on behind what was said, up to a close or the end of the input.
+/// Goes on after what was said, up to a close or the end of the input.
 fn converse<D: Disk, J: Opening, T: Wait, R: Read, W: Write>(
     rt: &T,
     hub: &Hub<D, J>,
@@ -166,7 +166,7 @@ fn answer_block<D: Disk, J: Opening, T: Wait, W: Write>(
     Ok(false)
 }
 
-/// Answers octets behind those that are used, all of them or up to an offer or a close. It tells whether there was a
+/// Answers octets after those that are used, all of them or up to an offer or a close. It tells whether there was a
 /// close.
 fn answer<D: Disk, J: Opening, T: Wait, W: Write>(
     rt: &T,
@@ -196,7 +196,7 @@ fn answer<D: Disk, J: Opening, T: Wait, W: Write>(
     Ok(is_last)
 }
 
-/// Hears octets behind those that are used, all of them or up to an offer or a close, and puts the replies behind
+/// Hears octets after those that are used, all of them or up to an offer or a close, and puts the replies after
 /// `out`. It tells whether there was a close.
 fn hear<D: Disk, J: Opening, T: Wait>(
     rt: &T,
@@ -234,7 +234,7 @@ fn hear<D: Disk, J: Opening, T: Wait>(
     }
 }
 
-/// Gives the open offer to the hub, and puts the reply behind `out`.
+/// Gives the open offer to the hub, and puts the reply after `out`.
 fn take_offer<D: Disk, J: Opening, T: Wait>(
     rt: &T,
     hub: &Hub<D, J>,

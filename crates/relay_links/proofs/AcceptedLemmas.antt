@@ -40,7 +40,7 @@ module _ (rule : Rule) where
   none_come count size [] none = refl
   none_come count size (offer ∷ refused) none = (none.0, none_come count size refused none.1)
 
-  -- behind refused offers one was queued
+  -- after refused offers one was queued
   pub one_comes : (count size new_size : ℕ) (refused : List Offered) (number : ℕ) (offer : Offered) (change : Change) → AllByRecursion (Overfills (rule.acceptance (suc count)) rule.limit size) refused → number ≡ suc count → IsAccepted (rule.acceptance number) rule.limit size offer change new_size → Accepts rule count size (refusals refused ++ (Queued number ∷ [])) (refused ++ (offer ∷ [])) (change ∷ []) new_size
   one_comes count size new_size [] number offer change none is accepted = (is, (new_size, accepted, refl))
   one_comes count size new_size (other ∷ refused) number offer change none is accepted = (none.0, one_comes count size new_size refused number offer change none.1 is accepted)

@@ -35,14 +35,14 @@ read_nothing left new_left kept = Consumes-kept left left new_left [] (Consumes-
 pub read_none : (left new_left : Option (List ℕ)) (buffer : List ℕ) (count : ℕ) → Consumes left new_left (take count buffer) → count ≡ 0 → Consumes left new_left []
 read_none left new_left buffer count read none = subst (λ n. Consumes left new_left (take n buffer)) none read
 
--- behind a list and one list more
+-- after a list and one list more
 next_number : (before added : List Change) → length (before ++ added) + 1 ≡ suc (length before + length added)
 next_number before added = ap (λ n. n + 1) (length-append before added) ∙ plus_one (length before + length added)
   where
     plus_one : (n : ℕ) → n + 1 ≡ suc n
     plus_one n = omega arith
 
--- octets that wait are those that are used, and those behind them
+-- octets that wait are those that are used, and those after them
 used_first : (said waiting : List ℕ) (used : ℕ) → said ++ waiting ≡ (said ++ take used waiting) ++ drop used waiting
 used_first said waiting used = ap (λ l. said ++ l) (sym (take-append-drop used waiting)) ∙ sym (append_assoc said (take used waiting) (drop used waiting))
 
@@ -66,7 +66,7 @@ module _ {D : Type 0} (honest : Type 0) (words : DiskWords D) (start : Start) (a
   as_taken Full said added records other full taken = record { taken = taken; number = full refl }
   as_taken Device said added records other full taken = absurd (other refl)
 
-  -- a fault behind what was said, of a node whose records are the same
+  -- a fault after what was said, of a node whose records are the same
   pub breaks : (left held : Option (List ℕ)) (waiting : List ℕ) (node : NodeState D) (records : Kept D) (fault : LinkFault) → HasSaid honest words start at number left held waiting node → records ≡ node.records → (fault ≡ Device → ⊥) → (fault ≡ Full → 2 ^ 62 < records.queue.next) → HasBegun honest words start at left held records fault
   breaks left held waiting node records fault h same other full = record {
     said = h.said;
@@ -137,7 +137,7 @@ module _ {D : Type 0} (honest : Type 0) (words : DiskWords D) (start : Start) (a
         size_is = refl;
       }))
 
-  -- what a call made stands behind what was taken before
+  -- what a call made stands after what was taken before
   takes : (said later : Said) (refused : List Offered) (used : ℕ) (old new : Kept D) (made : Option ℕ) (added : List Change) → AllByRecursion (Overfills (acceptance_by start.config start.peer (length (start.changes ++ added) + 1) at) start.config.spool_limit old.spool.size) refused → Makes honest words start.config (start.changes ++ added) start.peer at said later refused used old new made → HasTaken honest words start at said added old → (gained : List Change) × HasTaken honest words start at later gained new
   takes said later refused used old new None added none (more, same) before = (
     added,
@@ -183,7 +183,7 @@ module _ {D : Type 0} (honest : Type 0) (words : DiskWords D) (start : Start) (a
       taken = gained.1;
     }
 
-    -- the session has closed; octets behind the close belong to the rest of the dialogue
+    -- the session has closed; octets after the close belong to the rest of the dialogue
     pub closes : received.close ≡ true → Appends held new_held received.out.items → HasServed honest words start at left new_held new.records
     closes closed wrote =
         let gone = rw closed at r.goes_on in

@@ -28,11 +28,11 @@ use Rattle.relay_links.specs.declared.push.Way.TheVariants as way
 use Rattle.relay_links.specs.Link.{link_fault_of}
 use Rattle.relay_links.specs.Push.{Concludes, Ends, Goes, HasDropped, PushHasEnded, HasFailed, HasFilled, HasGrown, HasLost, HasStopped, IsAt, IsCut, LeavesRecords, Moves, PushStart, push_start_at}
 
--- octets that wait are those that are used, and those behind them
+-- octets that wait are those that are used, and those after them
 used_first : (read waiting : List ℕ) (used : ℕ) → read ++ waiting ≡ (read ++ take used waiting) ++ drop used waiting
 used_first read waiting used = ap (λ l. read ++ l) (sym (take-append-drop used waiting)) ∙ sym (append_assoc read (take used waiting) (drop used waiting))
 
--- what was written behind what was held, in two parts
+-- what was written after what was held, in two parts
 in_parts : (held written out front rest : List ℕ) → out ≡ front ++ rest → (held ++ (written ++ [])) ++ out ≡ held ++ ((written ++ front) ++ rest)
 in_parts held written out front rest parts =
     append_assoc held (written ++ []) out
@@ -45,7 +45,7 @@ RestStays old new number = OthersStay old.attempts new.attempts number × (new.c
 pub rest_stays : {D : Type 0} (old mid new : NodeState D) (number : ℕ) → RestStays old mid number → RestStays mid new number → RestStays old new number
 rest_stays old mid new number before now = (λ other differs. now.0 other differs ∙ before.0 other differs, now.1 ∙ before.1, now.2 ∙ before.2)
 
--- an attempt is gone behind a fault of a node that lives on
+-- an attempt is gone after a fault of a node that lives on
 pub gone_by_fault : {D : Type 0} (words : DiskWords D) (number : ℕ) (old new : NodeState D) (fault : NodeFault) → (old.records.spool.live ≡ true → RefusesToReply words number old new fault) → (old.records.spool.live ≡ false → new ≡ old)
     → (fault ≡ node_fault.Unknown → slot_at old.attempts number ≡ None) → new.records.spool.live ≡ true → slot_at new.attempts number ≡ None
 gone_by_fault {D} words number old new fault refused stopped unknown live = by_live old.records.spool.live refl
@@ -68,7 +68,7 @@ gone_by_fault {D} words number old new fault refused stopped unknown live = by_l
 pub same_fault : {T : Type 0} (fault other : NodeFault) → ◌≡◌ {A = Result T NodeFault} (Err fault) (Err other) → fault ≡ other
 same_fault fault other e = cc
 
--- the records behind a fault of the node
+-- the records after a fault of the node
 pub left_by_fault : {D : Type 0} (words : DiskWords D) (number : ℕ) (old new : NodeState D) (fault : NodeFault) → (old.records.spool.live ≡ true → RefusesToReply words number old new fault) → (old.records.spool.live ≡ false → (fault ≡ node_fault.Stopped) × (new ≡ old))
     → LeavesRecords words old new (link_fault_of fault)
 left_by_fault {D} words number old new fault refused stopped = by_live old.records.spool.live refl
@@ -228,7 +228,7 @@ module _ {D : Type 0} (honest : Type 0) (words : DiskWords D) (start : PushStart
     keeps = subst (λ (kept : Kept D). Keeps honest words kept start.changes) (sym same) h.keeps;
   }
 
-  -- the course came to its end behind octets that waited
+  -- the course came to its end after octets that waited
   comes_to_end : (left held : Option (List ℕ)) (waiting : List ℕ) (old : NodeState D) (h : IsAt honest words start at number left held waiting [] old) (ends : ReadsToEnd start.host (told_more start.told h.input (h.written ++ [])) waiting) → Goes honest words start at left held ends.out false (Some ends.verdicts)
   comes_to_end left held waiting old h ends =
       let told = start.told in

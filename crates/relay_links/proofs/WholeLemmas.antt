@@ -4,7 +4,7 @@ use Rattle.std.proofs.Math.Seq.{take-add}
 use Rattle.std.proofs.KnownBytes.{Appends-trans, Appends-kept}
 use Rattle.std.specs.Io.KnownBytes.{Appends, Keeps}
 
--- behind less than all of the octets there are more
+-- after less than all of the octets there are more
 some_left : (octets : List ℕ) (written : ℕ) → written < length octets → drop written octets ≢ []
 some_left octets written within none =
     let left = sym (length-drop written octets) ∙ ap length none in

@@ -80,7 +80,7 @@ module _ {D : Type 0} (honest : Type 0) (words : DiskWords D) (start : Start) (a
   abbrev pub HasNote : List Change → Option Noted → Type 0
   HasNote added noted = ((added ≡ []) × (noted ≡ start.noted)) ⊎ NotesLast added noted
 
-  -- the node keeps the changes of before, and behind them those that the link brought
+  -- the node keeps the changes of before, and after them those that the link brought
   pub record HasTaken (said : Said) (added : List Change) (records : Kept D) : Type 0 where
     pub come : HaveCome said added records.spool.size
     pub keeps : Keeps honest words records (start.changes ++ added)

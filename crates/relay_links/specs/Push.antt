@@ -38,7 +38,7 @@ push_start_at left held node changes told =
 -- The words below are of a link from its start on, at a moment.
 module _ {D : Type 0} (honest : Type 0) (words : DiskWords D) (start : PushStart) (at : ℕ) where
   -- The attempt of this number has read what was read but for these octets, which wait, and it wrote what was written
-  -- and these octets behind that, which weren't; the node keeps the changes of before.
+  -- and these octets after that, which weren't; the node keeps the changes of before.
   pub record IsAt (number : ℕ) (left held : Option (List ℕ)) (waiting unwritten : List ℕ) (node : NodeState D)
       : Type 0 where
     pub input : List ℕ

@@ -18,7 +18,7 @@ use std::io::{ErrorKind, Read, Write};
 const READS: u64 = 1_099_511_627_776;
 
 /// Serves the session that `connect` has opened: writes the greeting, reads commands and mail from
-/// `reader`, and writes the replies to `writer`, all of them before the next read and behind each
+/// `reader`, and writes the replies to `writer`, all of them before the next read and after each
 /// message that the node takes. It ends at a close, and at the end of the input, and the session is then
 /// gone. After a fault a beginning of the replies was written, and all of them where nothing more could be
 /// read. All mail counts as accepted at `now`.
@@ -70,7 +70,7 @@ fn greet<D: Disk, R: Read, W: Write>(
     }
 }
 
-/// Goes on behind what was said, up to a close or the end of the input.
+/// Goes on after what was said, up to a close or the end of the input.
 fn converse<D: Disk, R: Read, W: Write>(
     alloc: Global,
     node: &mut Node<D>,
@@ -158,7 +158,7 @@ fn answer_block<D: Disk, W: Write>(
     Ok(false)
 }
 
-/// Answers octets behind those that are used, all of them or up to a change or a close. It tells
+/// Answers octets after those that are used, all of them or up to a change or a close. It tells
 /// whether there was a close.
 fn answer<D: Disk, W: Write>(
     node: &mut Node<D>,

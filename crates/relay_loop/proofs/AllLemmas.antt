@@ -1,4 +1,4 @@
--- Pieces that are answered, and behind them replies: what is pending then.
+-- Pieces that are answered, and after them replies: what is pending then.
 use Rattle.std.proofs.Common.{ℕ, List, [], Result, ◌∙◌}
 use Rattle.relay_disk.specs.Device.{DiskWords}
 use Rattle.relay_book.specs.declared.change.Change.{Change}

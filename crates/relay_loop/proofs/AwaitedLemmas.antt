@@ -20,13 +20,13 @@ pub front_fits : (queue : Queue) (front rest : List Change) → FitsFrom queue (
 front_fits queue [] rest fits = tt
 front_fits queue (change ∷ front) rest fits = (fits.0, front_fits (step queue change) front rest fits.1)
 
--- so does the last, behind them
+-- so does the last, after them
 last_fits : (queue : Queue) (front : List Change) (change : Change) → FitsFrom queue (front ++ change ∷ [])
     → FitsQueue (fold step queue front) change
 last_fits queue [] change fits = fits.0
 last_fits queue (first ∷ front) change fits = last_fits (step queue first) front change fits.1
 
--- changes that fit behind others that do
+-- changes that fit after others that do
 fit_behind : (queue : Queue) (changes pending : List Change) → FitsFrom queue changes
     → FitsFrom (fold step queue changes) pending → FitsFrom queue (changes ++ pending)
 fit_behind queue [] pending first second = second
@@ -91,7 +91,7 @@ module _ {D : Type 0} (honest : Type 0) (words : DiskWords D) (changes pending :
             (subst (λ (q : Queue). NotesNext q change (encode change) stages.note.used stages.note) behind noted));
       }
 
-  -- two changes that one row records behind those that were pending are one
+  -- two changes that one row records after those that were pending are one
   pub one_is_staged : (old new : Kept D) (row left : Row) (change other : Change) (used number : ℕ)
       → Awaits honest words old changes pending row → FitsQueue old.queue change
       → Stages old new row left change used number → Awaits honest words new changes (pending ++ other ∷ []) left

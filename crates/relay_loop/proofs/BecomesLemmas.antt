@@ -140,7 +140,7 @@ module _ {D : Type 0} (honest : Type 0) (words : DiskWords D) (changes : List Ch
           join next (ap (slot_at mid.clients) same ∙ dropped.connection) (ap (λ l. slot_at l session) dropped.seats)
           (used_more session piece pieces answer rest (sym same) ∙ ap (λ l. l ++ used_of session pieces rest) dropped.used)
 
-  -- what becomes of a session behind the first piece becomes of it behind all
+  -- what becomes of a session after the first piece becomes of it after all
   module _ (list : List Change) (new : RelayState D) (session : ℕ) (peer : List ℕ) (said later : Said) (written : List ℕ) (piece : Piece) (pieces : List Piece) (answer : Result Heard NodeFault) (rest : List (Result Heard NodeFault))
       (first : List ℕ) (used : used_of session (piece ∷ pieces) (answer ∷ rest) ≡ first ++ used_of session pieces rest) (read : later.input ≡ said.input ++ first) where
     read_more : (last : Said) → last.input ≡ later.input ++ used_of session pieces rest → last.input ≡ said.input ++ used_of session (piece ∷ pieces) (answer ∷ rest)
@@ -158,7 +158,7 @@ module _ {D : Type 0} (honest : Type 0) (words : DiskWords D) (changes : List Ch
     }))
     becomes_more (inr (inr refused)) = inr (inr (record { gone = refused.gone; told = inr refused.told }))
 
-  -- by the list behind a piece
+  -- by the list after a piece
   behind : (pending more : List Change) (mid : RelayState D) (session : ℕ) (peer : List ℕ) (said : Said) (written : List ℕ) → TalksTo ((changes ++ pending) ++ more) mid session peer said written → TalksTo (changes ++ (pending ++ more)) mid session peer said written
   behind pending more mid session peer said written t = subst (λ (l : List Change). TalksTo l mid session peer said written) (append_assoc changes pending more) t
 
@@ -288,7 +288,7 @@ becomes_later list added mid new session peer said written pieces answers seats 
 becomes_later list added mid new session peer said written pieces answers seats clients config (inr (inr refused)) =
     inr (inr (record { gone = ap (λ l. slot_at l session) clients ∙ refused.gone; told = refused.told }))
 
--- so it is behind the whole call
+-- so it is after the whole call
 pub groups_talk : {D : Type 0} (honest : Type 0) (words : DiskWords D) → GroupsTalk honest words
 groups_talk {D = D} honest words changes at pieces replies old new group session peer said written all t =
     let a = all.answers in

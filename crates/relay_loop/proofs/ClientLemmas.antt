@@ -89,7 +89,7 @@ module _ {D : Type 0} (list : List Change) (session : ℕ) (peer : List ℕ) (sa
           accepted = subst (λ (config : Config). AreAccepted config peer grown later) (sym same) accepted;
         })
 
--- an offer that was queued behind a list is accepted by the change that is added to it
+-- an offer that was queued after a list is accepted by the change that is added to it
 pub accepted_last : (config : Config) (peer : List ℕ) (at : ℕ) (list : List Change) (said later : Said) (number : ℕ) (offer : Offered) (accept : Accept) → number ≡ length list + 1 → IsAcceptOf (acceptance_by config peer (length list + 1) at) offer accept
     → queued_in later ≡ queued_in said ++ (number, offer) ∷ [] → AreAccepted config peer list said → AreAccepted config peer (list ++ change.Accept accept ∷ []) later
 accepted_last config peer at list said later number offer accept number_is is_accept grows each =
@@ -106,7 +106,7 @@ module _ {D : Type 0} (honest : Type 0) (words : DiskWords D) (changes : List Ch
     (keeps : Keeps honest words old.node.records changes) (t : TalksTo changes old session peer said written) (drained : unwritten_at old.clients session ≡ [])
     (r : Receives honest words old.node.config changes peer at session said piece old.node new.node received) (same : new.node.config ≡ old.node.config)
     (h : IsHeardFrom received heard) (set : IsSetTo received.close session received.out.items heard.last new.clients) where
-  -- the list behind the call, which the node keeps, and by which the offers are accepted
+  -- the list after the call, which the node keeps, and by which the offers are accepted
   record Grown (made : Option ℕ) : Type 0 where
     pub list : List Change
     pub grows : GrowsBy changes made list

@@ -13,7 +13,7 @@ and_false : (b : Bool) → (b && false) ≡ false
 and_false true = refl
 and_false false = refl
 
--- what stands behind the name has no CR LF, doesn't begin with an LF, and is short
+-- what stands after the name has no CR LF, doesn't begin with an LF, and is short
 text_is_plain : (why : Closing) → has_crlf (text_of why) ≡ false
 text_is_plain TooMany = refl
 text_is_plain Timeout = refl

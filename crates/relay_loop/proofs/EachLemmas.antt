@@ -1,4 +1,4 @@
--- Pieces that are answered one behind another, and a piece more.
+-- Pieces that are answered one after another, and a piece more.
 use Rattle.std.proofs.Common.{◌≡◌, ◌≢◌, ◌⊎◌, ◌≤◌, ◌^◌, inl, inr, ℕ, ◌+◌, true, List, [], ◌∷◌, ◌++◌, length, take, Option, None, Result, refl, sym, ap, ◌∙◌, subst, length-append, arith}
 use Rattle.std.proofs.lemmas.Bool.{cases_eq}
 use Rattle.std.proofs.lemmas.List.{take_all}
@@ -16,7 +16,7 @@ use Rattle.relay_loop.specs.Groups.{OnlyTheirs}
 use Rattle.relay_loop.specs.Relay.{OnlyClient, RelayState}
 use Rattle.relay_loop.proofs.GroupLemmas.{each_more}
 
--- what a list of pieces has behind its end
+-- what a list of pieces has after its end
 abbrev pub no_piece : Piece
 no_piece = record { session = 0; octets = record { ref_ptr = (0, 0); now = [] } }
 

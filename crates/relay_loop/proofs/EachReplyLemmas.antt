@@ -1,4 +1,4 @@
--- Replies that are answered one behind another, and a reply more.
+-- Replies that are answered one after another, and a reply more.
 use Rattle.std.proofs.Common.{◌≡◌, ◌≢◌, ◌⊎◌, ◌≤◌, ◌^◌, inl, ℕ, ◌+◌, true, List, [], ◌∷◌, ◌++◌, length, take, Result, refl, sym, ap, ◌∙◌, subst, length-append}
 use Rattle.std.proofs.lemmas.List.{take_all}
 use Rattle.relay_disk.specs.Device.{DiskWords}
@@ -17,7 +17,7 @@ use Rattle.relay_loop.specs.Relay.{OnlyHop, RelayState}
 use Rattle.relay_loop.proofs.EachLemmas.{all_split, room_behind}
 use Rattle.relay_loop.proofs.ReplyLemmas.{replies_more}
 
--- what a list of replies has behind its end
+-- what a list of replies has after its end
 abbrev pub no_reply : ReplyPiece
 no_reply = record { attempt = 0; octets = record { ref_ptr = (0, 0); now = [] } }
 

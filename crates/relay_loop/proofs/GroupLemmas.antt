@@ -1,4 +1,4 @@
--- What a relay does with the octets of one client behind a row, and of several one behind another.
+-- What a relay does with the octets of one client after a row, and of several one after another.
 use Rattle.std.proofs.Common.{◌≡◌, ◌≢◌, ◌⊎◌, ◌≤◌, ◌<◌, inl, inr, ℕ, ◌+◌, ◌==◌, Bool, true, false, List, [], ◌∷◌, ◌++◌, length, take, Option, None, Some, Result, Ok, Err, refl, sym, ap, ◌∙◌, subst, append_assoc, append-nil, length-append, arith}
 use Rattle.std.proofs.lemmas.Bool.Decides.{nat_tests}
 use Rattle.relay_disk.specs.Device.{DiskWords}
@@ -53,7 +53,7 @@ goes_on_by true session out last clients set none = absurd (some_none (sym set.1
     some_none e = cc
 goes_on_by false session out last clients set none = refl
 
--- the next number behind changes and those that are pending
+-- the next number after changes and those that are pending
 numbered : (changes pending : List Change) → length changes + length pending + 1 ≡ length (changes ++ pending) + 1
 numbered changes pending = ap (λ n. n + 1) (sym (length-append changes pending))
 
@@ -176,7 +176,7 @@ module _ {D : Type 0} (honest : Type 0) (words : DiskWords D) (changes : List Ch
             (subst (λ (r : Row). Awaits honest words new.node.records changes pending r) (sym same.1) (subst (λ (k : Kept D). Awaits honest words k changes pending row) (sym same.0) awaits));
       }
 
-  -- a piece more was answered behind others
+  -- a piece more was answered after others
   pub each_more : (pieces : List Piece) (answers : List (Result Heard NodeFault)) (pending all more : List Change) (old mid new : RelayState D) (row between left : Row) (piece : Piece) (answer : Result Heard NodeFault)
       → AnswersEach honest words changes at pieces answers pending old row mid between all → AnswersOne honest words changes at all piece mid between new left more answer
       → AnswersEach honest words changes at (pieces ++ piece ∷ []) (answers ++ answer ∷ []) pending old row new left (all ++ more)

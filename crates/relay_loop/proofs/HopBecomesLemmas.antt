@@ -60,7 +60,7 @@ told_nothing told = ap (λ i. set i (told.output ++ [])) (append-nil told.input)
     set : List ℕ → List ℕ → Told
     set i o = record told { input = i; output = o }
 
--- with more behind more
+-- with more after more
 told_twice : (told : Told) (i j o p : List ℕ) → told_more (told_more told i o) j p ≡ told_more told (i ++ j) (o ++ p)
 told_twice told i j o p = ap (λ l. set l ((told.output ++ o) ++ p)) (append_assoc told.input i j) ∙ ap (set (told.input ++ (i ++ j))) (append_assoc told.output o p)
   where
@@ -177,7 +177,7 @@ module _ {D : Type 0} (honest : Type 0) (words : DiskWords D) (changes : List Ch
           (used_more attempt reply replies answer rest (sym same)
           ∙ ap (λ l. l ++ used_of attempt replies rest) dropped.used)
 
-  -- what becomes of an attempt behind the first reply becomes of it behind all
+  -- what becomes of an attempt after the first reply becomes of it after all
   module _ (list : List Change) (new : RelayState D) (attempt : ℕ) (told : Told) (written : List ℕ)
       (reply : ReplyPiece) (replies : List ReplyPiece) (answer : Result Answered NodeFault)
       (rest : List (Result Answered NodeFault)) (first out : List ℕ)
@@ -339,7 +339,7 @@ module _ {D : Type 0} (honest : Type 0) (words : DiskWords D) (changes : List Ch
     becomes_here : Here
     becomes_here = by_answer answer refl one.by
 
-  -- what becomes of an attempt behind replies
+  -- what becomes of an attempt after replies
   pub each_becomes : (replies : List ReplyPiece) (answers : List (Result Answered NodeFault)) (pending : List Change)
       (old : RelayState D) (row : Row) (new : RelayState D) (left : Row) (all : List Change) (attempt : ℕ)
       (told : Told) (written : List ℕ) → RepliesEach honest words changes at replies answers pending old row new left all

@@ -1,4 +1,4 @@
--- What a relay does with the octets of one next hop behind a row, and of several one behind another.
+-- What a relay does with the octets of one next hop after a row, and of several one after another.
 use Rattle.std.proofs.Common.{◌≡◌, ◌≢◌, ◌⊎◌, ◌≤◌, inl, inr, ℕ, ◌+◌, false, List, [], ◌∷◌, ◌++◌, length, take, Option, None, Some, Result, Ok, Err, refl, sym, ap, ◌∙◌, subst, append-nil, arith}
 use Rattle.relay_disk.specs.Device.{DiskWords}
 use Rattle.relay_slots.specs.Slots.{slot_at}
@@ -251,7 +251,7 @@ module _ {D : Type 0} (honest : Type 0) (words : DiskWords D) (changes : List Ch
             (subst (λ (k : Kept D). Awaits honest words k changes pending row) (sym same.0) awaits));
       }
 
-  -- a reply more was answered behind others
+  -- a reply more was answered after others
   pub replies_more : (replies : List ReplyPiece) (answers : List (Result Answered NodeFault))
       (pending all more : List Change) (old mid new : RelayState D) (row between left : Row) (reply : ReplyPiece)
       (answer : Result Answered NodeFault)

@@ -50,11 +50,11 @@ IsRefused attempt (reply ∷ replies) [] = ⊥
 IsRefused attempt (reply ∷ replies) (answer ∷ answers) =
     ((reply.attempt ≡ attempt) × IsErr answer) ⊎ IsRefused attempt replies answers
 
--- The words below are of an attempt of which this was told, and this written, behind replies with these answers at a
+-- The words below are of an attempt of which this was told, and this written, after replies with these answers at a
 -- moment, by this list of changes.
 module _ {D : Type 0} (list : List Change) (at : ℕ) (new : RelayState D) (attempt : ℕ) (told : Told)
     (written : List ℕ) (replies : List ReplyPiece) (answers : List (Result Answered NodeFault)) where
-  -- it is handed to still, and what was used of its replies is read behind its input
+  -- it is handed to still, and what was used of its replies is read after its input
   pub record IsHandedTo : Type 0 where
     pub out : List ℕ
     pub hands : HandsTo list new attempt (told_more told (used_of attempt replies answers) out) written

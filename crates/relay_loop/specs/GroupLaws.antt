@@ -45,11 +45,11 @@ IsRefused session (piece ∷ pieces) [] = ⊥
 IsRefused session (piece ∷ pieces) (answer ∷ answers) =
     ((piece.session ≡ session) × IsErr answer) ⊎ IsRefused session pieces answers
 
--- The words below are of a session that had said this, of which this was written, behind pieces with these answers, by
+-- The words below are of a session that had said this, of which this was written, after pieces with these answers, by
 -- this list of changes.
 module _ {D : Type 0} (list : List Change) (new : RelayState D) (session : ℕ) (peer : List ℕ) (said : Said)
     (written : List ℕ) (pieces : List Piece) (answers : List (Result Heard NodeFault)) where
-  -- it is talked to still, and what was used of its pieces is read behind its input
+  -- it is talked to still, and what was used of its pieces is read after its input
   pub record IsTalkedTo : Type 0 where
     pub later : Said
     pub input : later.input ≡ said.input ++ used_of session pieces answers

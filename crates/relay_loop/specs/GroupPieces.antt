@@ -1,4 +1,4 @@
--- What a relay does with the octets of several clients, one behind another, whose changes come into its records
+-- What a relay does with the octets of several clients, one after another, whose changes come into its records
 -- together.
 use Rattle.std.specs.Prelude.{◌≡◌, ◌≢◌, ◌⊎◌, ℕ, ◌+◌, ◌≤◌, ◌<◌, ◌^◌, List, [], ◌∷◌, ◌++◌, length, take, None, Result, Ok}
 use Rattle.std.specs.Prelude.{Err}
@@ -20,7 +20,7 @@ use Rattle.relay_loop.specs.Clients.{GoesOn, IsUnknown, TalksTo}
 use Rattle.relay_loop.specs.Outboxes.{unwritten_at}
 use Rattle.relay_loop.specs.Relay.{OnlyClient, RelayState}
 
--- no more is read behind a row: it has 64 changes, or their records take 4 MiB of a spool
+-- no more is read after a row: it has 64 changes, or their records take 4 MiB of a spool
 abbrev pub IsLaden : Row → Type 0
 IsLaden row = (64 ≤ length row.notes) ⊎ (2 ^ 22 ≤ room_of row.bodies)
 
@@ -40,8 +40,8 @@ pub record IsUndone {D : Type 0} (old new : RelayState D) : Type 0 where
 -- The words below are of a call at a moment, of a relay whose node keeps these changes and awaits those that are
 -- pending, which the row records. What one piece stages are the changes that it adds to these, one at most.
 module _ {D : Type 0} (honest : Type 0) (words : DiskWords D) (changes : List Change) (at : ℕ) where
-  -- What was read of a client, behind what was said and written, where nothing waited: the octets of the piece that
-  -- were used are read behind the input. Each offer but the last found no room. The last one's change is pending too.
+  -- What was read of a client, after what was said and written, where nothing waited: the octets of the piece that
+  -- were used are read after the input. Each offer but the last found no room. The last one's change is pending too.
   pub record ReadsInto (pending : List Change) (session : ℕ) (peer : List ℕ) (said : Said) (written piece : List ℕ)
       (old : RelayState D) (row : Row) (new : RelayState D) (left : Row) (more : List Change) (heard : Heard)
       : Type 0 where
@@ -96,7 +96,7 @@ module _ {D : Type 0} (honest : Type 0) (words : DiskWords D) (changes : List Ch
     pub only : OnlyClient old new piece.session
     pub awaits : Awaits honest words new.node.records changes (pending ++ more) left
 
-  -- The pieces have these answers, one behind another. The first found these changes pending; all are those behind the
+  -- The pieces have these answers, one after another. The first found these changes pending; all are those after the
   -- last.
   abbrev pub AnswersEach
       : List Piece → List (Result Heard NodeFault) → List Change → RelayState D → Row → RelayState D → Row

@@ -1,4 +1,4 @@
--- What a relay does with the octets of several next hops, one behind another, where the outcomes of their attempts come
+-- What a relay does with the octets of several next hops, one after another, where the outcomes of their attempts come
 -- into its records together.
 use Rattle.std.specs.Prelude.{◌≡◌, ◌≢◌, ◌⊎◌, ℕ, ◌+◌, ◌≤◌, false, List, [], ◌∷◌, ◌++◌, length, take, Option, None, Some}
 use Rattle.std.specs.Prelude.{Result, Ok, Err}
@@ -43,7 +43,7 @@ module _ {D : Type 0} (honest : Type 0) (words : DiskWords D) (changes : List Ch
   -- The words below are of a reply to an attempt of which this is told and written, where nothing waited.
   module _ (pending : List Change) (attempt : ℕ) (told : Told) (written piece : List ℕ) (old : RelayState D) (row : Row)
       (new : RelayState D) (left : Row) (more : List Change) (answered : Answered) where
-    -- it goes on behind the whole piece, and the records and the row are the same
+    -- it goes on after the whole piece, and the records and the row are the same
     pub record HandsOnBehind : Type 0 where
       pub used : answered.used ≡ length piece
       pub same : new.node.records ≡ old.node.records
@@ -117,7 +117,7 @@ module _ {D : Type 0} (honest : Type 0) (words : DiskWords D) (changes : List Ch
     pub only : OnlyHop old new reply.attempt
     pub awaits : Awaits honest words new.node.records changes (pending ++ more) left
 
-  -- The replies have these answers, one behind another. The first found these changes pending; all are those behind the
+  -- The replies have these answers, one after another. The first found these changes pending; all are those after the
   -- last.
   abbrev pub RepliesEach
       : List ReplyPiece → List (Result Answered NodeFault) → List Change → RelayState D → Row → RelayState D → Row

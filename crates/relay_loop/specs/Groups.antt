@@ -21,7 +21,7 @@ use Rattle.relay_loop.specs.Relay.{RelayState}
 
 -- The words below are of a call at a moment, of a relay whose node keeps these changes.
 module _ {D : Type 0} (honest : Type 0) (words : DiskWords D) (changes : List Change) (at : ℕ) where
-  -- The pieces have these answers, and the replies, behind them, these. No call went to a device yet; these changes are
+  -- The pieces have these answers, and the replies, after them, these. No call went to a device yet; these changes are
   -- pending then, which the row records.
   pub record AnswersAll (pieces : List Piece) (replies : List ReplyPiece) (heard : List (Result Heard NodeFault))
       (answered : List (Result Answered NodeFault)) (old before : RelayState D) (row : Row) (pending : List Change)
@@ -33,7 +33,7 @@ module _ {D : Type 0} (honest : Type 0) (words : DiskWords D) (changes : List Ch
     pub replies_each : RepliesEach honest words changes at replies answered staged between beside before row pending
     pub undone : IsUndone old before
 
-  -- The changes of the pieces and of the replies were added at once: behind the answers nothing else happened, and a
+  -- The changes of the pieces and of the replies were added at once: after the answers nothing else happened, and a
   -- stop at any moment of the call leaves none of them or all.
   pub record ReadsAll (pieces : List Piece) (replies : List ReplyPiece) (old new : RelayState D) (group : Group)
       : Type 0 where

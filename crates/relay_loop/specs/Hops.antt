@@ -37,7 +37,7 @@ pub record StartsTo {D : Type 0} (changes : List Change) (message : ℕ) (hop : 
 -- The words below are of a reply at a moment, to an attempt of which this is told and written, where nothing waited.
 module _ {D : Type 0} (honest : Type 0) (words : DiskWords D) (changes : List Change) (attempt now : ℕ) (told : Told)
     (written : List ℕ) where
-  -- it goes on behind the whole piece, and the records are the same
+  -- it goes on after the whole piece, and the records are the same
   pub record HandsOn (piece : List ℕ) (old new : RelayState D) (answered : Answered) : Type 0 where
     pub used : answered.used ≡ length piece
     pub same : new.node.records ≡ old.node.records

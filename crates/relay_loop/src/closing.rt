@@ -26,7 +26,7 @@ pub fn closing_line(alloc: Global, host: &HostName, why: Closing) -> Result<Vec<
 }
 
 impl Closing {
-    /// What stands behind the name of the host.
+    /// What stands after the name of the host.
     fn text(self) -> &'static [u8]
         ensures { result.now ≡ text_of self }
     {

@@ -48,9 +48,9 @@ pub struct Group {
 }
 
 impl<D: Disk> Relay<D> {
-    /// Uses octets of several clients, one behind another, each as [`Relay::read`] does, and behind them the
+    /// Uses octets of several clients, one after another, each as [`Relay::read`] does, and after them the
     /// replies of next hops, each as [`Relay::reply`] does. It brings the changes that all of them lead to into the
-    /// spool behind one pair of syncs: from then on every stop leaves them, and before that no octet can be written
+    /// spool after one pair of syncs: from then on every stop leaves them, and before that no octet can be written
     /// that tells of them. A piece or a reply is left unread, as one whose connection has octets waiting, once the
     /// group has 64 changes or their records take 4 MiB. A fault of one is its answer, which ends its connection
     /// alone: `Unknown`, and want of memory, of a number for its mail, or of room for its outcome.
@@ -81,7 +81,7 @@ impl<D: Disk> Relay<D> {
             drop_hops(&mut self.hops, replies);
             return Err(NodeFault::Stopped);
         }
-        // All memory for the answers comes first: no change could be taken back out of the queue behind the first.
+        // All memory for the answers comes first: no change could be taken back out of the queue after the first.
         let Ok(mut heard) = Vec::with_capacity(self.alloc, pieces.len()) else {
             return Err(NodeFault::NoMemory);
         };
@@ -105,7 +105,7 @@ impl<D: Disk> Relay<D> {
         }
     }
 
-    /// Uses octets of several clients, one behind another; their changes come behind those of a row. There is room
+    /// Uses octets of several clients, one after another; their changes come after those of a row. There is room
     /// for the answers.
     fn read_each(
         &mut self,
@@ -135,7 +135,7 @@ impl<D: Disk> Relay<D> {
         }
     }
 
-    /// Uses octets of a client as [`Relay::read`] does; their change comes behind those of a row. The piece is
+    /// Uses octets of a client as [`Relay::read`] does; their change comes after those of a row. The piece is
     /// left unread where the row is laden.
     fn read_into(
         &mut self,
@@ -171,7 +171,7 @@ impl<D: Disk> Relay<D> {
     }
 }
 
-/// Whether no more is read behind a row.
+/// Whether no more is read after a row.
 pub(crate) fn is_laden(row: &Staged) -> bool
     ensures { IsTrue result ↔ IsLaden row.now }
 {

@@ -39,14 +39,14 @@ pub fn others_hand<D>()
 {}
 
 /// A call on several pieces and replies leaves each client that was talked to so: it is talked to still, or it has
-/// closed, and its last octets are handed out, and what was used of its pieces is read behind its input; or a piece of
+/// closed, and its last octets are handed out, and what was used of its pieces is read after its input; or a piece of
 /// it was refused, and its connection is gone.
 pub fn groups_talk<D: Disk>()
     ensures { GroupsTalk D.honest D.words }
 {}
 
 /// Such a call leaves each next hop that mail was handed to so: it is handed to still, and what was used of its replies
-/// is read behind its input; or its attempt has ended by them, with one outcome among the changes, and its last octets
+/// is read after its input; or its attempt has ended by them, with one outcome among the changes, and its last octets
 /// are handed out; or a reply of it was refused, and its attempt and connection are gone.
 pub fn groups_hand<D: Disk>()
     ensures { GroupsHand D.honest D.words }

@@ -28,7 +28,7 @@ pub struct ReplyPiece<'a> {
 }
 
 impl<D: Disk> Relay<D> {
-    /// Uses replies of several next hops, one behind another; the outcomes of the attempts that they end come behind
+    /// Uses replies of several next hops, one after another; the outcomes of the attempts that they end come after
     /// the changes of a row. There is room for the answers.
     pub(crate) fn reply_each(
         &mut self,
@@ -58,7 +58,7 @@ impl<D: Disk> Relay<D> {
         }
     }
 
-    /// Uses octets of a next hop as [`Relay::reply`] does; the outcome of an attempt that they end comes behind the
+    /// Uses octets of a next hop as [`Relay::reply`] does; the outcome of an attempt that they end comes after the
     /// changes of a row. The reply is left unread where the row is laden.
     fn reply_into(
         &mut self,

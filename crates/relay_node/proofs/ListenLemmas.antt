@@ -13,7 +13,7 @@ use Rattle.relay_node.specs.declared.intake.Intake.{Intake}
 use Rattle.relay_node.specs.Listening.{HasListened, HasNoRoom}
 use Rattle.relay_node.specs.Room.{ComesToOffer, refusals}
 
--- a row behind another's end
+-- a row after another's end
 pub joins : {A : Type 0} (first second third mid all : List A) → mid ≡ first ++ (second ++ []) → all ≡ mid ++ third → all ≡ first ++ (second ++ third)
 joins first second third mid all is more =
     more ∙ ap (λ l. l ++ third) is ∙ append_assoc first (second ++ []) third ∙ ap (λ l. first ++ (l ++ third)) (append-nil second)

@@ -20,7 +20,7 @@ use Rattle.relay_node.specs.Node.{NodeState}
 use Rattle.relay_node.specs.StagedReplies.{RefusesToReplyInto, RepliesInto, UsesReplyInto}
 use Rattle.relay_node.proofs.ReplyLemmas.{told_by_list}
 
--- changes that fit behind others that do
+-- changes that fit after others that do
 fit_behind : (queue : Queue) (changes pending : List Change) → FitsFrom queue changes
     → FitsFrom (fold step queue changes) pending → FitsFrom queue (changes ++ pending)
 fit_behind queue [] pending first second = second
@@ -105,7 +105,7 @@ uses_into now number len old new row left (Ok replied) heard = record {
 module _ {D : Type 0} (number : ℕ) (before after : AttemptTable) (old new : NodeState D) (row left : Row)
     (was : old.attempts ≡ before.runs) (is : new.attempts ≡ after.runs) (config : new.config ≡ old.config)
     (seats : new.seats ≡ old.seats) where
-  -- what is left behind it
+  -- what is left after it
   refuses : (fault : NodeFault) → RefusesToHearBehind number before after old.records new.records row left fault
       → RefusesToReplyInto number old new row left fault
   refuses NoMemory r = record {

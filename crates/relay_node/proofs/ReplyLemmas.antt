@@ -100,7 +100,7 @@ uses {D = D} words now number len old new (Ok replied) heard = record {
 -- a fault of a live node
 module _ {D : Type 0} (words : DiskWords D) (number : ℕ) (before after : AttemptTable) (old new : NodeState D) (was : old.attempts ≡ before.runs) (is : new.attempts ≡ after.runs) (config : new.config ≡ old.config)
     (seats : new.seats ≡ old.seats) (live : old.records.spool.live ≡ true) where
-  -- what is left behind it
+  -- what is left after it
   refuses : (fault : NodeFault) → RefusesToHear words number before after old.records new.records fault → RefusesToReply words number old new fault
   refuses NoMemory r = record { attempt = ap (λ (l : List (Option Run)). slot_at l number) is ∙ r.0.gone; records = r.1 }
   refuses Stopped (inl stopped) = absurd (dead (sym live ∙ stopped.0))

@@ -78,7 +78,7 @@ module _ (intake : Intake) (session : Session) (piece : List ℕ) (listened : Li
   pub ends_for_taken : (taken : Taken) → listened.end ≡ «end».Taken taken → (0 < listened.used) × ((offer : Offered) × (open_offers session ≡ offer ∷ []) × IsTaken intake offer taken)
   ends_for_taken taken is = subst (EndsBy intake session listened.used (length piece)) is ends.by
 
--- what was written behind nothing
+-- what was written after nothing
 all_written : (written out output later : List ℕ) → later ≡ output ++ written → out ≡ written → later ≡ output ++ out
 all_written written out output later is same = is ∙ ap (λ x. output ++ x) (sym same)
 

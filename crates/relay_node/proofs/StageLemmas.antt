@@ -1,4 +1,4 @@
--- A session is taken out, heard behind a row, and put back.
+-- A session is taken out, heard after a row, and put back.
 use Rattle.std.proofs.Common.{◌≡◌, ◌<◌, ℕ, Bool, true, false, List, length, Option, None, Some, sym, ◌∙◌, subst}
 use Rattle.std.specs.Prelude.{if◌then◌else◌, slice_set}
 use Rattle.relay_disk.specs.Device.{DiskWords}

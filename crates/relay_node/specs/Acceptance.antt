@@ -1,4 +1,4 @@
--- What is accepted of an offer: its envelope, and its content behind one time stamp line (RFC 5321, section
+-- What is accepted of an offer: its envelope, and its content after one time stamp line (RFC 5321, section
 -- 4.4).
 use Rattle.std.specs.Prelude.{◌≡◌, ℕ, List}
 use Rattle.relay_trace.specs.TimeStamp.{Stamp, IsPassed}

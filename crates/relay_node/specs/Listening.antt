@@ -40,7 +40,7 @@ Weighs intake offer (Some taken) = IsTaken intake offer taken
 abbrev pub Considers : Intake → Session → Option Taken → Type 0
 Considers intake session taken = (offer : Offered) × (open_offers session ≡ offer ∷ []) × Weighs intake offer taken
 
--- behind what was said these octets were read, and offers refused; what was written is this
+-- after what was said these octets were read, and offers refused; what was written is this
 pub record HasListened (intake : Intake) (said : Said) (session : Session)
     (octets out : List ℕ) : Type 0 where
   pub later : Said

@@ -40,12 +40,12 @@ pub record NodeState (D : Type 0) : Type 0 where
   pub attempts : List (Option Run)
   pub records : Kept D
 
--- the session stands behind what was said, and each offer is answered
+-- the session stands after what was said, and each offer is answered
 pub record SessionHasSaid (setup : Setup) (session : Session) (said : Said) : Type 0 where
   pub stands : Stands setup session said
   pub settled : open_offers session ≡ []
 
--- the session of this number, whose client is at this address, stands behind what was said
+-- the session of this number, whose client is at this address, stands after what was said
 pub record SeatHasSaid (config : Config) (seats : List (Option Seat)) (number : ℕ) (peer : List ℕ)
     (said : Said) : Type 0 where
   pub seat : Seat
@@ -63,13 +63,13 @@ HaveHistories config [] = Unit {0}
 HaveHistories config (None ∷ seats) = HaveHistories config seats
 HaveHistories config (Some seat ∷ seats) = HasHistory config seat.peer seat.session.value × HaveHistories config seats
 
--- what was said is a dialogue that the server has closed, and octets behind it belong to its rest
+-- what was said is a dialogue that the server has closed, and octets after it belong to its rest
 pub record HasClosed (setup : Setup) (said : Said) : Type 0 where
   pub dialogue : IsDialogue setup said
   pub unread : (octets : List ℕ) → (dialogue : IsDialogue setup (unread_behind said octets))
       × (dialogue.state ≡ Closed)
 
--- the session of this number goes on behind what was said, or it has closed, and is gone
+-- the session of this number goes on after what was said, or it has closed, and is gone
 abbrev pub SessionGoesOn : Config → List (Option Seat) → ℕ → List ℕ → Said → Bool → Type 0
 SessionGoesOn config seats number peer said true =
     (slot_at seats number ≡ None) × HasClosed (setup_for config peer) said
@@ -100,8 +100,8 @@ module _ {D : Type 0} (honest : Type 0) (words : DiskWords D) (config : Config) 
   abbrev pub FitsIn : Kept D → Offered → Accept → Type 0
   FitsIn old offer accept = HasRoom next_acceptance config.spool_limit old.spool.size offer accept
 
-  -- behind the refused offers one was queued: the change of this number accepts it, added by four calls of the device,
-  -- and no octet behind it was read
+  -- after the refused offers one was queued: the change of this number accepts it, added by four calls of the device,
+  -- and no octet after it was read
   pub record Queues (said later : Said) (refused : List Offered) (used : ℕ) (old new : Kept D)
       (number : ℕ) : Type 0 where
     pub number_is : number ≡ length changes + 1
@@ -119,7 +119,7 @@ module _ {D : Type 0} (honest : Type 0) (words : DiskWords D) (config : Config) 
   Makes said later refused used old new None = AnswersMore said later refused [] [] × (new ≡ old)
   Makes said later refused used old new (Some number) = Queues said later refused used old new number
 
-  -- what the call did behind what was said: it used all of the piece, unless a change or a close stopped it
+  -- what the call did after what was said: it used all of the piece, unless a change or a close stopped it
   pub record TalksOn (said later : Said) (piece : List ℕ) (old new : Kept D)
       (received : Received) : Type 0 where
     pub input : later.input ≡ said.input ++ take received.used piece
@@ -145,7 +145,7 @@ module _ {D : Type 0} (honest : Type 0) (words : DiskWords D) (config : Config) 
     pub is_open : received.close ≡ false → IsOpen new.seats number
     pub talks : TalksOn said later piece old.records new.records received
 
-  -- A stop came while a change was added. The call had used octets of the piece, and the dialogue behind
+  -- A stop came while a change was added. The call had used octets of the piece, and the dialogue after
   -- them has the answer that the offer is queued; but nobody was handed what was to be written.
   pub record CutsTalk (said : Said) (piece : List ℕ) (old new : Kept D) : Type 0 where
     pub used : ℕ

@@ -15,7 +15,7 @@ queued_by (Full ∷ answers) (offer ∷ offers) = queued_by answers offers
 abbrev pub queued_in : Said → List (ℕ × Offered)
 queued_in said = queued_by said.answers said.offers
 
--- Behind a dialogue with an answer for each offer, a call adds to the queued offers just those that it queues.
+-- After a dialogue with an answer for each offer, a call adds to the queued offers just those that it queues.
 abbrev pub QueuedGrows : Type 0
 QueuedGrows =
     (said later : Said) (refused last : List Offered) (given : List Answer) → length said.offers ≡ length said.answers

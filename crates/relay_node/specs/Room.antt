@@ -31,7 +31,7 @@ pub record HasRoom (acceptance : Acceptance) (limit size : ℕ) (offer : Offered
 abbrev pub refusals : List Offered → List Answer
 refusals offers = map (λ _. answer.Full) offers
 
--- behind what was said these offers were refused for want of room, and then these were made and had these
+-- after what was said these offers were refused for want of room, and then these were made and had these
 -- answers
 pub record AnswersMore (said later : Said) (refused last : List Offered) (given : List Answer) : Type 0 where
   pub offers : later.offers ≡ said.offers ++ (refused ++ last)
@@ -44,7 +44,7 @@ pub record EndsWithOffer (setup : Setup) (later : Said) (answers : List Answer) 
   pub dialogue
       : IsDialogue setup (record { input = later.input; answers = answers; output = output; offers = later.offers })
 
--- Behind what was said octets of the piece were read up to the end of its first message, which has no
+-- After what was said octets of the piece were read up to the end of its first message, which has no
 -- answer yet.
 pub record ComesToOffer (setup : Setup) (said : Said) (piece : List ℕ) : Type 0 where
   pub used : ℕ

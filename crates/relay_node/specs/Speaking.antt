@@ -14,19 +14,19 @@ use Rattle.relay_node.specs.Listening.{HasNoRoom, IsTaken}
 use Rattle.relay_node.specs.Node.{SessionHasSaid}
 use Rattle.relay_node.specs.Room.{AnswersMore, EndsWithOffer, refusals}
 
--- behind the refused offers one is taken, whose answer is the intake's number; no octet behind it was read
+-- after the refused offers one is taken, whose answer is the intake's number; no octet after it was read
 pub record TakesLast (intake : Intake) (said later : Said) (refused : List Offered) (taken : Taken) : Type 0 where
   pub offer : Offered
   pub is : IsTaken intake offer taken
   pub answers : AnswersMore said later refused (offer ∷ []) (Queued intake.number ∷ [])
   pub ends : EndsWithOffer (setup_for intake.config.now intake.peer) later (said.answers ++ refusals refused)
 
--- the refused offers are all, or one behind them is taken
+-- the refused offers are all, or one after them is taken
 abbrev pub AnswersAll : Intake → Said → Said → List Offered → Option Taken → Type 0
 AnswersAll intake said later refused None = AnswersMore said later refused [] []
 AnswersAll intake said later refused (Some taken) = TakesLast intake said later refused taken
 
--- behind what was said octets of the piece were read, and each offer has its answer
+-- after what was said octets of the piece were read, and each offer has its answer
 pub record Speaks (intake : Intake) (said : Said) (piece : List ℕ) (session : Session) (spoken : Spoken)
     : Type 0 where
   pub later : Said

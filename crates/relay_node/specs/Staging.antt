@@ -89,7 +89,7 @@ module _ (config : Config) (changes pending : List Change) (peer : List ℕ) (at
   HaveNoRoomBehind old row offers =
       AllByRecursion (Overfills next_behind config.spool_limit (old.spool.size + room_of row.bodies)) offers
 
-  -- behind the refused offers one was staged: the change of this number accepts it, and no octet behind it was read
+  -- after the refused offers one was staged: the change of this number accepts it, and no octet after it was read
   pub record QueuesInto {D : Type 0} (said later : Said) (refused : List Offered) (used : ℕ) (old : Kept D)
       (row left : Row) (more : List Change) (number : ℕ)
       : Type 0 where
@@ -112,7 +112,7 @@ module _ (config : Config) (changes pending : List Change) (peer : List ℕ) (at
   MakesInto said later refused used old row new left more (Some number) =
       QueuesInto said later refused used old row left more number
 
-  -- what the call did behind what was said: it used all of the piece, unless a change or a close stopped it
+  -- what the call did after what was said: it used all of the piece, unless a change or a close stopped it
   pub record TalksInto {D : Type 0} (said later : Said) (piece : List ℕ) (old : Kept D) (row : Row) (new : Kept D)
       (left : Row) (more : List Change) (received : Received)
       : Type 0 where

@@ -29,7 +29,7 @@ use std::alloc::{AllocError, Global};
 impl<D: Disk> Node<D> {
     /// Takes an offer of a session that stands outside of the node, whose client is at this address; what
     /// [`Node::receive`] does to the records at that offer, this does. The answer `Queued` is handed out only
-    /// behind the append of its change: from then on every stop leaves it. The answer is `Full` where its
+    /// after the append of its change: from then on every stop leaves it. The answer is `Full` where its
     /// record would bring the spool past the configured limit. The first fault in this order is answered:
     /// `Stopped`, where the node was; `NoMemory`; `Full`, where changes have no numbers any more; and
     /// `Stopped`, where the device fails. But for that last, a fault leaves all as it was.

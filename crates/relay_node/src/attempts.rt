@@ -45,7 +45,7 @@ impl<D: Disk> Node<D> {
 
     /// The least moment, from this one on, at which [`Node::due`] has work: this one where a held place has no hop,
     /// and else the first at which a place is due that has one, and for whose message and hop no attempt is running.
-    /// None where there is no work at any moment. It looks at the places in the order of their moments, at none behind
+    /// None where there is no work at any moment. It looks at the places in the order of their moments, at none after
     /// the first that is to be tried, and takes no memory. `Stopped` is its only fault.
     pub fn next_due(&self, now: Moment) -> Result<Option<Moment>, NodeFault>
         ensures next { IfOk result (IsNextDue self.now.config.routes self.now.attempts self.now.records.queue now) }

@@ -29,7 +29,7 @@ impl<D: Disk> Node<D> {
     }
 
     /// Writes the spool anew, on the other of its two disks, as one record of all that is held: its sizes
-    /// before and behind that, in octets. No change is added, and the sessions, the attempts, the note and
+    /// before and after that, in octets. No change is added, and the sessions, the attempts, the note and
     /// the configuration stay, whatever is answered. `NoSecond` (the other disk has no head of a spool), `Full`
     /// (what is held passes 4,294,967,295 octets, or no generation is left) and `NoMemory` change nothing, and
     /// are looked for in this order; at `Stopped` a stop leaves the changes as they were. It needs memory for

@@ -247,7 +247,7 @@ impl<D: Disk> Node<D> {
     }
 
     /// Uses octets of a client, all of them or up to a change or a close. The answer 250 to mail is
-    /// handed out only behind the append of its change: from then on every stop leaves it. A message
+    /// handed out only after the append of its change: from then on every stop leaves it. A message
     /// whose record would bring the spool past the configured limit is answered that the spool is full
     /// (452), and the session goes on. Want of memory, and `Full` where a message came and changes have no
     /// numbers any more, end the session without an octet.

@@ -29,7 +29,7 @@ pub struct Received {
 }
 
 /// Hears a client, up to a change or a close, or to the end of the piece. The reply to an offer is
-/// made before its change is added, and handed out behind that alone.
+/// made before its change is added, and handed out after that alone.
 pub(crate) fn hear<D: Disk>(
     alloc: Global,
     config: &Config,

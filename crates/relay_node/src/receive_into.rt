@@ -25,7 +25,7 @@ use std::alloc::Global;
 
 impl<D: Disk> Node<D> {
     /// Uses octets of a client as [`Node::receive`] does, but puts the change of an offer that there is room for
-    /// behind those of a row: it is weighed and numbered behind them. What comes out may be handed out once
+    /// after those of a row: it is weighed and numbered after them. What comes out may be handed out once
     /// [`Node::settle`] has taken the row, and not before: until then a stop leaves nothing of the change. The
     /// first fault in this order is answered: `Stopped`, where the node was; `Unknown`; `NoMemory`; and `Full`,
     /// where a message came and changes have no numbers any more. These two end the session without an octet,
@@ -69,7 +69,7 @@ impl<D: Disk> Node<D> {
 }
 
 /// Hears a client, up to a change or a close, or to the end of the piece; the change of an offer that there is
-/// room for comes behind those of a row.
+/// room for comes after those of a row.
 fn hear_into<D: Disk>(
     alloc: Global,
     config: &Config,

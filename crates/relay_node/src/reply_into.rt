@@ -17,10 +17,10 @@ use relay_trace::Moment;
 
 impl<D: Disk> Node<D> {
     /// Uses octets that the next hop of an attempt wrote as [`Node::reply`] does, but puts the outcome at the attempt's
-    /// end behind the changes of a row: it is numbered behind them. What goes to the next hop then may be handed out
+    /// end after the changes of a row: it is numbered after them. What goes to the next hop then may be handed out
     /// once [`Node::settle`] has taken the row, and not before: until then a stop leaves nothing of the outcome. The
     /// first fault in this order is answered: `Stopped`, where the node was; `Unknown`; `NoMemory`; and `Full`, where
-    /// the outcome has no number any more, or no room behind the row. At these two the attempt is gone without another
+    /// the outcome has no number any more, or no room after the row. At these two the attempt is gone without another
     /// octet, and the row is as it was. No device is called.
     pub fn reply_into(
         &mut self,

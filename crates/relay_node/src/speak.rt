@@ -27,7 +27,7 @@ pub(crate) struct Spoken {
 impl Intake<'_> {
     /// Uses octets of a piece up to a close or to an offer that there is room for, or all of them. That offer
     /// is answered by this intake's number, before its change is made: whoever calls this makes the change
-    /// under that number, and hands the reply out behind it. The faults are those of [`Intake::listen`].
+    /// under that number, and hands the reply out after it. The faults are those of [`Intake::listen`].
     pub(crate) fn speak(
         &self,
         alloc: Global,

@@ -24,7 +24,7 @@ use std::alloc::Global;
 
 impl<D: Disk> Node<D> {
     /// Takes an offer of a session that stands outside of the node, as [`Node::admit`] does, and puts its change
-    /// behind those of a row: it is weighed and numbered behind them. The answer `Queued` may be handed out once
+    /// after those of a row: it is weighed and numbered after them. The answer `Queued` may be handed out once
     /// [`Node::settle`] has taken the row, and not before: until then a stop leaves nothing of it. The first fault
     /// in this order is answered: `Stopped`, where the node was; `NoMemory`; and `Full`, where changes have no
     /// numbers any more. A fault leaves node and row as they were. No device is called.
@@ -63,7 +63,7 @@ impl<D: Disk> Node<D> {
         Ok(answer)
     }
 
-    /// Brings the changes of a row into the spool, behind one pair of syncs, and answers the note of each: from
+    /// Brings the changes of a row into the spool, after one pair of syncs, and answers the note of each: from
     /// then on every stop leaves them. At `Stopped` the device failed, and a stop leaves none of them or all; or
     /// the node was stopped before, and that is all that a stopped node answers. At `Full` nothing changes: no row
     /// that was staged for this node is too large for its spool. It takes no memory.
@@ -104,7 +104,7 @@ impl<D: Disk> Node<D> {
     }
 }
 
-/// Weighs an offer behind the changes of a row, and puts its accept behind them where there is room for it.
+/// Weighs an offer after the changes of a row, and puts its accept after them where there is room for it.
 fn stage_offer<D: Disk>(
     alloc: Global,
     config: &Config,

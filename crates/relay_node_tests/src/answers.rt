@@ -53,7 +53,7 @@ impl Scene {
         }
     }
 
-    /// Writes the spool anew, and tells its sizes before and behind that.
+    /// Writes the spool anew, and tells its sizes before and after that.
     pub fn compact(&mut self, node: &mut MemoryNode) {
         match compact(node) {
             Ok((before, behind)) => self.tell_numbers(before as u64, behind as u64),

@@ -120,7 +120,7 @@ pub fn open(alloc: Global, config: Config, disks: MemoryDisks) -> Result<MemoryN
     Node::open(alloc, config, disks)
 }
 
-/// A node that is opened again by its own configuration, behind a stop at which nothing stays that wasn't synced. What
+/// A node that is opened again by its own configuration, after a stop at which nothing stays that wasn't synced. What
 /// is refused for want of memory is done once more. There is none where it can't be opened.
 pub fn stop_and_open(alloc: Global, node: MemoryNode) -> Option<MemoryNode> {
     let (config, disks) = node.into_parts();
@@ -156,7 +156,7 @@ pub fn fuse(node: &mut MemoryNode, calls: u64) {
     node.fuse(calls);
 }
 
-/// Writes the spool anew, and gives its sizes before and behind that.
+/// Writes the spool anew, and gives its sizes before and after that.
 pub fn compact(node: &mut MemoryNode) -> Result<(usize, usize), NodeFault> {
     node.compact()
 }

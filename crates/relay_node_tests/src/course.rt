@@ -24,7 +24,7 @@ impl Cutting {
         rest: usize::MAX,
     };
 
-    /// The cutting of this number of so many octets: by 0 all at once, then in two behind each octet but the
+    /// The cutting of this number of so many octets: by 0 all at once, then in two after each octet but the
     /// last, and then octet by octet.
     pub fn of_number(number: usize, length: usize) -> Self {
         if number < length {

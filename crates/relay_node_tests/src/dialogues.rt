@@ -20,7 +20,7 @@ fn config_at(alloc: Global, host: &str) -> Result<Config, Fail> {
 }
 
 /// Holds the dialogues of a folder that the words name: the client's octets stand in `NAME.in`, the replies in
-/// `NAME.ref`. The words `small`, `strict`, `open` and `plain`, which is so at first, say at which host those behind
+/// `NAME.ref`. The words `small`, `strict`, `open` and `plain`, which is so at first, say at which host those after
 /// them are held. It prints a line for each, and fails where one comes otherwise.
 pub fn dialogues(rt: &HostRuntime, folder: &str, words: &[String]) -> Result<(), Fail> {
     let mut host = "plain";
@@ -84,7 +84,7 @@ fn replies_of(node: &mut MemoryNode, said: &[u8], is_crowded: bool) -> Result<Ve
     Ok(replies)
 }
 
-/// Gives a session all that its client says, up to a close, and puts the replies behind those that stand there.
+/// Gives a session all that its client says, up to a close, and puts the replies after those that stand there.
 fn answer(
     node: &mut MemoryNode,
     session: usize,

@@ -6,13 +6,13 @@ use std::alloc::AllocError;
 enum Place {
     Plain,
     Backslash,
-    /// The `x` behind a backslash.
+    /// The `x` after a backslash.
     Hexadecimal,
-    /// The first digit behind that.
+    /// The first digit after that.
     Digit(u8),
 }
 
-/// Puts the octets that this text stands for behind what stands in `out`.
+/// Puts the octets that this text stands for after what stands in `out`.
 pub fn push_unescaped(out: &mut Vec<u8>, text: &[u8]) -> Result<(), AllocError> {
     let mut place = Place::Plain;
     for octet in text {
@@ -40,7 +40,7 @@ fn read_octet(place: Place, octet: u8) -> (Place, Option<u8>) {
     }
 }
 
-/// The octet that a letter behind a backslash stands for.
+/// The octet that a letter after a backslash stands for.
 fn octet_of(letter: u8) -> u8 {
     match letter {
         b'r' => b'\r',
@@ -59,7 +59,7 @@ fn value_of(digit: u8) -> u8 {
     }
 }
 
-/// Puts what stands for these octets behind a text.
+/// Puts what stands for these octets after a text.
 pub fn push_escaped(text: &mut String, octets: &[u8]) -> Result<(), AllocError> {
     for octet in octets {
         match *octet {

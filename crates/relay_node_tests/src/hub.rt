@@ -5,7 +5,7 @@
 //!
 //! By the rows of data/links.in a node takes one message by a link without a thread, and hands it on by another: from
 //! a client and to a next hop that give their octets in pieces of any length, and over connections that end or fail
-//! behind each octet that is read or written. Then it serves and pushes over sockets of 127.0.0.1, both ends in one
+//! after each octet that is read or written. Then it serves and pushes over sockets of 127.0.0.1, both ends in one
 //! process and one thread, and over a writer that fails where it is flushed. Each row has a line.
 
 mod came;

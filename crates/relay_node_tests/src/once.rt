@@ -2,7 +2,7 @@
 //! disks that hold a message `open`, and then `accept` of another, `outcome` of an attempt at it, or `compact`.
 //!
 //! A row has the first and the last number of calls that pass before the one that fails, the call, and what is to come
-//! for each: what the call answers, and behind that what the same disks are opened to: the number of the next change,
+//! for each: what the call answers, and after that what the same disks are opened to: the number of the next change,
 //! how many places are held, and the spool's size.
 use crate::calls::{
     CLIENT, MemoryDisks, SPOOL_LIMIT, config_with, count_held, empty_node, first_moment, into_disk,

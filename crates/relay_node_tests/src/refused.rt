@@ -81,7 +81,7 @@ pub fn report(rt: &HostRuntime) -> Result<(), Fail> {
     open_again(rt, node, &mut told)
 }
 
-/// A spool that is written anew twice behind a message, and a session that gives another behind that; then the node
+/// A spool that is written anew twice after a message, and a session that gives another after that; then the node
 /// stops, and is opened again. It prints what came of each call but the first message's, and what is held in the end.
 pub fn compactions(rt: &HostRuntime) -> Result<(), Fail> {
     let mut told = lines(rt)?;
@@ -136,7 +136,7 @@ fn tell_opened(told: &mut Told, node: &MemoryNode) {
     }
 }
 
-/// Writes the spool anew, and tells its sizes before and behind that.
+/// Writes the spool anew, and tells its sizes before and after that.
 fn write_anew(node: &mut MemoryNode, told: &mut Told) {
     match compact(node) {
         Ok((before, after)) => {
@@ -160,7 +160,7 @@ pub fn tell_next(told: &mut Told, node: &MemoryNode) {
     told.say("\n");
 }
 
-/// Tells a fault behind these words.
+/// Tells a fault after these words.
 pub fn tell_fault(told: &mut Told, words: &str, fault: NodeFault) {
     told.say(words);
     told.show(&fault);

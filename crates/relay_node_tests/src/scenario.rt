@@ -3,8 +3,8 @@ use std::alloc::{AllocError, Global};
 
 /// What happens to a node, one event after another, and what is to come of each.
 ///
-/// Behind `name ` stands its name, behind `calls ` how many calls of the device pass before one fails, and
-/// behind `picks ` what a stop leaves, each from the first number to the last: then it is played for each of
+/// After `name ` stands its name, after `calls ` how many calls of the device pass before one fails, and
+/// after `picks ` what a stop leaves, each from the first number to the last: then it is played for each of
 /// them, and else for each cutting of what the other sides say. `differs` says that something else comes
 /// than what stands there.
 pub struct Scenario<'a> {

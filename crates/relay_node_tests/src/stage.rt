@@ -58,7 +58,7 @@ impl<'a> Stage<'a> {
     /// Performs an event. What comes of it stands in the scene.
     ///
     /// `table example.org next.example` and `limit 178` say what a node is made with from then on, `disk`
-    /// puts a disk there of which `>` lines are the image, and an empty one behind it, `disk second` puts one
+    /// puts a disk there of which `>` lines are the image, and an empty one after it, `disk second` puts one
     /// in the place of that, `create` makes a node on empty disks, and `open` opens the disks, or what the
     /// node had. `stop` stops the node and leaves its disks as the course of the scenario picks, `stop 0` by
     /// pick 0; `image` tells what the first disk holds, and `image second` the second.
@@ -84,7 +84,7 @@ impl<'a> Stage<'a> {
         }
     }
 
-    /// Puts a disk with this image there: a second one behind the first, and else a first one before an empty
+    /// Puts a disk with this image there: a second one after the first, and else a first one before an empty
     /// one.
     fn insert(&mut self, which: &str, image: &[u8]) {
         self.halt();
@@ -103,7 +103,7 @@ impl<'a> Stage<'a> {
         }
     }
 
-    /// Puts a second disk behind the first, where there is one.
+    /// Puts a second disk after the first, where there is one.
     fn put_behind(&mut self, disk: MemoryDisk) {
         if let Some(disks) = &mut self.disks {
             disks.second = disk;

@@ -2,7 +2,7 @@ use crate::escape::push_unescaped;
 use std::alloc::{AllocError, Global};
 use std::mem;
 
-/// When something is to be written: behind so many octets of the other side, so many octets are written in
+/// When something is to be written: after so many octets of the other side, so many octets are written in
 /// all.
 #[derive(Clone, Copy)]
 pub struct Mark {
@@ -55,9 +55,9 @@ impl<'a> Step<'a> {
         }
     }
 
-    /// Takes a line that stands behind the event's, and says whether it is one: behind `> ` stands a line of
-    /// the other side, behind `< ` one that is written to it, behind `= ` a line of what else comes, each of
-    /// the three with a period before the space where no CR LF ends it. Behind `or` stands what may come in
+    /// Takes a line that stands after the event's, and says whether it is one: after `> ` stands a line of
+    /// the other side, after `< ` one that is written to it, after `= ` a line of what else comes, each of
+    /// the three with a period before the space where no CR LF ends it. After `or` stands what may come in
     /// place of what stands before it.
     pub fn take(&mut self, word: &str, text: &[u8]) -> Result<bool, AllocError> {
         let end = if word.len() == 1 { "\r\n" } else { "" };
@@ -71,7 +71,7 @@ impl<'a> Step<'a> {
         Ok(true)
     }
 
-    /// Takes what is to be written behind what is said so far.
+    /// Takes what is to be written after what is said so far.
     fn take_written(&mut self, text: &[u8], end: &str) -> Result<(), AllocError> {
         push_text(&mut self.written, text, end)?;
         self.marks.push(Mark {
@@ -92,7 +92,7 @@ impl<'a> Step<'a> {
         }
     }
 
-    /// Whether this is what is to be written behind so many octets of the other side.
+    /// Whether this is what is to be written after so many octets of the other side.
     pub fn has_written(&self, said: usize, written: &[u8]) -> bool {
         let mut length = 0;
         for mark in self.marks.as_slice() {
@@ -104,7 +104,7 @@ impl<'a> Step<'a> {
     }
 }
 
-/// Puts what a text stands for, and this end, behind what stands in `out`.
+/// Puts what a text stands for, and this end, after what stands in `out`.
 fn push_text(out: &mut Vec<u8>, text: &[u8], end: &str) -> Result<(), AllocError> {
     push_unescaped(out, text)?;
     out.extend_from_slice(end.as_bytes())

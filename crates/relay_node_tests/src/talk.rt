@@ -1,4 +1,4 @@
-//! What other sides say to a node, and what it writes behind that.
+//! What other sides say to a node, and what it writes after that.
 use crate::calls::{Handed, MemoryNode, receive, reply};
 use crate::scene::Scene;
 use crate::step::Step;
@@ -101,7 +101,7 @@ impl Scene {
     }
 
     /// Gives a node what two peers say at the same time, octet by octet and in turns, and tells what is
-    /// written to each behind its octet.
+    /// written to each after its octet.
     pub fn take_turns(
         &mut self,
         node: &mut MemoryNode,

@@ -69,7 +69,7 @@ impl Told {
     }
 }
 
-/// Prints a row, and what is told of it behind these words. It fails where something is missing.
+/// Prints a row, and what is told of it after these words. It fails where something is missing.
 pub fn print_told(rt: &HostRuntime, row: &str, between: &str, told: &Told) -> Result<(), Fail> {
     if told.is_short {
         return Err(Fail::new(AllocError));

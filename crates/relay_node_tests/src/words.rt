@@ -1,4 +1,4 @@
-/// What stands behind the word of an event, and isn't read yet.
+/// What stands after the word of an event, and isn't read yet.
 #[derive(Clone, Copy)]
 pub struct Words<'a> {
     pub rest: &'a str,

@@ -54,14 +54,14 @@ module _ (errand : Errand) where
       ap (λ (p : Progress). Behind p replies) (ap (λ (w : List Awaited). with_answer errand w reply old) over)
       ∙ over_stays replies old over
 
-  -- a row of replies all of which answer something, behind one that ended it, is empty
+  -- a row of replies all of which answer something, after one that ended it, is empty
   none_behind : (replies : List Reply) (old : Progress) (before : ℕ) → old.waits ≡ []
       → length (Behind old replies).answered ≡ before + length replies → length old.answered ≡ before → replies ≡ []
   none_behind [] old before over each had = refl
   none_behind (reply ∷ replies) old before over each had =
       absurd (omega (arith, sym (ap (λ (p : Progress). length p.answered) (over_stays (reply ∷ replies) old over)) ∙ each, had))
 
-  -- a reply behind the last RCPT accepts no place
+  -- a reply after the last RCPT accepts no place
   content_ends : (kind : ReplyKind) (reply : Reply) (old : Progress)
       → behind_answer errand Content kind reply old ≡ ended_by errand (content_verdict_by old.extensions.dsn kind reply) old
   content_ends kind reply old = refl
@@ -94,7 +94,7 @@ module _ (errand : Errand) where
       ∙ behind_data (kind_of reply.code) reply replies next refl
       ∙ one_more old.answered (answer_of Data reply) ∙ append-nil (accepted_places old.answered)
 
-  -- behind the last RCPT's reply no place is accepted any more
+  -- after the last RCPT's reply no place is accepted any more
   content_by : (whole : Bool) (line chunk : List ℕ) (replies : List Reply) (old : Progress) → old.waits ≡ []
       → Accepts (if whole then with_command line Data old else with_command chunk Content old) replies ≡ accepted_places old.answered
   content_by true line chunk replies old waits =
@@ -161,7 +161,7 @@ module _ (errand : Errand) where
   one_longer : (answered : List Answered) (one : Answered) → length (answered ++ one ∷ []) ≡ length answered + 1
   one_longer answered one = length-append answered (one ∷ [])
 
-  -- each of the replies behind these answers has answered something
+  -- each of the replies after these answers has answered something
   abbrev Each : Progress → List Answered → List Reply → Type 0
   Each start answered replies = length (Behind start replies).answered ≡ length answered + length replies
 
@@ -265,7 +265,7 @@ module _ (errand : Errand) where
       → Claims (behind_hello errand old) old.answered replies errand.places (drop 1 replies)
   greeted replies old waits left = hello_by (ends_in_line_end errand.text) old.extensions.chunking replies old waits left
 
-  -- behind HELO
+  -- after HELO
   behind_helo_by : (kind : ReplyKind) (reply : Reply) (replies : List Reply) (old : Progress) → old.waits ≡ []
       → old.unasked ≡ errand.places
       → Claims (behind_answer errand Helo kind reply old) old.answered replies errand.places (drop 1 replies)
@@ -283,7 +283,7 @@ module _ (errand : Errand) where
       refl refl (ap (λ (w : List Awaited). Behind (with_answer errand w reply old) replies) waits)
       (behind_helo_by (kind_of reply.code) reply replies next refl left)
 
-  -- behind EHLO
+  -- after EHLO
   behind_ehlo_by : (kind : ReplyKind) (reply : Reply) (replies : List Reply) (old : Progress) → old.waits ≡ []
       → old.unasked ≡ errand.places
       → Claims (behind_answer errand Ehlo kind reply old) old.answered replies errand.places
@@ -308,7 +308,7 @@ module _ (errand : Errand) where
       refl refl (ap (λ (w : List Awaited). Behind (with_answer errand w reply old) replies) waits)
       (behind_ehlo_by (kind_of reply.code) reply replies next refl left)
 
-  -- behind the greeting
+  -- after the greeting
   behind_greeting_by : (kind : ReplyKind) (reply : Reply) (replies : List Reply) (old : Progress) → old.waits ≡ []
       → old.unasked ≡ errand.places
       → Claims (behind_answer errand Greeting kind reply old) old.answered replies errand.places (behind_greeting replies)

@@ -171,7 +171,7 @@ pub record Counts {D : Type 0} (honest : Type 0) (words : DiskWords D) (world : 
   pub few : total ≤ 1 + lost_replies_of node message place world.attempts
   pub on : CountsOn world lists node message place left count total
 
--- the octets behind so many
+-- the octets after so many
 abbrev pub octets_left : List ℕ → ℕ → List ℕ
 octets_left octets used = take (length octets - used) (drop used octets)
 

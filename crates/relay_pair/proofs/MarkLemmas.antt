@@ -40,14 +40,14 @@ one_more {D = D} hosts node host before now held all within there its added so_f
     ∙ ap (λ (l : List (Host D)). before ++ marks_from node l) (sym (drop_there hosts node host within there))
     ∙ so_far
 
--- nothing is left of a row behind its end
+-- nothing is left of a row after its end
 none_behind : {A : Type 0} (xs : List A) (place : ℕ) → length xs ≤ place → drop place xs ≡ []
 none_behind [] zero past = refl
 none_behind [] (suc place) past = refl
 none_behind (x ∷ xs) zero past = absurd (omega (arith, past))
 none_behind (x ∷ xs) (suc place) past = none_behind xs place (omega (arith, past))
 
--- and behind the last node the places so far are all
+-- and after the last node the places so far are all
 pub all_marked : {D : Type 0} (hosts : List (Host D)) (node : ℕ) (marks all : List (ℕ × ℕ × ℕ)) → length hosts ≤ node
     → marks ++ marks_from node (drop node hosts) ≡ all → marks ≡ all
 all_marked {D = D} hosts node marks all past so_far =

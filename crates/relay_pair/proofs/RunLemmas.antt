@@ -1,4 +1,4 @@
--- Events one behind another, and the promise that they keep.
+-- Events one after another, and the promise that they keep.
 use Rattle.std.proofs.Common.{List, [], ◌∷◌, ◌++◌, Result, refl, subst}
 use Rattle.relay_disk.specs.Device.{DiskWords}
 use Rattle.relay_world.specs.Promise.{PromiseIsKept}
@@ -35,7 +35,7 @@ module _ {D : Type 0} (honest : Type 0) (words : DiskWords D) where
         happened = happened;
       }
 
-  -- and so behind events that follow
+  -- and so after events that follow
   pub promise_on : honest → PromiseIsKept honest words → (old now new : World D) → KeepsItsPromise honest words old now
       → HasHappened honest words now new → KeepsItsPromise honest words old new
   promise_on is_honest keeps old now new kept happened =

@@ -26,14 +26,14 @@ is_no_memory MixedCodes = false
 is_no_memory TooLong = false
 is_no_memory NoMemory = true
 
--- whether HELO comes behind EHLO: where EHLO was refused for good (RFC 5321, section 3.2)
+-- whether HELO comes after EHLO: where EHLO was refused for good (RFC 5321, section 3.2)
 abbrev pub is_greeted_again : ReplyKind → Bool
 is_greeted_again Completion = false
 is_greeted_again Intermediate = false
 is_greeted_again Transient = false
 is_greeted_again Permanent = true
 
--- the replies behind that to MAIL, of all replies to an attempt: the greeting, and those to EHLO, perhaps HELO, and
+-- the replies after that to MAIL, of all replies to an attempt: the greeting, and those to EHLO, perhaps HELO, and
 -- MAIL stand before them
 abbrev pub behind_mail : List Reply → List Reply
 behind_mail [] = []

@@ -51,11 +51,11 @@ route_to_node place = route_to (host_of place) (host_of place) (address_of place
 abbrev pub routes_to_others : ℕ → ℕ → List Route
 routes_to_others count node = map route_to_node (filter (λ other. not (other == node)) (range_with_len 0 count))
 
--- the node behind this one, in a circle of so many
+-- the node after this one, in a circle of so many
 abbrev pub node_behind : ℕ → ℕ → ℕ
 node_behind count node = if nat_lt (node + 1) count then node + 1 else 0
 
--- the routes of what isn't for another of so many nodes: to the node behind this one, and outside
+-- the routes of what isn't for another of so many nodes: to the node after this one, and outside
 abbrev pub routes_of_the_rest : ℕ → ℕ → List Route
 routes_of_the_rest count node =
     route_to (codes "loop.example") (host_of (node_behind count node)) (address_of (node_behind count node))
@@ -63,7 +63,7 @@ routes_of_the_rest count node =
     ∷ route_to (codes "out.example") (codes "out.example") outside_address
     ∷ []
 
--- each of so many nodes sends what is for another to it, what is for `loop.example` to the node behind it, and what is
+-- each of so many nodes sends what is for another to it, what is for `loop.example` to the node after it, and what is
 -- for itself and for `out.example` outside
 abbrev pub routes_among : ℕ → ℕ → List Route
 routes_among count node = routes_to_others count node ++ routes_of_the_rest count node

@@ -11,7 +11,7 @@ use Rattle.relay_world.specs.Promise.{KeepsPromise}
 use Rattle.relay_world.specs.World.{World}
 use Rattle.relay_events.specs.Happened.{HasHappened}
 
--- Of the mail of relays behind a run: each node has a list of changes, which its spool holds, and which begins with the
+-- Of the mail of relays after a run: each node has a list of changes, which its spool holds, and which begins with the
 -- one that it had, by which the relays were bound, tried each place once at a time, and had lines with their sources;
 -- by these lists the promise is kept; nothing that was recorded, told, written or read before is gone; the ends of
 -- links are whose they were, and a broken link stays as it is; and attempts have gone on, or have come to their ends.

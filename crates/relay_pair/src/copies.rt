@@ -126,7 +126,7 @@ fn is_no_memory(fault: ReplyFault) -> bool
     }
 }
 
-/// Of the replies to an attempt those to its RCPTs, and what stands behind them.
+/// Of the replies to an attempt those to its RCPTs, and what stands after them.
 fn rcpt_replies(replies: &[Reply]) -> &[Reply]
     ensures { result.now ≡ behind_mail replies.now }
 {
@@ -144,7 +144,7 @@ fn rcpt_replies(replies: &[Reply]) -> &[Reply]
     &replies[first..]
 }
 
-/// Whether HELO comes behind an EHLO with a reply of this kind.
+/// Whether HELO comes after an EHLO with a reply of this kind.
 fn is_greeted_again(kind: ReplyKind) -> bool
     ensures { result ≡ is_greeted_again kind }
 {

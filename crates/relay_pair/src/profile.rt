@@ -142,7 +142,7 @@ fn add_lowered(
     add_route(alloc, routes, domain, name, address)
 }
 
-/// The node behind a node of so many, each by its place: that of the last is the first.
+/// The node after a node of so many, each by its place: that of the last is the first.
 fn node_behind(count: usize, node: usize) -> usize
     requires { node < count }
     ensures value { result ≡ node_behind count node }

@@ -6,7 +6,7 @@ use std::fs;
 use std::test::Fail;
 
 /// Prints each row of networks.in, and what is made of its configurations. A word is one: the name of its host, and
-/// behind `>` the name of the hop of every domain.
+/// after `>` the name of the hop of every domain.
 pub fn show_networks(rt: &HostRuntime) -> Result<(), Fail> {
     let rows = fs::read_to_string(rt, "networks.in")?;
     for row in rows.as_str().lines() {

@@ -1,4 +1,4 @@
--- Scripts, line by line: where a line ends, and that lines are played one behind another.
+-- Scripts, line by line: where a line ends, and that lines are played one after another.
 use Rattle.std.proofs.Common.{◌≡◌, ◌<◌, ◌+◌, ◌==◌, ℕ, zero, suc, Bool, true, false, List, [], ◌∷◌, ◌++◌, length, take, drop, get_or, Option, None, Some, MatchOption, inl, inr, refl, sym, ap, subst, ◌∙◌, arith, append_assoc, append-nil}
 use Rattle.std.proofs.lemmas.Bool.{eqb-true, false_from_ne_true}
 use Rattle.std.proofs.lemmas.List.{take_all}
@@ -29,7 +29,7 @@ no_line_feed_in (octet ∷ octets) zero none = tt
 no_line_feed_in (octet ∷ octets) (suc count) none =
     (none 0 (omega arith) (omega arith), no_line_feed_in octets count (λ place low high. none (suc place) (omega (arith, low)) (omega (arith, high))))
 
--- what stands at a place, and what is behind it
+-- what stands at a place, and what is after it
 split_here : (octets : List ℕ) (place : ℕ) → place < length octets → get_or octets place 0 ≡ 10
     → octets ≡ take place octets ++ 10 ∷ drop (suc place) octets
 split_here [] place within here = absurd (omega (arith, within))
@@ -58,7 +58,7 @@ bare_joined : (front back : List ℕ) → HasNoLineFeed front → HasNoLineFeed 
 bare_joined [] back none also = also
 bare_joined (octet ∷ front) back none also = (none.0, bare_joined front back none.1 also)
 
--- a line, and what stands behind its LF
+-- a line, and what stands after its LF
 splits_line : (line more : List ℕ) → HasNoLineFeed line
     → slice_split is_line_feed (line ++ 10 ∷ more) ≡ line ∷ slice_split is_line_feed more
 splits_line [] more none = slice_split-cons_yes is_line_feed 10 more refl
@@ -77,7 +77,7 @@ pub kept_is_read : (old new : Option (List ℕ)) → Keeps old new → Consumes 
 kept_is_read old new kept = Consumes-kept old old new [] (Consumes-nil old) kept
 
 module _ (honest : Type 0) (words : DiskWords MemoryDisk) where
-  -- lines behind others
+  -- lines after others
   plays_more : (texts others : List (List ℕ)) (first mid last : PlayState) → PlaysEach honest words texts first mid
       → PlaysEach honest words others mid last → PlaysEach honest words (texts ++ others) first last
   plays_more [] others first mid last same plays = subst (λ p. PlaysEach honest words others p last) same plays
@@ -136,7 +136,7 @@ module _ (honest : Type 0) (words : DiskWords MemoryDisk) where
     λ first front played. subst (λ f. HasPlayed honest words first f before old) (sym (append-nil front)) played,
   )
 
-  -- a line of the rest has ended, and was played behind what had begun
+  -- a line of the rest has ended, and was played after what had begun
   pub line_used : (octets before rest begun line behind filled after : List ℕ) (old now later : PlayState)
       → AreUsedTo octets before old rest begun now → HasNoLineFeed line → rest ≡ line ++ 10 ∷ behind
       → filled ≡ begun ++ line → PlaysLine honest words filled now later → after ≡ []

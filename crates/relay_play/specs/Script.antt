@@ -107,7 +107,7 @@ module _ (honest : Type 0) (words : DiskWords MemoryDisk) where
     pub among : IsAmong (named_in line) old.nodes
     pub does : Does line old new
 
-  -- so does each line, one behind another
+  -- so does each line, one after another
   abbrev pub PlaysEach : List (List ℕ) → PlayState → PlayState → Type 0
   PlaysEach [] old new = new ≡ old
   PlaysEach (text ∷ texts) old new = (mid : PlayState) × PlaysLine text old mid × PlaysEach texts mid new
@@ -132,7 +132,7 @@ module _ (honest : Type 0) (words : DiskWords MemoryDisk) where
     pub starts : StartsAs first start
     pub promise : KeepsItsPromise honest words start world
 
-  -- Of a script that goes on, the lines that have ended were played, and the octets behind them are of one line.
+  -- Of a script that goes on, the lines that have ended were played, and the octets after them are of one line.
   pub record HasPlayed (first : PlayState) (front begun : List ℕ) (now : PlayState) : Type 0 where
     pub lines : List (List ℕ)
     pub splits : (more : List ℕ)

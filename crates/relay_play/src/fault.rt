@@ -6,7 +6,7 @@ use std::alloc::AllocError;
 use std::io::{self, ErrorKind};
 use thiserror::Error;
 
-/// Why a play ends before its script does. Its text stands behind `relayd: `.
+/// Why a play ends before its script does. Its text stands after `relayd: `.
 #[derive(Clone, Copy, Debug, PartialEq, Eq, Error)]
 pub enum PlayFault {
     /// The line of this number, from 1, is no line of a script.

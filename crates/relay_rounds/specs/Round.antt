@@ -137,7 +137,7 @@ pub record HasRoom {J R W : Type 0} (count : ℕ) (room : Room J R W) : Type 0 w
   pub none_served : room.served.items ≡ []
   pub served : count ≤ vec_capacity room.served
 
--- What a node has accepted behind these changes agrees with these receipts: it is one accept for each of them. Or it
+-- What a node has accepted after these changes agrees with these receipts: it is one accept for each of them. Or it
 -- doesn't, and there too it is as many accepts as there are receipts.
 abbrev pub HasRun :
     {D : Type 0} → Type 0 → DiskWords D → List Change → List (List Receipt) → Kept D → Bool → Type 0

@@ -2,7 +2,7 @@
 ghost use Rattle.std.specs.Prelude.{◌≡◌, ◌+◌, ◌++◌, ◌≤◌, ◌<◌, ℕ, [], ◌∷◌, vec_len, vec_capacity};
 ghost use Rattle.relay_rounds.specs.Row.{EachIs};
 
-/// Puts one more behind a row that has room for it.
+/// Puts one more after a row that has room for it.
 pub(crate) fn put<T: Drop>(row: &mut Vec<T>, one: T)
     requires { vec_len row.old < vec_capacity row.old }
     ensures items { row.new.items ≡ row.old.items ++ one ∷ [] }

@@ -1,4 +1,4 @@
-//! A link of a round, before it and behind it.
+//! A link of a round, before it and after it.
 ghost use Rattle.std.specs.Prelude.{◌≡◌, []};
 ghost use Rattle.relay_rounds.specs.Round.{IsLaneOf, IsWith};
 

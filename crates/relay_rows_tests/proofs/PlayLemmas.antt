@@ -134,7 +134,7 @@ replies_go_on octets rest piece out out_now n count old new so_far is within rea
           ∙ sym (flat_map-append reply_text so_far.replies some.0);
     }
 
--- what has been read is cut, with what is left behind it
+-- what has been read is cut, with what is left after it
 cut_so_far : (octets rest out : List ℕ) (reader : ReplyReader)
     (so_far : ReadsSoFar octets rest out reader)
     → CutsReplies octets so_far.replies (so_far.part ++ rest)

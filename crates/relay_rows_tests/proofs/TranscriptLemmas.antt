@@ -13,13 +13,13 @@ use Rattle.relay_rows_tests.specs.OfferText.{offer_text, offers_text}
 use Rattle.relay_rows_tests.specs.Played.{HasPlayed, IsAnswered, Plays}
 use Rattle.relay_rows_tests.specs.Transcript.{IsTranscript}
 
--- offers behind others are written behind them
+-- offers after others are written after them
 offers_text_append : (xs ys : List Offered) → offers_text (xs ++ ys) ≡ offers_text xs ++ offers_text ys
 offers_text_append [] ys = refl
 offers_text_append (x ∷ xs) ys =
     ap (λ l. offer_text x ++ l) (offers_text_append xs ys) ∙ sym (append_assoc (offer_text x) (offers_text xs) (offers_text ys))
 
--- behind what was heard the replies are those of what was said, and the offers those before the open one
+-- after what was heard the replies are those of what was said, and the offers those before the open one
 pub heard : (setup : Setup) (old new : Play) (said : Said) (octets : List ℕ) → HasPlayed setup old said → open_offers old.session ≡ [] → setup.routes ≡ new.table.now → new.offers ≡ old.offers
     → (h : Hears setup said old.session new.session octets old.replies.items new.replies.items) → HasPlayed setup new h.later
 heard setup old new said octets p none routes same h =
@@ -68,7 +68,7 @@ begun setup play stands settled routes none running = record {
   closed = λ is. absurd (cc);
 }
 
--- nothing is read behind a close
+-- nothing is read after a close
 pub plays_closed : (setup : Setup) (play : Play) (octets piece : List ℕ) → play.is_closed ≡ true → Plays setup play octets → Plays setup play (octets ++ piece)
 plays_closed setup play octets piece is p = record {
   said = p.said;
@@ -104,7 +104,7 @@ all_used octets used whole =
     nil_from_length (drop used octets) (omega (arith, left, whole))
 
 module _ (setup : Setup) (octets piece : List ℕ) (used further : ℕ) (old mid : Play) where
-  -- the input behind one round
+  -- the input after one round
   input_behind : old.is_closed ≡ false → used ≤ further → (p : Plays setup old (octets ++ take used piece)) → (h : Hears setup p.said old.session mid.session (slice_range piece used further) old.replies.items mid.replies.items) → h.later.input ≡ octets ++ take further piece
   input_behind running within p h =
       let first : Said = record { input = octets; answers = []; output = []; offers = [] } in

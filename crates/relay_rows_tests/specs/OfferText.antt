@@ -7,12 +7,12 @@ use Rattle.relay_envelope.specs.Envelope.{mail_text, rcpt_text}
 use Rattle.relay_trace.specs.TimeStamp.{protocol_word}
 use Rattle.relay_server.specs.Dialogue.{Offered}
 
--- what a RCPT said, as it is written again, behind a space
+-- what a RCPT said, as it is written again, after a space
 abbrev pub recipient_text : Recipient → List ℕ
 recipient_text recipient = codes " " ++ rcpt_text recipient
 
--- behind the first words the client, and what MAIL and the RCPTs said, in a line, the content, and a
--- line behind it
+-- after the first words the client, and what MAIL and the RCPTs said, in a line, the content, and a
+-- line after it
 abbrev pub offer_behind : List ℕ → Offered → List ℕ
 offer_behind front offer =
     front ++ offer.client.word ++ codes " by " ++ protocol_word offer.client.protocol
@@ -23,6 +23,6 @@ offer_behind front offer =
 abbrev pub offer_text : Offered → List ℕ
 offer_text offer = offer_behind (codes "[offer of ") offer
 
--- offers, one behind another
+-- offers, one after another
 abbrev pub offers_text : List Offered → List ℕ
 offers_text offers = flat_map offer_text offers

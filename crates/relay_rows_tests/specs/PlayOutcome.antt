@@ -34,7 +34,7 @@ abbrev pub IsCutOutcome : List ℕ → ℕ → List ℕ → Type 0
 IsCutOutcome octets limit outcome =
     (cut : LineCut) × CutsLine cut octets limit × (outcome ≡ cut_text cut)
 
--- what is held of a line, behind a word where it is too long, and a word where it is nothing
+-- what is held of a line, after a word where it is too long, and a word where it is nothing
 abbrev pub kept_text : List ℕ → List ℕ
 kept_text [] = codes "nothing"
 kept_text (octet ∷ octets) = octet ∷ octets
@@ -84,7 +84,7 @@ abbrev pub yes_or_no : Bool → List ℕ
 yes_or_no true = codes "yes"
 yes_or_no false = codes "no"
 
--- the code and the texts make a reply, which is written behind another, or none
+-- the code and the texts make a reply, which is written after another, or none
 abbrev pub IsReplyOutcome : ℕ → List (List ℕ) → List ℕ → Type 0
 IsReplyOutcome code texts outcome =
     (IsReply (made_of code texts)
@@ -103,7 +103,7 @@ reply_fault_word fault.TooLong = codes "TooLong"
 reply_fault_word fault.NoMemory = codes "NoMemory"
 
 -- the octets are cut into replies, which are written again, and a rest that isn't whole or has a
--- fault; behind a fault another is answered
+-- fault; after a fault another is answered
 abbrev pub IsRepliesOutcome : List ℕ → List ℕ → Type 0
 IsRepliesOutcome octets outcome =
     (replies : List Reply) × (rest : List ℕ) × CutsReplies octets replies rest

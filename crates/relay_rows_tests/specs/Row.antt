@@ -1,7 +1,7 @@
 -- Rows: how octets are written in them.
 use Rattle.std.specs.Prelude.{ℕ, ◌==◌, if◌then◌else◌, List, [], ◌∷◌}
 
--- the octet that a letter behind a backslash stands for: CR, LF, HTAB, VT, NUL, US, DEL, the first
+-- the octet that a letter after a backslash stands for: CR, LF, HTAB, VT, NUL, US, DEL, the first
 -- and the last above DEL; another by itself
 abbrev pub escaped : ℕ → ℕ
 escaped letter =

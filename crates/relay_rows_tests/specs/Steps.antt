@@ -24,14 +24,14 @@ pub record ReadsSoFar (octets rest out : List ℕ) (reader : ReplyReader) : Type
   pub reads : HasRead reader used replies part
   pub out_is : out ≡ written_replies replies
 
--- of these octets the reader reads further replies, which are written behind the others
+-- of these octets the reader reads further replies, which are written after the others
 abbrev pub ReadsSome : ReplyReader → ReplyReader → List ℕ → List ℕ → List ℕ → Type 0
 ReadsSome old new before behind octets =
     (used : List ℕ) (replies : List Reply) (part : List ℕ) → HasRead old used replies part
     → (more : List Reply) × (rest : List ℕ) × HasRead new (used ++ octets) (replies ++ more) rest
     × (behind ≡ before ++ written_replies more)
 
--- the piece has this fault behind what was read, and the reader reads no further; or memory ran out
+-- the piece has this fault after what was read, and the reader reads no further; or memory ran out
 abbrev pub FindsFault : ReplyReader → ReplyReader → List ℕ → ReplyFault → Type 0
 FindsFault old new piece fault =
     (fault ≡ NoMemory)

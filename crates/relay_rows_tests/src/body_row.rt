@@ -28,7 +28,7 @@ fn tell_verdict(answer: &mut Answer, play: &BodyPlay, wanted: &str) {
     }
 }
 
-/// Holds the row once for each cutting: into two pieces behind each number of octets, and octet by octet.
+/// Holds the row once for each cutting: into two pieces after each number of octets, and octet by octet.
 fn verdict_of(alloc: Global, play: &BodyPlay, wanted: &[u8]) -> Result<Verdict, AllocError> {
     let mut found = Vec::new(alloc);
     for place in 0..=play.octets.len() {

@@ -10,7 +10,7 @@ use relay_octets::Octets;
 pub enum Verdict {
     /// Each cutting gave what is written down.
     Equal,
-    /// Cut into two pieces behind this many octets, something else was found.
+    /// Cut into two pieces after this many octets, something else was found.
     DiffersAt(usize),
     /// In pieces of one octet, something else was found.
     DiffersOctetByOctet,

@@ -4,7 +4,7 @@ ghost use Rattle.relay_rows_tests.specs.Cutting.{piece_len_of};
 /// How octets are cut into pieces.
 #[derive(Clone, Copy)]
 pub enum Cutting {
-    /// Into two, behind so many octets.
+    /// Into two, after so many octets.
     Behind(usize),
     /// Into pieces of one octet.
     Each,

@@ -49,7 +49,7 @@ fn open(alloc: Global, buffer: &LineBuffer) -> Result<Octets, AllocError>
     Ok(outcome)
 }
 
-/// What is held, behind a word where it is none or too long.
+/// What is held, after a word where it is none or too long.
 fn push_held(out: &mut Octets, buffer: &LineBuffer) -> Result<(), AllocError>
     ensures { OnOk result (out.new ≡ out.old ++ held_text buffer.now) }
 {

@@ -3,7 +3,7 @@
 //! row of data/bodies.in over the readers and writers of bodies, cut into two pieces at every octet and into pieces of
 //! one octet.
 //!
-//! Of the other rows it prints what comes of each behind the row. The rows of envelopes are texts of MAIL
+//! Of the other rows it prints what comes of each after the row. The rows of envelopes are texts of MAIL
 //! and RCPT, xtext, paths and hosts' names; those of routes configurations, and paths whose hop is looked up;
 //! those of trace moments, time stamp lines and header sections; and those of scripts lines and texts. Where
 //! something else is written down than comes of a row, that too is printed.

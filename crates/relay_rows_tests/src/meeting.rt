@@ -2,10 +2,10 @@
 //! compared with what is written down.
 //!
 //! Transcripts over an attempt: what the server says, cut into two pieces at every octet and into pieces of one octet.
-//! What is written behind each octet, how much is used, and the verdicts are compared with what is written down.
+//! What is written after each octet, how much is used, and the verdicts are compared with what is written down.
 //!
 //! A session and an attempt that meet, in pieces of 1, 7 and 64 octets each way, whole and with either of them cut off
-//! behind every octet that it reads. What the two have said is compared with what is true of two relays that meet.
+//! after every octet that it reads. What the two have said is compared with what is true of two relays that meet.
 
 mod attempt_play;
 mod child;

@@ -31,7 +31,7 @@ pub enum Play {
     Command(Octets),
     /// A question is answered.
     Word(Question, Octets),
-    /// A reply of this code and these texts is made, and written behind another.
+    /// A reply of this code and these texts is made, and written after another.
     Reply(u16, Vec<Octets>),
     /// The last line of a reply is written, whose text has two parts.
     LastLine(u16, Octets, Octets),

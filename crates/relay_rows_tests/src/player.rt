@@ -115,7 +115,7 @@ impl Found {
     }
 }
 
-/// Reads chunks of these sizes, one behind the other.
+/// Reads chunks of these sizes, one after the other.
 fn read_chunks(
     alloc: Global,
     limit: usize,
@@ -140,7 +140,7 @@ fn read_chunks(
     }
 }
 
-/// Reads a chunk, and gives what stands behind it.
+/// Reads a chunk, and gives what stands after it.
 fn read_chunk<'a>(
     reader: &mut ChunkReader,
     count: usize,

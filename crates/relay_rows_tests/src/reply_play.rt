@@ -10,7 +10,7 @@ use relay_lines::{Reply, ReplyFault, ReplyReader, write_line};
 use relay_octets::Octets;
 use std::alloc::{AllocError, Global};
 
-/// A reply of this code and these texts, written behind another, or that they make none.
+/// A reply of this code and these texts, written after another, or that they make none.
 pub fn reply_outcome(alloc: Global, code: u16, texts: &[Octets]) -> Result<Octets, AllocError>
     ensures { IfOk result (IsReplyOutcome code texts.now) }
 {
@@ -52,7 +52,7 @@ pub fn last_line_outcome(
 }
 
 /// The replies that are cut from the octets, as they are written, and then what follows: "more"
-/// where the rest isn't whole, or the words of its fault and of what is answered behind it.
+/// where the rest isn't whole, or the words of its fault and of what is answered after it.
 pub fn replies_outcome(alloc: Global, octets: &[u8], size: usize) -> Result<Octets, AllocError>
     requires { 0 < size }
     ensures { IfOk result (IsRepliesOutcome octets.now) }
@@ -94,7 +94,7 @@ fn read_some(reader: &mut ReplyReader, out: &mut Vec<u8>, piece: &[u8]) -> Resul
     }
 }
 
-/// Writes the words of a fault and of what is answered behind it. Want of memory is no fault of a
+/// Writes the words of a fault and of what is answered after it. Want of memory is no fault of a
 /// row.
 fn push_fault(
     reader: &mut ReplyReader,
@@ -115,7 +115,7 @@ fn push_fault(
     Ok(())
 }
 
-/// The word of what is answered behind a fault.
+/// The word of what is answered after a fault.
 fn text_behind(reader: &mut ReplyReader) -> &'static [u8]
     ensures { HasFailed reader.old → result.now ≡ reply_fault_word ReplyFault.BadLine }
 {

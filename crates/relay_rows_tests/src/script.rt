@@ -83,7 +83,7 @@ fn tell_event(answer: &mut Answer, event: &Event) {
     }
 }
 
-/// Tells a node's number behind these words.
+/// Tells a node's number after these words.
 fn tell_node(answer: &mut Answer, words: &str, node: NodeIndex) {
     answer.count(words, node.index() as u64);
 }

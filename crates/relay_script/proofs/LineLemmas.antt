@@ -7,7 +7,7 @@ use Rattle.relay_script.specs.Line.{Operand, IsOperand, AreOperands, SpellsWords
 use Rattle.relay_script.specs.Reading.{kind_of, Kind, IsNotBehind, LacksOperand, LacksOperands, LacksWords, SpellsOperands, StandsBehind}
 use Rattle.relay_script.proofs.OperandLemmas.{no_operand, one_operand}
 
--- operands behind a keyword
+-- operands after a keyword
 pub operands_behind : (keyword text rest : List ℕ) (first : Operand) (more : List Operand) → StandsBehind keyword text rest
     → SpellsOperands rest (first ∷ more) → SpellsWords text keyword (first ∷ more)
 operands_behind keyword text rest first more stands spells = by_words spells.words spells.are_operands spells.text_is
@@ -26,7 +26,7 @@ word_behind : (keyword text rest : List ℕ) (operand : Operand) → StandsBehin
 word_behind keyword text rest operand stands is =
     operands_behind keyword text rest operand [] stands (one_operand rest operand is)
 
--- what stands behind the keyword of operands
+-- what stands after the keyword of operands
 pub record Behind (keyword text : List ℕ) (operands : List Operand) : Type 0 where
   pub rest : List ℕ
   pub text_is : text ≡ keyword ++ 32 ∷ rest
@@ -45,7 +45,7 @@ behind_keyword keyword text first more spells = by_words spells.words spells.are
       spells = record { words = word ∷ words; are_operands = are; text_is = refl };
     }
 
--- what operands behind a keyword would have to be
+-- what operands after a keyword would have to be
 lacks_by : (keyword text : List ℕ) (kind : Kind) (kinds : List Kind)
     → ((operands : List Operand) → map kind_of operands ≡ kind ∷ kinds → Behind keyword text operands → ⊥)
     → LacksWords keyword (kind ∷ kinds) text
@@ -79,12 +79,12 @@ no_word_behind : (keyword text rest : List ℕ) (kind : Kind) → StandsBehind k
 no_word_behind keyword text rest kind stands lacks =
     no_operands_behind keyword text rest kind [] stands (no_operand rest kind lacks)
 
--- what is read of the text behind a keyword
+-- what is read of the text after a keyword
 pub one_behind : (keyword text rest : List ℕ) (kind : Kind) (operand : ℕ → Operand) (read : Option ℕ) → StandsBehind keyword text rest
     → MatchOption read (LacksOperand kind rest) (λ x. IsOperand rest (operand x))
     → MatchOption read (LacksWords keyword (kind ∷ []) text) (λ x. SpellsWords text keyword (operand x ∷ []))
 one_behind keyword text rest kind operand None stands lacks = no_word_behind keyword text rest kind stands lacks
 one_behind keyword text rest kind operand (Some x) stands is = word_behind keyword text rest (operand x) stands is
 
--- operands behind a keyword, or none
+-- operands after a keyword, or none
 pub ruleset several_behind = (no_words_behind, no_operands_behind, operands_behind)

@@ -167,7 +167,7 @@ kinds_are Marks = refl
 kinds_are (Copies node number place) = refl
 kinds_are (Lost node number place) = refl
 
--- what stands behind a keyword says nothing of its first octets
+-- what stands after a keyword says nothing of its first octets
 front_append : (line : ScriptLine) → 98 ≤ get_or (keyword_of line) 0 0 → (tail : List ℕ)
     → front_of (keyword_of line ++ tail) ≡ front_of (keyword_of line)
 front_append Skipped some tail = absurd (omega arith)
@@ -268,7 +268,7 @@ same_operands text (operand ∷ second ∷ operands) (other ∷ next ∷ others)
     (subst IsRest (sym cut.1) also.rest_is) in
     let all : operand ∷ second ∷ operands ≡ other ∷ next ∷ others = cc in all
 
--- behind one keyword
+-- after one keyword
 same_words : (text keyword : List ℕ) (operands others : List Operand) → map kind_of operands ≡ map kind_of others
     → are_words_but_last operands ≡ true → SpellsWords text keyword operands → SpellsWords text keyword others → operands ≡ others
 same_words text keyword [] [] kinds words one two = refl

@@ -67,7 +67,7 @@ first_and_more text first second more spells = by_words spells.words spells.are_
       rest_is = record { words = next ∷ words; are_operands = are.1; text_is = refl };
     }
 
--- an operand behind another
+-- an operand after another
 pub first_and_rest : (text word rest : List ℕ) (first second : Operand) (more : List Operand) → CutsWord text word rest
     → IsOperand word first
     → SpellsOperands rest (second ∷ more) → SpellsOperands text (first ∷ second ∷ more)

@@ -17,7 +17,7 @@ use std::str;
 /// The most digits of a number.
 const DIGIT_LIMIT: usize = 18;
 
-/// What stands behind the keyword and a space that a text begins with.
+/// What stands after the keyword and a space that a text begins with.
 #[tactic(auto, using(crate::proofs::WordLemmas::keyword))]
 pub(crate) fn behind<'a>(keyword: &[u8], text: &'a [u8]) -> Option<&'a [u8]>
     ensures { MatchOption result (IsNotBehind keyword.now text.now)
@@ -27,7 +27,7 @@ pub(crate) fn behind<'a>(keyword: &[u8], text: &'a [u8]) -> Option<&'a [u8]>
     more.strip_prefix(b" ")
 }
 
-/// The word before the first space, and what stands behind that space.
+/// The word before the first space, and what stands after that space.
 #[tactic(auto, using(crate::proofs::CutLemmas::cut_is))]
 pub(crate) fn cut_word(text: &[u8]) -> Option<(&[u8], &[u8])>
     ensures { MatchOption result (HasNoSpace text.now) (λ parts. CutsWord text.now parts.0.now parts.1.now) }

@@ -79,7 +79,7 @@ module _ {D : Type 0} (honest : Type 0) (words : DiskWords D) where
     whatever work changes old new (Ok x) done = done
     whatever work changes old new (Err e) done = inl done
 
-    -- the same, where its note is another behind it
+    -- the same, where its note is another after it
     pub whatever_noted : {X Y : Type 0} (kept : Option Noted) (work : Work) (changes : List Change) (old mid new : NodeState D) (result : Result X Y) → IsDone honest words now work changes old mid → new ≡ noted_as kept mid → WorksTo honest words now work changes old new result
     whatever_noted kept work changes old mid new result done same =
         whatever work changes old new result (subst (λ (node : NodeState D). IsDone honest words now work changes old node) (sym same) (done_noted kept work changes old mid done))
@@ -272,7 +272,7 @@ module _ {D : Type 0} (honest : Type 0) (words : DiskWords D) where
         ∙ subst (λ (f : LinkFault). HandsOn honest words mid.config.host changes (begun_with number hop started.places.items begins.message) new.records (Err f)) told h)
 
   module _ (now : ℕ) where
-    -- behind each of these works one more was done
+    -- after each of these works one more was done
     pub does_more : (works : List Work) (work : Work) (changes between later : List Change) (old middle new : NodeState D) → DoesEach honest words now works changes old between middle → DoesOne honest words now work between later middle new
         → DoesEach honest words now (works ++ work ∷ []) changes old later new
     does_more [] work changes between later old middle new done one =

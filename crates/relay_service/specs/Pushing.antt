@@ -73,7 +73,7 @@ module _ {D : Type 0} (honest : Type 0) (words : DiskWords D) (host : List ℕ) 
   HandsOn records (Err Full) = Keeps honest words records changes
   HandsOn records (Err Device) = records.spool.live ≡ false
 
--- The words below are of works at a moment, of a node that keeps changes before and later ones behind.
+-- The words below are of works at a moment, of a node that keeps changes before and later ones after.
 module _ {D : Type 0} (honest : Type 0) (words : DiskWords D) (now : ℕ) where
   -- exactly the held places of the message that have no hop have ended
   pub record GivesUp (number : ℕ) (changes later : List Change) (old : NodeState D) : Type 0 where

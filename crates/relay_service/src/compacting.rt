@@ -1,4 +1,4 @@
-//! A spool that is written anew behind a round, as small as what it holds.
+//! A spool that is written anew after a round, as small as what it holds.
 ghost use Rattle.std.specs.Prelude.{◌≡◌, List, None, MatchResult};
 ghost use Rattle.relay_book.specs.declared.change.Change.{Change};
 ghost use Rattle.relay_disk.specs.File.{file_words};

@@ -25,7 +25,7 @@ use std::thread::Threads;
 /// How clients are served.
 #[derive(Clone, Copy, Debug)]
 pub struct ServeOptions {
-    /// How many rounds, 1 to 1,000,000; behind each the work that is due is done.
+    /// How many rounds, 1 to 1,000,000; after each the work that is due is done.
     pub rounds: u32,
     /// How many clients a round takes, 1 to 64; more count as 64. Where it is more than one, each is served by a thread
     /// of its own, and none before all have connected.
@@ -34,7 +34,7 @@ pub struct ServeOptions {
     pub log: bool,
 }
 
-/// Serves clients in rounds: in each round so many clients as the options say, each to its end; behind it the work that
+/// Serves clients in rounds: in each round so many clients as the options say, each to its end; after it the work that
 /// is due is done, once, and the spool is written anew where much of it has gone. What that work leads to waits for the
 /// next round. The files of the spool are taken for this process alone, and a line for each work goes to `writer`; with
 /// `options.log` a line for each thing that was done goes to `errors`. Faults are looked for in this order: the

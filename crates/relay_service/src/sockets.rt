@@ -19,11 +19,11 @@ const CONNECT_SECONDS: u64 = 5;
 /// How many clients in a row may be missed.
 const MISSES: u32 = 64;
 
-/// How many milliseconds are waited behind a client that was missed. Behind each further one it is twice as long, up to
+/// How many milliseconds are waited after a client that was missed. After each further one it is twice as long, up to
 /// the longest wait.
 const FIRST_WAIT: u64 = 100;
 
-/// The most milliseconds that are waited behind a client that was missed.
+/// The most milliseconds that are waited after a client that was missed.
 const LONGEST_WAIT: u64 = 1_000;
 
 /// A listener at this place.

@@ -40,7 +40,7 @@ pub(crate) struct Service<'a, R> {
     pub(crate) config: &'a Config,
 }
 
-// Written out, since what stands behind `rt` need not be droppable itself.
+// Written out, since what stands after `rt` need not be droppable itself.
 impl<R> Drop for Service<'_, R> {
     fn drop(self) {
         let Service {

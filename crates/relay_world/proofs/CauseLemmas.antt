@@ -49,7 +49,7 @@ has_cause accepted at ByEnd CantSend leaves = tt
 has_cause accepted at ByTransfer NoRoute leaves = not_end leaves
 has_cause accepted at ByEnd NoRoute leaves = tt
 
--- each change of a list has the report that is due behind those before it
+-- each change of a list has the report that is due after those before it
 reported_at : (host : List ℕ) (front changes : List Change) (n : ℕ) (change : Change) → ReportsBehind host front changes
     → slice_get changes n ≡ Some change → Reported host (front ++ take n changes) change
 reported_at host front [] n change all found = absurd (false≢true (ap is_some found))

@@ -107,7 +107,7 @@ answer_is_one host given other behind more e =
     }) in
     answer_text host given ∙ ap (λ l. l ++ crlf) same.0 ∙ sym (answer_text host other)
 
--- turns of one course have one text, where octets begin with both, and one state behind them
+-- turns of one course have one text, where octets begin with both, and one state after them
 text_is_one : (host : List ℕ) (course : Course) (turn other : Turn) (new next : State) (behind more : List ℕ)
     → Takes host course turn new → Takes host course other next
     → reply_text turn.reply ++ behind ≡ reply_text other.reply ++ more
@@ -119,7 +119,7 @@ text_is_one host (Offers client envelope content) turn other new next behind mor
     (ap (λ r. reply_text r ++ behind) (sym one.1) ∙ e ∙ ap (λ r. reply_text r ++ more) two.1) in
     (ap reply_text one.1 ∙ same ∙ sym (ap reply_text two.1), one.3 ∙ sym two.3)
 
--- turns that read no more than others do, behind which there is no unit, write no more than those, where both write a
+-- turns that read no more than others do, after which there is no unit, write no more than those, where both write a
 -- beginning of the same octets
 writes_no_more : (setup : Setup) (old new next : State) (turns others : List Turn) (rest unread behind more : List ℕ)
     → Turns setup old turns new → Turns setup old others next → HasNoUnit next rest
@@ -146,7 +146,7 @@ writes_no_more setup old new next (turn ∷ turns) (other ∷ others) rest unrea
           ∙ sym (append_assoc (reply_text turn.reply) (written_by turns) later.0),
     )
 
--- a dialogue that begins another, and perhaps the reply behind it with which its server closed, begins the other
+-- a dialogue that begins another, and perhaps the reply after it with which its server closed, begins the other
 pub begins_dialogue : (setup : Setup) (said whole : Said) (closing : Option Reply) → IsDialogue setup said
     → IsDialogue setup whole → MayClose whole closing → Begins said.input whole.input
     → Begins said.output (output_with whole.output closing) → Begins said.output whole.output

@@ -1,4 +1,4 @@
--- A node on which nothing goes on but on one link, and that link, which is broken behind the event, have changed: what is the
+-- A node on which nothing goes on but on one link, and that link, which is broken after the event, have changed: what is the
 -- same for each event of that kind.
 use Rattle.std.proofs.Common.{◌≡◌, ◌≢◌, ◌≤◌, ℕ, true, List, length, take, Some, refl, sym, subst, ap, ◌∙◌}
 use Rattle.std.specs.Prelude.{slice_get}

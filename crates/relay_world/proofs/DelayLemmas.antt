@@ -104,7 +104,7 @@ known_delay changes front behind outcome place fitting list tells =
       first = three.1;
     }
 
--- no change reports a delay of a place behind another that has
+-- no change reports a delay of a place after another that has
 none_again : (changes : List Change) → Fitting changes → (one other number place : ℕ)
     → (first : TellsDelay changes one number place) (second : TellsDelay changes other number place)
     → length first.front < length second.front → ⊥

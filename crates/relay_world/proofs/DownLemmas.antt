@@ -47,7 +47,7 @@ pub same_undecided : {D : Type 0} (disk other : Disks D) (one another : Option U
     → one ≡ another
 same_undecided disk other one another same = ap (λ h. undecided_or one h) same
 
--- what a note tells of a change behind these
+-- what a note tells of a change after these
 pub record Notes (noted : Noted) (changes : List Change) (change : Change) (used : ℕ) : Type 0 where
   pub number : noted.number ≡ length changes + 1
   pub octets : noted.octets ≡ encode change

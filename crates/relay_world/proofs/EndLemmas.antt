@@ -36,7 +36,7 @@ unasked_closes : (said : Said) (closing : Option Reply) → length said.answers 
 unasked_closes said None even unasked = tt
 unasked_closes said (Some reply) even unasked = (unasked.0, unasked.1, even)
 
--- what stands on the link behind it
+-- what stands on the link after it
 closed_wrote : (link : Link) (output : List ℕ) (closing : Option Reply) → Begins link.down output
     → (link.broken ≡ false → link.down ≡ output) → Begins (closed_down link closing) (output_with output closing)
 closed_wrote link output None wrote whole = wrote

@@ -43,7 +43,7 @@ module _ {D : Type 0} (honest : Type 0) (words : DiskWords D) where
         unsettled_each pieces at next heard more left
         (unsettled_turned at world next piece row more unsettled first) others
 
-  -- a node that was up has heard and read links one behind another
+  -- a node that was up has heard and read links one after another
   module _ (old : World D) (lists : List (List Change)) (node : ℕ) (bound : IsBound honest words old lists)
       (before : IsUp old node)
       (at : ℕ) (pieces : List Piece) (heard : World D) (row : Row)

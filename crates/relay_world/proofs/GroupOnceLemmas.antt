@@ -1,4 +1,4 @@
--- Links that a node hears and reads one behind another, and its opening behind a stop in that, keep a place from being
+-- Links that a node hears and reads one after another, and its opening after a stop in that, keep a place from being
 -- tried twice.
 use Rattle.std.proofs.Common.{inl, inr, ℕ, List, [], ◌∷◌, ◌++◌, Option, None, Some, refl, sym, subst}
 use Rattle.relay_disk.specs.Device.{DiskWords}
@@ -39,7 +39,7 @@ module _ {D : Type 0} (honest : Type 0) (words : DiskWords D) where
       pub unsettled : Unsettled honest words old lists node changes world row
       pub once : IsTriedOnce world unsettled.later
 
-    -- where the node turns to a link, the world behind that is such a one too
+    -- where the node turns to a link, the world after that is such a one too
     module _ (world next : World D) (row left : Row) (was : OnceUnsettled world row)
         (now : Unsettled honest words old lists node changes next left) where
       heard_once : (at : ℕ) (piece : Piece) → HasHeardInto honest words at world next node piece row left
@@ -103,7 +103,7 @@ module _ {D : Type 0} (honest : Type 0) (words : DiskWords D) where
         once_each pieces at next heard more left
         (record { unsettled = now; once = turned_once world next row more was now at piece one }) others
 
-  -- a node that was up has heard and read links one behind another
+  -- a node that was up has heard and read links one after another
   once_heard : (old : World D) (lists : List (List Change)) (node : ℕ) (bound : IsBound honest words old lists)
       → IsTriedOnce old lists → (before : IsUp old node) (at : ℕ) (pieces : List Piece) (heard : World D) (row : Row)
       (each : HasHeardEach honest words at old heard node pieces no_row row) (staged : IsUp heard node)

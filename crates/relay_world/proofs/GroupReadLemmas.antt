@@ -27,7 +27,7 @@ use Rattle.relay_world.proofs.RecordLemmas.{HasTakenOutcome, TakesOutcome}
 use Rattle.relay_world.proofs.ReplyLemmas.{Reading, read_nothing, read_outcome, tells_was, told_was}
 use Rattle.relay_world.proofs.UnsettledLemmas.{Unsettled, awaited_kept, awaits_there, last_note, list_there_is, unsettled_grows, unsettled_stays}
 
--- an outcome that was staged behind changes, with this note behind those of the row
+-- an outcome that was staged after changes, with this note after those of the row
 staged_takes : {D : Type 0} (honest : Type 0) (words : DiskWords D) (host : List ℕ) (changes pending : List Change)
     (row left : Row) (outcome : Outcome) (used number : ℕ) (records : Kept D) (noted : Noted)
     → AreNotes (queue_of changes) pending row.notes → left.notes ≡ row.notes ++ noted ∷ []

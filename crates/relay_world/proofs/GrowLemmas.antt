@@ -63,7 +63,7 @@ one_list records grown old new is now same =
     same_by old new (all_stored empty_queue old is.fitting) (all_stored empty_queue new now.fitting)
     (sym now.records_are ∙ same ∙ is.records_are)
 
--- with the record of a change behind them, that with the change
+-- with the record of a change after them, that with the change
 pub one_more : (records : List (List ℕ)) (octets : List ℕ) (old new : List Change) (one : Change) → IsListOf records old
     → Fitting (old ++ one ∷ []) → octets ≡ encode one → IsListOf (records ++ octets ∷ []) new → new ≡ old ++ one ∷ []
 one_more records octets old new one is fitting same now =

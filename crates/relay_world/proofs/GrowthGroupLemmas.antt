@@ -1,4 +1,4 @@
--- Links that a node hears and reads one behind another: what was recorded, told, written and read stays so.
+-- Links that a node hears and reads one after another: what was recorded, told, written and read stays so.
 use Rattle.std.proofs.Common.{inl, inr, ℕ, List, [], ◌∷◌, ◌++◌, Option, None, Some, refl, sym, subst, ap}
 use Rattle.relay_disk.specs.Device.{DiskWords}
 use Rattle.relay_node.specs.Node.{NodeState}

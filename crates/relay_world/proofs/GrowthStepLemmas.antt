@@ -393,7 +393,7 @@ grown_on old next new first second = record {
       (other.0, other.1, link_on link one.0 other.0 one.2 other.2);
 }
 
--- a session that is gone, with a reply behind all others or none
+-- a session that is gone, with a reply after all others or none
 closed_grows : (link : Link) (closing : Option Reply) → Begins link.down (closed_down link closing)
 closed_grows link None = same_begins link.down
 closed_grows link (Some reply) = (unless_broken link (reply_text reply), refl)

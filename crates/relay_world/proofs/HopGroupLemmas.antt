@@ -1,4 +1,4 @@
--- Links that a node hears and reads one behind another keep it so that attempts have the links that they are meant to
+-- Links that a node hears and reads one after another keep it so that attempts have the links that they are meant to
 -- have.
 use Rattle.std.proofs.Common.{inl, inr, ℕ, List, [], ◌∷◌, ◌++◌, Option, None, Some, refl, sym, subst}
 use Rattle.relay_disk.specs.Device.{DiskWords}

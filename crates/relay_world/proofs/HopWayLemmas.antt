@@ -340,7 +340,7 @@ pub written_server : (link written : Link) (octets : List ℕ) → WritesAs link
 written_server link written octets (inl up) = ap (λ (l : Link). l.server) up.1
 written_server link written octets (inr down) = ap (λ (l : Link). l.server) down.1
 
--- a session that is gone, with a reply behind all others or none
+-- a session that is gone, with a reply after all others or none
 pub ended : {D : Type 0} (old new : World D) → AreLinkedToHops old → (number : ℕ) (closing : Option Reply)
     → EndsWith old new number closing → AreLinkedToHops new
 ended old new linked number closing ends =

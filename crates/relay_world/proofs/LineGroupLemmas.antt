@@ -1,4 +1,4 @@
--- Links that a node hears and reads one behind another, its opening behind a stop in that, and then each event, keep it
+-- Links that a node hears and reads one after another, its opening after a stop in that, and then each event, keep it
 -- so that each line of the ledger has its source.
 use Rattle.std.proofs.Common.{◌≡◌, inl, inr, ℕ, List, [], ◌∷◌, ◌++◌, Option, None, Some, refl, sym, subst, ap}
 use Rattle.relay_disk.specs.Device.{DiskWords}
@@ -97,7 +97,7 @@ module _ {D : Type 0} (honest : Type 0) (words : DiskWords D) where
               (attempts_turned honest words at world next node piece row more one) at piece one;
         }) others
 
-  -- a node that was up has heard and read links one behind another
+  -- a node that was up has heard and read links one after another
   heard_pieces : (old : World D) (lists : List (List Change)) (node : ℕ) (bound : IsBound honest words old lists)
       → HasSources old lists → (before : IsUp old node) (at : ℕ) (pieces : List Piece) (heard : World D) (row : Row)
       (each : HasHeardEach honest words at old heard node pieces no_row row) (staged : IsUp heard node)

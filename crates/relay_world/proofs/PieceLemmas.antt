@@ -31,7 +31,7 @@ pub take_within : {A : Type 0} (few many : ℕ) (xs : List A) → few ≤ length
 take_within few many xs within =
     sym (take-append-le few (take many xs) (drop many xs) within) ∙ ap (λ l. take few l) (take-append-drop many xs)
 
--- what is read behind what was read: of the octets that wait the first that were used
+-- what is read after what was read: of the octets that wait the first that were used
 pub read_more : {A : Type 0} (read used count : ℕ) (xs : List A) → used ≤ length (take count (drop read xs))
     → take (read + used) xs ≡ take read xs ++ take used (take count (drop read xs))
 read_more read used count xs within =
@@ -50,7 +50,7 @@ pub refusals_length : (offers : List Offered) → length (refusals offers) ≡ l
 refusals_length [] = refl
 refusals_length (offer ∷ offers) = ap suc (refusals_length offers)
 
--- behind a dialogue with an answer for each offer there is an answer for each
+-- after a dialogue with an answer for each offer there is an answer for each
 pub still_answered : (said later : Said) (refused last : List Offered) (given : List Answer) → AnswersMore said later refused last given
     → length said.answers ≡ length said.offers → length given ≡ length last → length later.answers ≡ length later.offers
 still_answered said later refused last given more even same =
@@ -171,7 +171,7 @@ pub passes_as : {D : Type 0} (host : Host D) (changes : List Change) (link same 
 passes_as host changes link same attempt read wrote broken passes =
     passes_whole host changes link same attempt read wrote (λ is. broken ∙ is) passes
 
--- what is read of octets stays where more is written behind them
+-- what is read of octets stays where more is written after them
 pub read_stays : {A : Type 0} (read : ℕ) (xs ys : List A) → read ≤ length xs → take read xs ≡ take read (xs ++ ys)
 read_stays read xs ys within = sym (take-append-le read xs ys within)
 

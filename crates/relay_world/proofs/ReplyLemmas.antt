@@ -56,7 +56,7 @@ module _ {D : Type 0} (honest : Type 0) (words : DiskWords D) (old : World D) (l
 
   module _ (new : World D) (count : ℕ) (after : NodeState D) (replied : Replied)
       (reading : Reading new count after replied) where
-    -- what is told of it behind that
+    -- what is told of it after that
     abbrev pub told_now : Told
     told_now = told_more told_was (take replied.used (waiting_down count of.link)) replied.out.items
 

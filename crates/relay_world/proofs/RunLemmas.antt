@@ -180,7 +180,7 @@ runs_keep_all honest words sees is (suc count) old new lists bound once linked s
     let still_told = sources_are_kept honest words old happen.0 lists after.0 bound once sources happen.1 after.1 in
     runs_keep_all honest words sees is count happen.0 new after.0 after.1 still still_linked still_told happen.2
 
--- and behind any number of them attempts have gone on, or have come to their ends
+-- and after any number of them attempts have gone on, or have come to their ends
 pub runs_keep_attempts : {D : Type 0} (honest : Type 0) (words : DiskWords D)
     → ((disk : D) → words.may_leave disk (words.seen disk)) → RunsKeepAttempts honest words
 runs_keep_attempts honest words sees is zero old new lists bound same =

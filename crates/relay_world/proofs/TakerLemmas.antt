@@ -1,4 +1,4 @@
--- Whose an outcome is: before an event and behind it, it is that of an attempt that has ended with it, or gives up places without a
+-- Whose an outcome is: before an event and after it, it is that of an attempt that has ended with it, or gives up places without a
 -- hop.
 use Rattle.std.proofs.Common.{◌≡◌, ◌≢◌, ◌⊎◌, inl, inr, ℕ, zero, suc, List, [], ◌∷◌, ◌++◌, length, Some, refl, sym, subst, ap, ◌∙◌, arith}
 use Rattle.std.specs.Prelude.{slice_get}
@@ -20,7 +20,7 @@ use Rattle.relay_world.proofs.GrowLemmas.{one_list}
 use Rattle.relay_world.proofs.MoveLemmas.{put_cases}
 use Rattle.relay_world.proofs.FateLemmas.{lost_ends, replied_ends}
 
--- an element of a list with one behind it
+-- an element of a list with one after it
 last_or : {A : Type 0} (xs : List A) (last x : A) (k : ℕ) → slice_get (xs ++ last ∷ []) k ≡ Some x
     → (slice_get xs k ≡ Some x) ⊎ ((k ≡ length xs) × (last ≡ x))
 last_or [] last x zero is = inr (refl, same_Some last x is)
@@ -31,7 +31,7 @@ last_or (y ∷ xs) last x (suc k) is = elim (last_or xs last x k is) [
   | inr end ↦ inr (ap suc end.0, end.1)
 ]
 
--- an outcome of a list with one change behind it is one of the list, or that change
+-- an outcome of a list with one change after it is one of the list, or that change
 outcome_last : (before : List Change) (one : Change) (number : ℕ) (outcome : Outcome)
     → change_at (before ++ one ∷ []) number ≡ Some (change.Outcome outcome)
     → (change_at before number ≡ Some (change.Outcome outcome))
@@ -44,7 +44,7 @@ outcome_last before one (suc k) outcome is = elim (last_or before one (change.Ou
 
 module _ {D : Type 0} (honest : Type 0) (words : DiskWords D) (old new : World D) (lists later : List (List Change))
     (bound : IsBound honest words old lists) (once : IsTriedOnce old lists) (now : IsBound honest words new later) where
-  -- a change behind these that is an outcome is that of an attempt, or gives up places without a hop
+  -- a change after these that is an outcome is that of an attempt, or gives up places without a hop
   abbrev pub HasTakers : ℕ → List Change → Change → Type 0
   HasTakers n before one =
       (outcome : Outcome) → one ≡ change.Outcome outcome → (was : Host D) → slice_get old.hosts n ≡ Some was

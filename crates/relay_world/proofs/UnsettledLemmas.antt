@@ -22,7 +22,7 @@ use Rattle.relay_world.specs.World.{Down, Host, HostState, Up, World}
 use Rattle.relay_world.proofs.OpenLemmas.{node_kept, same_Up}
 use Rattle.relay_world.proofs.PieceLemmas.{with_at, with_at-put}
 
--- changes that fit behind others that do
+-- changes that fit after others that do
 fits_behind : (queue : Queue) (changes pending : List Change) → FitsFrom queue changes
     → FitsFrom (fold step queue changes) pending → FitsFrom queue (changes ++ pending)
 fits_behind queue [] pending first second = second
@@ -114,7 +114,7 @@ module _ {D : Type 0} (honest : Type 0) (words : DiskWords D) where
     images = λ none. absurd none;
   }
 
-  -- a world in which a node awaits changes behind these, while the other nodes are what they were
+  -- a world in which a node awaits changes after these, while the other nodes are what they were
   module _ (old : World D) (lists : List (List Change)) (node : ℕ) (changes : List Change) where
     pub record Unsettled (world : World D) (row : Row) : Type 0 where
       pub later : List (List Change)

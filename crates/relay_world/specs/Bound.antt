@@ -49,7 +49,7 @@ pub record IsListOf (records : List (List ℕ)) (changes : List Change) : Type 0
   pub fitting : Fitting changes
   pub records_are : records ≡ map encode changes
 
--- each outcome of the changes behind these has the report that is due of it, and none where none is due
+-- each outcome of the changes after these has the report that is due of it, and none where none is due
 abbrev pub ReportsBehind : List ℕ → List Change → List Change → Type 0
 ReportsBehind host front [] = Unit {0}
 ReportsBehind host front (change ∷ changes) =
@@ -84,7 +84,7 @@ module _ {D : Type 0} (honest : Type 0) (words : DiskWords D) where
     pub holds : StateKeeps host.config host.state changes
     pub reports : ReportsBehind host.config.host [] changes
 
--- a node that is up has this session, which stands behind what was said
+-- a node that is up has this session, which stands after what was said
 abbrev pub SaysThere : {D : Type 0} → Host D → Option ℕ → List ℕ → Said → Type 0
 SaysThere {D} host None peer said = Unit {0}
 SaysThere {D} host (Some session) peer said =
@@ -109,7 +109,7 @@ abbrev pub IsStored : Config → List ℕ → List Change → ℕ × Offered →
 IsStored config peer changes one = IsStoredAs config peer changes one.0 one.1
 
 -- The server end of the link of a number, at a node that keeps these changes: what it has read and written is a
--- dialogue, and perhaps a reply behind it, with which it closed unasked, and where the link is whole all of it was
+-- dialogue, and perhaps a reply after it, with which it closed unasked, and where the link is whole all of it was
 -- written; the accepts on the link are the queued offers, in order, and each is stored.
 pub record ServesLink {D : Type 0} (host : Host D) (changes : List Change) (ledger : List Line) (number : ℕ)
     (link : Link)

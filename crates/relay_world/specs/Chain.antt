@@ -44,7 +44,7 @@ pub record IsChild {D : Type 0} (world : World D) (parent child : ℕ × ℕ) : 
   pub accepted : Contains {X = ℕ × ℕ} (children_of world attempt) (number, places)
   pub child_is : child ≡ (end.node, number)
 
--- a chain from a message: each of the messages behind it is a child of the one before
+-- a chain from a message: each of the messages after it is a child of the one before
 abbrev pub IsChain : {D : Type 0} → World D → ℕ × ℕ → List (ℕ × ℕ) → Type 0
 IsChain world first [] = Unit {0}
 IsChain world first (child ∷ children) = IsChild world first child × IsChain world child children

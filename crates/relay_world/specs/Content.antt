@@ -1,5 +1,5 @@
 -- What is passed on: of contents nothing but the stored text, and what a further node of ours stores of it is that text
--- behind one new time stamp line (RFC 5321, section 4.4).
+-- after one new time stamp line (RFC 5321, section 4.4).
 use Rattle.std.specs.Prelude.{◌≡◌, ℕ, List, Some, slice_get}
 use Rattle.std.specs.List.{AllByRecursion, Contains}
 use Rattle.relay_disk.specs.Device.{DiskWords}
@@ -28,12 +28,12 @@ pub record SendsOnly (host : List ℕ) (accept : Accept) (attempt : Attempt) (wr
   pub each : AllByRecursion
       (IsWritten (errand_of host accept.envelope accept.stored_text dot_text attempt.places.items)) commands
 
--- one message's text is the other's behind one new time stamp line
+-- one message's text is the other's after one new time stamp line
 pub record IsBehindOneLine (parent child : Accept) : Type 0 where
   pub stamp : Stamp
   pub passed : IsPassed stamp parent.stored_text child.stored_text
 
--- A message accepted on a link from an attempt: the change of its number accepts what the attempt's message is, behind
+-- A message accepted on a link from an attempt: the change of its number accepts what the attempt's message is, after
 -- one line.
 pub record IsPassedOn (parent : Accept) (changes : List Change) (number : ℕ) : Type 0 where
   pub child : Accept

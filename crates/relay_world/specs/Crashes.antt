@@ -1,5 +1,5 @@
 -- a stop of a node in a call, as one event: the node is down, its sessions are gone, its attempts dropped, and all its
--- links are broken. The nodes at their other ends learn of it behind its opening, in events of their own.
+-- links are broken. The nodes at their other ends learn of it after its opening, in events of their own.
 use Rattle.std.specs.Prelude.{◌≡◌, ℕ, nat_eq, Bool, true, false, List, length, map, Option, None, Some, if◌then◌else◌}
 use Rattle.std.specs.Prelude.{slice_get}
 use Rattle.relay_disk.specs.Device.{DiskWords}

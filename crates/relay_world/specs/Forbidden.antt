@@ -34,7 +34,7 @@ pub record DropsMail {D : Type 0} (honest : Type 0) (words : DiskWords D) (old n
   pub gone : Contains {X = ℕ × ℕ} (held_of after.records.queue) (number, place) → ⊥
   pub hosts : IsPut old.hosts new.hosts node (record host { state = Up after })
 
--- Behind that the world isn't bound.
+-- After that the world isn't bound.
 abbrev pub DroppingBreaks : {D : Type 0} → Type 0 → DiskWords D → Type 0
 DroppingBreaks {D} honest words =
     (old new : World D) (lists later : List (List Change)) (node number place : ℕ) → IsBound honest words old lists
@@ -52,7 +52,7 @@ pub record ForgetsLine {D : Type 0} (old new : World D) (node : ℕ) : Type 0 wh
   pub of_node : if_of_node node line ≢ []
   pub hosts : new.hosts ≡ old.hosts
 
--- Nor is it behind that.
+-- Nor is it after that.
 abbrev pub ForgettingBreaks : {D : Type 0} → Type 0 → DiskWords D → Type 0
 ForgettingBreaks {D} honest words =
     (old new : World D) (lists later : List (List Change)) (node : ℕ) → IsBound honest words old lists
@@ -92,7 +92,7 @@ LosingOutcomeBreaks {D} honest words =
     → Tells reads.of.before.config.host (changes ++ pending) reads.of.before.attempts reads.of.slot told
     → left.bodies ≡ row.bodies → reads.replied.change ≡ None
 
--- A node that heard and read links one behind another, and in whose spool there is still no more than the list from
+-- A node that heard and read links one after another, and in whose spool there is still no more than the list from
 -- before, has accepted nothing on them, and no attempt has ended by them.
 abbrev pub LosingRowBreaks : {D : Type 0} → Type 0 → DiskWords D → Type 0
 LosingRowBreaks {D} honest words =

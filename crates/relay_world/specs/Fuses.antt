@@ -20,9 +20,9 @@ abbrev pub calls_of : Option ℕ → ℕ
 calls_of None = 0
 calls_of (Some change) = 4
 
--- Where a node of a bound world goes on behind what it heard or read, a stop that was set comes nearer by four calls
--- where that made a change, and by none where it made none; behind the loss of a link, or the end of places without a
--- hop, by four; and behind its spool was written anew, by those calls that write a disk anew. Of the other events
+-- Where a node of a bound world goes on after what it heard or read, a stop that was set comes nearer by four calls
+-- where that made a change, and by none where it made none; after the loss of a link, or the end of places without a
+-- hop, by four; and after its spool was written anew, by those calls that write a disk anew. Of the other events
 -- that steps of a pair are made of, one sets a stop, some stop a node or open it, and all others leave its records as
 -- they are.
 abbrev pub StopsCountDown : {D : Type 0} → Type 0 → DiskWords D → Type 0

@@ -1,5 +1,5 @@
--- What a node does that hears several links, and reads replies on several, one behind another, where what it accepts
--- and the outcomes of attempts that end by that come into its records together: all of it, or behind a stop none.
+-- What a node does that hears several links, and reads replies on several, one after another, where what it accepts
+-- and the outcomes of attempts that end by that come into its records together: all of it, or after a stop none.
 use Rattle.std.specs.Prelude.{◌≡◌, ◌⊎◌, ◌≤◌, ℕ, true, List, [], ◌∷◌, ◌++◌, length, Option, Some, None, slice_get}
 use Rattle.std.specs.List.{AllByRecursion}
 use Rattle.relay_disk.specs.Device.{DiskWords}
@@ -55,7 +55,7 @@ abbrev pub IsOnBroken : List Link → Piece → Type 0
 IsOnBroken links piece = (link : Link) → link_at links piece.number ≡ Some link → link.broken ≡ true
 
 module _ {D : Type 0} (honest : Type 0) (words : DiskWords D) where
-  -- the note stands behind those of the row
+  -- the note stands after those of the row
   abbrev pub IsNotedBehind : Kept D → Row → Row → Noted → Type 0
   IsNotedBehind old row left note =
       (changes pending : List Change) → Awaits honest words old changes pending row
@@ -74,7 +74,7 @@ module _ {D : Type 0} (honest : Type 0) (words : DiskWords D) where
       × (new.ledger ≡ old.ledger ++ Accepted of.end.node change noted.accepted number ∷ [])
 
   -- A node has heard octets of a link at a moment, by one call, without a fault, and put the record of what it accepted
-  -- behind a row. Outside sees nothing of it yet.
+  -- after a row. Outside sees nothing of it yet.
   pub record HasHeardInto (at : ℕ) (old new : World D) (node : ℕ) (piece : Piece) (row left : Row) : Type 0 where
     pub of : SessionOf old piece.number
     pub its_node : of.end.node ≡ node
@@ -91,7 +91,7 @@ module _ {D : Type 0} (honest : Type 0) (words : DiskWords D) where
     pub accepts : AcceptsInto old new piece.number of after row left received.change
     pub rest : (new.attempts ≡ old.attempts) × (new.clock ≡ old.clock) × (length new.hosts ≡ length old.hosts)
 
-  -- What a node that read replies to an attempt has put behind the row: the outcome of this number, with which they
+  -- What a node that read replies to an attempt has put after the row: the outcome of this number, with which they
   -- have ended it, and which is in its spool not yet.
   pub record EndsInto (old new : World D) (number : ℕ) (of : AttemptOf old number) (after : NodeState D)
       (row left : Row) (change : ℕ) : Type 0 where
@@ -113,7 +113,7 @@ module _ {D : Type 0} (honest : Type 0) (words : DiskWords D) where
   OutcomeInto old new number of after row left (Some change) = EndsInto old new number of after row left change
 
   -- An attempt of a node has read replies on a link at a moment, by one call, without a fault, and the record of its
-  -- outcome, if they have ended it, was put behind a row. Outside sees nothing of it yet.
+  -- outcome, if they have ended it, was put after a row. Outside sees nothing of it yet.
   pub record HasReadInto (at : ℕ) (old new : World D) (node : ℕ) (piece : Piece) (row left : Row) : Type 0 where
     pub of : AttemptOf old piece.number
     pub its_node : of.attempt.node ≡ node
@@ -142,14 +142,14 @@ module _ {D : Type 0} (honest : Type 0) (words : DiskWords D) where
     AttemptDropped : (drops : DropsAttempt old new piece.number) → drops.of.attempt.node ≡ node → left ≡ row
         → HasTurnedTo at old new node piece row left
 
-  -- the same of each of these, one behind another
+  -- the same of each of these, one after another
   abbrev pub HasHeardEach : ℕ → World D → World D → ℕ → List Piece → Row → Row → Type 0
   HasHeardEach at old new node [] row left = (new ≡ old) × (left ≡ row)
   HasHeardEach at old new node (piece ∷ pieces) row left =
       (next : World D) × (more : Row) × HasTurnedTo at old next node piece row more
       × HasHeardEach at next new node pieces more left
 
-  -- A node has heard or read these links, one behind another, and then has brought the records of all that it accepted,
+  -- A node has heard or read these links, one after another, and then has brought the records of all that it accepted,
   -- and of all outcomes, into its spool. What it writes is on the links, unless they broke in the call.
   pub record HasHeardAll (old new : World D) (node : ℕ) (pieces : List Piece) : Type 0 where
     pub before : IsUp old node
@@ -170,7 +170,7 @@ module _ {D : Type 0} (honest : Type 0) (words : DiskWords D) where
   -- A node has stopped while the records of all that it had accepted, and of all outcomes, were brought into its spool,
   -- and now is opened again. In between it did nothing, so this is one event at its opening. Its links broke in the
   -- call, so nobody was handed what it would have written. Where its next number is as before it turned to them, none
-  -- of the records is there, and it is as if it had heard and read nothing; and where it comes behind all of them, all
+  -- of the records is there, and it is as if it had heard and read nothing; and where it comes after all of them, all
   -- are there.
   pub record HasReopenedBehindGroup (old new : World D) (node : ℕ) (pieces : List Piece) : Type 0 where
     pub before : IsUp old node

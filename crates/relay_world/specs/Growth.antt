@@ -75,7 +75,7 @@ ListsGrow lists later =
     (node : ℕ) (before after : List Change) → slice_get lists node ≡ Some before → slice_get later node ≡ Some after
     → Begins before after
 
--- Behind any number of events it is so.
+-- After any number of events it is so.
 abbrev pub RunsGrow : {D : Type 0} → Type 0 → DiskWords D → Type 0
 RunsGrow {D} honest words = (count : ℕ) (old new : World D) → Happen honest words count old new → HasGrown old new
 
@@ -86,7 +86,7 @@ GrownListsBegin {D} honest words =
     → IsBound honest words new later
     → HasGrown old new → ListsGrow lists later
 
--- Behind any number of events on honest disks, of relays that were bound, so it is of attempts.
+-- After any number of events on honest disks, of relays that were bound, so it is of attempts.
 abbrev pub RunsKeepAttempts : {D : Type 0} → Type 0 → DiskWords D → Type 0
 RunsKeepAttempts {D} honest words =
     honest → (count : ℕ) (old new : World D) (lists : List (List Change)) → IsBound honest words old lists

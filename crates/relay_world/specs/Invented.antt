@@ -36,7 +36,7 @@ pub record Invents {D : Type 0} (honest : Type 0) (words : DiskWords D) (old new
       (record host { state = Up (without_note after); records = host.records ++ noted.octets ∷ [] })
   pub attempts : new.attempts ≡ old.attempts
 
--- Behind that it isn't so that each outcome is that of an attempt.
+-- After that it isn't so that each outcome is that of an attempt.
 abbrev pub InventingBreaks : {D : Type 0} → Type 0 → DiskWords D → Type 0
 InventingBreaks {D} honest words =
     (old new : World D) (lists later : List (List Change)) (node change : ℕ) → IsBound honest words old lists

@@ -22,14 +22,14 @@ abbrev pub report_number : ℕ → List ℕ → ℕ
 report_number number [] = 0
 report_number number (octet ∷ report) = number
 
--- the steps of a change behind these
+-- the steps of a change after these
 abbrev pub steps_by : List Change → Change → List Step
 steps_by changes (Accept accept) = Accepts (suc (length changes)) (length accept.envelope.recipients) ∷ []
 steps_by changes (Outcome outcome) =
     map (λ one. Becomes one.1 outcome.message one.0 (report_number (suc (length changes)) outcome.report))
     (place_steps (queue_of changes) (Outcome outcome))
 
--- the steps of changes behind these
+-- the steps of changes after these
 abbrev pub steps_behind : List Change → List Change → List Step
 steps_behind front [] = []
 steps_behind front (change ∷ changes) = steps_by front change ++ steps_behind (front ++ change ∷ []) changes

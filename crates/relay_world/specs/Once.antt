@@ -85,7 +85,7 @@ pub record GivesUpNoHops (routes : RouteTable) (changes : List Change) (octets :
   pub octets_are : octets ≡ encode one
   pub none : (outcome : Outcome) → one ≡ change.Outcome outcome → HasNoHops routes changes outcome
 
--- No place is tried twice at a time, or again behind an attempt that passed it on.
+-- No place is tried twice at a time, or again after an attempt that passed it on.
 pub record IsTriedOnce {D : Type 0} (world : World D) (lists : List (List Change)) : Type 0 where
   pub once : (one other node message place : ℕ) → ClaimsAt world lists one node message place
       → ClaimsAt world lists other node message place → one ≡ other
@@ -159,13 +159,13 @@ SourcesAreKept {D} honest words =
     (old new : World D) (lists later : List (List Change)) → IsBound honest words old lists → IsTriedOnce old lists
     → HasSources old lists → Happens honest words old new → IsBound honest words new later → HasSources new later
 
--- so many events, one behind another, have made the other world of the one
+-- so many events, one after another, have made the other world of the one
 abbrev pub Happen : {D : Type 0} → Type 0 → DiskWords D → ℕ → World D → World D → Type 0
 Happen honest words zero old new = new ≡ old
 Happen {D} honest words (suc count) old new =
     (next : World D) × Happens honest words old next × Happen honest words count next new
 
--- Behind any number of events a bound world in which each place is tried once, attempts have the links that they are
+-- After any number of events a bound world in which each place is tried once, attempts have the links that they are
 -- meant to have, and lines their sources, is still all of that, where disks are honest.
 abbrev pub RunsKeepAll : {D : Type 0} → Type 0 → DiskWords D → Type 0
 RunsKeepAll {D} honest words =

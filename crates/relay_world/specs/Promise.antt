@@ -72,7 +72,7 @@ pub record KeepsPromise {D : Type 0} (honest : Type 0) (words : DiskWords D) (wo
       → KeepsCustody honest words world node host changes
   -- there is one copy at most, and one more for each reply that was lost
   pub copies : (node message place : ℕ) → HasFewCopies world lists node message place
-  -- of contents nothing is passed on but what came, behind a new time stamp line
+  -- of contents nothing is passed on but what came, after a new time stamp line
   pub content : (number place : ℕ) (link : Link) (attempt : Attempt) (host : Host D) (changes : List Change)
       (accept : Accept) → link_at world.links number ≡ Some link → link.client ≡ Some place
       → slice_get world.attempts place ≡ Some attempt → StandsAt world lists attempt.node host changes
@@ -89,7 +89,7 @@ pub record KeepsPromise {D : Type 0} (honest : Type 0) (words : DiskWords D) (wo
   pub delays : (node : ℕ) (host : Host D) (changes : List Change) → StandsAt world lists node host changes
       → DelaysOnce changes
 
--- Behind any number of events, on honest disks, relays that were bound, tried each place once, and had the links that
+-- After any number of events, on honest disks, relays that were bound, tried each place once, and had the links that
 -- they were meant to have, and lines with their sources, keep the promise, and have all that they had recorded, told,
 -- written and read, and the attempts that they had.
 abbrev pub PromiseIsKept : {D : Type 0} → Type 0 → DiskWords D → Type 0

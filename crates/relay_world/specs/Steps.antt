@@ -27,7 +27,7 @@ use Rattle.relay_world.specs.Ledger.{left_lines, report_told}
 use Rattle.relay_world.specs.HopLinks.{IsLinkedToHop}
 use Rattle.relay_world.specs.World.{Host, Up, World, link_at}
 
--- the value is put at this place: in the place of another, or behind the last; all others are the same
+-- the value is put at this place: in the place of another, or after the last; all others are the same
 pub record IsPut {A : Type 0} (old new : List A) (place : ℕ) (value : A) : Type 0 where
   pub at : slice_get new place ≡ Some value
   pub others : (other : ℕ) → other ≢ place → slice_get new other ≡ slice_get old other
@@ -95,7 +95,7 @@ pub record HasOpened {D : Type 0} (old new : World D) (node : ℕ) (peer : List 
   pub rest : (new.attempts ≡ old.attempts) × (new.ledger ≡ old.ledger) × (new.clock ≡ old.clock)
       × (length new.hosts ≡ length old.hosts)
 
--- the link with octets behind what the client end wrote, or behind what the server end wrote
+-- the link with octets after what the client end wrote, or after what the server end wrote
 abbrev pub written_up : Link → List ℕ → Link
 written_up link octets = record link { up = link.up ++ octets }
 
@@ -127,7 +127,7 @@ waiting_up count link = take count (drop link.up_read link.up)
 abbrev pub unless_broken : Link → List ℕ → List ℕ
 unless_broken link octets = if link.broken then [] else octets
 
--- the link behind a call of its server end
+-- the link after a call of its server end
 abbrev pub session_after : Bool → ℕ → Option ℕ
 session_after true session = None
 session_after false session = Some session
@@ -172,7 +172,7 @@ pub record HasHeard {D : Type 0} (honest : Type 0) (words : DiskWords D) (old ne
   pub records : RecordsHeard old new of.end.node number of.host after received.change
   pub rest : (new.attempts ≡ old.attempts) × (new.clock ≡ old.clock) × (length new.hosts ≡ length old.hosts)
 
--- what stands on a link behind the reply with which its server end closes unasked, if it does: on a broken link nothing
+-- what stands on a link after the reply with which its server end closes unasked, if it does: on a broken link nothing
 -- more
 abbrev pub closed_down : Link → Option Reply → List ℕ
 closed_down link None = link.down
@@ -183,7 +183,7 @@ abbrev pub ended_link : Link → ServerEnd → Option Reply → Link
 ended_link link end closing =
     record link { server = Some (record end { session = None }); down = closed_down link closing }
 
--- The session at a link's server end is gone, at its node too, with a reply of its own behind all others, or with none.
+-- The session at a link's server end is gone, at its node too, with a reply of its own after all others, or with none.
 pub record EndsWith {D : Type 0} (old new : World D) (number : ℕ) (closing : Option Reply) : Type 0 where
   pub of : SessionOf old number
   pub after : NodeState D
@@ -202,7 +202,7 @@ pub record EndsWith {D : Type 0} (old new : World D) (number : ℕ) (closing : O
 abbrev pub EndsSession : {D : Type 0} → World D → World D → ℕ → Type 0
 EndsSession old new number = EndsWith old new number None
 
--- A node has cut a client off, as one that was waited for too long: its session is gone, and behind whole replies
+-- A node has cut a client off, as one that was waited for too long: its session is gone, and after whole replies
 -- stands one more, of code 421 (RFC 5321, section 3.8).
 pub record CutsOff {D : Type 0} (old new : World D) (number : ℕ) (reply : Reply) : Type 0 where
   pub formed : IsReply reply
@@ -213,7 +213,7 @@ pub record CutsOff {D : Type 0} (old new : World D) (number : ℕ) (reply : Repl
 abbrev pub waiting_down : ℕ → Link → List ℕ
 waiting_down count link = take count (drop link.down_read link.down)
 
--- the link behind a call of its client end
+-- the link after a call of its client end
 abbrev pub read_link : Link → Replied → Link
 read_link link replied = record link {
   up = link.up ++ unless_broken link replied.out.items;

@@ -29,7 +29,7 @@ pub fn accepted_is_acknowledged<D: Disk>()
     ensures { AcceptedIsAcknowledged D.honest D.words }
 {}
 
-/// Of contents an attempt writes nothing but the stored text, and a further node stores it behind one new time stamp
+/// Of contents an attempt writes nothing but the stored text, and a further node stores it after one new time stamp
 /// line.
 pub fn content_is_kept<D: Disk>()
     ensures { ContentIsKept D.honest D.words }
@@ -50,7 +50,7 @@ pub fn hearing_keeps<D: Disk>()
     ensures { HearingKeeps D.honest D.words }
 {}
 
-/// Octets that a node hears on several links, and replies that its attempts read, one behind another, keep a world
+/// Octets that a node hears on several links, and replies that its attempts read, one after another, keep a world
 /// bound, where the records of all mail that it accepted, and of all attempts that ended, then come into its spool
 /// together: with a change more for each.
 pub fn hearing_all_keeps<D: Disk>()
@@ -62,7 +62,7 @@ pub fn ending_keeps<D: Disk>()
     ensures { EndingKeeps D.honest D.words }
 {}
 
-/// A session that is cut off, with one reply behind all others, keeps a world bound.
+/// A session that is cut off, with one reply after all others, keeps a world bound.
 pub fn cutting_off_keeps<D: Disk>()
     ensures { CuttingOffKeeps D.honest D.words }
 {}

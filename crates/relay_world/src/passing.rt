@@ -40,7 +40,7 @@ pub fn once_at_first<D: Disk>()
     ensures { OnceAtFirst D.words }
 {}
 
-/// Whatever event comes, no place is tried twice at a time, or again behind an attempt that passed it on.
+/// Whatever event comes, no place is tried twice at a time, or again after an attempt that passed it on.
 pub fn once_is_kept<D: Disk>()
     ensures { OnceIsKept D.honest D.words }
 {}
@@ -56,7 +56,7 @@ pub fn hop_links_are_kept<D: Disk>()
     ensures { HopLinksAreKept D.honest D.words }
 {}
 
-/// Behind any number of events relays are still bound, each place is tried once, attempts have the links that they are
+/// After any number of events relays are still bound, each place is tried once, attempts have the links that they are
 /// meant to have, and each line of the ledger has its source.
 pub fn runs_keep_all<D: Disk>()
     ensures { RunsKeepAll D.honest D.words }
@@ -147,7 +147,7 @@ pub fn chains_are_short<D: Disk>()
     ensures { ChainsAreShort D.honest D.words }
 {}
 
-/// Behind any number of events the nodes have the records that they had, the ledger its lines, and links what was
+/// After any number of events the nodes have the records that they had, the ledger its lines, and links what was
 /// written and read.
 pub fn runs_grow<D: Disk>()
     ensures { RunsGrow D.honest D.words }
@@ -158,7 +158,7 @@ pub fn grown_lists_begin<D: Disk>()
     ensures { GrownListsBegin D.honest D.words }
 {}
 
-/// Behind any number of events each recipient that a node acknowledged, and each of a report, is held there, accepted
+/// After any number of events each recipient that a node acknowledged, and each of a report, is held there, accepted
 /// by its next hop with the values that it has, or has ended for a cause with the report that is due; what a node's
 /// replies refused it doesn't hold; there is one copy at most, and one more for each lost reply; nothing else was
 /// passed on; each line of the ledger has its source; and attempts have gone on, or have come to their ends.

@@ -66,7 +66,7 @@ fn hand_on(alloc: Global, envelope: &Envelope, stored_text: &[u8]) -> Result<u64
     Ok(octets)
 }
 
-/// How many octets are written behind this reply.
+/// How many octets are written after this reply.
 fn count_written(
     attempt: &mut Attempt,
     mail: &MailObject<'_>,

@@ -57,7 +57,7 @@ pub fn begin_attempts(
     Ok(())
 }
 
-/// Hands each message of the node in these files to a next hop that takes it, one behind another.
+/// Hands each message of the node in these files to a next hop that takes it, one after another.
 pub fn deliver_messages(rt: &HostRuntime, told: &mut Told, path: &str) -> Result<(), Fail> {
     let mut node = opened(rt, path)?;
     let delivered = deliver(told.alloc, &mut node)?;

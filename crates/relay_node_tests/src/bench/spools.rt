@@ -84,7 +84,7 @@ pub fn sync_twice(
     Ok(())
 }
 
-/// Writes these octets behind a place, and then an octet there, with a sync behind each write.
+/// Writes these octets after a place, and then an octet there, with a sync after each write.
 fn sync_link(file: &File, place: u64, octets: &[u8]) -> io::Result<()> {
     file.write_all_at(octets, place.saturating_add(1))?;
     file.sync_data()?;

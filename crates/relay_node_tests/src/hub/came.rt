@@ -41,7 +41,7 @@ fn outcome_of(alloc: Global, link: Link, trial: Trial) -> Result<Came, Fail> {
     }
 }
 
-/// How many changes there are to be: that of the mail where it was taken, and behind an attempt its outcome as well.
+/// How many changes there are to be: that of the mail where it was taken, and after an attempt its outcome as well.
 fn changes_of(row: Row<'_>) -> u64 {
     match row.link {
         Link::Serve => { if row.held == 0 { 0 } else { 1 } }

@@ -7,7 +7,7 @@ use relay_links::LinkFault;
 use std::alloc::Global;
 use std::test::Fail;
 
-/// The number of the flush behind the reply to the content, by which the message is taken already.
+/// The number of the flush after the reply to the content, by which the message is taken already.
 const TAKEN: usize = 6;
 
 pub(crate) fn ends_where_a_flush_fails(alloc: Global) -> Result<bool, Fail> {
@@ -19,7 +19,7 @@ pub(crate) fn ends_where_a_flush_fails(alloc: Global) -> Result<bool, Fail> {
     Ok(true)
 }
 
-/// The session ends at this flush: behind it nothing is written or flushed, and the message is held exactly
+/// The session ends at this flush: after it nothing is written or flushed, and the message is held exactly
 /// where its reply was written.
 fn ends_at_flush(alloc: Global, bad_flush: usize) -> Result<bool, Fail> {
     let mut node = empty_node(alloc)?;

@@ -20,7 +20,7 @@ use std::sync::Wait;
 use std::sync::ledger::Blank;
 use std::test::Fail;
 
-/// A spool that is a snapshot alone: no message, and behind 2^62 the next number.
+/// A spool that is a snapshot alone: no message, and after 2^62 the next number.
 const LAST: &[u8] =
     b"RELAYQ01\x01\0\0\0\0\0\0\0\x01\x01\0\0\0\x0d\x05\x40\0\0\0\0\0\0\x01\0\0\0\0\0";
 
@@ -32,7 +32,7 @@ struct Came {
     written: usize,
     /// How many receipts its thread has.
     receipts: usize,
-    /// How many places the node holds behind it.
+    /// How many places the node holds after it.
     held: usize,
 }
 

@@ -68,7 +68,7 @@ pub(crate) fn outcome_of<T: Threads + Wait + Sync>(
     })
 }
 
-/// Runs the rounds, and adds what each came to. It says how many places the disk opens to behind them.
+/// Runs the rounds, and adds what each came to. It says how many places the disk opens to after them.
 fn run_rounds<T: Threads + Wait + Sync>(
     rt: &T,
     alloc: Global,

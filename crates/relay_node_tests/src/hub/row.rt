@@ -2,7 +2,7 @@ use crate::calls::SPOOL_LIMIT;
 use crate::words::Words;
 
 /// So many rounds of one node, one after another, each of so many threads, each of which gives so many messages, over
-/// a spool of this limit, whose device fails behind so many calls, if it does.
+/// a spool of this limit, whose device fails after so many calls, if it does.
 #[derive(Clone, Copy)]
 pub struct Trial {
     pub rounds: u64,

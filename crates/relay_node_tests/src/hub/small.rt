@@ -24,7 +24,7 @@ pub(crate) enum Small {
     Ended { well: u32, idle: u32 },
 }
 
-/// Runs the round. It fails where memory runs out before or behind it, and where something comes otherwise than it may.
+/// Runs the round. It fails where memory runs out before or after it, and where something comes otherwise than it may.
 pub(crate) fn small_round<T: Threads + Wait + Sync>(rt: &T, alloc: Global) -> Result<Small, Fail> {
     let config = config_with(alloc, SPOOL_LIMIT)?;
     let node = empty_node(alloc)?;

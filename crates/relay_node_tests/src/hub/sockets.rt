@@ -9,7 +9,7 @@ use std::io::{self, Read, Write};
 use std::net::{Ipv4Addr, Net, SocketAddr, SocketAddrV4, TcpListener, TcpStream};
 use std::test::Fail;
 
-/// Both ends of a connection over 127.0.0.1, that of the relay behind that of the other.
+/// Both ends of a connection over 127.0.0.1, that of the relay after that of the other.
 fn connection<N: Net<Listener = TcpListener, Stream = TcpStream>>(
     net: &N,
 ) -> io::Result<(TcpStream, TcpStream)> {

@@ -3,8 +3,8 @@ use crate::words::Words;
 /// A row of links.in: which link is tried, and where it ends or fails, the first and the last number of that, and
 /// what is to come of each.
 ///
-/// The link is `serve` or `push`. Behind `size` the peer gives so many octets at a call, and behind `input` it ends
-/// behind so many; behind `read` a read fails once where so many are read, and behind `write` a write where so many
+/// The link is `serve` or `push`. After `size` the peer gives so many octets at a call, and after `input` it ends
+/// after so many; after `read` a read fails once where so many are read, and after `write` a write where so many
 /// are written.
 #[derive(Clone, Copy)]
 pub struct Row<'a> {

@@ -183,7 +183,7 @@ fn tell_used(told: &mut Told, used: usize, change: Option<u64>, last: Option<&Ou
     }
 }
 
-/// Tells a number behind these words, or a fault.
+/// Tells a number after these words, or a fault.
 fn tell_number(told: &mut Told, words: &str, number: Result<u64, NodeFault>) {
     match number {
         Ok(number) => told.count(words, number),

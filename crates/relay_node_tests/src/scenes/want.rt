@@ -23,7 +23,7 @@ pub(crate) enum Came {
     Queued(u64),
 }
 
-/// Gives three messages at once. It fails where memory runs out before or behind that, and where a client is told
+/// Gives three messages at once. It fails where memory runs out before or after that, and where a client is told
 /// otherwise than its change and its note say.
 pub(crate) fn three_at_once(alloc: Global) -> Result<Came, Fail> {
     let mut relay = relay_with(alloc, WIDE, None)?;

@@ -1,6 +1,6 @@
-//! The step `once CALLS CALL` of two disks: a call of a spool on them, of which the device fails one call behind so
+//! The step `once CALLS CALL` of two disks: a call of a spool on them, of which the device fails one call after so
 //! many and goes on. `create` and `open` are the calls, and `append OCTETS` and `compact OCTETS`, which `open` goes
-//! before. It answers what the call answers, and how many bodies the same disks open to behind that, or the fault of
+//! before. It answers what the call answers, and how many bodies the same disks open to after that, or the fault of
 //! that opening.
 use crate::answer::Answer;
 use crate::disks::calls::{append, compact};

@@ -2,7 +2,7 @@ use crate::answer::Answer;
 use crate::disks::held::Held;
 use crate::disks::mount::take_step;
 
-/// A row: the first and the last number by which it is played, steps between ` ; `, and behind ` => ` as many
+/// A row: the first and the last number by which it is played, steps between ` ; `, and after ` => ` as many
 /// answers between ` ; `. Where the word `N` stands in a step, it is the number.
 #[derive(Clone, Copy)]
 pub struct Row<'a> {

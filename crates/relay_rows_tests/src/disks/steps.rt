@@ -1,5 +1,5 @@
 //! Takes steps on a spool in two files: a line each, and a line of what came of it. The second file's name is that of
-//! the first with `.2` behind it. tests/spool_on_a_file.sh takes steps so, with the calls that they make of the
+//! the first with `.2` after it. tests/spool_on_a_file.sh takes steps so, with the calls that they make of the
 //! device written down.
 //!
 //! - `remove`: removes the files, where there are any;
@@ -135,7 +135,7 @@ fn change(held: &mut Held, step: &str, text: &str, answer: &mut Answer) {
     }
 }
 
-/// Tells a size behind these words.
+/// Tells a size after these words.
 fn tell_size(answer: &mut Answer, words: &str, size: usize) {
     answer.count(words, size as u64);
     answer.say(" octets");

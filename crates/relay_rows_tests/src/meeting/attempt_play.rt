@@ -53,7 +53,7 @@ impl<'a> AttemptPlay<'a> {
         })
     }
 
-    /// Gives the next octets of the server, which begin behind so many.
+    /// Gives the next octets of the server, which begin after so many.
     fn give(&mut self, start: usize, piece: &[u8]) {
         let had_ended = self.verdicts.is_some();
         let mail = MailObject {
@@ -106,7 +106,7 @@ impl<'a> AttemptPlay<'a> {
         }
     }
 
-    /// Whether behind so many octets of the server that is written which is to be.
+    /// Whether after so many octets of the server that is written which is to be.
     fn is_written_behind(&self, said: usize) -> bool {
         self.written.len() == written_behind(self.transcript.marks.as_slice(), said)
             && self

@@ -65,7 +65,7 @@ fn is_wanted(alloc: Global, recipient: &Recipient, offered: Option<&Recipient>) 
     }
 }
 
-/// Whether of the replies that these octets begin with those behind the first three are to all RCPTs, by the server's
+/// Whether of the replies that these octets begin with those after the first three are to all RCPTs, by the server's
 /// table.
 pub fn are_rcpts(alloc: Global, row: Row<'_>, octets: &[u8]) -> bool {
     let mut reader = ReplyReader::new(alloc);

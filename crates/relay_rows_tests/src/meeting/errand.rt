@@ -78,7 +78,7 @@ impl Errand {
         }
     }
 
-    /// Adds 100 `Received:` fields, and what stands behind them.
+    /// Adds 100 `Received:` fields, and what stands after them.
     fn push_circling(&mut self, answer: &mut Answer, behind: &[u8]) {
         self.push_count(answer, b"received:\r\n", 100);
         self.push_count(answer, behind, 1);

@@ -19,7 +19,7 @@ pub fn written_offer(alloc: Global, offer: &Offer<'_>) -> Result<Octets, AllocEr
     Ok(text)
 }
 
-/// Adds what stands behind the first words of an offer.
+/// Adds what stands after the first words of an offer.
 fn push_offer(alloc: Global, text: &mut Octets, offer: &Offer<'_>) -> Result<(), AllocError>
     ensures { OnOk result (text.new ≡ offer_behind text.old (offered offer.now)) }
 {
@@ -46,7 +46,7 @@ fn word_of(protocol: Protocol) -> &'static [u8]
     }
 }
 
-/// Adds each recipient behind a space.
+/// Adds each recipient after a space.
 fn push_recipients(
     alloc: Global,
     text: &mut Octets,

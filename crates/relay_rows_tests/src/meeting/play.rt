@@ -75,7 +75,7 @@ impl<'a> Play<'a> {
         self.offers.as_slice()
     }
 
-    /// Gives the client's next octets. Those behind a close nobody reads. It fails where memory runs out.
+    /// Gives the client's next octets. Those after a close nobody reads. It fails where memory runs out.
     pub fn give(&mut self, piece: &[u8]) -> Result<(), AllocError>
         ensures { OnOk result ((setup : Setup) (octets : List ℕ) → Plays setup self.old octets
             → Plays setup self.new (octets ++ piece.now)) }

@@ -20,9 +20,9 @@ pub enum End {
 
 /// A row of transcripts.in: a message, what a server says and what is to be written to it, and the verdicts.
 ///
-/// Each line of it begins with a word: `name`, `host`, `mail`, `rcpt` (for each recipient, behind it), `text`,
+/// Each line of it begins with a word: `name`, `host`, `mail`, `rcpt` (for each recipient, after it), `text`,
 /// `place` (once for each), `S` (a line of the server), `s` (octets of it), `C` (a line of ours), `c` (octets of
-/// ours), `B` (a line of the server behind the end), `end`, `V` (a verdict).
+/// ours), `B` (a line of the server after the end), `end`, `V` (a verdict).
 pub struct Transcript {
     pub name: String,
     pub host: Vec<u8>,
@@ -30,7 +30,7 @@ pub struct Transcript {
     pub envelope: Option<Envelope>,
     pub text: Vec<u8>,
     pub places: Vec<u8>,
-    /// What the server says, also behind the end.
+    /// What the server says, also after the end.
     pub said: Vec<u8>,
     /// How many octets of it come up to the end.
     pub end_at: usize,
@@ -109,7 +109,7 @@ impl Transcript {
         answer.note(taken);
     }
 
-    /// Takes what stands behind the colon of MAIL.
+    /// Takes what stands after the colon of MAIL.
     fn take_mail(&mut self, answer: &mut Answer, text: &[u8]) {
         match envelope_of(answer.alloc, text) {
             Ok(envelope) => self.envelope = Some(envelope),
@@ -117,7 +117,7 @@ impl Transcript {
         }
     }
 
-    /// Takes what stands behind the colon of RCPT.
+    /// Takes what stands after the colon of RCPT.
     fn take_rcpt(&mut self, answer: &mut Answer, text: &[u8]) {
         match &mut self.envelope {
             Some(envelope) => {
@@ -136,7 +136,7 @@ impl Transcript {
         said
     }
 
-    /// Takes what is to be written behind what was said so far.
+    /// Takes what is to be written after what was said so far.
     fn take_written(&mut self, text: &[u8], end: &[u8]) -> Result<(), AllocError> {
         push_unescaped(&mut self.written, text)?;
         self.written.extend_from_slice(end)?;
@@ -158,7 +158,7 @@ fn end_of(word: &str) -> End {
     }
 }
 
-/// Puts the octets of a line behind what stands in `out`.
+/// Puts the octets of a line after what stands in `out`.
 fn push_line(out: &mut Vec<u8>, text: &[u8]) -> Result<(), AllocError> {
     push_unescaped(out, text)?;
     out.extend_from_slice(b"\r\n")

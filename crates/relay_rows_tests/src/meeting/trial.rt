@@ -9,8 +9,8 @@ const SIZES: [usize; 3] = [1, 7, 64];
 /// What a row came to.
 #[derive(Clone, Copy)]
 pub enum Outcome {
-    /// All was as it must be: whole, and with the server cut off behind each of so many octets that it reads, and the
-    /// client behind each of so many.
+    /// All was as it must be: whole, and with the server cut off after each of so many octets that it reads, and the
+    /// client after each of so many.
     Lawful { up: usize, down: usize },
     /// Where nothing is cut off, in pieces of so many octets, something else came.
     DiffersWhole(usize),

@@ -1,4 +1,4 @@
--- The file behind `--config` or the default one, by the rows of a parse.
+-- The file after `--config` or the default one, by the rows of a parse.
 use Rattle.std.proofs.Common.{◌≡◌, ◌∙◌, ap, refl, Option, None, Some, option_map, unwrap_or, List, ℕ, Bor, codes}
 use Rattle.clap.specs.Words.{found_of}
 use Rattle.clap.proofs.WalkLemmas.{first_value-rows}

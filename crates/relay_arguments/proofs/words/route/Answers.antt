@@ -1,4 +1,4 @@
--- The address behind `--route`, by the rows of a parse.
+-- The address after `--route`, by the rows of a parse.
 use Rattle.std.proofs.Common.{◌∙◌, codes}
 use Rattle.clap.specs.Words.{found_of}
 use Rattle.clap.proofs.WalkLemmas.{first_value-rows}

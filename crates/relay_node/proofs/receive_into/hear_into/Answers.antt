@@ -1,4 +1,4 @@
--- What was heard, and what became of an offer that there is room for behind the row.
+-- What was heard, and what became of an offer that there is room for after the row.
 use Rattle.std.proofs.Common.{inl, inr, refl, ap, ◌∙◌, arith, subst, sym}
 use Rattle.relay_book.specs.declared.change.Change.{Change}
 use Rattle.relay_book.specs.Queue.{step}

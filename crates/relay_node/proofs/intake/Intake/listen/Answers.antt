@@ -1,4 +1,4 @@
--- Each round reads on behind the octets before; an offer without room is refused.
+-- Each round reads on after the octets before; an offer without room is refused.
 use Rattle.std.proofs.Common.{◌≡◌, ◌<◌, ◌^◌, Option, rules, subst, sym}
 use Rattle.relay_server.specs.declared.session.Next.TheVariants as next
 use Rattle.relay_server.specs.Session.{next_of}

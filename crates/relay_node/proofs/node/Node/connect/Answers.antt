@@ -1,4 +1,4 @@
--- A session that was just made stands behind its greeting.
+-- A session that was just made stands after its greeting.
 use Rattle.std.proofs.Common.{refl, sym, subst}
 use Rattle.relay_server.specs.Setup.{setup_for}
 use Rattle.relay_node.specs.Node.{SessionHasSaid, greeted_by}

@@ -1,4 +1,4 @@
--- A session is taken out, heard behind a row, and put back.
+-- A session is taken out, heard after a row, and put back.
 use Rattle.std.proofs.Common.{◌≡◌, ◌∙◌, None, ap, refl, sym, rules}
 use Rattle.relay_records.specs.declared.fault.NodeFault.TheVariants.{Full}
 use Rattle.relay_slots.proofs.Theorems.{others_of_set}

@@ -1,4 +1,4 @@
--- The lines that end with some octets are played, one behind another.
+-- The lines that end with some octets are played, one after another.
 use Rattle.relay_disk.specs.Memory.{memory_words}
 use Rattle.relay_play.proofs.ScriptLemmas.{all_used, line_used}
 use Rattle.relay_play.proofs.script.Player.play_lines.Goals as goal

@@ -1,4 +1,4 @@
--- The answer's reply goes behind the replies, and the offer's text behind those of the others.
+-- The answer's reply goes after the replies, and the offer's text after those of the others.
 use Rattle.std.proofs.Common.{◌≡◌, ◌++◌, ◌∷◌, [], rules}
 use Rattle.relay_server.specs.Session.{offered, open_offers}
 use Rattle.relay_rows_tests.specs.OfferText.{offer_text}

@@ -1,4 +1,4 @@
--- Each round goes on behind the octets before, and each offer is answered.
+-- Each round goes on after the octets before, and each offer is answered.
 use Rattle.std.proofs.Common.{◌≡◌, ◌≢◌, true, false, rules, refl, ◌∙◌}
 use Rattle.relay_server.specs.declared.session.Next.TheVariants as next
 use Rattle.relay_server.specs.Session.{next_of}
