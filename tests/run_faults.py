@@ -404,7 +404,9 @@ def a_sync_that_fails_ends_it(field):
                     client.begin()
                     same(f"{name}: a message", refused_or_lost(client), True)
             same(f"{name}: its end", process.wait(PATIENCE), 1)
-            same(f"{name}: its last line", relay.log.read_text().splitlines()[-1], "relayd: device")
+            lines = relay.log.read_text().splitlines()
+            same(f"{name}: its last lines", [lines[-2].partition("Z ")[2], lines[-1]],
+                 ["relayd: stopping reason=device", "relayd: device"])
         finally:
             process.kill()
             process.communicate()
