@@ -389,19 +389,24 @@ def a_compaction_whose_last_write_is_said_to_have_failed_ends_nothing(field):
 
 
 def a_sync_that_fails_ends_it(field):
-    # The first two syncs are those of the opening; an accept has two.
-    for failed in [{"FAILED_SYNC": "3"}, {"FAILED_SYNC": "4"}, {"FULL_WRITE": "1", "FAILED_SYNC": "3"},
-                   {"FULL_WRITE": "1", "FAILED_SYNC": "4"}, {"FULL_WRITE": "1", "FAILED_SYNC": "6"}]:
+    # The first two syncs are those of the opening, the third that of the other file, which is cut; an accept has two.
+    for failed in [{"FAILED_SYNC": "3"}, {"FAILED_SYNC": "4"}, {"FAILED_SYNC": "5"},
+                   {"FULL_WRITE": "1", "FAILED_SYNC": "4"}, {"FULL_WRITE": "1", "FAILED_SYNC": "5"},
+                   {"FULL_WRITE": "1", "FAILED_SYNC": "7"}]:
         name = "-".join(f"{key}{value}" for key, value in failed.items())
         relay = field.relay(name)
         shim(field, "device_calls", relay, CALLS=str(field.folder / f"{name}-calls"), **failed)
         process = relay.begin()
         try:
-            with Client(relay) as client:
-                client.begin()
-                same(f"{name}: a message", refused_or_lost(client), True)
+            # The third fails before a client is heard.
+            if failed.get("FAILED_SYNC") != "3":
+                with Client(relay) as client:
+                    client.begin()
+                    same(f"{name}: a message", refused_or_lost(client), True)
             same(f"{name}: its end", process.wait(PATIENCE), 1)
-            same(f"{name}: its last line", relay.log.read_text().splitlines()[-1], "relayd: device")
+            lines = relay.log.read_text().splitlines()
+            same(f"{name}: its last lines", [lines[-2].partition("Z ")[2], lines[-1]],
+                 ["relayd: stopping reason=device", "relayd: device"])
         finally:
             process.kill()
             process.communicate()

@@ -20,8 +20,8 @@ sys.dont_write_bytecode = True
 
 from mail_checks import hand_in, read_report
 from relay_program import Difference, PATIENCE, free_port, same, until
-from running_relay import SOON, TIMEOUT, TOO_MANY, Client, clients_of, hop_that_falls_silent, lines_of, no_later
-from running_relay import play_rows, shim
+from running_relay import SOON, TIMEOUT, TOO_MANY, Client, clients_of, hop_that, hop_that_falls_silent, lines_of
+from running_relay import no_later, play_rows, shim
 from running_relay import slowest
 from spool_files import bodies_of
 
@@ -73,6 +73,24 @@ def a_next_hop_that_is_away_is_left_alone_for_longer_each_time(field):
     same("what was put off", later, numbers[:3])
     if minutes < 2.9:
         raise Difference(f"it was tried three times within {minutes:.2f} minutes")
+
+
+def a_next_hop_that_is_back_has_a_line(field):
+    """At its first octet, whatever that says: how long ago it was left alone first, and how often it was."""
+    away = free_port()
+    relay = field.relay(more={"example.net": ("away.example", away)}, client_timeout=3600)
+    shim(field, "run_clocks", relay, FASTER=str(FASTER))
+    with relay.running(), clients_of(relay, 1) as [client]:
+        for _ in range(5):
+            client.hand_in("c@example.net")
+        until("two lines", lambda: len(told(relay, "hop-held")) == 2)
+        same("a line before it is back", told(relay, "hop-back"), [])
+        with hop_that(lambda link: link.sendall(b"554 no\r\n"), away):
+            until("the attempts", lambda: len(told(relay, 'reply="554 no"')) == 3)
+    [line] = told(relay, "hop-back")
+    held = re.fullmatch(rf"relayd: hop-back hop=away\.example addr=127\.0\.0\.1:{away} held=(\d+)s failures=2", line)
+    if not held or not 180 <= int(held.group(1)) <= 180 + FASTER * SOON:
+        raise Difference(f"its line is {line}")
 
 
 def client_of(client):
@@ -212,7 +230,7 @@ def lines_of_json_have_the_same_fields(field):
 
     octets = len(b"EHLO client.example\r\nNONSENSE\r\nQUIT\r\n")
     same("the first lines", lines[:2],
-         [[("event", "rejected"), ("client", peer), ("reply", "500 unknown command")],
+         [[("event", "rejected"), ("client", peer), ("command", "unknown"), ("reply", "500 unknown command")],
           [("event", "client-end"), ("client", peer), ("messages", 0), ("rejected", 1), ("octets", octets),
            ("reason", "quit")]])
     others = [line for line in lines[2:] if line[0][1] not in ("accepted", "client-end")]
@@ -234,10 +252,28 @@ def what_clients_are_refused_has_ten_lines_a_minute(field):
         same("the last reply", client.say(b"QUIT\r\n")[:4], "221 ")
         name = client_of(client)
         until("its end", lambda: told(relay, "client-end"))
-    same("its lines", told(relay, "rejected client"), [f'relayd: rejected {name} reply="500 unknown command"'] * 10
-         + [f"relayd: rejected {name} count=15"])
+    line = f'relayd: rejected {name} command=unknown reply="500 unknown command"'
+    same("its lines", told(relay, "rejected client"), [line] * 10 + [f"relayd: rejected {name} count=15"])
     same("its end", [line.split()[3:5] + line.split()[6:] for line in told(relay, "client-end")],
          [["messages=0", "rejected=25", "reason=quit"]])
+
+
+def a_refusal_names_its_command_where_the_reply_is_that_of_one_alone(field):
+    """Others may answer several commands, and name none."""
+    relay = field.relay()
+    with relay.running(), Client(relay) as client:
+        client.begin()
+        client.say(b"MAIL FROM:<a@example.org>\r\n")
+        for octets, reply in ((b"NONSENSE\r\n", "500 unknown command"), (b"RCPT TO:b\r\n", "501 bad path"),
+                              (b"RCPT TO:<b@nowhere.example>\r\n", "550 no route"),
+                              (b"DATA\r\n", "554 no valid recipients"),
+                              (b"BDAT x\r\n", "421 relay.example bad chunk size, closing")):
+            same("a reply", client.say(octets), reply)
+        name = client_of(client)
+        until("its end", lambda: told(relay, "client-end"))
+    same("its lines", told(relay, "rejected client"), [f"relayd: rejected {name} {it}" for it in (
+        'command=unknown reply="500 unknown command"', 'reply="501 bad path"', 'command=rcpt reply="550 no route"',
+        'reply="554 no valid recipients"', 'command=bdat reply="421 relay.example bad chunk size, closing"')])
 
 
 def a_full_spool_has_a_line_once_a_minute(field):
@@ -426,6 +462,7 @@ def a_log_that_nobody_reads_stops_no_end(field):
 
 ROWS = [
     a_next_hop_that_is_away_is_left_alone_for_longer_each_time,
+    a_next_hop_that_is_back_has_a_line,
     a_client_that_is_cut_off_has_a_line,
     a_client_that_is_sent_away_has_a_line,
     refused_clients_have_a_line_a_minute,
@@ -434,6 +471,7 @@ ROWS = [
     each_recipient_has_the_reply_that_settles_it,
     lines_of_json_have_the_same_fields,
     what_clients_are_refused_has_ten_lines_a_minute,
+    a_refusal_names_its_command_where_the_reply_is_that_of_one_alone,
     a_full_spool_has_a_line_once_a_minute,
     a_full_spool_is_noted_where_quit_stands_after_the_mail,
     a_spool_that_is_written_anew_has_a_line,

@@ -231,9 +231,9 @@ class Answering(socketserver.BaseRequestHandler):
 
 
 @contextlib.contextmanager
-def hop_that(answer):
-    """A next hop that gives this its connections, side by side: its port."""
-    with Listener(("127.0.0.1", 0), Answering) as listener:
+def hop_that(answer, port=0):
+    """A next hop that gives this its connections, side by side, at this port or at a free one: its port."""
+    with Listener(("127.0.0.1", port), Answering) as listener:
         listener.answer = answer
         thread = threading.Thread(target=listener.serve_forever, args=(0.02,))
         thread.start()

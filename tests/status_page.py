@@ -22,7 +22,7 @@ import time
 sys.dont_write_bytecode = True
 
 from relay_program import Difference, PATIENCE, free_port, same, until
-from running_relay import PROMPT, TIMES, beside, clients_of, play_rows, slowest
+from running_relay import PROMPT, TIMES, beside, clients_of, hop_that_hangs, play_rows, slowest
 
 SCRIPT = '"<script>alert(1)</script>"'
 FIELDS = {
@@ -185,6 +185,27 @@ def metrics_tell_of_the_mail(field):
         same("promtool", (ended.returncode, ended.stdout + ended.stderr), (0, b""))
 
 
+def connections_are_counted_while_they_stand(field):
+    with hop_that_hangs() as (port, taken):
+        page = Page(field, more={"hangs.example": ("hangs.example", port)})
+        busy = ("relayd_sessions", "relayd_attempts_running")
+
+        def counts():
+            return [page.values()[name] for name in busy]
+
+        with page.relay.running():
+            same("at first", counts(), [0, 0])
+            with clients_of(page.relay, 3) as clients:
+                for client in clients:
+                    client.hand_in("b@hangs.example")
+                until("three clients and one attempt", lambda: counts() == [3, 1])
+                same("connections to the hop", len(taken), 1)
+                body = page.get("/")[1]
+            same("on the page", [body.count(f"<dt>{name}</dt><dd>{count}</dd>") for name, count in (
+                ("Sessions", 3), ("Running attempts", 1))], [1, 1])
+            until("no client", lambda: counts() == [0, 1])
+
+
 def the_list_is_that_of_list(field):
     page = Page(field, more={"away.example": ("away.example", free_port())})
     with page.relay.running(), clients_of(page.relay, 1) as [client]:
@@ -309,6 +330,7 @@ ROWS = [
     a_request_may_come_octet_by_octet,
     the_page_of_an_empty_queue_says_so,
     metrics_tell_of_the_mail,
+    connections_are_counted_while_they_stand,
     the_list_is_that_of_list,
     markup_in_a_path_is_text,
     a_long_queue_stops_no_mail,

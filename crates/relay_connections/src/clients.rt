@@ -9,7 +9,7 @@ ghost use Rattle.relay_connections.specs.Matched.{AreMatched, IsGreeted, Opens};
 ghost use Rattle.relay_connections.specs.Readiness.{IsLeftClient, IsNoted, clients_of};
 ghost use Rattle.relay_connections.specs.Room.{HasRoom, is_at};
 ghost use Rattle.relay_connections.specs.Served.{AreServed, StaysSaid, opened};
-ghost use Rattle.relay_connections.specs.Table.{count_of_such, is_such};
+ghost use Rattle.relay_connections.specs.Table.{count_of, count_of_such, is_such};
 
 use crate::channel::{Channel, Readiness};
 use crate::client::Client;
@@ -85,6 +85,13 @@ impl<S: Stream + Drop> Clients<S> {
         ensures { IsTrue result ↔ HasRoom (ipv4_octets address) self.now }
     {
         self.count_at(address.octets()) < self.most && self.clients.count() < SLOT_COUNT
+    }
+
+    /// Returns how many clients stand, 64 at most.
+    pub fn count(&self) -> usize
+        ensures { result ≡ count_of (clients_of self.now) }
+    {
+        self.clients.count()
     }
 
     /// How many clients are at an address.

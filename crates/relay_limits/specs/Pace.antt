@@ -2,6 +2,7 @@
 use Rattle.std.specs.Prelude.{◌≡◌, ℕ, ◌<◌, ◌+◌, ◌-◌, ◌*◌, ◌^◌, min, nat_lt, true, false, Option, None, Some}
 use Rattle.std.specs.Prelude.{if◌then◌else◌}
 use Rattle.relay_limits.specs.declared.pace.Hold.{Hold}
+use Rattle.relay_limits.specs.declared.pace.Outage.{Outage}
 use Rattle.relay_limits.specs.declared.pace.Pace.{Pace}
 
 -- profile: in seconds, a minute the first time, and then twice as long each time, up to half an hour
@@ -18,6 +19,17 @@ IsHeld (Some hold) tick = tick < hold.until
 abbrev pub hold_end : ℕ → Option Hold → Option ℕ
 hold_end tick None = None
 hold_end tick (Some hold) = if nat_lt tick hold.until then Some hold.until else None
+
+-- what is known of the connections that failed since the next hop has said something last
+abbrev pub outage_of : Option Hold → Option Outage
+outage_of None = None
+outage_of (Some hold) = Some hold.outage
+
+-- a connection more has failed at this tick: the first, or one more since the first
+abbrev pub next_outage : ℕ → Option Hold → Outage
+next_outage tick None = record { since = tick; failures = 1 }
+next_outage tick (Some hold) =
+    record { since = hold.outage.since; failures = min (hold.outage.failures + 1) (2 ^ 64 - 1) }
 
 -- how many connections to the next hop stand: those of attempts that run, and those whose attempt has ended
 abbrev pub standing : Pace → ℕ
@@ -57,5 +69,6 @@ held_from tick pace = record pace {
   hold = Some (record {
     until = min (tick + next_hold pace.hold * 1000) (2 ^ 64 - 1);
     seconds = next_hold pace.hold;
+    outage = next_outage tick pace.hold;
   });
 }

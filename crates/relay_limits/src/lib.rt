@@ -13,4 +13,4 @@ pub use compacting::is_worth_compacting;
 pub use limit::Limit;
 pub use limits::Limits;
 pub use log_form::LogForm;
-pub use pace::Pace;
+pub use pace::{Outage, Pace};

@@ -1,6 +1,7 @@
 ghost use Rattle.std.specs.Prelude.{◌≡◌, ◌↔◌, ◌<◌, ◌+◌, ◌-◌, ◌^◌, max, min, IsTrue};
 ghost use Rattle.relay_limits.specs.Pace.{IsHeld, MayBegin, answered_pace, held_from, hold_end, next_hold};
-ghost use Rattle.relay_limits.specs.Pace.{standing, unknown_pace, with_leaving, with_limit, with_running};
+ghost use Rattle.relay_limits.specs.Pace.{next_outage, outage_of, standing, unknown_pace, with_leaving};
+ghost use Rattle.relay_limits.specs.Pace.{with_limit, with_running};
 
 /// How many seconds a next hop that can't be reached is left alone the first time. Behind each further attempt it is
 /// twice as long, up to the longest.
@@ -9,6 +10,15 @@ const FIRST_HOLD: u64 = 60;
 /// The most seconds that a next hop is left alone.
 const LONGEST_HOLD: u64 = 30 * 60;
 
+/// A next hop can't be reached, or says nothing.
+#[derive(Clone, Copy, Debug)]
+pub struct Outage {
+    /// The tick at which it was left alone first.
+    pub since: u64,
+    /// How many times it was left alone, up to 2^64 - 1: once for each connection that failed outside of a hold.
+    pub failures: u64,
+}
+
 /// A next hop is left alone.
 #[derive(Clone, Copy, Debug)]
 struct Hold {
@@ -16,6 +26,8 @@ struct Hold {
     until: u64,
     /// How many seconds it lasts.
     seconds: u64,
+    /// What it belongs to.
+    outage: Outage,
 }
 
 /// How many connections to a next hop stand, how many it takes, and whether it is left alone. A tick is a millisecond
@@ -145,12 +157,40 @@ impl Pace {
             Some(hold) => hold.seconds.saturating_mul(2).min(LONGEST_HOLD),
             None => FIRST_HOLD,
         };
+        let outage = self.next_outage(tick);
         self.has_answered = false;
         self.hold = Some(Hold {
             until: tick.saturating_add(seconds.saturating_mul(1_000)),
             seconds,
+            outage,
         });
         seconds
+    }
+
+    /// The outage, with a connection more that has failed at this tick.
+    fn next_outage(&self, tick: u64) -> Outage
+        ensures { result ≡ next_outage tick self.now.hold }
+    {
+        match self.hold {
+            Some(hold) => Outage {
+                since: hold.outage.since,
+                failures: hold.outage.failures.saturating_add(1),
+            },
+            None => Outage {
+                since: tick,
+                failures: 1,
+            },
+        }
+    }
+
+    /// Returns the outage, if the next hop was left alone and has said nothing since.
+    pub fn outage(&self) -> Option<Outage>
+        ensures { result ≡ outage_of self.now.hold }
+    {
+        match self.hold {
+            Some(hold) => Some(hold.outage),
+            None => None,
+        }
     }
 
     /// The tick up to which the next hop is left alone, where it is.

@@ -144,10 +144,28 @@ pub(crate) fn turned_away_line(head: Head, peer: SocketAddrV4, count: u64) -> io
 
 /// The line of a reply to a client that refuses something.
 pub(crate) fn rejected_line(head: Head, peer: SocketAddrV4, reply: &[u8]) -> io::Result<LogLine> {
+    let reply = reply.trim_ascii();
     let mut line = head.line(b"rejected")?;
     head.add_address(&mut line, b"client", peer)?;
-    line.octets(b"reply", reply.trim_ascii())?;
+    if let Some(command) = refused_command(reply) {
+        line.octets(b"command", command)?;
+    }
+    line.octets(b"reply", reply)?;
     Ok(line)
+}
+
+/// Returns the command that a reply refuses, if the relay gives that reply to one command alone; `unknown` is a verb
+/// that it doesn't know.
+fn refused_command(reply: &[u8]) -> Option<&'static [u8]> {
+    match reply {
+        b"550 no route" | b"452 too many recipients" => Some(b"rcpt"),
+        b"500 unknown command" => Some(b"unknown"),
+        // The relay's name stands before these words.
+        _ if reply.starts_with(b"421 ") && reply.ends_with(b" bad chunk size, closing") => {
+            Some(b"bdat")
+        }
+        _ => None,
+    }
 }
 
 /// The line of replies that refuse something and have no line of their own.

@@ -13,8 +13,8 @@ use crate::counters::{Counters, Rejection, add};
 use crate::head::Head;
 use crate::hop_link::Loss;
 use crate::run_line::{
-    DeviceFailure, address_awaited_line, compacted_line, device_failed_line, hop_held_line,
-    listening_line, push_ended_line,
+    DeviceFailure, address_awaited_line, compacted_line, device_failed_line, hop_back_line,
+    hop_held_line, listening_line, push_ended_line, stopping_line,
 };
 use crate::talk::Talk;
 use memchr::memchr;
@@ -264,6 +264,14 @@ impl<'a, E: Write> Log<'a, E> {
         }
     }
 
+    /// Logs that a next hop that was left alone has said something again: so many seconds after it was left alone first,
+    /// and after so many failures.
+    pub fn came_back(&mut self, hop: &[u8], at: SocketAddrV4, seconds: u64, failures: u64) {
+        if self.speaks {
+            self.say(hop_back_line(self.head, hop, at, seconds, failures));
+        }
+    }
+
     /// Logs that mail is refused for now, since the spool is full.
     pub fn spool_full(&mut self) {
         if self.speaks {
@@ -301,6 +309,13 @@ impl<'a, E: Write> Log<'a, E> {
         if self.speaks {
             let line = self.head.line(b"reopened");
             self.say(line);
+        }
+    }
+
+    /// Logs that the relay ends, by this fault.
+    pub fn stopping<F: Display>(&mut self, fault: &F) {
+        if self.speaks {
+            self.say(stopping_line(self.head, fault));
         }
     }
 

@@ -29,6 +29,23 @@ pub(crate) fn hop_held_line(
     Ok(line)
 }
 
+/// The line of a next hop that was left alone and has said something again: so many seconds after it was left alone
+/// first, and after so many failures.
+pub(crate) fn hop_back_line(
+    head: Head,
+    hop: &[u8],
+    at: SocketAddrV4,
+    seconds: u64,
+    failures: u64,
+) -> io::Result<LogLine> {
+    let mut line = head.line(b"hop-back")?;
+    line.octets(b"hop", hop)?;
+    head.add_address(&mut line, b"addr", at)?;
+    line.number(b"held", seconds, b"s")?;
+    line.number(b"failures", failures, b"")?;
+    Ok(line)
+}
+
 /// The line of a configured address that this machine hasn't yet.
 pub(crate) fn address_awaited_line(
     head: Head,
@@ -52,6 +69,14 @@ pub(crate) fn compacted_line(head: Head, before: usize, after: usize) -> io::Res
 /// The line of a push that a fault has ended before its last work: what is due stays due.
 pub(crate) fn push_ended_line<F: Display>(head: Head, fault: &F) -> io::Result<LogLine> {
     let mut line = head.line(b"push-ended")?;
+    let text = format!(in head.alloc; "{fault}")?;
+    line.octets(b"reason", text.as_bytes())?;
+    Ok(line)
+}
+
+/// The line of a relay that a fault ends.
+pub(crate) fn stopping_line<F: Display>(head: Head, fault: &F) -> io::Result<LogLine> {
+    let mut line = head.line(b"stopping")?;
     let text = format!(in head.alloc; "{fault}")?;
     line.octets(b"reason", text.as_bytes())?;
     Ok(line)

@@ -74,6 +74,13 @@ impl Hops {
         self.hops.free()
     }
 
+    /// Returns how many of them stand, 64 at most.
+    pub(crate) fn count(&self) -> usize
+        ensures { result ≡ count_of self.now.hops }
+    {
+        self.hops.count()
+    }
+
     /// Whether a connection for this message and next hop, in this lane, is being made or stands.
     pub(crate) fn is_tried(&self, message: u64, lane: usize, name: &HostName) -> bool
         ensures { result ≡ true → HasConnection self.now.hops message name.now lane }
@@ -219,7 +226,7 @@ impl Hops {
         let had_spoken = hop.has_spoken;
         let is_shared = lanes.is_shared(&hop.aim);
         let course = hop.attend(relay, is_shared, now)?;
-        note_spoken(&hop, had_spoken, lanes);
+        note_spoken(&hop, had_spoken, lanes, now, log);
         self.settle(
             number, hop, course, registry, relay, lanes, leaving, now, log,
         )
@@ -316,10 +323,25 @@ fn is_unanswered(slot: &Option<Hop>, lanes: &Lanes) -> bool
 }
 
 /// Takes note where the next hop of a connection has said something for the first time.
-fn note_spoken(hop: &Hop, had_spoken: bool, lanes: &mut Lanes)
+fn note_spoken(
+    hop: &Hop,
+    had_spoken: bool,
+    lanes: &mut Lanes,
+    now: &Now,
+    log: &mut Log<'_, Vec<u8>>,
+)
     ensures counts { KeepsCounts lanes.old lanes.new }
 {
     if hop.has_spoken && !had_spoken {
+        tell_back(hop, lanes, now, log);
         lanes.answered(hop.aim.lane);
+    }
+}
+
+/// Logs that the next hop of a connection has said something, if it was left alone and has said nothing since.
+fn tell_back(hop: &Hop, lanes: &Lanes, now: &Now, log: &mut Log<'_, Vec<u8>>) {
+    if let Some(outage) = lanes.outage(hop.aim.lane) {
+        let seconds = now.tick.saturating_sub(outage.since) / 1_000;
+        log.came_back(hop.name.as_slice(), hop.aim.at, seconds, outage.failures);
     }
 }

@@ -12,6 +12,7 @@ use crate::numbers::Numbers;
 use crate::paces::Paces;
 use crate::places::Places;
 use relay_connections::{Leaving, Now};
+use relay_limits::Outage;
 use std::alloc::Global;
 use std::collections::VecDeque;
 use std::net::SocketAddrV4;
@@ -315,6 +316,14 @@ impl Lanes {
         match self.paces.get(number) {
             Some(pace) => pace.has_answered(),
             None => false,
+        }
+    }
+
+    /// The outage of a lane's next hop, if it was left alone and has said nothing since.
+    pub(crate) fn outage(&self, number: usize) -> Option<Outage> {
+        match self.paces.get(number) {
+            Some(pace) => pace.outage(),
+            None => None,
         }
     }
 

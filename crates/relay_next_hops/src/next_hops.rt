@@ -1,6 +1,7 @@
 ghost use Rattle.std.specs.Prelude.{◌≡◌, ◌≤◌, ℕ, IfOk, IfSome, List, OnOk, map, true};
 ghost use Rattle.relay_routes.specs.Routes.{Route};
 ghost use Rattle.relay_slots.specs.Slots.{AreFree};
+ghost use Rattle.relay_connections.specs.Table.{count_of};
 ghost use Rattle.relay_next_hops.specs.Hearing.{AnswersEach, order_of, replies_of, told_of};
 ghost use Rattle.relay_next_hops.specs.Lanes.{IsNew, next_due_of};
 ghost use Rattle.relay_next_hops.specs.Readiness.{IsLeftHop, hops_of};
@@ -76,6 +77,13 @@ impl NextHops {
             lanes: lanes.renewed(),
             starts,
         }
+    }
+
+    /// Returns how many connections are being made or stand, each for one attempt, 64 at most.
+    pub fn running(&self) -> usize
+        ensures { result ≡ count_of (hops_of self.now) }
+    {
+        self.hops.count()
     }
 
     /// Asks the node which messages are queued, before there is a turn that clients wait for: it takes some

@@ -42,7 +42,10 @@ pub struct View<'a> {
     pub loads: &'a Loads,
     /// How many recipients are queued.
     pub recipients: u64,
-    /// The oldest of them.
+    /// How many clients are connected, and how many attempts run.
+    pub sessions: u64,
+    pub attempts: u64,
+    /// The recipients that have waited the longest.
     pub oldest: &'a [Waiting<'a>],
     pub history: &'a History,
 }
@@ -97,6 +100,8 @@ fn push_moment(alloc: Global, text: &mut Vec<u8>, view: &View<'_>) -> Result<(),
 fn push_totals(text: &mut Vec<u8>, view: &View<'_>) -> Result<(), AllocError> {
     push_pieces(text, &[Piece::Markup(b"<section>\n<dl>\n")])?;
     push_number(text, b"Queued recipients", view.recipients)?;
+    push_number(text, b"Sessions", view.sessions)?;
+    push_number(text, b"Running attempts", view.attempts)?;
     push_number(text, b"Accepted messages", view.totals.accepted)?;
     push_number(text, b"Sent recipients", view.totals.sent)?;
     push_number(text, b"Deferred", view.totals.deferred)?;

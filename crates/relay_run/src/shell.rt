@@ -10,6 +10,7 @@ use crate::reopening::{Pauses, Why, reopen};
 use crate::reporter::Reporter;
 use crate::room::Room;
 use crate::status_page::StatusPage;
+use crate::status_texts::Busy;
 use crate::tidying::Tidying;
 use mio::Registry;
 use relay_connections::{Clients, Intake, Leaving, Now, Replied};
@@ -167,7 +168,11 @@ impl Shell {
             × (self.new.door ≡ self.old.door) }
         ensures known { self.new.known ≡ self.old.known }
     {
-        self.page.turn(registry, &self.relay, counters, now);
+        let busy = Busy {
+            sessions: self.clients.count() as u64,
+            attempts: self.next_hops.running() as u64,
+        };
+        self.page.turn(registry, &self.relay, busy, counters, now);
     }
 
     /// Whether attempts may begin.

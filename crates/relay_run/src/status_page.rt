@@ -2,7 +2,7 @@
 ghost use Rattle.std.specs.Prelude.{◌≤◌};
 
 use crate::door::Door;
-use crate::status_texts::{State, text_of};
+use crate::status_texts::{Busy, State, text_of};
 use mio::net::{TcpListener, TcpStream};
 use mio::{Interest, Registry, Token};
 use relay_connections::{Now, Readiness};
@@ -100,6 +100,7 @@ impl StatusPage {
         &mut self,
         registry: &Registry,
         relay: &Relay<FileDisk>,
+        busy: Busy,
         counters: &Counters,
         now: &Now,
     ) {
@@ -110,7 +111,7 @@ impl StatusPage {
         self.admit(registry, now);
         self.visitors.serve(now.tick);
         if let Some((number, asked)) = self.visitors.asked() {
-            self.attend(number, asked, relay, counters, now);
+            self.attend(number, asked, relay, busy, counters, now);
         }
     }
 
@@ -159,6 +160,7 @@ impl StatusPage {
         number: usize,
         asked: Asked,
         relay: &Relay<FileDisk>,
+        busy: Busy,
         counters: &Counters,
         now: &Now,
     ) {
@@ -169,7 +171,7 @@ impl StatusPage {
         };
         match counted {
             Ok(true) => {
-                let response = self.response(asked, relay, counters, now);
+                let response = self.response(asked, relay, busy, counters, now);
                 self.respond(number, asked, response);
             }
             Ok(false) => {}
@@ -214,11 +216,13 @@ impl StatusPage {
         &self,
         asked: Asked,
         relay: &Relay<FileDisk>,
+        busy: Busy,
         counters: &Counters,
         now: &Now,
     ) -> Result<Vec<u8>, AllocError> {
         let state = State {
             relay,
+            busy,
             counters,
             survey: &self.survey,
             history: &self.history,

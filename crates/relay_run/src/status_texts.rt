@@ -12,10 +12,20 @@ use std::alloc::{AllocError, Global};
 /// How many of the recipients that wait longest the page shows.
 const MOST_OLDEST: usize = 20;
 
+/// How much of what a relay may do at a time it does now.
+#[derive(Clone, Copy, Debug)]
+pub(crate) struct Busy {
+    /// Clients that are connected, of 64.
+    pub(crate) sessions: u64,
+    /// Attempts that run, of 64.
+    pub(crate) attempts: u64,
+}
+
 /// What is known of a relay at a moment.
 #[derive(Drop)]
 pub(crate) struct State<'a> {
     pub(crate) relay: &'a Relay<FileDisk>,
+    pub(crate) busy: Busy,
     pub(crate) counters: &'a Counters,
     pub(crate) survey: &'a Survey,
     pub(crate) history: &'a History,
@@ -58,6 +68,8 @@ fn page_of(alloc: Global, state: &State<'_>) -> Result<Vec<u8>, AllocError> {
         spool_limit: node.config().spool_limit,
         loads: state.survey.loads(),
         recipients: state.survey.marks().len() as u64,
+        sessions: state.busy.sessions,
+        attempts: state.busy.attempts,
         oldest: oldest.as_slice(),
         history: state.history,
     };
@@ -144,6 +156,7 @@ fn metrics_of(alloc: Global, state: &State<'_>) -> Result<Vec<u8>, AllocError> {
     let mut text = Vec::new(alloc);
     push_mail(&mut text, state.counters)?;
     push_connections(&mut text, state.counters)?;
+    push_busy(&mut text, state.busy)?;
     push_rejections(&mut text, state.counters)?;
     push_loads(&mut text, state.survey.loads(), state.now.seconds())?;
     push_spool(&mut text, state)?;
@@ -215,6 +228,22 @@ fn push_connections(text: &mut Vec<u8>, counters: &Counters) -> Result<(), Alloc
         b"relayd_hop_holds_total",
         b"How often a next hop was left alone because it could not be reached.",
         counters.holds,
+    )
+}
+
+/// Adds how many clients are connected, and how many attempts run.
+fn push_busy(text: &mut Vec<u8>, busy: Busy) -> Result<(), AllocError> {
+    push_gauge(
+        text,
+        b"relayd_sessions",
+        b"Clients that are connected, 64 at most.",
+        busy.sessions,
+    )?;
+    push_gauge(
+        text,
+        b"relayd_attempts_running",
+        b"Attempts that run, each with a connection to a next hop, 64 at most.",
+        busy.attempts,
     )
 }
 

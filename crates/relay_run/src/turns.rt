@@ -8,6 +8,7 @@ use mio::{Events, Poll};
 use relay_connections::Now;
 use relay_files::Fault;
 use relay_log::{Counters, Form, Log};
+use relay_trace::clock_moment;
 use std::alloc::Global;
 use std::io::Write;
 use std::net::Net;
@@ -57,9 +58,27 @@ fn wait<R: Clock>(rt: &R, poll: &mut Poll, events: &mut Events, shell: &mut Shel
     shell.note_events(events);
 }
 
-/// The relay behind a turn that has come to this end: where its device has failed, or has room again, its spool is
-/// opened again.
+/// The relay after a turn that has come to this end. A fault that ends it is logged.
 fn behind_turn<R: Clock, E: Write>(
+    alloc: Global,
+    rt: &R,
+    shell: Shell,
+    end: Result<(), Fault>,
+    form: Option<Form>,
+    counters: &mut Counters,
+    errors: &mut E,
+) -> Result<Shell, Fault> {
+    let behind = kept_or_reopened(alloc, rt, shell, end, form, counters, errors);
+    if let Err(fault) = &behind {
+        let mut log = Log::stamped(alloc, errors, form, clock_moment(rt), counters);
+        log.stopping(fault);
+    }
+    behind
+}
+
+/// The relay after a turn that has come to this end: where its device has failed, or has room again, its spool is
+/// opened again.
+fn kept_or_reopened<R: Clock, E: Write>(
     alloc: Global,
     rt: &R,
     shell: Shell,
