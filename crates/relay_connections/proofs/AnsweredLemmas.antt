@@ -10,7 +10,7 @@ use Rattle.relay_disk.specs.Device.{DiskWords}
 use Rattle.relay_slots.specs.Slots.{slot_at}
 use Rattle.relay_spool.specs.Image.{room_of}
 use Rattle.relay_server.specs.Dialogue.{IsDialogue, Said}
-use Rattle.relay_server.specs.Setup.{Setup, setup_of_config}
+use Rattle.relay_server.specs.Setup.{Setup}
 use Rattle.relay_book.specs.declared.change.Change.{Change}
 use Rattle.relay_records.specs.Records.{Keeps}
 use Rattle.relay_records.specs.Staged.{Row, no_row}
@@ -28,7 +28,7 @@ use Rattle.relay_loop.specs.Outboxes.{octets_of, unwritten_at}
 use Rattle.relay_loop.specs.Relay.{RelayState}
 use Rattle.relay_connections.specs.Carried.{Carries, Setting}
 use Rattle.relay_connections.specs.Hearing.{HearOwn, IsOwn, session_of}
-use Rattle.relay_connections.specs.Served.{ActsOn, AreApart, AreServed, HasAnswered, HasAnsweredOr, HasHeard, HasSession, HaveAnswered, IsUnused, Serves, address_of, answer_to}
+use Rattle.relay_connections.specs.Served.{ActsOn, AreApart, AreServed, HasAnswered, HasAnsweredOr, HasHeard, HasSession, HaveAnswered, HaveSetups, IsUnused, Serves, address_of, answer_to}
 use Rattle.relay_connections.specs.Share.{lines_length, share_of}
 use Rattle.relay_connections.specs.declared.channel.Channel.{Channel}
 use Rattle.relay_connections.specs.declared.client.Client.{Client}
@@ -36,7 +36,7 @@ use Rattle.relay_connections.proofs.CarriedLemmas.{carries_more}
 use Rattle.relay_connections.specs.declared.hearing.Hearing.{Hearing}
 use Rattle.relay_connections.proofs.DistinctLemmas.{AreDistinct, IsNoneOf, are_distinct}
 use Rattle.relay_connections.proofs.ExchangeLemmas.{some_is_not_none}
-use Rattle.relay_connections.proofs.ServedLemmas.{serves_later, session_later}
+use Rattle.relay_connections.proofs.ServedLemmas.{serves_later, session_later, setup_is_at, setups_on}
 
 -- a row is laden, or isn't
 laden_or_not : (row : Row) → IsLaden row ⊎ (IsLaden row → ⊥)
@@ -183,7 +183,7 @@ module _ {D : Type 0} (honest : Type 0) (words : DiskWords D) (changes : List Ch
 module _ {D S : Type 0} (honest : Type 0) (words : DiskWords D) (remaining contents : S → Option (List ℕ)) (changes : List Change) (setting : Setting) (at : ℕ) where
   -- a piece of a client that was talked to
   module _ (pending : List Change) (piece : Piece) (old mid : RelayState D) (row between : Row) (more : List Change) (client : Box (Client S) Global)
-      (own : piece.octets.now ≡ share_of client.value.channel.block) (setup : setup_of_config mid.node.config ≡ setting.setup)
+      (own : piece.octets.now ≡ share_of client.value.channel.block) (setups : HaveSetups setting.setups mid)
       (session : HasSession remaining contents (changes ++ pending) setting old piece.session 0 (address_of client.value) client.value.channel) where
     is_known : IsUnknown old piece.session → ⊥
     is_known (inl none) = some_is_not_none session.has_said.talks.connection none
@@ -221,6 +221,7 @@ module _ {D S : Type 0} (honest : Type 0) (words : DiskWords D) (remaining conte
         → GoesOn (changes ++ (pending ++ more)) mid piece.session (address_of client.value) later session.has_said.written last
         → HasHeard remaining contents (changes ++ (pending ++ more)) setting mid piece.session (Some client) heard.used last
     by_last heard later None drained within input talks = record {
+      address_is = session.address_is;
       said = later;
       has_said = record { written = session.has_said.written; talks = talks };
       carries = carries_now heard later (unwritten_at mid.clients piece.session) drained within input
@@ -230,7 +231,7 @@ module _ {D S : Type 0} (honest : Type 0) (words : DiskWords D) (remaining conte
       unused = record { connection = left.connection; seat = left.seat };
       ends = record {
         said = later;
-        dialogue = subst (λ (setup : Setup). IsDialogue setup later) setup left.closed.dialogue;
+        dialogue = subst (λ (setup : Setup). IsDialogue setup later) (setup_is_at setting mid piece.session (address_of client.value) setups session.address_is) left.closed.dialogue;
         carries = inl (carries_now heard later last drained within input left.output);
       };
     }
@@ -264,13 +265,13 @@ module _ {D S : Type 0} (honest : Type 0) (words : DiskWords D) (remaining conte
     -- the first piece is the number's
     module _ (piece : Piece) (pieces : List Piece) (answer : Result Heard NodeFault) (rest : List (Result Heard NodeFault)) (pending : List Change) (old mid new : RelayState D) (row between left : Row) (more all : List Change)
         (own : IsOwn clients piece) (none : IsNoneOf piece.session (map session_of pieces)) (one : AnswersOne honest words changes at pending piece old row mid between more answer)
-        (each : AnswersEach honest words changes at pieces rest (pending ++ more) mid between new left all) (same : piece.session ≡ number) (setup : setup_of_config old.node.config ≡ setting.setup)
+        (each : AnswersEach honest words changes at pieces rest (pending ++ more) mid between new left all) (same : piece.session ≡ number) (setups : HaveSetups setting.setups old)
         (serves : Serves remaining contents (changes ++ pending) setting old number (slot_at clients number)) where
       pub answered_here : HasAnswered remaining contents (changes ++ all) setting new number (slot_at clients number) answer
       answered_here =
           let session = subst (λ (slot : Option (Box (Client S) Global)). Serves remaining contents (changes ++ pending) setting old piece.session slot) own.there
           (subst (λ (n : ℕ). Serves remaining contents (changes ++ pending) setting old n (slot_at clients n)) (sym same) serves) in
-          let first = answered_by pending piece old mid row between more own.client own.octets (ap setup_of_config one.only.config ∙ setup) session answer one.by in
+          let first = answered_by pending piece old mid row between more own.client own.octets (setups_on setting.setups old mid one.only.config setups) session answer one.by in
           let so = leaves_alone honest words changes at piece.session pieces rest (pending ++ more) mid between new left all (are_of_others piece.session pieces none) each in
           subst (λ (n : ℕ). HasAnswered remaining contents (changes ++ all) setting new n (slot_at clients n) answer) same
           (subst (λ (slot : Option (Box (Client S) Global)). HasAnswered remaining contents (changes ++ all) setting new piece.session slot answer) (sym own.there)
@@ -278,15 +279,15 @@ module _ {D S : Type 0} (honest : Type 0) (words : DiskWords D) (remaining conte
 
     each_answered : (pieces : List Piece) (answers : List (Result Heard NodeFault)) (pending : List Change) (old : RelayState D) (row : Row) (new : RelayState D) (left : Row) (all : List Change)
         → AllByRecursion (IsOwn clients) pieces → AreDistinct (map session_of pieces) → AnswersEach honest words changes at pieces answers pending old row new left all
-        → setup_of_config old.node.config ≡ setting.setup
+        → HaveSetups setting.setups old
         → Serves remaining contents (changes ++ pending) setting old number (slot_at clients number)
         → HasAnsweredOr remaining contents (changes ++ all) setting new number (slot_at clients number) (answer_to number (zip (map session_of pieces) answers))
-    each_answered [] answers pending old row new left all own distinct (none, same, unmoved, is) setup serves =
+    each_answered [] answers pending old row new left all own distinct (none, same, unmoved, is) setups serves =
         subst (λ (list : List Change). Serves remaining contents (changes ++ list) setting new number (slot_at clients number)) (sym is)
         (subst (λ (s : RelayState D). Serves remaining contents (changes ++ pending) setting s number (slot_at clients number)) (sym same) serves)
-    each_answered (piece ∷ pieces) answers pending old row new left all (own, owns) (none, distinct) (answer, rest, is, mid, between, more, one, each) setup serves =
+    each_answered (piece ∷ pieces) answers pending old row new left all (own, owns) (none, distinct) (answer, rest, is, mid, between, more, one, each) setups serves =
         subst (λ (list : List (Result Heard NodeFault)). HasAnsweredOr remaining contents (changes ++ all) setting new number (slot_at clients number) (answer_to number (zip (piece.session ∷ map session_of pieces) list))) (sym is)
-        (by (λ on. each_answered pieces rest (pending ++ more) mid between new left all owns distinct each (ap setup_of_config one.only.config ∙ setup) on) (cases_eq piece.session number))
+        (by (λ on. each_answered pieces rest (pending ++ more) mid between new left all owns distinct each (setups_on setting.setups old mid one.only.config setups) on) (cases_eq piece.session number))
       where
         Has : Option (Result Heard NodeFault) → Type 0
         Has answer = HasAnsweredOr remaining contents (changes ++ all) setting new number (slot_at clients number) answer
@@ -296,7 +297,7 @@ module _ {D S : Type 0} (honest : Type 0) (words : DiskWords D) (remaining conte
             → HasAnsweredOr remaining contents (changes ++ all) setting new number (slot_at clients number) (answer_to number (zip (piece.session ∷ map session_of pieces) (answer ∷ rest)))
         by next (inl same) =
             subst (λ (to : Option (Result Heard NodeFault)). HasAnsweredOr remaining contents (changes ++ all) setting new number (slot_at clients number) to) (sym (answer_here piece.session number (map session_of pieces) answer rest same))
-            (answered_here piece pieces answer rest pending old mid new row between left more all own none one each same setup serves)
+            (answered_here piece pieces answer rest pending old mid new row between left more all own none one each same setups serves)
         by next (inr apart) =
             let still : LeavesAlone number pending old mid (pending ++ more) = record {
               seat = one.only.seats number (λ is. apart (sym is));
@@ -330,13 +331,13 @@ hears_answered honest words remaining contents changes setting clients standing 
   pending = all.pending;
   answered = record {
     keeps = all.settles.keeps;
-    setup_is = ap setup_of_config (all.config ∙ replied.config ∙ heard.config) ∙ served.setup_is;
+    setups_are = setups_on setting.setups old new (all.config ∙ replied.config ∙ heard.config) served.setups_are;
     apart = are_apart hearing.sessions.items hearing.heard.items (subst AreDistinct (sym hears.each) (are_distinct standing first));
     each = λ number.
         subst (λ (pairs : List (ℕ × Result Heard NodeFault)). HasAnsweredOr remaining contents (changes ++ all.pending) setting new number (slot_at clients number) (answer_to number pairs)) pairs_are
         (or_alone remaining contents setting changes a.staged all.pending number a.between new (behind number) (slot_at clients number)
         (answer_to number (zip (map session_of hears.pieces) hears.group.heard.items))
-        (each_answered honest words remaining contents changes setting at clients number hears.pieces hears.group.heard.items [] old no_row a.between a.beside a.staged owns distinct a.pieces_each served.setup_is
+        (each_answered honest words remaining contents changes setting at clients number hears.pieces hears.group.heard.items [] old no_row a.between a.beside a.staged owns distinct a.pieces_each served.setups_are
         (subst (λ (list : List Change). Serves remaining contents list setting old number (slot_at clients number)) (sym (append-nil changes)) (served.each number))));
   };
 }
@@ -387,7 +388,7 @@ pub answered_on : {D S : Type 0} (honest : Type 0) (words : DiskWords D) (remain
     → Serves remaining contents changes setting after session (slot_at later session) → HaveAnswered honest words remaining contents changes setting later after rest
 answered_on honest words remaining contents changes setting clients later before after session answer rest have acts serves = record {
   keeps = subst (λ records. Keeps honest words records changes) (sym acts.rest.records) have.keeps;
-  setup_is = ap setup_of_config acts.rest.only.config ∙ have.setup_is;
+  setups_are = setups_on setting.setups before after acts.rest.only.config have.setups_are;
   apart = have.apart.1;
   each = λ number. by number (cases_eq session number);
 }
@@ -417,7 +418,7 @@ pub answered_end : {D S : Type 0} (honest : Type 0) (words : DiskWords D) (remai
     → HaveAnswered honest words remaining contents changes setting clients relay (zip sessions answers) → AreServed honest words remaining contents changes setting clients relay
 answered_end honest words remaining contents changes setting clients relay sessions answers none have =
     let all : HaveAnswered honest words remaining contents changes setting clients relay [] = subst (λ (list : List (ℕ × Result Heard NodeFault)). HaveAnswered honest words remaining contents changes setting clients relay list) (empty sessions answers none) have in
-    record { keeps = all.keeps; setup_is = all.setup_is; each = all.each }
+    record { keeps = all.keeps; setups_are = all.setups_are; each = all.each }
   where
     empty : (sessions : List ℕ) (answers : List (Result Heard NodeFault)) → (sessions ≡ []) ⊎ (answers ≡ []) → zip sessions answers ≡ []
     empty [] answers none = refl

@@ -9,7 +9,7 @@ use Rattle.relay_loop.specs.Closing.{closing_of}
 use Rattle.relay_loop.specs.Outboxes.{unwritten_at}
 use Rattle.relay_loop.specs.Relay.{RelayState}
 use Rattle.relay_loop.specs.declared.closing.Closing.TheVariants.{Timeout}
-use Rattle.relay_connections.specs.Carried.{Beginning, Begins, Carries, CarriesLast, GetsDialogue, Setting, beginning_of, input_after, output_and}
+use Rattle.relay_connections.specs.Carried.{Beginning, Begins, Carries, CarriesLast, GetsDialogue, Setting, beginning_of, input_after, output_and, setup_at}
 use Rattle.relay_connections.specs.Channel.{KeepsInput, KeepsOutput, held_of, output_of, unread_of}
 use Rattle.relay_connections.specs.Exchange.{Hands, Uses}
 use Rattle.relay_connections.specs.Leaving.{ClientsJoin, MayJoin, MayTake, whole_output}
@@ -45,9 +45,9 @@ module _ {S : Type 0} (remaining contents : S → Option (List ℕ)) where
       ∙ ap (λ known. append_known (append_known known after.held) waiting) (sym output.taken))
 
   -- a connection has begun, and was greeted
-  pub carries_first : (stream : S) (channel : Channel S) (said : Said) (output waiting : List ℕ) → said.input ≡ [] → said.output ≡ output
-      → Begins remaining contents stream output channel waiting → Carries remaining contents (beginning_of remaining contents stream) 0 channel said waiting
-  carries_first stream channel said output waiting none first begins = record {
+  pub carries_first : (address : List ℕ) (stream : S) (channel : Channel S) (said : Said) (output waiting : List ℕ) → said.input ≡ [] → said.output ≡ output
+      → Begins remaining contents stream output channel waiting → Carries remaining contents (beginning_of remaining contents address stream) 0 channel said waiting
+  carries_first address stream channel said output waiting none first begins = record {
     input =
         subst (λ (octets : List ℕ). Consumes (remaining stream) (input_after remaining contents 0 channel) octets) (sym none)
         (consumes_none (remaining stream) (input_after remaining contents 0 channel) begins.input);
@@ -134,7 +134,7 @@ module _ {S : Type 0} (remaining contents : S → Option (List ℕ)) where
 
   -- one that leaves with its last octets joins them
   pub leaves_join : (setting : Setting) (session : ℕ) (channel : Channel S) (last : List ℕ) (old new : List (Option (Box (Leaver S) Global)))
-      → CarriesLast remaining contents setting.setup (setting.beginnings session) 0 channel last
+      → CarriesLast remaining contents (setup_at setting session) (setting.beginnings session) 0 channel last
       → ((number : ℕ) → MayTake remaining contents channel last None (slot_at old number) (slot_at new number)) → ClientsJoin remaining contents setting old new
   leaves_join setting session channel last old new carries takes number = by (slot_at old number) (slot_at new number) (takes number) where
     by : (was is : Option (Box (Leaver S) Global)) → MayTake remaining contents channel last None was is → MayJoin remaining contents setting was is
@@ -142,8 +142,8 @@ module _ {S : Type 0} (remaining contents : S → Option (List ℕ)) where
     by None (Some leaver) one = (
       one.place_is,
       session,
-      gets_on setting.setup (setting.beginnings session) (output_and remaining contents channel last) (whole_output remaining contents leaver.value) one.output_is
-          (gets_last setting.setup (setting.beginnings session) channel last carries),
+      gets_on (setup_at setting session) (setting.beginnings session) (output_and remaining contents channel last) (whole_output remaining contents leaver.value) one.output_is
+          (gets_last (setup_at setting session) (setting.beginnings session) channel last carries),
     )
     by (Some leaver) is same = same
 

@@ -9,12 +9,12 @@ use Rattle.relay_loop.specs.Closing.{closing_of}
 use Rattle.relay_loop.specs.declared.closing.Closing.TheVariants.{Timeout}
 use Rattle.relay_loop.specs.Outboxes.{octets_of, unwritten_at}
 use Rattle.relay_server.specs.Setup.{Setup}
-use Rattle.relay_connections.specs.Carried.{Carries, CarriesLast, Setting}
+use Rattle.relay_connections.specs.Carried.{Carries, CarriesLast, Setting, setup_at}
 use Rattle.relay_connections.specs.Channel.{KeepsOutput, held_of}
 use Rattle.relay_connections.specs.Exchange.{HandsAndReads, IsHanded, IsRead, Uses}
 use Rattle.relay_connections.specs.Matched.{IsFreed}
 use Rattle.relay_connections.proofs.CarriedLemmas.{carries_on, keeps_output, last_on, uses_heard}
-use Rattle.relay_connections.proofs.ServedLemmas.{dialogue_of, frees, rest_of_outbox, works_on}
+use Rattle.relay_connections.proofs.ServedLemmas.{dialogue_of, frees, rest_of_outbox, setup_is_at, works_on}
 use Rattle.relay_connections.specs.Served.{HasAnswered, HasEnded, HasHeard, HasNext, HasSession, IsUnused, Serves, StaysOrEnds, StaysSaid, WorksWith, address_of}
 use Rattle.relay_connections.specs.Sessions.{EndsLate, IsCutOff}
 use Rattle.relay_connections.specs.declared.channel.Channel.{Channel}
@@ -33,7 +33,7 @@ module _ {D S : Type 0} (remaining contents : S → Option (List ℕ)) (changes 
   -- it leaves, and the slot is free
   pub next_leaves : (address : List ℕ) (channel : Channel S) (slot : Option (Box (Client S) Global)) (next : Next) (last : List ℕ) → next ≡ Leaves last → slot ≡ None
       → HasNext remaining contents changes setting relay number address channel next
-      → Serves remaining contents changes setting relay number slot × CarriesLast remaining contents setting.setup (setting.beginnings number) 0 channel last
+      → Serves remaining contents changes setting relay number slot × CarriesLast remaining contents (setup_at setting number) (setting.beginnings number) 0 channel last
   next_leaves address channel slot next last is free has =
       let ended = subst (λ (next : Next). HasNext remaining contents changes setting relay number address channel next) is has in
       (subst (λ (slot : Option (Box (Client S) Global)). Serves remaining contents changes setting relay number slot) (sym free) ended.unused, ended.ends)
@@ -70,6 +70,7 @@ module _ {D S : Type 0} (remaining contents : S → Option (List ℕ)) (changes 
     by_last one is None none session =
         let so = stays one is none in
         let later : HasSession remaining contents changes setting new number 0 address after = record {
+          address_is = session.address_is;
           said = session.said;
           has_said = said one is none changes address session.said session.has_said;
           carries = carries_on remaining contents (setting.beginnings number) one.used 0 before after session.said (unwritten_at old.clients number) (unwritten_at new.clients number)
@@ -80,7 +81,7 @@ module _ {D S : Type 0} (remaining contents : S → Option (List ℕ)) (changes 
         let so = leaves one last is some in
         let later : HasEnded remaining contents changes setting new number 0 after last = record {
           unused = unused so.1 ended.unused;
-          ends = last_on remaining contents setting.setup (setting.beginnings number) one.used 0 before after last (uses_heard remaining contents one.used before after (uses one is))
+          ends = last_on remaining contents (setup_at setting number) (setting.beginnings number) one.used 0 before after last (uses_heard remaining contents one.used before after (uses one is))
               (λ waiting. keeps_output remaining contents before after waiting so.2) ended.ends;
         } in
         subst (λ (next : Next). HasNext remaining contents changes setting new number address after next) (sym so.0) later
@@ -92,22 +93,22 @@ module _ {D S : Type 0} (remaining contents : S → Option (List ℕ)) (changes 
         let so = gone fault is in
         subst (λ (next : Next). HasNext remaining contents changes setting new number address after next) (sym so.0) (unused so.1 was)
 
-  pub answer_works : WorksWith setting.setup old → WorksWith setting.setup new
+  pub answer_works : WorksWith setting.setups old → WorksWith setting.setups new
   answer_works works = by heard refl where
-    same : new ≡ old → WorksWith setting.setup new
-    same is = subst (λ (relay : RelayState D). WorksWith setting.setup relay) (sym is) works
+    same : new ≡ old → WorksWith setting.setups new
+    same is = subst (λ (relay : RelayState D). WorksWith setting.setups relay) (sym is) works
 
-    by_last : (one : Heard) → heard ≡ Ok one → (last : Option (List ℕ)) → one.last ≡ last → WorksWith setting.setup new
-    by_last one is None none = works_on setting.setup number old new (rest_of_outbox number old new ((stays one is none).1.outbox)) works
+    by_last : (one : Heard) → heard ≡ Ok one → (last : Option (List ℕ)) → one.last ≡ last → WorksWith setting.setups new
+    by_last one is None none = works_on setting.setups number old new (rest_of_outbox number old new ((stays one is none).1.outbox)) works
     by_last one is (Some last) some = same ((leaves one last is some).1)
 
-    by : (its : Result Heard NodeFault) → heard ≡ its → WorksWith setting.setup new
+    by : (its : Result Heard NodeFault) → heard ≡ its → WorksWith setting.setups new
     by (Ok one) is = by_last one is one.last refl
     by (Err fault) is = same ((gone fault is).1)
 
 -- a client that is late
 module _ {D S : Type 0} (remaining contents : S → Option (List ℕ)) (changes : List Change) (setting : Setting) (old new : RelayState D) (number : ℕ) (address : List ℕ) (channel : Channel S)
-    (works : WorksWith setting.setup old) (session : HasSession remaining contents changes setting old number 0 address channel) (freed : IsFreed number old new) where
+    (works : WorksWith setting.setups old) (session : HasSession remaining contents changes setting old number 0 address channel) (freed : IsFreed number old new) where
   unused_late : IsUnused new number
   unused_late = frees changes old new number address session.said works.live session.has_said freed
 
@@ -123,10 +124,10 @@ module _ {D S : Type 0} (remaining contents : S → Option (List ℕ)) (changes 
     unused = unused_late;
     ends = record {
       said = session.said;
-      dialogue = dialogue_of changes setting.setup old number address session.said works.setup_is session.has_said;
+      dialogue = dialogue_of changes setting old number address session.said works.setups_are session.address_is session.has_said;
       carries = inr (
         subst (λ (waiting : List ℕ). Carries remaining contents (setting.beginnings number) 0 channel session.said waiting) (ap octets_of none) session.carries,
-        line ∙ ap (λ (setup : Setup). closing_of setup.host Timeout) works.setup_is,
+        line ∙ ap (λ (setup : Setup). closing_of setup.host Timeout) (setup_is_at setting old number address works.setups_are session.address_is),
       );
     };
   }

@@ -10,18 +10,18 @@ use Rattle.relay_slots.specs.Slots.{IsLeastFree, OthersStay, slot_at}
 use Rattle.relay_book.specs.declared.change.Change.{Change}
 use Rattle.relay_records.specs.Records.{Keeps}
 use Rattle.relay_server.specs.Dialogue.{IsDialogue, Said}
-use Rattle.relay_server.specs.Setup.{Setup, setup_of_config}
+use Rattle.relay_server.specs.Setup.{Setup, setup_for}
 use Rattle.relay_node.specs.Node.{NodeState}
 use Rattle.relay_loop.specs.Clients.{TalksTo}
 use Rattle.relay_loop.specs.Outboxes.{octets_of, unwritten_at}
 use Rattle.relay_loop.specs.Relay.{OnlyClient, RelayState}
 use Rattle.relay_loop.proofs.Theorems.{talks_are_dialogues, talks_stay}
-use Rattle.relay_connections.specs.Carried.{Begins, Carries, Setting, beginning_of, beginning_or}
+use Rattle.relay_connections.specs.Carried.{Begins, Carries, Setting, beginning_of, beginning_or, setup_at}
 use Rattle.relay_connections.specs.Channel.{KeepsOctets}
 use Rattle.relay_connections.specs.Exchange.{HandsAndReads, IsRead, OnlyOutbox}
 use Rattle.relay_connections.specs.Matched.{IsFreed, IsMatched}
 use Rattle.relay_connections.specs.Readiness.{IsStill}
-use Rattle.relay_connections.specs.Served.{ActsOn, AreServed, AreServedBehind, FreeAreServed, HasNext, HasSaid, HasSession, IsUnused, LeavesRest, NotedAreServed, ServedAreMatched, Serves, StaysOrEnds, StaysSaid, WorksWith, address_of, opened}
+use Rattle.relay_connections.specs.Served.{ActsOn, AreServed, AreServedBehind, FreeAreServed, HasNext, HasSaid, HasSession, HaveSetups, IsUnused, LeavesRest, NotedAreServed, ServedAreMatched, Serves, StaysOrEnds, StaysSaid, WorksWith, address_of, opened}
 use Rattle.std.specs.Io.KnownBytes.{append_known, prepend_known}
 use Rattle.relay_connections.specs.Sessions.{EndsAlone}
 use Rattle.relay_connections.specs.declared.channel.Channel.{Channel}
@@ -39,11 +39,20 @@ stands_still None new same stands none = stands refl
 stands_still (Some value) None same stands none = absurd (cc same)
 stands_still (Some value) (Some other) same stands none = absurd (cc none)
 
+-- sessions work with the same as long as the configuration is the same
+pub setups_on : {D : Type 0} (setups : List ℕ → Setup) (old new : RelayState D) → new.node.config ≡ old.node.config → HaveSetups setups old → HaveSetups setups new
+setups_on setups old new same have = λ address. ap (λ config. setup_for config address) same ∙ have address
+
+-- what the session of a number works with, by its client's address
+pub setup_is_at : {D : Type 0} (setting : Setting) (relay : RelayState D) (number : ℕ) (address : List ℕ) → HaveSetups setting.setups relay → (setting.beginnings number).address ≡ address
+    → setup_for relay.node.config address ≡ setup_at setting number
+setup_is_at setting relay number address have is = have address ∙ ap setting.setups (sym is)
+
 -- what a session has said is a dialogue
-pub dialogue_of : {D : Type 0} (changes : List Change) (setup : Setup) (relay : RelayState D) (number : ℕ) (address : List ℕ) (said : Said) → setup_of_config relay.node.config ≡ setup
-    → HasSaid changes relay number address said → IsDialogue setup said
-dialogue_of changes setup relay number address said same has =
-    subst (λ (setup : Setup). IsDialogue setup said) same ((talks_are_dialogues changes relay number address said has.written has.talks).0)
+pub dialogue_of : {D : Type 0} (changes : List Change) (setting : Setting) (relay : RelayState D) (number : ℕ) (address : List ℕ) (said : Said) → HaveSetups setting.setups relay
+    → (setting.beginnings number).address ≡ address → HasSaid changes relay number address said → IsDialogue (setup_at setting number) said
+dialogue_of changes setting relay number address said have is has =
+    subst (λ (setup : Setup). IsDialogue setup said) (setup_is_at setting relay number address have is) ((talks_are_dialogues changes relay number address said has.written has.talks).0)
 
 module _ {D S : Type 0} (remaining contents : S → Option (List ℕ)) (setting : Setting) where
   -- more changes were made, and nothing of this number is different
@@ -51,6 +60,7 @@ module _ {D S : Type 0} (remaining contents : S → Option (List ℕ)) (setting 
       → slot_at new.node.seats number ≡ slot_at old.node.seats number → slot_at new.clients number ≡ slot_at old.clients number → new.node.config ≡ old.node.config
       → HasSession remaining contents changes setting old number heard address channel → HasSession remaining contents (changes ++ added) setting new number heard address channel
   session_later changes added old new number heard address channel seats clients config session = record {
+    address_is = session.address_is;
     said = session.said;
     has_said = record {
       written = session.has_said.written;
@@ -123,10 +133,10 @@ module _ {D : Type 0} where
   }
 
   -- what the sessions work with stays
-  pub works_on : (setup : Setup) (number : ℕ) (old new : RelayState D) → LeavesRest number old new → WorksWith setup old → WorksWith setup new
-  works_on setup number old new rest works = record {
+  pub works_on : (setups : List ℕ → Setup) (number : ℕ) (old new : RelayState D) → LeavesRest number old new → WorksWith setups old → WorksWith setups new
+  works_on setups number old new rest works = record {
     live = ap (λ records. records.spool.live) rest.records ∙ works.live;
-    setup_is = ap setup_of_config rest.only.config ∙ works.setup_is;
+    setups_are = setups_on setups old new rest.only.config works.setups_are;
   }
 
 -- whatever is to become of the connection
@@ -134,20 +144,21 @@ module _ {D S : Type 0} (remaining contents : S → Option (List ℕ)) (changes 
     (session : HasSession remaining contents changes setting old number 0 address before) where
   pub session_reads : StaysSaid number old new → HandsAndReads remaining contents number old new before after → HasSession remaining contents changes setting new number 0 address after
   session_reads stays read = record {
+    address_is = session.address_is;
     said = session.said;
     has_said = stays changes address session.said session.has_said;
     carries = carries_on remaining contents (setting.beginnings number) 0 0 before after session.said (unwritten_at old.clients number) (unwritten_at new.clients number)
         read.input read.handed.said session.carries;
   }
 
-  pub next_has : (next : Next) → WorksWith setting.setup old → StaysOrEnds number old new (Some next) → IsRead remaining contents number old new before after (Some next)
+  pub next_has : (next : Next) → WorksWith setting.setups old → StaysOrEnds number old new (Some next) → IsRead remaining contents number old new before after (Some next)
       → HasNext remaining contents changes setting new number address after next
   next_has Stays works stays read = session_reads stays read
   next_has (Leaves last) works freed read = record {
     unused = frees changes old new number address session.said works.live session.has_said freed;
     ends = record {
       said = session.said;
-      dialogue = dialogue_of changes setting.setup old number address session.said works.setup_is session.has_said;
+      dialogue = dialogue_of changes setting old number address session.said works.setups_are session.address_is session.has_said;
       carries = inl (carries_on remaining contents (setting.beginnings number) 0 0 before after session.said (unwritten_at old.clients number) last read.input read.said session.carries);
     };
   }
@@ -162,8 +173,8 @@ read_rest remaining contents number old new before after (Some (Leaves last)) re
 read_rest remaining contents number old new before after (Some Gone) read = rest_of_end number old new read
 
 module _ {D S : Type 0} (honest : Type 0) (words : DiskWords D) (remaining contents : S → Option (List ℕ)) (changes : List Change) (setting : Setting) where
-  pub served_works : (clients : List (Option (Box (Client S) Global))) (relay : RelayState D) → AreServed honest words remaining contents changes setting clients relay → WorksWith setting.setup relay
-  served_works clients relay served = record { live = served.keeps.live; setup_is = served.setup_is }
+  pub served_works : (clients : List (Option (Box (Client S) Global))) (relay : RelayState D) → AreServed honest words remaining contents changes setting clients relay → WorksWith setting.setups relay
+  served_works clients relay served = record { live = served.keeps.live; setups_are = served.setups_are }
 
   -- a call on one client leaves all served, where it leaves that one served
   pub served_on : (clients later : List (Option (Box (Client S) Global))) (before after : RelayState D) (number : ℕ) → AreServed honest words remaining contents changes setting clients before
@@ -171,7 +182,7 @@ module _ {D S : Type 0} (honest : Type 0) (words : DiskWords D) (remaining conte
       → AreServed honest words remaining contents changes setting later after
   served_on clients later before after number served acts here = record {
     keeps = subst (λ records. Keeps honest words records changes) (sym acts.rest.records) served.keeps;
-    setup_is = ap setup_of_config acts.rest.only.config ∙ served.setup_is;
+    setups_are = setups_on setting.setups before after acts.rest.only.config served.setups_are;
     each = λ other. by other (cases_eq other number);
   }
     where
@@ -201,31 +212,32 @@ module _ {D S : Type 0} (honest : Type 0) (words : DiskWords D) (remaining conte
       → AreServed honest words remaining contents changes setting clients old → AreServed honest words remaining contents changes setting clients new
   still_served clients old new same node served = record {
     keeps = subst (λ (state : NodeState D). Keeps honest words state.records changes) (sym node) served.keeps;
-    setup_is = ap (λ (state : NodeState D). setup_of_config state.config) node ∙ served.setup_is;
+    setups_are = setups_on setting.setups old new (ap (λ (state : NodeState D). state.config) node) served.setups_are;
     each = λ number.
         serves_still remaining contents setting changes old new number (slot_at clients number) (ap (λ (state : NodeState D). slot_at state.seats number) node) (ap (λ table. slot_at table number) same)
         (ap (λ (state : NodeState D). state.config) node) (served.each number);
   }
 
   -- nobody was opened
-  pub none_opened : (stream : S) (clients : List (Option (Box (Client S) Global))) (relay : RelayState D) → AreServed honest words remaining contents changes setting clients relay
-      → AreServed honest words remaining contents changes (opened remaining contents setting clients stream) clients relay
-  none_opened stream clients relay served = record {
+  pub none_opened : (peer : SocketAddrV4) (stream : S) (clients : List (Option (Box (Client S) Global))) (relay : RelayState D) → AreServed honest words remaining contents changes setting clients relay
+      → AreServed honest words remaining contents changes (opened remaining contents setting clients peer stream) clients relay
+  none_opened peer stream clients relay served = record {
     keeps = served.keeps;
-    setup_is = served.setup_is;
+    setups_are = served.setups_are;
     each = λ number. by number (slot_at clients number) refl (served.each number);
   }
     where
       by : (number : ℕ) (slot : Option (Box (Client S) Global)) → slot_at clients number ≡ slot → Serves remaining contents changes setting relay number slot
-          → Serves remaining contents changes (opened remaining contents setting clients stream) relay number (slot_at clients number)
-      by number None there unused = subst (λ (slot : Option (Box (Client S) Global)). Serves remaining contents changes (opened remaining contents setting clients stream) relay number slot) (sym there) unused
+          → Serves remaining contents changes (opened remaining contents setting clients peer stream) relay number (slot_at clients number)
+      by number None there unused = subst (λ (slot : Option (Box (Client S) Global)). Serves remaining contents changes (opened remaining contents setting clients peer stream) relay number slot) (sym there) unused
       by number (Some client) there session =
-          subst (λ (slot : Option (Box (Client S) Global)). Serves remaining contents changes (opened remaining contents setting clients stream) relay number slot) (sym there)
+          subst (λ (slot : Option (Box (Client S) Global)). Serves remaining contents changes (opened remaining contents setting clients peer stream) relay number slot) (sym there)
           (record {
+            address_is = ap (λ (slot : Option (Box (Client S) Global)). (beginning_or remaining contents slot (setting.beginnings number) (ipv4_octets (v4_ip peer)) stream).address) there ∙ session.address_is;
             said = session.said;
             has_said = session.has_said;
             carries = subst (λ beginning. Carries remaining contents beginning 0 client.value.channel session.said (unwritten_at relay.clients number))
-                (ap (λ (slot : Option (Box (Client S) Global)). beginning_or remaining contents slot (setting.beginnings number) stream) (sym there)) session.carries;
+                (ap (λ (slot : Option (Box (Client S) Global)). beginning_or remaining contents slot (setting.beginnings number) (ipv4_octets (v4_ip peer)) stream) (sym there)) session.carries;
           })
 
 pub served_are_matched : {D S : Type 0} (honest : Type 0) (words : DiskWords D) (remaining contents : S → Option (List ℕ)) → ServedAreMatched honest words remaining contents
@@ -249,9 +261,9 @@ served_are_matched honest words remaining contents changes setting clients relay
       }
 
 pub free_are_served : {D S : Type 0} (honest : Type 0) (words : DiskWords D) (remaining contents : S → Option (List ℕ)) → FreeAreServed honest words remaining contents
-free_are_served honest words remaining contents changes setting clients relay keeps setup free connections seats = record {
+free_are_served honest words remaining contents changes setting clients relay keeps setups free connections seats = record {
   keeps = keeps;
-  setup_is = setup;
+  setups_are = setups;
   each = λ number.
       subst (λ slot. Serves remaining contents changes setting relay number slot) (sym (free_at clients free number))
       (record { connection = free_at relay.clients connections number; seat = free_at relay.node.seats seats number });
@@ -261,7 +273,7 @@ free_are_served honest words remaining contents changes setting clients relay ke
 pub noted_are_served : {D S : Type 0} (honest : Type 0) (words : DiskWords D) (remaining contents : S → Option (List ℕ)) → NotedAreServed honest words remaining contents
 noted_are_served honest words remaining contents changes setting old new relay number noted served = record {
   keeps = served.keeps;
-  setup_is = served.setup_is;
+  setups_are = served.setups_are;
   each = λ other. by other (cases_eq other number);
 }
   where
@@ -280,6 +292,7 @@ noted_are_served honest words remaining contents changes setting old new relay n
     still None other same serves = subst (λ slot. Serves remaining contents changes setting relay number slot) (sym same) serves
     still (Some client) None same serves = absurd same
     still (Some client) (Some later) (peer, octets) session = record {
+      address_is = session.address_is ∙ ap (λ (at : SocketAddrV4). ipv4_octets (v4_ip at)) (sym peer);
       said = session.said;
       has_said = subst (λ (at : SocketAddrV4). HasSaid changes relay number (ipv4_octets (v4_ip at)) session.said) (sym peer) session.has_said;
       carries = carried client.value.channel later.value.channel session.said (unwritten_at relay.clients number) octets session.carries;
@@ -302,10 +315,10 @@ module _ {D S : Type 0} (honest : Type 0) (words : DiskWords D) (remaining conte
     by (Some client) there has = absurd (some_is_not_none has.has_said.talks.seat.at free.free)
 
   abbrev after : Setting
-  after = opened remaining contents setting clients stream
+  after = opened remaining contents setting clients peer stream
 
   as_before : AreServed honest words remaining contents changes after clients old
-  as_before = none_opened honest words remaining contents changes setting stream clients old served
+  as_before = none_opened honest words remaining contents changes setting peer stream clients old served
 
   -- it is ended again
   pub opens_freed : IsFreed session mid new → AreServed honest words remaining contents changes after clients new
@@ -322,14 +335,15 @@ module _ {D S : Type 0} (honest : Type 0) (words : DiskWords D) (remaining conte
       → AreServed honest words remaining contents changes after later new
   opens_one later client output same outbox stays there others none greeting begins =
       let first : HasSaid changes new session (ipv4_octets (v4_ip peer)) said = stays changes (ipv4_octets (v4_ip peer)) said (record { written = []; talks = talks }) in
-      let begun : Carries remaining contents (beginning_of remaining contents stream) 0 client.value.channel said (unwritten_at new.clients session) =
-      carries_first remaining contents stream client.value.channel said output (unwritten_at new.clients session) none greeting begins in
+      let begun : Carries remaining contents (beginning_of remaining contents (ipv4_octets (v4_ip peer)) stream) 0 client.value.channel said (unwritten_at new.clients session) =
+      carries_first remaining contents (ipv4_octets (v4_ip peer)) stream client.value.channel said output (unwritten_at new.clients session) none greeting begins in
       served_on honest words remaining contents changes after clients later old new session as_before
       (record { clients = others; rest = rest_on session old mid new (record { only = only; records = records }) (rest_of_outbox session mid new outbox) })
       (subst (λ (slot : Option (Box (Client S) Global)). Serves remaining contents changes after new session slot) (sym there)
       (record {
+        address_is = ap (λ (slot : Option (Box (Client S) Global)). (beginning_or remaining contents slot (setting.beginnings session) (ipv4_octets (v4_ip peer)) stream).address) none_before ∙ ap (λ (at : SocketAddrV4). ipv4_octets (v4_ip at)) (sym same);
         said = said;
         has_said = subst (λ (at : SocketAddrV4). HasSaid changes new session (ipv4_octets (v4_ip at)) said) (sym same) first;
         carries = subst (λ beginning. Carries remaining contents beginning 0 client.value.channel said (unwritten_at new.clients session))
-            (ap (λ (slot : Option (Box (Client S) Global)). beginning_or remaining contents slot (setting.beginnings session) stream) (sym none_before)) begun;
+            (ap (λ (slot : Option (Box (Client S) Global)). beginning_or remaining contents slot (setting.beginnings session) (ipv4_octets (v4_ip peer)) stream) (sym none_before)) begun;
       }))

@@ -12,16 +12,22 @@ use Rattle.relay_connections.specs.Channel.{input_left, output_of, unread_of}
 use Rattle.relay_connections.specs.declared.channel.Channel.{Channel}
 use Rattle.relay_connections.specs.declared.client.Client.{Client}
 
--- where a connection began: what its stream had left of its input then, and what it had taken of the output, where that
--- is known
+-- where the connection of a client at this address began: what its stream had left of its input then, and what it had
+-- taken of the output, where that is known
 pub record Beginning : Type 0 where
+  pub address : List ℕ
   pub input : Option (List ℕ)
   pub output : Option (List ℕ)
 
--- what sessions work with, and where the connection of each client began, by the number of its session
+-- what the session of a client works with, by the client's address, and where the connection of each client began, by
+-- the number of its session
 pub record Setting : Type 0 where
-  pub setup : Setup
+  pub setups : List ℕ → Setup
   pub beginnings : ℕ → Beginning
+
+-- what the session of a number works with: what its client's address says
+abbrev pub setup_at : Setting → ℕ → Setup
+setup_at setting number = setting.setups (setting.beginnings number).address
 
 -- What a peer gets in the end: all that was said in a dialogue, and after that at most the one line with which the
 -- relay cuts a client off (RFC 5321, section 3.8).
@@ -33,9 +39,13 @@ pub record GetsDialogue (setup : Setup) (beginning : Beginning) (output : Option
 
 -- The words below are of what is known of the streams of connections.
 module _ {S : Type 0} (remaining contents : S → Option (List ℕ)) where
-  -- where a connection of this stream begins
-  abbrev pub beginning_of : S → Beginning
-  beginning_of stream = record { input = remaining stream; output = contents stream }
+  -- where the connection of a client at this address begins, on this stream
+  abbrev pub beginning_of : List ℕ → S → Beginning
+  beginning_of address stream = record {
+    address = address;
+    input = remaining stream;
+    output = contents stream;
+  }
 
   -- what is left of the input of a connection, where so many octets of what was read of it were heard already
   abbrev pub input_after : ℕ → Channel S → Option (List ℕ)
@@ -66,7 +76,8 @@ module _ {S : Type 0} (remaining contents : S → Option (List ℕ)) where
     pub input : Keeps (remaining stream) (input_left remaining contents channel)
     pub said : Keeps (append_known (contents stream) output) (output_and channel waiting)
 
-  -- where the connection of a number began that had this client, or none, once one with this stream was opened
-  abbrev pub beginning_or : Option (Box (Client S) Global) → Beginning → S → Beginning
-  beginning_or None before stream = beginning_of stream
-  beginning_or (Some client) before stream = before
+  -- where the connection of a number began that had this client, or none, once one of a client at this address, with
+  -- this stream, was opened
+  abbrev pub beginning_or : Option (Box (Client S) Global) → Beginning → List ℕ → S → Beginning
+  beginning_or None before address stream = beginning_of address stream
+  beginning_or (Some client) before address stream = before

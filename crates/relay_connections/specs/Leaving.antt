@@ -4,7 +4,7 @@ use Rattle.std.specs.Prelude.{None, Some, Box}
 use Rattle.std.specs.Global.{Global}
 use Rattle.std.specs.Io.KnownBytes.{Keeps, append_known}
 use Rattle.relay_slots.specs.Slots.{slot_at}
-use Rattle.relay_connections.specs.Carried.{GetsDialogue, Setting}
+use Rattle.relay_connections.specs.Carried.{GetsDialogue, Setting, setup_at}
 use Rattle.relay_connections.specs.Channel.{held_of, output_of}
 use Rattle.relay_connections.specs.declared.channel.Channel.{Channel}
 use Rattle.relay_connections.specs.declared.channel.End.TheVariants.{Broken, Input}
@@ -86,12 +86,13 @@ module _ {S : Type 0} (remaining contents : S → Option (List ℕ)) where
   MayTake channel last place (Some leaver) new = new ≡ Some leaver
 
   -- It is as before; where none stood, that of a client may, whose session has ended, and whose peer gets a dialogue
-  -- since its connection began.
+  -- since its connection began, by what the client's session worked with.
   abbrev pub MayJoin : Setting → Option (Box (Leaver S) Global) → Option (Box (Leaver S) Global) → Type 0
   MayJoin setting None None = Unit {0}
   MayJoin setting None (Some leaver) =
       (leaver.value.place ≡ None)
-      × (number : ℕ) × GetsDialogue setting.setup (setting.beginnings number) (whole_output leaver.value)
+      × (number : ℕ)
+      × GetsDialogue (setup_at setting number) (setting.beginnings number) (whole_output leaver.value)
   MayJoin setting (Some leaver) new = new ≡ Some leaver
 
   -- so it is of all

@@ -5,10 +5,11 @@ use Rattle.std.specs.Prelude.{if◌then◌else◌}
 use Rattle.std.specs.Global.{Global}
 use Rattle.std.specs.Net.Addr.{ipv4_octets}
 use Rattle.std.specs.Net.Socket.{v4_ip}
+use Rattle.std.specs.declared.net.socket_addr.SocketAddrV4.{SocketAddrV4}
 use Rattle.relay_disk.specs.Device.{DiskWords}
 use Rattle.relay_slots.specs.Slots.{AreFree, OthersStay, slot_at}
 use Rattle.relay_server.specs.Dialogue.{Said}
-use Rattle.relay_server.specs.Setup.{Setup, setup_of_config}
+use Rattle.relay_server.specs.Setup.{Setup, setup_for}
 use Rattle.relay_book.specs.declared.change.Change.{Change}
 use Rattle.relay_records.specs.Records.{Keeps}
 use Rattle.relay_records.specs.declared.fault.NodeFault.{NodeFault}
@@ -16,7 +17,7 @@ use Rattle.relay_loop.specs.Clients.{TalksTo}
 use Rattle.relay_loop.specs.declared.clients.Heard.{Heard}
 use Rattle.relay_loop.specs.Outboxes.{unwritten_at}
 use Rattle.relay_loop.specs.Relay.{OnlyClient, RelayState}
-use Rattle.relay_connections.specs.Carried.{Carries, CarriesLast, Setting, beginning_or}
+use Rattle.relay_connections.specs.Carried.{Carries, CarriesLast, Setting, beginning_or, setup_at}
 use Rattle.relay_connections.specs.Matched.{AreMatched, IsFreed}
 use Rattle.relay_connections.specs.Readiness.{IsNoted}
 use Rattle.relay_connections.specs.declared.channel.Channel.{Channel}
@@ -40,17 +41,22 @@ pub record IsUnused {D : Type 0} (relay : RelayState D) (number : ℕ) : Type 0 
   pub connection : slot_at relay.clients number ≡ None
   pub seat : slot_at relay.node.seats number ≡ None
 
--- the node is live, and its sessions work with this
-pub record WorksWith {D : Type 0} (setup : Setup) (relay : RelayState D) : Type 0 where
+-- the session of a client at each address works with this
+abbrev pub HaveSetups : {D : Type 0} → (List ℕ → Setup) → RelayState D → Type 0
+HaveSetups setups relay = (address : List ℕ) → setup_for relay.node.config address ≡ setups address
+
+-- the node is live, and its sessions work with these
+pub record WorksWith {D : Type 0} (setups : List ℕ → Setup) (relay : RelayState D) : Type 0 where
   pub live : relay.node.records.spool.live ≡ true
-  pub setup_is : setup_of_config relay.node.config ≡ setup
+  pub setups_are : HaveSetups setups relay
 
 -- The words below are of what is known of the streams of clients, and of a relay whose node keeps these changes.
 module _ {D S : Type 0} (remaining contents : S → Option (List ℕ)) (changes : List Change) (setting : Setting)
     (relay : RelayState D) (number : ℕ) where
-  -- The relay has a session of the number, whose client is at this address, and this connection carries its dialogue.
-  -- So many octets of what was read of that were heard already.
+  -- The relay has a session of the number, whose client is at this address, as when its connection began, and this
+  -- connection carries its dialogue. So many octets of what was read of that were heard already.
   pub record HasSession (heard : ℕ) (address : List ℕ) (channel : Channel S) : Type 0 where
+    pub address_is : (setting.beginnings number).address ≡ address
     pub said : Said
     pub has_said : HasSaid changes relay number address said
     pub carries : Carries remaining contents (setting.beginnings number) heard channel said
@@ -59,7 +65,7 @@ module _ {D S : Type 0} (remaining contents : S → Option (List ℕ)) (changes 
   -- the relay has no session of the number any more, and the last octets of its dialogue go by this connection
   pub record HasEnded (heard : ℕ) (channel : Channel S) (last : List ℕ) : Type 0 where
     pub unused : IsUnused relay number
-    pub ends : CarriesLast remaining contents setting.setup (setting.beginnings number) heard channel last
+    pub ends : CarriesLast remaining contents (setup_at setting number) (setting.beginnings number) heard channel last
 
   -- what the relay has under the number, where this client stands under it, or none
   abbrev pub Serves : Option (Box (Client S) Global) → Type 0
@@ -123,14 +129,15 @@ abbrev pub AreApart : List (ℕ × Result Heard NodeFault) → Type 0
 AreApart [] = Unit {0}
 AreApart (one ∷ answers) = (answer_to one.0 answers ≡ None) × AreApart answers
 
--- the setting once a connection with this stream was opened
+-- the setting once a connection of this peer was opened, with this stream
 abbrev pub opened
-    : {S : Type 0} → (S → Option (List ℕ)) → (S → Option (List ℕ)) → Setting → List (Option (Box (Client S) Global)) → S
-    → Setting
-opened remaining contents setting clients stream = record {
-  setup = setting.setup;
+    : {S : Type 0} → (S → Option (List ℕ)) → (S → Option (List ℕ)) → Setting → List (Option (Box (Client S) Global))
+    → SocketAddrV4 → S → Setting
+opened remaining contents setting clients peer stream = record {
+  setups = setting.setups;
   beginnings = λ number.
-      beginning_or remaining contents (slot_at clients number) (setting.beginnings number) stream;
+      beginning_or remaining contents (slot_at clients number) (setting.beginnings number)
+      (ipv4_octets (v4_ip peer)) stream;
 }
 
 -- The words below are of the clients of a relay, by number.
@@ -139,7 +146,7 @@ module _ {D S : Type 0} (honest : Type 0) (words : DiskWords D) (remaining conte
   pub record AreServed (changes : List Change) (setting : Setting) (clients : List (Option (Box (Client S) Global)))
       (relay : RelayState D) : Type 0 where
     pub keeps : Keeps honest words relay.node.records changes
-    pub setup_is : setup_of_config relay.node.config ≡ setting.setup
+    pub setups_are : HaveSetups setting.setups relay
     pub each : (number : ℕ) → Serves remaining contents changes setting relay number (slot_at clients number)
 
   -- so it is after more changes
@@ -152,7 +159,7 @@ module _ {D S : Type 0} (honest : Type 0) (words : DiskWords D) (remaining conte
   pub record HaveAnswered (changes : List Change) (setting : Setting) (clients : List (Option (Box (Client S) Global)))
       (relay : RelayState D) (answers : List (ℕ × Result Heard NodeFault)) : Type 0 where
     pub keeps : Keeps honest words relay.node.records changes
-    pub setup_is : setup_of_config relay.node.config ≡ setting.setup
+    pub setups_are : HaveSetups setting.setups relay
     pub apart : AreApart answers
     pub each : (number : ℕ) → HasAnsweredOr remaining contents changes setting relay number
         (slot_at clients number) (answer_to number answers)
@@ -168,8 +175,7 @@ module _ {D S : Type 0} (honest : Type 0) (words : DiskWords D) (remaining conte
   FreeAreServed =
       (changes : List Change) (setting : Setting) (clients : List (Option (Box (Client S) Global)))
       (relay : RelayState D)
-      → Keeps honest words relay.node.records changes → setup_of_config relay.node.config ≡ setting.setup
-      → AreFree clients → AreFree relay.clients → AreFree relay.node.seats → AreServed changes setting clients relay
+      → Keeps honest words relay.node.records changes → HaveSetups setting.setups relay → AreFree clients → AreFree relay.clients → AreFree relay.node.seats → AreServed changes setting clients relay
 
   -- Clients are served as before where the system tells what the connection of one may be ready for.
   abbrev pub NotedAreServed : Type 0

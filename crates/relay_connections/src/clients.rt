@@ -123,7 +123,7 @@ impl<S: Stream + Drop> Clients<S> {
         ensures served { (changes : List Change) (setting : Setting)
             → AreServed D.honest D.words S.remaining S.contents changes setting (clients_of self.old) relay.old
             → IfOk result (λ _. AreServed D.honest D.words S.remaining S.contents changes
-            (opened S.remaining S.contents setting (clients_of self.old) stream) (clients_of self.new) relay.new) }
+            (opened S.remaining S.contents setting (clients_of self.old) peer stream) (clients_of self.new) relay.new) }
         ensures fault { IfErr result (λ fault. fault ≡ NodeFault.Stopped) }
     {
         let session = match relay.accept(peer.ip().octets()) {

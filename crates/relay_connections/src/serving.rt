@@ -190,7 +190,7 @@ impl<S: Stream + Drop> Clients<S> {
     ) -> Result<bool, NodeFault>
         ensures only { IfOk result (λ _. ActsOn number (clients_of self.old) (clients_of self.new)
             relay.old relay.new) }
-        ensures serves { (changes : List Change) (setting : Setting) → WorksWith setting.setup relay.old
+        ensures serves { (changes : List Change) (setting : Setting) → WorksWith setting.setups relay.old
             → Serves S.remaining S.contents changes setting relay.old number (slot_at (clients_of self.old) number)
             → IfOk result (λ _. Serves S.remaining S.contents changes setting relay.new number
             (slot_at (clients_of self.new) number)
@@ -230,7 +230,7 @@ impl<S: Stream + Drop> Clients<S> {
     ) -> Result<bool, NodeFault>
         ensures only { IfOk result (λ _. ActsOn number (clients_of self.old) (clients_of self.new)
             relay.old relay.new) }
-        ensures serves { (changes : List Change) (setting : Setting) → WorksWith setting.setup relay.old
+        ensures serves { (changes : List Change) (setting : Setting) → WorksWith setting.setups relay.old
             → HasAnswered S.remaining S.contents changes setting relay.old number
             (slot_at (clients_of self.old) number) heard
             → IfOk result (λ _. Serves S.remaining S.contents changes setting relay.new number
@@ -305,7 +305,7 @@ impl<S: Stream + Drop> Clients<S> {
     ) -> Result<(), NodeFault>
         ensures only { IfOk result (λ _. ActsOn number (clients_of self.old) (clients_of self.new)
             relay.old relay.new) }
-        ensures serves { (changes : List Change) (setting : Setting) → WorksWith setting.setup relay.old
+        ensures serves { (changes : List Change) (setting : Setting) → WorksWith setting.setups relay.old
             → number < SLOT_COUNT → slot_at (clients_of self.old) number ≡ None
             → HasNext S.remaining S.contents changes setting relay.old number (address_of client.value)
             client.value.channel next
@@ -337,7 +337,7 @@ impl<S: Stream + Drop> Clients<S> {
         log: &mut Log<'_, Vec<u8>>,
     ) -> Result<Next, NodeFault>
         ensures rest { IfOk result (λ _. LeavesRest number relay.old relay.new) }
-        ensures next { (changes : List Change) (setting : Setting) → WorksWith setting.setup relay.old
+        ensures next { (changes : List Change) (setting : Setting) → WorksWith setting.setups relay.old
             → HasNext S.remaining S.contents changes setting relay.old number (address_of client.now)
             client.now.channel next
             → IfOk result (HasNext S.remaining S.contents changes setting relay.new number (address_of client.now)

@@ -42,7 +42,7 @@ loop-session-preserved g c =
       have = λ changes setting have.
           let had = i.have changes setting have in
           let so = subst (λ (pairs : List (ℕ × Result Heard NodeFault)). HaveAnswered g.D.Disk.honest g.D.Disk.words g.S.Stream.remaining g.S.Stream.contents changes setting c.loop-session.self.clients c.loop-session.relay pairs) pairs had.0 in
-          let works : WorksWith setting.setup c.loop-session.relay = record { live = so.keeps.live; setup_is = so.setup_is } in
+          let works : WorksWith setting.setups c.loop-session.relay = record { live = so.keeps.live; setups_are = so.setups_are } in
           let first : answer_to c.in-Some.session ((c.in-Some.session, c.in-Some.heard) ∷ zip (into_iter_items (zip_first c.next.new.self)) (into_iter_items (zip_second c.next.new.self))) ≡ Some c.in-Some.heard =
           answer_first c.in-Some.session c.in-Some.heard (zip (into_iter_items (zip_first c.next.new.self)) (into_iter_items (zip_second c.next.new.self))) in
           let here : HasAnswered g.S.Stream.remaining g.S.Stream.contents changes setting c.loop-session.relay c.in-Some.session (slot_at c.loop-session.self.clients c.in-Some.session) c.in-Some.heard =

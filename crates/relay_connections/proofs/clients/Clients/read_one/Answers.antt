@@ -49,7 +49,7 @@ returns-clause-serves g c = λ changes setting works serves.
     let read = subst (IsRead g.S.Stream.remaining g.S.Stream.contents number old new c.deref_mut.result.now.channel c.read.new.self.channel) c.in-Some-next.is c.in_ok-next.ensures.read in
     let has = next_has g.S.Stream.remaining g.S.Stream.contents changes setting old new number address c.deref_mut.result.now.channel c.read.new.self.channel before c.in-Some-next.next works becomes read in
     let rest = read_rest g.S.Stream.remaining g.S.Stream.contents number old new c.deref_mut.result.now.channel c.read.new.self.channel c.in_ok-next.next c.in_ok-next.ensures.read in
-    c.in_ok-settle.ensures.serves changes setting (works_on setting.setup number old new rest works) c.in-Some.ensures.within c.take.ensures.free
+    c.in_ok-settle.ensures.serves changes setting (works_on setting.setups number old new rest works) c.in-Some.ensures.within c.take.ensures.free
     (subst (λ client. HasNext g.S.Stream.remaining g.S.Stream.contents changes setting new number (address_of client) client.channel c.in-Some-next.next) (sym c.deref_mut-2.ensures.value)
     (subst (λ peer. HasNext g.S.Stream.remaining g.S.Stream.contents changes setting new number (ipv4_octets (v4_ip peer)) c.read.new.self.channel c.in-Some-next.next) (sym c.read.ensures.peer)
     (subst (λ client. HasNext g.S.Stream.remaining g.S.Stream.contents changes setting new number (address_of client) c.read.new.self.channel c.in-Some-next.next) (sym c.deref_mut.ensures.value) has)))
