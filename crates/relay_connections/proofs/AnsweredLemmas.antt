@@ -318,7 +318,7 @@ own_of standing clients same (piece ∷ pieces) (own, owns) = (
   own_of standing clients same pieces owns,
 )
 
--- the changes that are pending behind the call, and what the relay has for each client behind it
+-- the changes that are pending after the call, and what the relay has for each client after it
 pub record HaveAnsweredBehind {D S : Type 0} (honest : Type 0) (words : DiskWords D) (remaining contents : S → Option (List ℕ)) (changes : List Change) (setting : Setting)
     (clients : List (Option (Box (Client S) Global))) (relay : RelayState D) (answers : List (ℕ × Result Heard NodeFault)) : Type 0 where
   pub pending : List Change

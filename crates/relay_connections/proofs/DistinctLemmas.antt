@@ -18,7 +18,7 @@ abbrev pub AreDistinct : List ℕ → Type 0
 AreDistinct [] = Unit {0}
 AreDistinct (number ∷ others) = IsNoneOf number others × AreDistinct others
 
--- a number and one that comes less than a round behind it
+-- a number and one that comes less than a round after it
 differs : (number step slots : ℕ) → 0 < step → step < slots → number % slots ≢ (number + step) % slots
 differs number step slots some less same = by (cases_lt (number / slots) ((number + step) / slots)) where
   one : number / slots * slots + number % slots ≡ number

@@ -14,7 +14,7 @@ use Rattle.relay_connections.specs.declared.client.Next.TheVariants.{Stays, Leav
 pub some_is_not_none : {A : Type 0} {option : Option A} {value : A} → option ≡ Some value → option ≢ None
 some_is_not_none is none = absurd (cc (sym is ∙ none))
 
--- a session that ends behind octets that were handed over
+-- a session that ends after octets that were handed over
 pub ends_on : {D : Type 0} (session : ℕ) (one two three : RelayState D) → OnlyOutbox session one two → EndsAlone session two three → EndsAlone session one three
 ends_on session one two three first second = record {
   gone = second.gone;

@@ -9,11 +9,11 @@ is_none some None holds nothing = holds
 is_none some (Some value) holds nothing = absurd (nothing value refl)
 
 module _ (slots first step : ℕ) where
-  -- the slots behind the one that is looked at next
+  -- the slots after the one that is looked at next
   abbrev behind : List ℕ
   behind = turned slots (first + (step + 1)) (slots - (step + 1))
 
-  -- the slot that is looked at next, and those behind it
+  -- the slot that is looked at next, and those after it
   pub turned_next : step < slots → turned slots (first + step) (slots - step) ≡ (first + step) % slots ∷ behind
   turned_next below = ap (turned slots (first + step)) left ∙ ap (λ number. (first + step) % slots ∷ turned slots number (slots - (step + 1))) next where
     left : slots - step ≡ suc (slots - (step + 1))
@@ -22,7 +22,7 @@ module _ (slots first step : ℕ) where
     next : first + step + 1 ≡ first + (step + 1)
     next = omega arith
 
-  -- where it has something to hear, it stands behind those that were found before
+  -- where it has something to hear, it stands after those that were found before
   pub found_next : (hears : ℕ → Bool) (found all : List ℕ) → step < slots → hears ((first + step) % slots) ≡ true → found ++ filter hears (turned slots (first + step) (slots - step)) ≡ all → (found ++ (first + step) % slots ∷ []) ++ filter hears behind ≡ all
   found_next hears found all below does so_far =
       append_assoc found ((first + step) % slots ∷ []) (filter hears behind) ∙ ap (λ numbers. found ++ numbers) (sym here) ∙ so_far

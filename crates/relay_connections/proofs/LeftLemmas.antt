@@ -16,7 +16,7 @@ none_more P next before here number below = by (eq-or-lt_of_le (omega (arith, be
 pub stands_there : {A : Type 0} (slots : List (Option A)) (number : ℕ) (found : Option A) → number < length slots → found ≡ get_or slots number found → slot_at slots number ≡ found
 stands_there slots number found below is = get_or_default slots number None found below ∙ sym is
 
--- nothing stands behind the last slot
+-- nothing stands after the last slot
 pub none_behind : {A : Type 0} (slots : List (Option A)) (number : ℕ) → length slots ≤ number → slot_at slots number ≡ None
 none_behind slots number behind = get_or-eq_default slots None behind
 

@@ -95,7 +95,7 @@ module _ {D : Type 0} where
     seat = freed.seat live (some_is_not_none has.talks.connection) (some_is_not_none has.talks.seat.at);
   }
 
-  -- so does one that is ended behind octets that were handed over
+  -- so does one that is ended after octets that were handed over
   pub frees_on : (number : ℕ) (one two three : RelayState D) → OnlyOutbox number one two → IsFreed number two three → IsFreed number one three
   frees_on number one two three outbox freed = record {
     ended = ends_on number one two three outbox freed.ended;
@@ -192,7 +192,7 @@ module _ {D S : Type 0} (honest : Type 0) (words : DiskWords D) (remaining conte
           subst (λ slot. Serves remaining contents changes setting after other slot) (sym (acts.clients other apart))
           (serves_still remaining contents setting changes before after other (slot_at clients other) (acts.rest.only.seats other apart) (acts.rest.only.clients other apart) acts.rest.only.config (served.each other))
 
-  -- what is served behind changes is served behind more
+  -- what is served after changes is served after more
   pub served_behind : (added : List Change) (clients : List (Option (Box (Client S) Global))) (relay : RelayState D)
       → AreServedBehind honest words remaining contents (changes ++ added) setting clients relay → AreServedBehind honest words remaining contents changes setting clients relay
   served_behind added clients relay behind = record {

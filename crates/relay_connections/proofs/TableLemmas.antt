@@ -1,4 +1,4 @@
--- What holds of the slots behind the last of a table.
+-- What holds of the slots after the last of a table.
 use Rattle.std.proofs.Common.{◌≡◌, ◌≢◌, ◌⊎◌, inl, inr, ℕ, ◌+◌, ◌-◌, ◌<◌, zero, suc, Bool, true, false, List, [], ◌∷◌, length, drop, drop-cons, drop_of_length-le, add-one, ◌≤◌, Option, None, Some, is_some, refl, sym, ap, ◌∙◌, subst, arith, if◌then◌else◌}
 use Rattle.std.proofs.Math.Nat.{eq-or-lt_of_le}
 use Rattle.std.proofs.lemmas.Bool.{cases_eq}
@@ -18,7 +18,7 @@ pub none_of : {A : Type 0} (slot : Option A) → is_some slot ≡ false → slot
 none_of None not = refl
 none_of (Some value) not = absurd (cc not)
 
--- where nothing stands behind a slot, nor in it, nothing stands from it on
+-- where nothing stands after a slot, nor in it, nothing stands from it on
 pub free_from_before : {A : Type 0} (slots : List (Option A)) (end : ℕ) → 0 < end → AreFreeFrom slots end → slot_at slots (end - 1) ≡ None → AreFreeFrom slots (end - 1)
 free_from_before slots end some free none number behind = by (eq-or-lt_of_le behind) where
   by : (end - 1 ≡ number) ⊎ (end - 1 < number) → slot_at slots number ≡ None
@@ -64,7 +64,7 @@ pub such_is_some : {A : Type 0} (slot : Option A) → is_some slot ≡ is_such (
 such_is_some None = refl
 such_is_some (Some value) = refl
 
--- behind the last slot nothing is left to count
+-- after the last slot nothing is left to count
 pub none_left : {A : Type 0} (such : A → Bool) (slots : List (Option A)) (number count : ℕ) → length slots ≤ number
     → count + count_of_such such (drop number slots) ≡ count_of_such such slots → count ≡ count_of_such such slots
 none_left such slots number count past is =

@@ -2,7 +2,7 @@
 use Rattle.std.specs.Prelude.{◌≡◌, ◌≤◌, ◌+◌, ℕ, Bool, true, false, List, [], ◌∷◌, Option, None, Some, if◌then◌else◌}
 use Rattle.relay_slots.specs.Slots.{slot_at}
 
--- nothing stands in the slot of this number, nor in one behind it
+-- nothing stands in the slot of this number, nor in one after it
 abbrev pub AreFreeFrom : {A : Type 0} → List (Option A) → ℕ → Type 0
 AreFreeFrom slots first = (number : ℕ) → first ≤ number → slot_at slots number ≡ None
 

@@ -19,7 +19,7 @@ pub struct Readiness {
     pub reads: bool,
     /// A write takes octets, or gives a fault.
     pub writes: bool,
-    /// Behind what can be read comes the end, or a fault.
+    /// After what can be read comes the end, or a fault.
     pub ends: bool,
 }
 
@@ -224,7 +224,7 @@ impl<S: Stream> Channel<S> {
                 false
             }
             Ok(count) => {
-                // A read that leaves room has taken all that there is, and the system tells of what comes behind
+                // A read that leaves room has taken all that there is, and the system tells of what comes after
                 // it: but for an end of which it has told already.
                 if count < BLOCK_SIZE && !self.ready.ends {
                     self.ready.reads = false;
@@ -268,7 +268,7 @@ impl<S: Stream> Channel<S> {
         self.held.push(octets)
     }
 
-    /// Writes what is held, and of these octets behind it what goes at once; it tells how many of these are done with:
+    /// Writes what is held, and of these octets after it what goes at once; it tells how many of these are done with:
     /// they are written, or held. Where the peer was told that nothing more is written, nothing is.
     pub fn write(&mut self, octets: &[u8]) -> usize
         ensures output { Appends (output_of S.remaining S.contents self.old) (output_of S.remaining S.contents self.new)

@@ -42,7 +42,7 @@ pub(crate) struct Client<S> {
     unanswered: usize,
     /// A line end was among them.
     has_line_end: bool,
-    /// The tick at which it is cut off. It is set anew by the first octet behind an answer, by 65,536 octets that lead
+    /// The tick at which it is cut off. It is set anew by the first octet after an answer, by 65,536 octets that lead
     /// to none and have a line end, since they are of a text or a chunk, and by each write of which it takes something:
     /// so a command line has to stand whole within the timeout of its first octet.
     idle_deadline: u64,
@@ -75,7 +75,7 @@ impl<S: Drop> Drop for Client<S> {
     }
 }
 
-/// What becomes of a connection behind a turn.
+/// What becomes of a connection after a turn.
 #[derive(Drop)]
 pub(crate) enum Next {
     /// It stays.
@@ -238,7 +238,7 @@ impl<S: Stream> Client<S> {
         true
     }
 
-    /// Writes the replies that were held back, since what they tell of stands, though nothing comes behind them.
+    /// Writes the replies that were held back, since what they tell of stands, though nothing comes after them.
     pub(crate) fn give_held(&mut self)
         ensures output { Keeps (output_of S.remaining S.contents self.old.channel)
             (output_of S.remaining S.contents self.new.channel) }

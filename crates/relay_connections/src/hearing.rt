@@ -34,9 +34,9 @@ pub struct Replied {
     pub notes: Vec<Noted>,
 }
 
-/// Lets all sessions that have something to hear do so in one call, the first of them first, and behind them the
+/// Lets all sessions that have something to hear do so in one call, the first of them first, and after them the
 /// attempts of next hops that have replied, so that the mail they bring and the outcomes of attempts come into the
-/// spool behind one pair of syncs. It answers nothing where no memory is left for that; nothing was heard then.
+/// spool after one pair of syncs. It answers nothing where no memory is left for that; nothing was heard then.
 pub(crate) fn hear_all<S: Stream, D: Disk>(
     alloc: Global,
     clients: &[Option<Box<Client<S>>>],

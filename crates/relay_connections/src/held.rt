@@ -59,7 +59,7 @@ impl Held {
         self.as_slice().is_empty()
     }
 
-    /// Puts octets behind the others, and tells whether: not where they are too many, or memory runs out.
+    /// Puts octets after the others, and tells whether: not where they are too many, or memory runs out.
     pub(crate) fn push(&mut self, octets: &[u8]) -> bool
         ensures held { result ≡ true → self.new ≡ self.old ++ octets.now }
         ensures same { result ≡ false → self.new ≡ self.old }

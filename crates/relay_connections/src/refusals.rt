@@ -15,7 +15,7 @@ use relay_slots::SLOT_COUNT;
 use std::alloc::{AllocError, Global};
 use std::net::SocketAddrV4;
 
-/// For so many seconds behind a line nothing more is told of its address.
+/// For so many seconds after a line nothing more is told of its address.
 const SILENT_SECONDS: u64 = 60;
 
 /// The refusals of an address that aren't told yet.

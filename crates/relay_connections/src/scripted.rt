@@ -5,7 +5,7 @@ use crate::stream::Stream;
 use std::io::{self, Error, ErrorKind, Read, Write};
 
 /// A stream that gives what its reader gives, and writes to its writer. Each read and each write takes the next number
-/// of the script: so many octets go at most, and at a 0 it would have to wait. Behind the script all go.
+/// of the script: so many octets go at most, and at a 0 it would have to wait. After the script all go.
 #[derive(Drop)]
 pub struct ScriptedStream<R, W> {
     pub reader: R,

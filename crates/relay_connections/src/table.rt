@@ -10,7 +10,7 @@ use relay_slots::Slots;
 use std::alloc::{AllocError, Global};
 use std::marker::Model;
 
-/// Up to 64 connections, numbered from 0 to 63. A walk over those that stand touches no slot behind the last of them.
+/// Up to 64 connections, numbered from 0 to 63. A walk over those that stand touches no slot after the last of them.
 pub struct Table<T> {
     slots: Slots<T>,
     /// Nothing stands in a slot from this one on.
@@ -95,7 +95,7 @@ impl<T: Drop> Table<T> {
         taken
     }
 
-    /// Puts a value under the number under which it was taken out, or under a free one. Behind the last slot there is
+    /// Puts a value under the number under which it was taken out, or under a free one. After the last slot there is
     /// no place for one.
     pub fn put(&mut self, number: usize, value: T)
         ensures stands { number < length self.old
@@ -111,7 +111,7 @@ impl<T: Drop> Table<T> {
     }
 }
 
-/// The number behind the last slot in which something stands, where nothing stands from this one on.
+/// The number after the last slot in which something stands, where nothing stands from this one on.
 fn end_of<T>(slots: &[Option<T>], end: usize) -> usize
     requires within { end ≤ length slots.now }
     requires free { AreFreeFrom slots.now end }
@@ -132,7 +132,7 @@ pub fn holds<T>(slots: &[Option<T>], number: usize) -> bool
     matches!(slots.get(number), Some(Some(_)))
 }
 
-/// The number that comes so many places behind another, of so many, where 0 comes behind the last.
+/// The number that comes so many places after another, of so many, where 0 comes after the last.
 pub fn turned(number: usize, step: usize, count: usize) -> usize
     requires { 0 < count }
     ensures place { result ≡ min (number + step) (2 ^ 64 - 1) % count }

@@ -1,4 +1,4 @@
--- each piece so far is all that its own session's client has to be heard, and those to come are of the slots behind
+-- each piece so far is all that its own session's client has to be heard, and those to come are of the slots after
 use Rattle.std.proofs.Common.{◌≡◌, ◌+◌, ◌-◌, ◌++◌, All, length, map}
 use Rattle.std.specs.List.{filter}
 use Rattle.relay_connections.specs.Hearing.{IsOwn, hearing_from, hears_at, session_of, turned}

@@ -1,4 +1,4 @@
--- nothing stands in a slot that was passed over, nor in one behind it
+-- nothing stands in a slot that was passed over, nor in one after it
 use Rattle.std.proofs.Common.{◌≤◌}
 use Rattle.relay_connections.specs.Table.{AreFreeFrom}
 use Rattle.relay_connections.proofs.table.end_of.Given as goal

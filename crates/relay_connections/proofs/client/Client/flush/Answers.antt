@@ -1,4 +1,4 @@
--- What was said before a write is said behind it.
+-- What was said before a write is said after it.
 use Rattle.relay_connections.proofs.client.Client.flush.Goals as goal
 
 pub returns-then-not-write-clause-said : goal.returns-then-not-write-clause-said
