@@ -37,7 +37,7 @@ same_count such (slot ∷ one) (value ∷ other) same =
     ap (λ (slot : Option _). (if is_such such slot then 1 else 0) + count_of_such such one) (same zero)
     ∙ ap (λ (count : ℕ). (if is_such such value then 1 else 0) + count) (same_count such one other (λ number. same (suc number)))
 
--- behind the last slot nothing is left to count
+-- after the last slot nothing is left to count
 pub none_left : {A : Type 0} (such : A → Bool) (slots : List (Option A)) (number count : ℕ) → length slots ≤ number
     → count + count_of_such such (drop number slots) ≡ count_of_such such slots → count ≡ count_of_such such slots
 none_left such slots number count past is =

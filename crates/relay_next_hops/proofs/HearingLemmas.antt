@@ -24,11 +24,11 @@ Answers = List (Result Answered NodeFault)
 
 -- Of so many connections those are gone over from the first on, and 0 comes after the last.
 module _ (count first step : ℕ) where
-  -- the numbers behind the one that is looked at next
+  -- the numbers after the one that is looked at next
   abbrev behind : List ℕ
   behind = turned count (first + (step + 1)) (count - (step + 1))
 
-  -- the one that is looked at next, and those behind it
+  -- the one that is looked at next, and those after it
   pub turned_next : step < count → turned count (first + step) (count - step) ≡ (first + step) % count ∷ behind
   turned_next below = ap (turned count (first + step)) left ∙ ap (λ (number : ℕ). (first + step) % count ∷ turned count number (count - (step + 1))) next where
     left : count - step ≡ suc (count - (step + 1))
@@ -60,7 +60,7 @@ module _ (count first step : ℕ) where
   )))
 
 module _ {X : Type 0} (f : ℕ → Option X) (found all : List X) (count first step : ℕ) (below : step < count) (so_far : found ++ filter_map f (turned count (first + step) (count - step)) ≡ all) where
-  -- what the next one has to hear stands behind what was found before
+  -- what the next one has to hear stands after what was found before
   pub found_next : (value : X) → f ((first + step) % count) ≡ Some value → (found ++ value ∷ []) ++ filter_map f (behind count first step) ≡ all
   found_next value is = append_assoc found (value ∷ []) (filter_map f (behind count first step)) ∙ ap (λ values. found ++ values) (sym here) ∙ so_far where
     here : filter_map f (turned count (first + step) (count - step)) ≡ value ∷ filter_map f (behind count first step)
@@ -72,7 +72,7 @@ module _ {X : Type 0} (f : ℕ → Option X) (found all : List X) (count first s
     here : filter_map f (turned count (first + step) (count - step)) ≡ filter_map f (behind count first step)
     here = ap (filter_map f) (turned_next count first step below) ∙ ap (λ (value : Option X). cons_option value (filter_map f (behind count first step))) is
 
--- behind the last one nothing is left
+-- after the last one nothing is left
 pub found_all : {X : Type 0} (f : ℕ → Option X) (found all : List X) (count first step : ℕ) → count ≤ step → found ++ filter_map f (turned count (first + step) (count - step)) ≡ all → found ≡ all
 found_all f found all count first step past so_far = sym (append-nil found) ∙ ap (λ (left : ℕ). found ++ filter_map f (turned count (first + step) left)) (sym none) ∙ so_far where
   none : count - step ≡ 0
@@ -142,7 +142,7 @@ none_of (item ∷ items) none = absurd (omega (arith, none))
 pub if_some : {A : Type 0} (P : A → Type 0) (found : Option A) (value : A) → found ≡ Some value → P value → IfSome found P
 if_some P found value is holds = subst (λ (found : Option _). IfSome found P) (sym is) holds
 
--- what holds holds behind a call that was refused or not
+-- what holds holds after a call that was refused or not
 pub on_ok : {T E : Type 0} (P : Type 0) (result : Result T E) → P → OnOk result P
 on_ok P (Ok value) holds = holds
 on_ok P (Err fault) holds = tt

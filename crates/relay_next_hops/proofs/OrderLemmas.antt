@@ -25,7 +25,7 @@ turned_range slots number (suc count) within =
     ap (λ (first : ℕ). first ∷ turned slots (number + 1) count) (below_is number slots (omega (arith, within)))
     ∙ ap (λ (rest : List ℕ). number ∷ rest) (turned_range slots (number + 1) count (omega (arith, within)))
 
--- the last slot is behind, and it begins anew
+-- the last slot is after, and it begins anew
 turned_anew : (slots number count : ℕ) → number + count ≤ slots → turned slots (slots + number) count ≡ range_with_len number count
 turned_anew slots number zero within = refl
 turned_anew slots number (suc count) within =
@@ -146,7 +146,7 @@ module _ (count : ℕ) where
       still : (other : ℕ) → count ≤ other → slot_at next.1.between other ≡ None
       still other past = next.1.one.others other (λ same. next.0 (ap (hearing_at old) (sym same) ∙ ap (option_and_then hearing_of) (none other past))) ∙ none other past
 
--- behind the last slot nothing stands
+-- after the last slot nothing stands
 beyond : {A : Type 0} (slots : List (Option A)) (number : ℕ) → length slots ≤ number → slot_at slots number ≡ None
 beyond [] number past = refl
 beyond (slot ∷ slots) zero past = absurd (omega (arith, past))

@@ -8,7 +8,7 @@ use Rattle.relay_next_hops.specs.declared.lanes.Lanes.{Lanes}
 use Rattle.relay_next_hops.specs.Lanes.{tasks_at}
 use Rattle.relay_next_hops.specs.Overdue.{TakesOut, checked_at, checked_of, unchecked_at, unchecked_of}
 
--- what is left behind one of two places, where both are the same or past the end
+-- what is left after one of two places, where both are the same or past the end
 pub drop_same : {A : Type 0} (xs : List A) (a b : ℕ) → min a (length xs) ≡ min b (length xs) → drop a xs ≡ drop b xs
 drop_same xs a b e = sym (drop_min a xs) ∙ ap (λ n. drop n xs) e ∙ drop_min b xs
 

@@ -28,7 +28,7 @@ with_left left walk = record { left = left; passed = walk.passed; newer = walk.n
 abbrev pub begun : Walk → Walk
 begun walk = record { left = walk.passed ++ walk.newer; passed = []; newer = [] }
 
--- the numbers of these places, without each that stands behind the same; no place has the number 0
+-- the numbers of these places, without each that stands after the same; no place has the number 0
 abbrev pub numbers_behind : ℕ → List (ℕ × ℕ) → List ℕ
 numbers_behind last [] = []
 numbers_behind last (place ∷ places) =

@@ -168,7 +168,7 @@ fn record_and_note(
 /// Leaves the place of an errand's lane alone, since its connection failed for this.
 fn hold(lanes: &mut Lanes, errand: &Errand, loss: Loss, log: &mut Log<'_, Vec<u8>>, now: &Now)
     ensures counts { KeepsCounts lanes.old lanes.new }
-    ensures only { OnlyLane lane lanes.old lanes.new }
+    ensures only { OnlyLane errand.now.aim.lane lanes.old lanes.new }
     ensures tasks { lanes.new.lanes ≡ lanes.old.lanes }
 {
     if let Some(seconds) = lanes.hold(errand.aim.lane, now) {

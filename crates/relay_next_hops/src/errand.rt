@@ -81,7 +81,7 @@ impl Errand {
     }
 }
 
-/// What becomes of the connection to a next hop behind a turn.
+/// What becomes of the connection to a next hop after a turn.
 #[derive(Drop)]
 pub(crate) enum Course {
     /// It stays.

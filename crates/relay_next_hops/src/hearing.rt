@@ -84,7 +84,7 @@ impl Hops {
         let Some(Replied { answered, notes }) = replied else {
             return self.lose_one(registry, relay, lanes, leaving, now, log);
         };
-        // The outcomes of attempts come behind the mail of clients.
+        // The outcomes of attempts come after the mail of clients.
         let others = notes.len().saturating_sub(count_ended(answered.as_slice()));
         let mut notes = notes.into_iter().skip(others);
         let mut answers = answered.into_iter();

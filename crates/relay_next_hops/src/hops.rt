@@ -171,7 +171,7 @@ impl Hops {
     }
 
     /// Attends to each of them once, each time beginning with another, until so many were lost that clients are to have
-    /// their turn; it goes on behind these then. It tells whether one was closed.
+    /// their turn; it goes on after these then. It tells whether one was closed.
     pub(crate) fn attend(
         &mut self,
         registry: &Registry,
@@ -232,7 +232,7 @@ impl Hops {
         )
     }
 
-    /// Puts a connection where it belongs behind what was done with it. It tells whether it stays.
+    /// Puts a connection where it belongs after what was done with it. It tells whether it stays.
     pub(crate) fn settle(
         &mut self,
         number: usize,

@@ -1,6 +1,6 @@
 //! When it is looked for what is due. To list it all is a walk over what is queued, so that is done where the node
 //! tells that something is due which isn't listed, and once a minute while something waits; and in parts, one at a
-//! turn, so that nobody waits for it. A message that has just come is put behind the others at once.
+//! turn, so that nobody waits for it. A message that has just come is put after the others at once.
 //!
 //! Between two parts messages come, are handed on and are put off. The lanes are emptied when the walk begins, and
 //! each message that is queued then is looked at once, when the walk comes to it; so it is listed then as it stands
@@ -31,7 +31,7 @@ const LISTING_SHARE: u64 = 10;
 /// How many messages are looked at in one part.
 const PART_SIZE: usize = 512;
 
-/// Behind so many seconds it is looked for what is due, also where nothing has changed: the wall clock may have been
+/// After so many seconds it is looked for what is due, also where nothing has changed: the wall clock may have been
 /// set.
 const LISTING_SECONDS: u64 = 60;
 
@@ -120,7 +120,7 @@ impl Lanes {
         if self.next_minute <= now.tick {
             self.next_minute = now.behind(LISTING_SECONDS);
             self.is_unsure = true;
-            // The node tells that what waits is due, and nothing of what is due behind that. A walk also lets go of
+            // The node tells that what waits is due, and nothing of what is due after that. A walk also lets go of
             // the numbers of those that have left.
             self.is_stale = self.is_stale || self.has_waiting(hops) || self.queued.has_grown();
         }

@@ -104,7 +104,7 @@ impl NextHops {
     }
 
     /// Attends to each connection once, each time beginning with another: makes it, writes what waits, or reads a block
-    /// that its attempt may hear then. Where so many were lost that clients are to have their turn, it goes on behind
+    /// that its attempt may hear then. Where so many were lost that clients are to have their turn, it goes on after
     /// these the next time. It tells whether one was closed. Only a device that failed is a fault.
     pub fn attend(
         &mut self,

@@ -59,7 +59,7 @@ impl Numbers {
         }
     }
 
-    /// Those of the messages of which these places are held, the places of each message one behind another. It fails
+    /// Those of the messages of which these places are held, the places of each message one after another. It fails
     /// where memory runs out.
     pub(crate) fn of_places(alloc: Global, places: &[(u64, u8)]) -> Result<Self, AllocError>
         ensures numbers { IfOk result (λ numbers. numbers.newer ≡ numbers_behind 0 places.now) }

@@ -34,7 +34,7 @@ pub(crate) enum Phase {
 }
 
 impl Phase {
-    /// What a next hop is waited for behind these octets, which its replies have led to. A content begins with a line
+    /// What a next hop is waited for after these octets, which its replies have led to. A content begins with a line
     /// of its own, a trace field or one of a report, or with the line of its chunk.
     pub(crate) fn behind(self, octets: &[u8]) -> Self {
         if octets.is_empty() {

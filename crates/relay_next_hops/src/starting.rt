@@ -29,7 +29,7 @@ use relay_slots::SLOT_COUNT;
 use relay_trace::Moment;
 use std::net::Net;
 
-/// How many milliseconds no connection is begun behind one for which the system had no descriptor or no memory.
+/// How many milliseconds no connection is begun after one for which the system had no descriptor or no memory.
 const WANT_PAUSE: u64 = 1_000;
 
 /// How many tasks are checked at a turn for being overdue.

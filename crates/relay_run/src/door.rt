@@ -14,7 +14,7 @@ use std::alloc::Global;
 use std::io::{self, ErrorKind, Write};
 use std::net::{Net, Shutdown, SocketAddr, SocketAddrV4};
 
-/// How many milliseconds no client is taken behind one that couldn't be had.
+/// How many milliseconds no client is taken after one that couldn't be had.
 const WANT_PAUSE: u64 = 1_000;
 
 /// The most clients that are taken at a turn.

@@ -18,7 +18,7 @@ use std::io::Write;
 use std::rt::Clock;
 use std::time::Duration;
 
-/// How many seconds a spool is left alone the first time that its device has failed. Behind each further time it is
+/// How many seconds a spool is left alone the first time that its device has failed. After each further time it is
 /// twice as long, up to the longest.
 const FIRST_PAUSE: u64 = 1;
 
@@ -129,7 +129,7 @@ pub(crate) fn reopen<C: Clock, E: Write>(
     }
 }
 
-/// Opens the spool of a relay whose device has failed again, behind 1 second, 2, 4 and up to 60, as often as it takes
+/// Opens the spool of a relay whose device has failed again, after 1 second, 2, 4 and up to 60, as often as it takes
 /// until a test finds room for what comes of an attempt. Lines of the log tell that it has failed, and that it is open
 /// again. All connections of the relay are dropped, and who comes meanwhile is told so. A sync that has failed is a
 /// fault at once, since octets may be lost then that were written; so is a spool that holds something else than it did,

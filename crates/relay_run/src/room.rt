@@ -53,7 +53,7 @@ impl Room {
     ghost use Rattle.relay_room.specs.Standing.{standing_at_failure};
     ghost use Rattle.relay_run.specs.Room.{IsTested, MayStart, grown_since, next_look};
 
-    /// The room beside the spool of this configuration, in the file with its name and `.room` behind that. Nothing was
+    /// The room beside the spool of this configuration, in the file with its name and `.room` after that. Nothing was
     /// tested yet.
     pub(crate) fn open<F: Files<File = File>>(
         alloc: Global,

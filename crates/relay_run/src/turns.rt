@@ -103,7 +103,7 @@ fn kept_or_reopened<R: Clock, E: Write>(
     shell.reopened(&mut reporter, why)
 }
 
-/// A turn, whose lines of the log are written then; and what keeps the spool small behind it, which may take a while,
+/// A turn, whose lines of the log are written then; and what keeps the spool small after it, which may take a while,
 /// and so comes when those lines are out. The page is served last.
 fn take_turn<R: Clock + Net, E: Write>(
     alloc: Global,

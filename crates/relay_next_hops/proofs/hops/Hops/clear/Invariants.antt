@@ -1,4 +1,4 @@
--- nothing stands before the slot that is looked at next, nor behind the last that stood
+-- nothing stands before the slot that is looked at next, nor after the last that stood
 use Rattle.std.proofs.Common.{◌≡◌, ℕ, ◌<◌, ◌≤◌, None}
 use Rattle.relay_slots.specs.Slots.{slot_at}
 use Rattle.relay_next_hops.proofs.hops.Hops.clear.Given as goal

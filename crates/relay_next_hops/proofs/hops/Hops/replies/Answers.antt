@@ -1,4 +1,4 @@
--- What the next one has to hear is told behind what was told before.
+-- What the next one has to hear is told after what was told before.
 use Rattle.std.proofs.Common.{◌≡◌, ◌++◌, [], ◌∷◌, length, map, List, ◌%◌, ◌+◌, ◌-◌, refl, sym, ap, ◌∙◌, None, option_map}
 use Rattle.std.specs.List.{filter_map}
 use Rattle.std.proofs.lemmas.List.{map-append}
