@@ -1,10 +1,9 @@
 -- The configuration of a session from standard input.
-use Rattle.std.proofs.Common.{◌≡◌, ◌∙◌, [], ◌∷◌, codes, None}
-use Rattle.relay_routes.specs.Routes.{RouteTable}
+use Rattle.std.proofs.Common.{◌≡◌, ◌∙◌, codes, None}
 use Rattle.relay_routes.specs.declared.bare_newlines.BareNewlines.TheVariants.{Pass}
 use Rattle.relay_routes.specs.declared.config.Config.{Config}
 use Rattle.relay_routes.proofs.Theorems.{all_are_trusted}
-use Rattle.relay_program.specs.Setup.{IsProfile, only_route, session_limit, session_peer, session_setup}
+use Rattle.relay_program.specs.Setup.{IsProfile, session_limit, session_peer, session_setup}
 
 -- where no trusted clients are named, its client has the whole table
 pub is_profile : (config : Config) → config.host ≡ codes "relay.example" → config.max_content ≡ 1048576 → config.bare_newlines ≡ Pass → config.routes ≡ session_setup.routes → config.trusted_clients ≡ None → config.spool_limit ≡ session_limit

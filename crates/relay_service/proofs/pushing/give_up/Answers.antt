@@ -14,7 +14,7 @@ returns-in-Ok g c = λ changes keeps.
     whatever_noted ⊥ file_words c.args.now None (NoRoute c.args.number) changes old mid c.take_noted.new.self c.said.result
     (gave_up ⊥ file_words c.args.now c.args.number changes old mid _ (c.in-Ok.ensures.gives_up changes keeps) rest.0 rest.1 rest.2) c.take_noted.ensures.rest
 
-pub returns-in-Err : goal.returns-in-Err
-returns-in-Err g c = λ changes keeps.
+pub returns : goal.returns
+returns g c = λ changes keeps.
     let rest = c.in-Err.ensures.rest in
     gave_up_not ⊥ file_words c.args.now Device c.args.number changes c.args.node.now c.give_up_unroutable.new.self c.in-Err.fault c.left_over.result keeps c.in-Err.ensures.refused rest.0 rest.1 rest.2 c.left_over.ensures
