@@ -1,8 +1,7 @@
 ghost use Rattle.std.specs.Prelude.{◌≡◌, ◌⊎◌, ◌↔◌, None, Some, IfErr, IfOk, IsErr, IsTrue, OnOk};
 ghost use Rattle.relay_run.specs.Reopening.{HasFailedToSync, IsWhole};
-ghost use Rattle.relay_run.specs.Room.{MayStart, next_look};
+ghost use Rattle.relay_run.specs.Room.{MayStart};
 ghost use Rattle.relay_run.specs.Tidying.{FailsToCompact, IsCompacted, KeepsRest, MayBeTrimmed, compacted_size_of};
-ghost use Rattle.relay_run.specs.declared.shell.TheConstants.{LONGEST_WAIT};
 
 use crate::door::Door;
 use crate::known::Known;
