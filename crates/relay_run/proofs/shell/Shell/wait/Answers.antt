@@ -1,6 +1,6 @@
 use Rattle.std.proofs.Common.{sym, ◌∙◌}
 use Rattle.std.proofs.lemmas.Bool.{false≢true}
-use Rattle.relay_run.proofs.waiting.Shell.wait.Goals as goal
+use Rattle.relay_run.proofs.shell.Shell.wait.Goals as goal
 
 pub returns-clause-client : goal.returns-clause-client
 returns-clause-client c = λ number left. absurd (false≢true (sym c.if-is_ready.false ∙ c.is_ready.ensures.client number left))
