@@ -25,7 +25,7 @@ pub record Setting : Type 0 where
   pub setups : List ℕ → Setup
   pub beginnings : ℕ → Beginning
 
--- what the session of a number works with: what its client's address says
+-- what the session of a number works with, by its client's address
 abbrev pub setup_at : Setting → ℕ → Setup
 setup_at setting number = setting.setups (setting.beginnings number).address
 

@@ -175,7 +175,8 @@ module _ {D S : Type 0} (honest : Type 0) (words : DiskWords D) (remaining conte
   FreeAreServed =
       (changes : List Change) (setting : Setting) (clients : List (Option (Box (Client S) Global)))
       (relay : RelayState D)
-      → Keeps honest words relay.node.records changes → HaveSetups setting.setups relay → AreFree clients → AreFree relay.clients → AreFree relay.node.seats → AreServed changes setting clients relay
+      → Keeps honest words relay.node.records changes → HaveSetups setting.setups relay
+      → AreFree clients → AreFree relay.clients → AreFree relay.node.seats → AreServed changes setting clients relay
 
   -- Clients are served as before where the system tells what the connection of one may be ready for.
   abbrev pub NotedAreServed : Type 0
