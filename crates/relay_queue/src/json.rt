@@ -1,6 +1,6 @@
 //! The queue as JSON, one object a line.
 ghost use Rattle.std.specs.Prelude.{◌≡◌, ℕ, List, ◌++◌, IfOk, OnOk};
-ghost use Rattle.relay_queue.specs.Printed.{AreObjects};
+ghost use Rattle.relay_queue.specs.Printed.{AreObjects, object_line};
 ghost use Rattle.relay_queue.specs.Screen.{shown_line};
 
 use crate::picks::Key;
@@ -46,11 +46,27 @@ pub(crate) fn json_text<D: Disk>(
 {
     let mut screen = Screen::new(alloc);
     for key in keys {
-        if let Some(row) = row_at(records, table, key.1, key.2) {
-            push_object(alloc, &mut screen, &row, now)?;
-        }
+        push_object_at(alloc, &mut screen, records, table, *key, now)?;
     }
     Ok(screen)
+}
+
+/// Adds the line of the recipient with this key, where it is queued.
+fn push_object_at<D: Disk>(
+    alloc: Global,
+    screen: &mut Screen,
+    records: &Records<D>,
+    table: &Table,
+    key: Key,
+    now: Moment,
+) -> Result<(), AllocError>
+    ensures { OnOk result ((object : List ℕ)
+        × (screen.new ≡ screen.old ++ object_line table.now records.now.queue (key, object))) }
+{
+    match row_at(records, table, key.1, key.2) {
+        Some(row) => push_object(alloc, screen, &row, now),
+        None => Ok(()),
+    }
 }
 
 /// Adds the line of a recipient.

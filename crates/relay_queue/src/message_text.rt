@@ -50,7 +50,8 @@ pub(crate) fn message_text(
         )?;
     }
     screen.end_line()?;
-    screen.push_text(message.accept.stored_text.as_slice())?;
+    let text = message.accept.stored_text.as_slice();
+    screen.push_text(text)?;
     Ok(screen)
 }
 

@@ -1,7 +1,8 @@
 //! The queue as a table for people.
 ghost use Rattle.std.specs.Prelude.{◌≡◌, ℕ, List, ◌++◌, ◌-◌, IfOk, OnOk};
 ghost use Rattle.relay_queue.specs.Row.{said_by};
-ghost use Rattle.relay_queue.specs.Table.{IsTable, names_text, numbers_text, row_text, tries_and_time, tries_text};
+ghost use Rattle.relay_queue.specs.Table.{IsTable, names_text, numbers_text, row_line, row_text, tries_and_time};
+ghost use Rattle.relay_queue.specs.Table.{tries_text};
 
 use crate::amounts::{push_age, push_size};
 use crate::columns::{push_left, push_right};
@@ -66,9 +67,16 @@ pub(crate) fn table_text<D: Disk>(
         push_heading(&mut screen, widths)?;
     }
     for key in keys {
-        if let Some(row) = row_at(records, table, key.1, key.2) {
-            push_row(&mut screen, &mut cell, &row, widths, zone, now)?;
-        }
+        push_row_at(
+            &mut screen,
+            &mut cell,
+            records,
+            table,
+            *key,
+            widths,
+            zone,
+            now,
+        )?;
     }
     push_totals(&mut screen, totals_of(records, keys, now))?;
     Ok(screen)
@@ -112,6 +120,26 @@ fn push_heading(screen: &mut Screen, widths: Widths) -> Result<(), AllocError> {
     screen.end_line()
 }
 
+/// Adds the line of the recipient with this key, where it is queued.
+fn push_row_at<D: Disk>(
+    screen: &mut Screen,
+    cell: &mut Screen,
+    records: &Records<D>,
+    table: &Table,
+    key: Key,
+    widths: Widths,
+    zone: &Zone,
+    now: Moment,
+) -> Result<(), AllocError>
+    ensures { OnOk result ((time : List ℕ)
+        × (screen.new ≡ screen.old ++ row_line widths now table.now records.now.queue (key, time))) }
+{
+    match row_at(records, table, key.1, key.2) {
+        Some(row) => push_row(screen, cell, &row, widths, zone, now),
+        None => Ok(()),
+    }
+}
+
 /// Adds the line of a recipient. The cell is for texts that are aligned to the right.
 fn push_row(
     screen: &mut Screen,
@@ -126,7 +154,8 @@ fn push_row(
 {
     push_numbers(screen, cell, row, now)?;
     push_names(screen, row, widths)?;
-    push_tries(screen, row, &zone.time(row.due))
+    let time = zone.time(row.due);
+    push_tries(screen, row, &time)
 }
 
 /// Adds the number of a recipient's message, its age and its size.
