@@ -1,7 +1,7 @@
 -- What `check` answers of a configuration's text, and what it writes.
-use Rattle.std.specs.Prelude.{◌≡◌, ◌⊎◌, ℕ, Bool, true, false, not, List, ◌++◌, codes, decimal, Option, Ok, IsTrue}
+use Rattle.std.specs.Prelude.{◌≡◌, ◌⊎◌, ℕ, Bool, true, false, not, List, ◌++◌, codes, decimal, Option, Ok, string_bytes}
 use Rattle.std.specs.List.{flat_map, list_any}
-use Rattle.std.specs.Io.KnownBytes.{Appends, Keeps}
+use Rattle.std.specs.Io.KnownBytes.{Appends}
 use Rattle.relay_routes.specs.declared.config.Config.{Config}
 use Rattle.relay_routes.specs.Config.{ReadsConfig}
 use Rattle.relay_check.specs.declared.findings.Severity.{Severity}
@@ -34,7 +34,7 @@ HasError findings = list_any is_error findings ≡ true
 abbrev pub finding_line : List ℕ → Finding → List ℕ
 finding_line file finding =
     file ++ codes ":" ++ decimal finding.position.line ++ codes ":" ++ decimal finding.position.column ++ codes ": "
-    ++ severity_text finding.severity ++ codes ": " ++ finding.message ++ codes "\n"
+    ++ severity_text finding.severity ++ codes ": " ++ string_bytes finding.message ++ codes "\n"
 
 -- each finding was written on a line of its own. The answer is no exactly where one is an error, and a text that says
 -- no configuration has one
