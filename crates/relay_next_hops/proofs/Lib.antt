@@ -8,3 +8,4 @@ mod OverdueLemmas
 mod StartLemmas
 mod TurnLemmas
 mod CountLemmas
+mod RoundLemmas

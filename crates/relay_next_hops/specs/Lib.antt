@@ -7,6 +7,7 @@ pub mod Counts
 pub mod Hearing
 pub mod Losses
 pub mod Starting
+pub mod Turns
 pub mod Overdue
 pub mod Tables
 pub mod Spares

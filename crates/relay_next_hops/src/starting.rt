@@ -1,24 +1,21 @@
 //! Attempts that begin.
-ghost use Rattle.std.specs.Prelude.{◌≡◌, ◌⊎◌, ◌+◌, ◌<◌, ◌≤◌, ℕ, IfOk, MatchOption, None, Ok, OnOk};
-ghost use Rattle.std.specs.Prelude.{Some, length, option_map, true};
+ghost use Rattle.std.specs.Prelude.{◌≡◌, ◌+◌, ◌<◌, ◌≤◌, IfOk, MatchOption, None, Ok, OnOk, Some, length, option_map};
 ghost use Rattle.relay_book.specs.Queue.{message_of};
 ghost use Rattle.relay_routes.specs.Routes.{place_of};
 ghost use Rattle.relay_next_hops.specs.Counts.{CountsMatch, unanswered_of};
 ghost use Rattle.relay_next_hops.specs.Errands.{AreAimed};
-ghost use Rattle.relay_next_hops.specs.Lanes.{KeepsCounts, OnlyLane, tasks_at};
+ghost use Rattle.relay_next_hops.specs.Lanes.{OnlyLane, tasks_at};
 ghost use Rattle.relay_next_hops.specs.Paces.{HasLane};
 ghost use Rattle.relay_next_hops.specs.Spares.{held_of};
 ghost use Rattle.relay_next_hops.specs.Starting.{IsBegun, IsEndOf, IsStep};
-ghost use Rattle.relay_next_hops.specs.Starting.{IsStoppedBy, IsTried, back_of, step_after};
+ghost use Rattle.relay_next_hops.specs.Starting.{IsTried, back_of, step_after};
 
 use crate::ending::lose;
 use crate::errand::{Aim, Errand};
 use crate::hops::Hops;
 use crate::lane::Task;
 use crate::lanes::Lanes;
-use crate::overdue::lose_overdue;
 use crate::spares::Spares;
-use crate::turning::{nearer, visited};
 use mio::Registry;
 use relay_connections::Now;
 use relay_disk::FileDisk;
@@ -32,9 +29,6 @@ use std::net::Net;
 /// How many milliseconds no connection is begun after one for which the system had no descriptor or no memory.
 const WANT_PAUSE: u64 = 1_000;
 
-/// How many tasks are checked at a turn for being overdue.
-const MOST_CHECKS: usize = 512;
-
 /// The most connections to next hops that haven't said anything yet, so that those that answer always find room.
 const MOST_UNANSWERED: usize = 48;
 
@@ -42,7 +36,7 @@ const MOST_UNANSWERED: usize = 48;
 #[derive(Clone, Copy, Debug)]
 pub(crate) struct Starts {
     /// The tick before which none is.
-    paused_until: u64,
+    pub(crate) paused_until: u64,
 }
 
 impl Starts {
@@ -54,7 +48,7 @@ impl Starts {
     }
 
     /// None is begun for a while, where the system has no descriptor or no memory for another.
-    fn pause(&mut self, begun: Begun, now: &Now) {
+    pub(crate) fn pause(&mut self, begun: Begun, now: &Now) {
         if begun == Begun::Wanting {
             self.paused_until = now.tick.saturating_add(WANT_PAUSE);
         }
@@ -115,92 +109,9 @@ pub(crate) enum Tried {
     HasNoPlace,
 }
 
-/// Begins what is due and may be begun: of each lane in turn, the first lane each time another. Next hops that haven't
-/// said anything yet have so many connections together, one each. Where there is no room for another, the next room is
-/// for the first that waits, after the one that had the last: each waits until the others have had one connection, and
-/// no longer.
-pub(crate) fn start_tasks<N: Net>(
-    net: &N,
-    registry: &Registry,
-    relay: &mut Relay<FileDisk>,
-    hops: &mut Hops,
-    lanes: &mut Lanes,
-    spares: &mut Spares,
-    starts: &mut Starts,
-    now: &Now,
-    log: &mut Log<'_, Vec<u8>>,
-) -> Result<(), Fault>
-    ensures counts { CountsMatch hops.old.hops lanes.old.paces
-        → OnOk result (CountsMatch hops.new.hops lanes.new.paces) }
-    ensures aimed { AreAimed relay.old.node.config.routes.routes hops.old.hops
-        → OnOk result (AreAimed relay.old.node.config.routes.routes hops.new.hops) }
-    ensures config { relay.new.node.config ≡ relay.old.node.config }
-{
-    if !lanes.is_open() || now.tick < starts.paused_until {
-        return Ok(());
-    }
-    let mut checks = MOST_CHECKS;
-    let (mut has_lost, mut has_more) = (false, false);
-    let (first, count, waiting) = (lanes.first(), lanes.len(), lanes.waiting());
-    let mut crowded = None;
-    for step in 0..count.saturating_add(1) {
-        let lane = visited(first, count, waiting, step);
-        has_lost = lose_once(has_lost, relay, lanes, lane, &mut checks, now, log)?;
-        let begun = start_lane(net, registry, relay, hops, lanes, lane, spares, now, log)?;
-        if stops(begun) {
-            // What ends next opens the lanes again.
-            lanes.turn(if step == 0 { waiting } else { crowded });
-            starts.pause(begun, now);
-            return Ok(());
-        }
-        has_more = has_more || begun == Begun::HasMore;
-        if begun == Begun::Crowded {
-            crowded = nearer(waiting.unwrap_or(first), count, crowded, lane);
-        }
-    }
-    lanes.turn(crowded);
-    // One is lost at a turn, and so many are checked, and then the others have theirs.
-    if !has_lost && !has_more && 0 < checks {
-        lanes.close();
-    }
-    Ok(())
-}
-
-/// Records that an overdue message of a lane is lost, as [`lose_overdue`], unless one was lost already. It tells
-/// whether one was.
-fn lose_once(
-    has_lost: bool,
-    relay: &mut Relay<FileDisk>,
-    lanes: &mut Lanes,
-    lane: usize,
-    checks: &mut usize,
-    now: &Now,
-    log: &mut Log<'_, Vec<u8>>,
-) -> Result<bool, Fault>
-    ensures counts { KeepsCounts lanes.old lanes.new }
-    ensures only { OnlyLane lane lanes.old lanes.new }
-    ensures fewer { length (tasks_at lanes.new lane) ≤ length (tasks_at lanes.old lane) }
-    ensures config { relay.new.node.config ≡ relay.old.node.config }
-{
-    if has_lost {
-        return Ok(true);
-    }
-    lose_overdue(relay, lanes, lane, checks, now, log)
-}
-
-/// Whether no lane can go on.
-fn stops(begun: Begun) -> bool
-    ensures { IsStoppedBy begun result }
-{
-    match begun {
-        Begun::AllDone | Begun::Crowded | Begun::HasMore => false,
-        Begun::Full | Begun::Wanting => true,
-    }
-}
-
 /// Begins what may be begun of a lane. Where the system has no descriptor for a connection, one is given up that was
 /// kept for that.
-fn start_lane<N: Net>(
+pub(crate) fn start_lane<N: Net>(
     net: &N,
     registry: &Registry,
     relay: &mut Relay<FileDisk>,

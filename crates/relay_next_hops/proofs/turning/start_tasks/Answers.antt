@@ -1,0 +1,118 @@
+-- One lane more has had its turn.
+use Rattle.std.proofs.Common.{◌+◌, ◌<◌, ◌≤◌, ◌^◌, inl, inr, length, min, sym, ap, subst, ◌∙◌, arith}
+use Rattle.relay_next_hops.specs.Counts.{unanswered_of}
+use Rattle.relay_next_hops.specs.Errands.{AreAimed}
+use Rattle.relay_next_hops.specs.Lanes.{tasks_at}
+use Rattle.relay_next_hops.specs.Spares.{held_of}
+use Rattle.relay_next_hops.specs.Starting.{IsDone, IsStoppedBy}
+use Rattle.relay_next_hops.specs.Turns.{IsGoneOver}
+use Rattle.relay_next_hops.specs.declared.lanes.Lanes.{Lanes}
+use Rattle.relay_next_hops.proofs.RoundLemmas.{done_kept, done_own, fewer_then, gone_kept, gone_own, round_all, round_next, stopped}
+use Rattle.relay_next_hops.proofs.SlotLemmas.{counts_stay}
+use Rattle.relay_next_hops.proofs.TurnLemmas.{only_then, unanswered_stay}
+use Rattle.relay_next_hops.proofs.turning.start_tasks.Goals as goal
+
+pub loop-step-preserved : goal.loop-step-preserved
+loop-step-preserved g c =
+    let before = c.loop-step.invariant in
+    let lost = c.in_ok-has_lost.ensures in
+    let began = c.in_ok-begun.ensures in
+    let same = lost.config ∙ before.config in
+    let tick = c.args.now.now.tick in
+    let spares = held_of c.args.spares.now in
+    let kept = held_of c.loop-step.spares in
+    let start = c.args.lanes.now in
+    let old = c.loop-step.lanes in
+    let between = c.lose_once.new.lanes in
+    let new = c.start_lane.new.lanes in
+    let hops_old = c.loop-step.hops.hops in
+    let hops_new = c.start_lane.new.hops.hops in
+    let lane = c.visited-lane.result in
+    let only = only_then lane old between new lost.only began.only in
+    let more : unanswered_of hops_old old.paces ≤ unanswered_of hops_new new.paces = omega (arith, unanswered_stay hops_old lane old between lost.only, began.more) in
+    let goes = subst (IsStoppedBy c.in_ok-begun.begun) c.if-stops.false c.stops.ensures in
+    let few : length (tasks_at between lane) ≤ length (tasks_at start lane) = omega (arith, lost.fewer, before.fewer lane) in
+    let short : c.loop-step.step < c.len-count.result + 1 = omega (arith, c.loop-step-test.true, c.saturating_add-step-end.ensures) in
+    record {
+      config = began.config ∙ same;
+      counts = λ match_is. began.counts (counts_stay hops_old old.paces between.paces lost.counts.runs (before.counts match_is));
+      aimed = λ aimed. subst (λ config. AreAimed config.routes.routes hops_new) same
+          (began.aimed (subst (λ config. AreAimed config.routes.routes hops_old) (sym same) (before.aimed aimed)));
+      opened = only.opened ∙ before.opened;
+      kept = omega (arith, began.kept, before.kept);
+      fewer = fewer_then start old new lane only (omega (arith, began.fewer, lost.fewer)) before.fewer;
+      gone = round_next (IsGoneOver tick spares start hops_old old) (IsGoneOver tick spares start hops_new new) (min c.first-first.result c.len-count.result) c.len-count.result lane
+          (λ other apart gone. gone_kept tick lane hops_old hops_new old new only more other apart spares start gone)
+          (gone_own tick kept spares lane hops_new start between new c.start_lane.new.spares c.in_ok-begun.begun goes began.begun before.kept few)
+          c.loop-step.step c.visited-lane.ensures short before.gone;
+      done = λ none.
+          let rest = c.is_more-has_more.ensures none in
+          round_next (IsDone tick hops_old old) (IsDone tick hops_new new) (min c.first-first.result c.len-count.result) c.len-count.result lane
+          (λ other apart done. done_kept tick lane hops_old hops_new old new only more other apart done)
+          (done_own tick kept spares lane hops_new start between new c.start_lane.new.spares c.in_ok-begun.begun goes rest.1 began.begun)
+          c.loop-step.step c.visited-lane.ensures short (before.done rest.0);
+    }
+
+pub returns-then-stops : goal.returns-then-stops
+returns-then-stops g c =
+    let before = c.loop-step.invariant in
+    let lost = c.in_ok-has_lost.ensures in
+    let began = c.in_ok-begun.ensures in
+    let same = lost.config ∙ before.config in
+    let tick = c.args.now.now.tick in
+    let start = c.args.lanes.now in
+    let old = c.loop-step.lanes in
+    let between = c.lose_once.new.lanes in
+    let new = c.start_lane.new.lanes in
+    let hops_old = c.loop-step.hops.hops in
+    let hops_new = c.start_lane.new.hops.hops in
+    let lane = c.visited-lane.result in
+    let only = only_then lane old between new lost.only began.only in
+    let stop = stopped tick (held_of c.loop-step.spares) 0 lane hops_new start between new c.start_lane.new.spares c.in_ok-begun.begun (subst (IsStoppedBy c.in_ok-begun.begun) c.if-stops.true c.stops.ensures) began.begun in
+    record {
+      counts = λ match_is. counts_stay hops_new new.paces c.turn.new.self.paces c.turn.ensures.counts.runs
+          (began.counts (counts_stay hops_old old.paces between.paces lost.counts.runs (before.counts match_is)));
+      aimed = λ aimed. subst (λ config. AreAimed config.routes.routes hops_new) same
+          (began.aimed (subst (λ config. AreAimed config.routes.routes hops_old) (sym same) (before.aimed aimed)));
+      whole = λ opened. inr (inl stop);
+      closes = λ opened. inl (ap (λ (lanes : Lanes). lanes.is_open) c.turn.ensures.rest ∙ only.opened ∙ before.opened ∙ opened);
+      config = began.config ∙ same;
+    }
+
+-- each lane has had its turn
+pub returns-then-has_lost-clause-whole : goal.returns-then-has_lost-clause-whole
+returns-then-has_lost-clause-whole g c = λ opened. inr (inr (λ lane low.
+    let tick = c.args.now.now.tick in
+    let spares = held_of c.args.spares.now in
+    let start = c.args.lanes.now in
+    let hops = c.loop-step.hops.hops in
+    let few : length start.lanes.items < 2 ^ 63 = omega (arith, start.lanes.ok.0, start.lanes.ok.1, start.lanes.small) in
+    let over : c.len-count.result < c.loop-step.step = omega (arith, c.len-count.ensures, c.saturating_add-step-end.ensures, c.loop-step-test.false, few) in
+    let within : min c.first-first.result c.len-count.result ≤ c.len-count.result = omega arith in
+    subst (λ (lanes : Lanes). IsGoneOver tick spares start hops lanes lane) (sym c.turn-2.ensures.rest)
+    (round_all (IsGoneOver tick spares start hops c.loop-step.lanes) (min c.first-first.result c.len-count.result) c.len-count.result c.loop-step.step within over c.loop-step.invariant.gone lane (omega (arith, c.len-count.ensures, low)))))
+
+pub returns-clause-whole : goal.returns-clause-whole
+returns-clause-whole g c = λ opened. inr (inr (λ lane low.
+    let tick = c.args.now.now.tick in
+    let spares = held_of c.args.spares.now in
+    let start = c.args.lanes.now in
+    let hops = c.loop-step.hops.hops in
+    let few : length start.lanes.items < 2 ^ 63 = omega (arith, start.lanes.ok.0, start.lanes.ok.1, start.lanes.small) in
+    let over : c.len-count.result < c.loop-step.step = omega (arith, c.len-count.ensures, c.saturating_add-step-end.ensures, c.loop-step-test.false, few) in
+    let within : min c.first-first.result c.len-count.result ≤ c.len-count.result = omega arith in
+    subst (λ (lanes : Lanes). IsGoneOver tick spares start hops lanes lane) (sym c.close.ensures.rest)
+    (subst (λ (lanes : Lanes). IsGoneOver tick spares start hops lanes lane) (sym c.turn-2.ensures.rest)
+    (round_all (IsGoneOver tick spares start hops c.loop-step.lanes) (min c.first-first.result c.len-count.result) c.len-count.result c.loop-step.step within over c.loop-step.invariant.gone lane (omega (arith, c.len-count.ensures, low))))))
+
+pub returns-clause-closes : goal.returns-clause-closes
+returns-clause-closes g c = λ opened. inr (λ lane low.
+    let tick = c.args.now.now.tick in
+    let start = c.args.lanes.now in
+    let hops = c.loop-step.hops.hops in
+    let few : length start.lanes.items < 2 ^ 63 = omega (arith, start.lanes.ok.0, start.lanes.ok.1, start.lanes.small) in
+    let over : c.len-count.result < c.loop-step.step = omega (arith, c.len-count.ensures, c.saturating_add-step-end.ensures, c.loop-step-test.false, few) in
+    let within : min c.first-first.result c.len-count.result ≤ c.len-count.result = omega arith in
+    subst (λ (lanes : Lanes). IsDone tick hops lanes lane) (sym c.close.ensures.rest)
+    (subst (λ (lanes : Lanes). IsDone tick hops lanes lane) (sym c.turn-2.ensures.rest)
+    (round_all (IsDone tick hops c.loop-step.lanes) (min c.first-first.result c.len-count.result) c.len-count.result c.loop-step.step within over (c.loop-step.invariant.done c.if-has_more.false) lane (omega (arith, c.len-count.ensures, low)))))

@@ -1,0 +1,25 @@
+-- The lanes so far were gone over, and all of them are done where none has more; where counts and aims matched before,
+-- they do.
+use Rattle.std.proofs.Common.{◌≡◌, ◌+◌, ◌<◌, ◌≤◌, ℕ, false, length, min}
+use Rattle.relay_next_hops.specs.Counts.{CountsMatch}
+use Rattle.relay_next_hops.specs.Errands.{AreAimed}
+use Rattle.relay_next_hops.specs.Lanes.{IsNth, tasks_at}
+use Rattle.relay_next_hops.specs.Spares.{held_of}
+use Rattle.relay_next_hops.specs.Starting.{IsDone}
+use Rattle.relay_next_hops.specs.Turns.{IsGoneOver}
+use Rattle.relay_next_hops.proofs.turning.start_tasks.Given as goal
+
+abbrev pub invariant-loop-step : goal.invariant-loop-step
+invariant-loop-step g l = record {
+  config : l.relay.node.config ≡ l.initial.relay.node.config;
+  counts : CountsMatch l.initial.hops.hops l.initial.lanes.paces → CountsMatch l.hops.hops l.lanes.paces;
+  aimed : AreAimed l.initial.relay.node.config.routes.routes l.initial.hops.hops
+      → AreAimed l.initial.relay.node.config.routes.routes l.hops.hops;
+  opened : l.lanes.is_open ≡ l.initial.lanes.is_open;
+  kept : held_of l.spares ≤ held_of l.initial.spares;
+  fewer : (lane : ℕ) → length (tasks_at l.lanes lane) ≤ length (tasks_at l.initial.lanes lane);
+  gone : (lane past : ℕ) → past + 1 < l.step → lane < l.count → IsNth (min l.first l.count) l.count past lane
+      → IsGoneOver l.now.tick (held_of l.initial.spares) l.initial.lanes l.hops.hops l.lanes lane;
+  done : l.has_more ≡ false → (lane past : ℕ) → past + 1 < l.step → lane < l.count
+      → IsNth (min l.first l.count) l.count past lane → IsDone l.now.tick l.hops.hops l.lanes lane;
+}
