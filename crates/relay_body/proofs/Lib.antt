@@ -6,4 +6,5 @@ mod RunReadingLemmas
 mod ChunkLemmas
 mod PlainLemmas
 mod BareEndLemmas
+mod NulLemmas
 pub mod Theorems

@@ -5,3 +5,4 @@ pub mod DotSteps
 pub mod DotLaws
 pub mod ChunkText
 pub mod BareEnds
+pub mod Nul

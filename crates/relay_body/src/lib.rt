@@ -9,6 +9,7 @@ mod dot_reader;
 mod dot_writer;
 mod gathered;
 pub mod laws;
+mod nul;
 pub mod plain;
 mod run;
 
@@ -17,3 +18,4 @@ pub use chunk_reader::{ChunkCut, ChunkReader};
 pub use dot_reader::{DotCut, DotReader};
 pub use dot_writer::{ends_in_line_end, push_dots, write_dots};
 pub use gathered::{BodyFault, Gathered};
+pub use nul::has_nul;
