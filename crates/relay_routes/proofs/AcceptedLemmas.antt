@@ -1,4 +1,5 @@
--- The table by which a client's recipients are accepted, and what it says of the whole table.
+-- The table by which a client's recipients are accepted, and what it says of the whole table; what is done with its
+-- routed paths.
 use Rattle.std.proofs.Common.{◌≡◌, ℕ, Bool, true, false, List, [], ◌∷◌, codes, bytes_eq, Option, None, Some, if◌then◌else◌, inl, inr, refl, sym, ap, ◌∙◌}
 use Rattle.std.specs.List.{list_any}
 use Rattle.std.proofs.lemmas.Bool.{cases_Bool, false_from_ne_true, false≢true}
@@ -7,10 +8,11 @@ use Rattle.relay_envelope.specs.Path.{Path}
 use Rattle.relay_envelope.specs.Path.Path.{Null, Postmaster, Mailbox}
 use Rattle.relay_routes.specs.Network.{is_in}
 use Rattle.relay_routes.specs.Routes.{Route, RouteTable, entry_of, first_there, hop_for, hop_of, in_lower_case, named_routes, without_wildcard}
-use Rattle.relay_routes.specs.Trusted.{Trusted, is_trusted}
-use Rattle.relay_routes.specs.Accepted.{accepted_table}
-use Rattle.relay_routes.specs.AcceptedLaws.{AcceptedIsRouted, AllAreTrusted}
+use Rattle.relay_routes.specs.Trusted.{Trusted, is_listed, is_trusted}
+use Rattle.relay_routes.specs.Accepted.{accepted_paths, accepted_table}
+use Rattle.relay_routes.specs.AcceptedLaws.{AcceptedIsRouted, AllAreTrusted, NobodyIsListed}
 use Rattle.relay_routes.specs.declared.config.Config.{Config}
+use Rattle.relay_routes.specs.declared.routed_paths.RoutedPaths.TheVariants.{Pass}
 use Rattle.relay_routes.specs.declared.hop.Hop.{Hop}
 use Rattle.relay_routes.proofs.RouteLemmas.{bytes_are, bytes_same}
 
@@ -35,6 +37,19 @@ accepted_of_stranger config client trusted some outside = config.trusting truste
 
 pub all_are_trusted : AllAreTrusted
 all_are_trusted config client none = sym (accepted_of_all config client none)
+
+-- a client that is listed may send routed paths
+pub paths_of_listed : (config : Config) (client : List ℕ) → is_listed client config.trusted_clients ≡ true → Pass ≡ accepted_paths config client
+unfolding accepted_paths
+paths_of_listed config client is = sym (ap (λ b. if b then Pass else config.routed_paths) is)
+
+-- and for any other the configuration says it
+pub paths_of_stranger : (config : Config) (client : List ℕ) → is_listed client config.trusted_clients ≡ false → config.routed_paths ≡ accepted_paths config client
+unfolding accepted_paths
+paths_of_stranger config client is = sym (ap (λ b. if b then Pass else config.routed_paths) is)
+
+pub nobody_is_listed : NobodyIsListed
+nobody_is_listed config client none = sym (paths_of_stranger config client (ap (is_listed client) none))
 
 -- of the routes of named domains none is for `*`
 no_wildcard : (routes : List Route) (key : List ℕ) → key ≡ codes "*" → entry_of (named_routes routes) key ≡ None

@@ -8,4 +8,5 @@ mod CopyLemmas
 mod ItemLemmas
 mod ReadingLemmas
 mod AcceptedLemmas
+mod RoutedLemmas
 pub mod Theorems

@@ -5,18 +5,20 @@ use Rattle.std.proofs.Props.{props}
 use Rattle.std.proofs.lemmas.Option.{none-some, same_Some}
 use Rattle.relay_routes.specs.declared.bare_newlines.BareNewlines.{BareNewlines as Rule}
 use Rattle.relay_routes.specs.declared.bare_newlines.BareNewlines.TheVariants.{Pass, Refuse}
+use Rattle.relay_routes.specs.declared.routed_paths.RoutedPaths.{RoutedPaths as PathRule}
+use Rattle.relay_routes.specs.declared.routed_paths.RoutedPaths.TheVariants as routed
 use Rattle.toml.specs.Data.{Data, Members, no_members, member, string, integer, table}
 use Rattle.toml.specs.Parse.{parse_document}
 use Rattle.relay_routes.specs.declared.config.Config.{Config}
 use Rattle.relay_routes.specs.declared.fault.ConfigFault.{ConfigFault}
 use Rattle.relay_routes.specs.declared.key.Key.{Key}
-use Rattle.relay_routes.specs.declared.key.Key.TheVariants.{Host, Listen, Spool, MaxContent, SpoolLimit, BareNewlines, Routes, TrustedClients}
-use Rattle.relay_routes.specs.Value.{GivesAddress, GivesBareNewlines, GivesHost, GivesPath, GivesSize, address_text, bare_newlines_text}
+use Rattle.relay_routes.specs.declared.key.Key.TheVariants.{Host, Listen, Spool, MaxContent, SpoolLimit, BareNewlines, RoutedPaths, Routes, TrustedClients}
+use Rattle.relay_routes.specs.Value.{GivesAddress, GivesBareNewlines, GivesHost, GivesPath, GivesRoutedPaths, GivesSize, address_text, bare_newlines_text, routed_paths_text}
 use Rattle.relay_routes.specs.Trusted.{IsTrusting, Trusted}
 use Rattle.relay_routes.specs.Routes.{Route, RouteTable, without_wildcard}
 use Rattle.relay_routes.specs.Settings.{IsConfig}
 use Rattle.relay_routes.specs.Document.{AreRoutes, GivesRoutes, value_of}
-use Rattle.relay_routes.specs.Config.{FirstFault, GivesTrusted, IsGood, ReadsBareNewlines, ReadsDocument, ReadsHost, ReadsListen, ReadsMaxContent, ReadsOptional, ReadsParsed, ReadsRequired, ReadsRoutes, ReadsSpool, ReadsSpoolLimit, ReadsTrustedClients, ReadsValue, Says, at_bare_newlines, at_host, at_listen, at_max_content, at_routes, at_spool, at_spool_limit, at_trusted_clients}
+use Rattle.relay_routes.specs.Config.{FirstFault, GivesTrusted, IsGood, ReadsBareNewlines, ReadsDocument, ReadsHost, ReadsListen, ReadsMaxContent, ReadsOptional, ReadsParsed, ReadsRequired, ReadsRoutedPaths, ReadsRoutes, ReadsSpool, ReadsSpoolLimit, ReadsTrustedClients, ReadsValue, Says, at_bare_newlines, at_host, at_listen, at_max_content, at_routed_paths, at_routes, at_spool, at_spool_limit, at_trusted_clients}
 use Rattle.relay_routes.specs.ConfigLaws.{OneReading}
 use Rattle.relay_routes.proofs.AddressLemmas.{address_is_one}
 use Rattle.relay_routes.proofs.MemberLemmas.{route_is_one}
@@ -76,6 +78,18 @@ bare_newlines_are_one value one two a b =
     let same : string (bare_newlines_text one) ≡ string (bare_newlines_text two) = sym a ∙ b in
     text_is_one one two (cc same)
 
+-- and one of routed paths
+rule_is_one : (one two : PathRule) → routed_paths_text one ≡ routed_paths_text two → one ≡ two
+rule_is_one routed.Pass routed.Pass same = refl
+rule_is_one routed.Pass routed.Refuse same = let longer = ap length same in absurd (omega (arith, longer))
+rule_is_one routed.Refuse routed.Pass same = let longer = ap length same in absurd (omega (arith, longer))
+rule_is_one routed.Refuse routed.Refuse same = refl
+
+routed_paths_are_one : GivesOne GivesRoutedPaths
+routed_paths_are_one value one two a b =
+    let same : string (routed_paths_text one) ≡ string (routed_paths_text two) = sym a ∙ b in
+    rule_is_one one two (cc same)
+
 -- members say one list of routes
 routes_are_one : (members : Members) (one two : List Route) → AreRoutes members one → AreRoutes members two → one ≡ two
 routes_are_one no_members [] [] a b = refl
@@ -124,6 +138,9 @@ trusted_are_one value (Some one) (Some two) a b = ap Some (networks_are_one valu
 one_trusted_clients : (document : Members) → ReadsOne (ReadsTrustedClients document)
 one_trusted_clients document = optional_is_one TrustedClients None GivesTrusted (value_of TrustedClients document) trusted_are_one
 
+one_routed_paths : (document : Members) → ReadsOne (ReadsRoutedPaths document)
+one_routed_paths document = optional_is_one RoutedPaths routed.Pass GivesRoutedPaths (value_of RoutedPaths document) routed_paths_are_one
+
 -- a value that was read is one
 same_value : {A : Type 0} (Reads : Result A ConfigFault → Type 0) (one two : A) → ReadsOne Reads → Reads (Ok one) → Reads (Ok two) → one ≡ two
 same_value Reads one two unique a b =
@@ -159,8 +176,8 @@ trusted_by routes other (Some one) (Some two) same a b networks =
     λ j. Some (record { networks = its j; named = named j })
 
 -- a configuration is its values
-config_by : (one two : Config) → one.host ≡ two.host → one.listen ≡ two.listen → one.spool ≡ two.spool → one.max_content ≡ two.max_content → one.spool_limit ≡ two.spool_limit → one.bare_newlines ≡ two.bare_newlines → one.routes ≡ two.routes → one.trusted_clients ≡ two.trusted_clients → one ≡ two
-config_by one two host listen spool max_content spool_limit bare_newlines routes trusted_clients =
+config_by : (one two : Config) → one.host ≡ two.host → one.listen ≡ two.listen → one.spool ≡ two.spool → one.max_content ≡ two.max_content → one.spool_limit ≡ two.spool_limit → one.bare_newlines ≡ two.bare_newlines → one.routes ≡ two.routes → one.trusted_clients ≡ two.trusted_clients → one.routed_paths ≡ two.routed_paths → one ≡ two
+config_by one two host listen spool max_content spool_limit bare_newlines routes trusted_clients routed_paths =
     let valid : PathP (λ j. IsConfig (host j) (max_content j) (spool_limit j) (routes j)) one.valid two.valid =
     to_path_p (λ j. IsConfig (host j) (max_content j) (spool_limit j) (routes j)) (config_prop two.host two.max_content two.spool_limit two.routes _ two.valid) in
     let trusting : PathP (λ j. IsTrusting (routes j) (trusted_clients j)) one.trusting two.trusting =
@@ -174,6 +191,7 @@ config_by one two host listen spool max_content spool_limit bare_newlines routes
       bare_newlines = bare_newlines j;
       routes = routes j;
       trusted_clients = trusted_clients j;
+      routed_paths = routed_paths j;
       valid = valid j;
       trusting = trusting j;
     }
@@ -192,7 +210,8 @@ says_one document one two a b =
     let table : one.routes ≡ two.routes = λ j. record { host = routes_host j; routes = routes j } in
     let networks = same_value (ReadsTrustedClients document) (option_map (λ trusted. trusted.networks) one.trusted_clients) (option_map (λ trusted. trusted.networks) two.trusted_clients)
     (one_trusted_clients document) a.trusted_clients b.trusted_clients in
-    config_by one two host listen spool max_content spool_limit bare_newlines table (trusted_by one.routes two.routes one.trusted_clients two.trusted_clients table a.trusting b.trusting networks)
+    let routed_paths = same_value (ReadsRoutedPaths document) one.routed_paths two.routed_paths (one_routed_paths document) a.routed_paths b.routed_paths in
+    config_by one two host listen spool max_content spool_limit bare_newlines table (trusted_by one.routes two.routes one.trusted_clients two.trusted_clients table a.trusting b.trusting networks) routed_paths
 
 -- a fault is that of this key, or the key is good and the fault a later one
 abbrev FaultFrom : {A : Type 0} → (Result A ConfigFault → Type 0) → (ConfigFault → Type 0) → ConfigFault → Type 0
@@ -208,8 +227,11 @@ from_is_one Reads Later unique later one two (inr a) (inl b) = absurd (no_fault 
 from_is_one Reads Later unique later one two (inr a) (inr b) = later one two a.1 b.1
 
 -- the faults from each key on
+abbrev FromRoutedPaths : Members → ConfigFault → Type 0
+FromRoutedPaths document fault = ReadsRoutedPaths document (Err fault)
+
 abbrev FromTrustedClients : Members → ConfigFault → Type 0
-FromTrustedClients document fault = ReadsTrustedClients document (Err fault)
+FromTrustedClients document = FaultFrom (ReadsTrustedClients document) (FromRoutedPaths document)
 
 abbrev FromBareNewlines : Members → ConfigFault → Type 0
 FromBareNewlines document = FaultFrom (ReadsBareNewlines document) (FromTrustedClients document)
@@ -243,7 +265,9 @@ from_host document fault (at_routes host listen spool max_content spool_limit ba
 from_host document fault (at_bare_newlines host listen spool max_content spool_limit routes bad) =
     inr (host, inr (listen, inr (spool, inr (max_content, inr (spool_limit, inr (routes, inl bad))))))
 from_host document fault (at_trusted_clients host listen spool max_content spool_limit routes bare_newlines bad) =
-    inr (host, inr (listen, inr (spool, inr (max_content, inr (spool_limit, inr (routes, inr (bare_newlines, bad)))))))
+    inr (host, inr (listen, inr (spool, inr (max_content, inr (spool_limit, inr (routes, inr (bare_newlines, inl bad)))))))
+from_host document fault (at_routed_paths host listen spool max_content spool_limit routes bare_newlines trusted_clients bad) =
+    inr (host, inr (listen, inr (spool, inr (max_content, inr (spool_limit, inr (routes, inr (bare_newlines, inr (trusted_clients, bad))))))))
 
 one_from_host : (document : Members) → IsOneFault (FromHost document)
 one_from_host document =
@@ -254,7 +278,8 @@ one_from_host document =
     (from_is_one (ReadsSpoolLimit document) (FromRoutes document) (one_spool_limit document)
     (from_is_one (ReadsRoutes document) (FromBareNewlines document) (one_routes document)
     (from_is_one (ReadsBareNewlines document) (FromTrustedClients document) (one_bare_newlines document)
-    (λ one two a b. same_fault (ReadsTrustedClients document) one two (one_trusted_clients document) a b)))))))
+    (from_is_one (ReadsTrustedClients document) (FromRoutedPaths document) (one_trusted_clients document)
+    (λ one two a b. same_fault (ReadsRoutedPaths document) one two (one_routed_paths document) a b))))))))
 
 -- a document that says a configuration has no fault
 says_no_fault : (document : Members) (config : Config) (fault : ConfigFault) → Says document config → ¬ FirstFault document fault
@@ -271,6 +296,8 @@ says_no_fault document config fault says (at_bare_newlines host listen spool max
     no_fault (ReadsBareNewlines document) config.bare_newlines fault (one_bare_newlines document) says.bare_newlines bad
 says_no_fault document config fault says (at_trusted_clients host listen spool max_content spool_limit routes bare_newlines bad) =
     no_fault (ReadsTrustedClients document) (option_map (λ trusted. trusted.networks) config.trusted_clients) fault (one_trusted_clients document) says.trusted_clients bad
+says_no_fault document config fault says (at_routed_paths host listen spool max_content spool_limit routes bare_newlines trusted_clients bad) =
+    no_fault (ReadsRoutedPaths document) config.routed_paths fault (one_routed_paths document) says.routed_paths bad
 
 document_is_one : (document : Members) → ReadsOne (ReadsDocument document)
 document_is_one document (Ok one) (Ok two) a b = ap Ok (says_one document one two a b)

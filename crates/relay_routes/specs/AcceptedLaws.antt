@@ -1,8 +1,8 @@
--- What is true of the routes to which a client may send.
+-- What is true of the routes to which a client may send, and of its routed paths.
 use Rattle.std.specs.Prelude.{◌≡◌, ℕ, List, None, Some}
 use Rattle.relay_envelope.specs.Path.{Path}
 use Rattle.relay_routes.specs.Routes.{hop_of}
-use Rattle.relay_routes.specs.Accepted.{accepted_table}
+use Rattle.relay_routes.specs.Accepted.{accepted_paths, accepted_table}
 use Rattle.relay_routes.specs.declared.config.Config.{Config}
 use Rattle.relay_routes.specs.declared.hop.Hop.{Hop}
 
@@ -10,6 +10,12 @@ use Rattle.relay_routes.specs.declared.hop.Hop.{Hop}
 abbrev pub AllAreTrusted : Type 0
 AllAreTrusted =
     (config : Config) (client : List ℕ) → config.trusted_clients ≡ None → accepted_table config client ≡ config.routes
+
+-- Where no trusted clients are named, what the configuration says of routed paths holds for every client.
+abbrev pub NobodyIsListed : Type 0
+NobodyIsListed =
+    (config : Config) (client : List ℕ) → config.trusted_clients ≡ None
+    → accepted_paths config client ≡ config.routed_paths
 
 -- A path that is accepted of a client has its next hop in the whole table too, and it is the same.
 abbrev pub AcceptedIsRouted : Type 0

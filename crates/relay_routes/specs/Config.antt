@@ -4,7 +4,9 @@ use Rattle.toml.specs.Data.{Data, Members}
 use Rattle.toml.specs.Parse.{parse_document}
 use Rattle.relay_routes.specs.declared.bare_newlines.BareNewlines.{BareNewlines as Rule}
 use Rattle.relay_routes.specs.declared.bare_newlines.BareNewlines.TheVariants.{Pass}
-use Rattle.relay_routes.specs.Value.{GivesAddress, GivesBareNewlines, GivesHost, GivesPath, GivesSize}
+use Rattle.relay_routes.specs.declared.routed_paths.RoutedPaths.{RoutedPaths as PathRule}
+use Rattle.relay_routes.specs.declared.routed_paths.RoutedPaths.TheVariants as routed
+use Rattle.relay_routes.specs.Value.{GivesAddress, GivesBareNewlines, GivesHost, GivesPath, GivesRoutedPaths, GivesSize}
 use Rattle.relay_routes.specs.Routes.{Route}
 use Rattle.relay_routes.specs.Network.{GivesNetworks}
 use Rattle.relay_routes.specs.Trusted.{IsTrusting}
@@ -13,7 +15,7 @@ use Rattle.std.specs.declared.net.socket_addr.SocketAddrV4.{SocketAddrV4}
 use Rattle.relay_routes.specs.declared.network.Network.{Network}
 use Rattle.relay_routes.specs.declared.key.Key.{Key}
 use Rattle.relay_routes.specs.declared.key.Key.TheVariants.{Host, Listen, Spool, MaxContent, SpoolLimit, Routes}
-use Rattle.relay_routes.specs.declared.key.Key.TheVariants.{BareNewlines, TrustedClients}
+use Rattle.relay_routes.specs.declared.key.Key.TheVariants.{BareNewlines, TrustedClients, RoutedPaths}
 use Rattle.relay_routes.specs.declared.fault.ConfigFault.{ConfigFault}
 use Rattle.relay_routes.specs.declared.fault.ConfigFault.TheVariants.{NotToml, Missing, BadValue}
 use Rattle.relay_routes.specs.declared.config.Config.{Config}
@@ -70,6 +72,10 @@ GivesTrusted value (Some networks) = GivesNetworks value networks
 abbrev pub ReadsTrustedClients : Members → Result (Option (List Network)) ConfigFault → Type 0
 ReadsTrustedClients document = ReadsOptional TrustedClients None GivesTrusted (value_of TrustedClients document)
 
+-- what is done with a recipient whose path is routed: it is taken as any other where nothing is said
+abbrev pub ReadsRoutedPaths : Members → Result PathRule ConfigFault → Type 0
+ReadsRoutedPaths document = ReadsOptional RoutedPaths routed.Pass GivesRoutedPaths (value_of RoutedPaths document)
+
 -- the document says this configuration
 pub record Says (document : Members) (config : Config) : Type 0 where
   pub host : ReadsHost document (Ok config.host)
@@ -82,6 +88,7 @@ pub record Says (document : Members) (config : Config) : Type 0 where
   pub routes_host : config.routes.host ≡ config.host
   pub trusted_clients : ReadsTrustedClients document
       (Ok (option_map (λ trusted. trusted.networks) config.trusted_clients))
+  pub routed_paths : ReadsRoutedPaths document (Ok config.routed_paths)
   pub trusting : IsTrusting config.routes config.trusted_clients
 
 -- there is a value where each key before was read
@@ -108,6 +115,10 @@ pub data FirstFault (document : Members) (fault : ConfigFault) : Type 0 where
   at_trusted_clients : IsGood (ReadsHost document) → IsGood (ReadsListen document) → IsGood (ReadsSpool document)
       → IsGood (ReadsMaxContent document) → IsGood (ReadsSpoolLimit document) → IsGood (ReadsRoutes document)
       → IsGood (ReadsBareNewlines document) → ReadsTrustedClients document (Err fault) → FirstFault document fault
+  at_routed_paths : IsGood (ReadsHost document) → IsGood (ReadsListen document) → IsGood (ReadsSpool document)
+      → IsGood (ReadsMaxContent document) → IsGood (ReadsSpoolLimit document) → IsGood (ReadsRoutes document)
+      → IsGood (ReadsBareNewlines document) → IsGood (ReadsTrustedClients document)
+      → ReadsRoutedPaths document (Err fault) → FirstFault document fault
 
 -- what a document says
 abbrev pub ReadsDocument : Members → Result Config ConfigFault → Type 0

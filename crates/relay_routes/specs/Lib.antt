@@ -1,5 +1,6 @@
 pub mod Value
 pub mod Routes
+pub mod RoutedPath
 pub mod Indexed
 pub mod Prefix
 pub mod Network

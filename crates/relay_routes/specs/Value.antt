@@ -9,6 +9,8 @@ use Rattle.std.specs.declared.net.socket_addr.SocketAddrV4.{SocketAddrV4}
 use Rattle.toml.specs.Data.{Data, integer, string}
 use Rattle.relay_routes.specs.declared.bare_newlines.BareNewlines.{BareNewlines}
 use Rattle.relay_routes.specs.declared.bare_newlines.BareNewlines.TheVariants.{Pass, Refuse}
+use Rattle.relay_routes.specs.declared.routed_paths.RoutedPaths.{RoutedPaths}
+use Rattle.relay_routes.specs.declared.routed_paths.RoutedPaths.TheVariants as routed
 pub use Rattle.relay_envelope.specs.HostName.{IsHostName, is_host_octet}
 
 -- four numbers with "." between them, ":" and a port, each written without leading zeros
@@ -51,6 +53,15 @@ bare_newlines_text Refuse = codes "refuse"
 -- the value is a text that says this of them
 abbrev pub GivesBareNewlines : Data → BareNewlines → Type 0
 GivesBareNewlines value bare_newlines = value ≡ string (bare_newlines_text bare_newlines)
+
+-- how a document says what is done with a recipient whose path is routed
+abbrev pub routed_paths_text : RoutedPaths → List ℕ
+routed_paths_text routed.Pass = codes "pass"
+routed_paths_text routed.Refuse = codes "refuse"
+
+-- the value is a text that says this of them
+abbrev pub GivesRoutedPaths : Data → RoutedPaths → Type 0
+GivesRoutedPaths value routed_paths = value ≡ string (routed_paths_text routed_paths)
 
 -- the octet is ":"
 abbrev pub is_colon : ℕ → Bool

@@ -5,10 +5,11 @@ ghost use Rattle.relay_routes.specs.Trusted.{IsTrusting};
 use crate::bare_newlines::BareNewlines;
 use crate::document::{
     CONTENT_LIMIT, SPOOL_LIMIT, read_bare_newlines, read_host, read_listen, read_max_content,
-    read_routes, read_spool, read_spool_limit, read_trusted_clients,
+    read_routed_paths, read_routes, read_spool, read_spool_limit, read_trusted_clients,
 };
 use crate::fault::ConfigFault;
 use crate::host_name::HostName;
+use crate::routed_paths::RoutedPaths;
 use crate::spool_path::SpoolPath;
 use crate::table::Table;
 use crate::trusted_clients::TrustedClients;
@@ -34,6 +35,8 @@ pub struct Config {
     pub routes: Table,
     /// The clients that may send to every route, where not all of them may.
     pub trusted_clients: Option<TrustedClients>,
+    /// What is done with a recipient whose path is routed, but of a client that `trusted_clients` names.
+    pub routed_paths: RoutedPaths,
     pub ghost valid: { IsConfig host max_content spool_limit routes },
     pub ghost trusting: { IsTrusting routes trusted_clients },
 }
@@ -50,17 +53,19 @@ impl Drop for Config {
             bare_newlines: _,
             routes: _routes,
             trusted_clients: _trusted_clients,
+            routed_paths: _,
         } = self;
     }
 }
 
 impl Config {
     ghost use Rattle.toml.specs.View.{table_view};
-    ghost use Rattle.relay_routes.specs.Accepted.{accepted_table};
+    ghost use Rattle.relay_routes.specs.Accepted.{accepted_paths, accepted_table};
     ghost use Rattle.relay_routes.specs.Config.{ReadsConfig, ReadsDocument};
+    ghost use Rattle.relay_routes.specs.Trusted.{is_listed};
 
     /// A configuration of these values, where `max_content` and `spool_limit` lie in their ranges and the routes are
-    /// those of this host. Every client may send to every route. It takes no memory.
+    /// those of this host. Every client may send to every route, also by routed paths. It takes no memory.
     pub fn new(
         host: HostName,
         listen: SocketAddrV4,
@@ -74,7 +79,7 @@ impl Config {
             (config.host ≡ host) × (config.listen ≡ listen) × (config.spool ≡ spool)
             × (config.max_content ≡ max_content) × (config.spool_limit ≡ spool_limit)
             × (config.bare_newlines ≡ bare_newlines) × (config.routes ≡ routes)
-            × (config.trusted_clients ≡ None)) }
+            × (config.trusted_clients ≡ None) × (config.routed_paths ≡ RoutedPaths.Pass)) }
     {
         if is_config(&host, max_content, spool_limit, &routes) {
             Some(Config {
@@ -86,6 +91,7 @@ impl Config {
                 bare_newlines,
                 routes,
                 trusted_clients: None,
+                routed_paths: RoutedPaths::Pass,
             })
         } else {
             None
@@ -94,8 +100,8 @@ impl Config {
 
     /// The configuration that a text in TOML says. Keys are looked at in the order of [`Key`](crate::Key), and the
     /// first fault is answered; other keys are ignored. Where they are missing, `max_content` is 1,048,576,
-    /// `spool_limit` 67,108,864, `bare_newlines` says that content is taken as it came, and `trusted_clients` that
-    /// every client may send to every route.
+    /// `spool_limit` 67,108,864, `bare_newlines` says that content is taken as it came, `trusted_clients` that every
+    /// client may send to every route, and `routed_paths` that a routed path is taken as any other.
     pub fn read(alloc: Global, text: &str) -> Result<Self, ConfigFault>
         ensures ok { IfOk result (λ config. ReadsConfig text.now (Ok config)) }
         ensures err { IfErr result (λ fault. (fault ≡ ConfigFault.NoMemory)
@@ -122,6 +128,7 @@ impl Config {
         let routes = read_routes(alloc, document, host.copy(alloc)?)?;
         let bare_newlines = read_bare_newlines(document)?;
         let trusted_clients = read_trusted_clients(alloc, document, &routes)?;
+        let routed_paths = read_routed_paths(document)?;
         Ok(Config {
             host,
             listen,
@@ -131,6 +138,7 @@ impl Config {
             bare_newlines,
             routes,
             trusted_clients,
+            routed_paths,
         })
     }
 
@@ -148,6 +156,28 @@ impl Config {
                 }
             }
             None => &self.routes,
+        }
+    }
+
+    /// What is done with this client's routed paths: one that `trusted_clients` names may send them, and for all others
+    /// `routed_paths` says it.
+    pub fn accepted_paths(&self, client: [u8; 4]) -> RoutedPaths
+        ensures { result ≡ accepted_paths self.now client }
+    {
+        if self.is_listed(client) {
+            RoutedPaths::Pass
+        } else {
+            self.routed_paths
+        }
+    }
+
+    /// Whether a client is in one of the networks that `trusted_clients` names. Where none are named, nobody is.
+    fn is_listed(&self, client: [u8; 4]) -> bool
+        ensures { result ≡ is_listed client self.now.trusted_clients }
+    {
+        match &self.trusted_clients {
+            Some(trusted) => trusted.contains(client),
+            None => false,
         }
     }
 }

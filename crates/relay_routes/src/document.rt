@@ -7,7 +7,8 @@ ghost use Rattle.relay_routes.specs.Value.{GivesSize};
 ghost use Rattle.relay_routes.specs.Document.{AreRoutes, GivesHop, fault_of_routes, value_of};
 ghost use Rattle.relay_routes.specs.Routes.{AllAgree, Route};
 ghost use Rattle.relay_routes.specs.Config.{ReadsBareNewlines, ReadsHost, ReadsListen, ReadsMaxContent, ReadsOptional};
-ghost use Rattle.relay_routes.specs.Config.{ReadsRoutes, ReadsSpool, ReadsSpoolLimit, ReadsTrustedClients};
+ghost use Rattle.relay_routes.specs.Config.{ReadsRoutedPaths, ReadsRoutes, ReadsSpool, ReadsSpoolLimit};
+ghost use Rattle.relay_routes.specs.Config.{ReadsTrustedClients};
 ghost use Rattle.relay_routes.specs.Network.{AreNetworks, GivesNetwork};
 ghost use Rattle.relay_routes.specs.Trusted.{IsTrusting};
 ghost use Rattle.relay_routes.specs.declared.hop.Hop.{Hop};
@@ -20,6 +21,7 @@ use crate::hop::Hop;
 use crate::host_name::HostName;
 use crate::key::Key;
 use crate::network::Network;
+use crate::routed_paths::RoutedPaths;
 use crate::spool_path::SpoolPath;
 use crate::table::Table;
 use crate::trusted_clients::TrustedClients;
@@ -108,6 +110,22 @@ pub(crate) fn read_bare_newlines(document: &toml::Table) -> Result<BareNewlines,
     match BareNewlines::read(text) {
         Some(found) => Ok(found),
         None => Err(ConfigFault::BadValue(Key::BareNewlines)),
+    }
+}
+
+/// `routed_paths`: what is done with a recipient whose path is routed.
+pub(crate) fn read_routed_paths(document: &toml::Table) -> Result<RoutedPaths, ConfigFault>
+    ensures { ReadsRoutedPaths (table_view document.now) result }
+{
+    let Some(value) = member(document, Key::RoutedPaths) else {
+        return Ok(RoutedPaths::Pass);
+    };
+    let Some(text) = value.as_str() else {
+        return Err(ConfigFault::BadValue(Key::RoutedPaths));
+    };
+    match RoutedPaths::read(text) {
+        Some(found) => Ok(found),
+        None => Err(ConfigFault::BadValue(Key::RoutedPaths)),
     }
 }
 

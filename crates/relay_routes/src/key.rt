@@ -22,6 +22,8 @@ pub enum Key {
     BareNewlines,
     /// Whose mail is accepted for every route.
     TrustedClients,
+    /// What is done with a recipient whose path is routed.
+    RoutedPaths,
 }
 
 impl Key {
@@ -38,6 +40,7 @@ impl Key {
             Key::Routes => "routes",
             Key::BareNewlines => "bare_newlines",
             Key::TrustedClients => "trusted_clients",
+            Key::RoutedPaths => "routed_paths",
         }
     }
 }

@@ -1,6 +1,7 @@
 //! What is true of configurations and routes, whoever reads them.
-ghost use Rattle.relay_routes.specs.AcceptedLaws.{AcceptedIsRouted, AllAreTrusted};
+ghost use Rattle.relay_routes.specs.AcceptedLaws.{AcceptedIsRouted, AllAreTrusted, NobodyIsListed};
 ghost use Rattle.relay_routes.specs.ConfigLaws.{OneReading};
+ghost use Rattle.relay_routes.specs.RoutedPath.{RoutedIsNamed};
 ghost use Rattle.relay_routes.specs.Routes.{HopAtIsHopOf, HopHasItsPlace};
 ghost use Rattle.relay_routes.specs.Settings.{ConfigIsNamed};
 
@@ -29,7 +30,17 @@ pub fn all_are_trusted()
     ensures { AllAreTrusted }
 {}
 
+/// Where no trusted clients are named, what the configuration says of routed paths holds for every client.
+pub fn nobody_is_listed()
+    ensures { NobodyIsListed }
+{}
+
 /// A path that is accepted of a client has its next hop in the whole table too, and it is the same.
 pub fn accepted_is_routed()
     ensures { AcceptedIsRouted }
+{}
+
+/// A mailbox is routed exactly where it has a source route, or its local part names a further host.
+pub fn routed_is_named()
+    ensures { RoutedIsNamed }
 {}
