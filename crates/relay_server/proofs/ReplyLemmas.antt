@@ -1,5 +1,5 @@
 -- Replies: each is well formed, and tells what became of a content.
-use Rattle.std.proofs.Common.{◌≡◌, ℕ, ◌^◌, ◌<◌, ◌≤◌, Bool, true, false, ◌||◌, ◌==◌, nat_le, is_some, if◌then◌else◌, List, [], ◌∷◌, ◌++◌, codes, decimal, length, Some, Result, Ok, Err, inl, inr, refl, sym, subst, ap, ◌∙◌, arith, length-append}
+use Rattle.std.proofs.Common.{◌≡◌, ℕ, ◌^◌, ◌<◌, ◌≤◌, Bool, true, false, ◌||◌, ◌==◌, nat_le, is_some, if◌then◌else◌, List, [], ◌∷◌, ◌++◌, codes, decimal, length, Option, Some, None, Result, Ok, Err, inl, inr, refl, sym, subst, ap, ◌∙◌, arith, length-append}
 use Rattle.std.specs.List.{AllByRecursion}
 use Rattle.std.proofs.lemmas.List.Folds.{list_any-append}
 use Rattle.relay_lines.specs.Command as line
@@ -20,13 +20,17 @@ use Rattle.relay_server.specs.declared.client.Client.{Client}
 use Rattle.relay_server.specs.declared.offer.Answer.{Answer}
 use Rattle.relay_server.specs.declared.offer.Answer.TheVariants as answer
 use Rattle.relay_server.specs.declared.reply_table.Row.{Row}
-use Rattle.relay_server.specs.declared.reply_table.Row.TheVariants.{Greeting, Hello, Extensions, SenderOk, RecipientOk, TooManyRecipients, NoRoute, BadSequence, NoValidRecipients, StartMailInput, ChunkOk, ContentTooLarge, TooManyReceived, BareLineEnd, Queued, SpoolFull, Done, NotVerified, SeeStandard, Closing, UnknownCommand, BadOctet, LineTooLong, BadArgument, BadPath, BadValue, Repeated, UnknownParameter, NotOffered, BadChunkSize}
+use Rattle.relay_server.specs.declared.reply_table.Row.TheVariants.{Greeting, Hello, Extensions, SenderOk, RecipientOk, TooManyRecipients, RoutedAddress, NoRoute, BadSequence, NoValidRecipients, StartMailInput, ChunkOk, ContentTooLarge, TooManyReceived, BareLineEnd, NulInContent, Queued, SpoolFull, Done, NotVerified, SeeStandard, Closing, UnknownCommand, BadOctet, LineTooLong, BadArgument, BadPath, BadValue, Repeated, UnknownParameter, NotOffered, BadChunkSize}
 use Rattle.relay_envelope.specs.HostName.{IsHostName, is_host_octet}
 use Rattle.relay_server.specs.Dialogue.{Offered, Turn, Answers, Comes, Takes, Turns, answers_in, answered_by, row_of_answer}
 use Rattle.relay_server.specs.DialogueLaws.{AreNumbered, IsNumbered, OnlyContentIsOffered, OnlyQueuedIsPositive, RepliesAreWellFormed}
 use Rattle.relay_server.specs.Reply.{reply_of}
 use Rattle.relay_routes.specs.declared.bare_newlines.BareNewlines.{BareNewlines}
-use Rattle.relay_server.specs.ReplyTable.{is_refused_by, unless_refused, Course, Replies, Offers, row_of_envelope_fault, row_of_fault, row_of_hello, course_of, course_of_bdat, course_of_chunks, course_of_content, course_of_data, course_of_mail, course_of_rcpt, course_of_text}
+use Rattle.relay_routes.specs.declared.bare_newlines.BareNewlines.TheVariants.{Pass, Refuse}
+use Rattle.relay_routes.specs.RoutedPath.{refuses_path}
+use Rattle.relay_body.specs.BareEnds.{has_bare_end}
+use Rattle.relay_body.specs.Nul.{has_nul}
+use Rattle.relay_server.specs.ReplyTable.{offer_unless, refusal_by, unless_refused, Course, Replies, Offers, row_of_envelope_fault, row_of_fault, row_of_hello, course_of, course_of_bdat, course_of_chunks, course_of_content, course_of_data, course_of_mail, course_of_rcpt, course_of_text}
 use Rattle.relay_routes.specs.Routes.{hop_of}
 use Rattle.relay_server.specs.Setup.{Setup}
 use Rattle.relay_server.specs.State.{CommandState, Fresh, Greeted, Open, Gathering, Spent, State, Command, Receiving, Closed}
@@ -85,6 +89,7 @@ row_is_reply host Extensions name h =
 row_is_reply host SenderOk name h = line_is_reply 250 (codes "sender OK") (omega arith) (omega arith) refl (omega arith)
 row_is_reply host RecipientOk name h = line_is_reply 250 (codes "recipient OK") (omega arith) (omega arith) refl (omega arith)
 row_is_reply host TooManyRecipients name h = line_is_reply 452 (codes "too many recipients") (omega arith) (omega arith) refl (omega arith)
+row_is_reply host RoutedAddress name h = line_is_reply 553 (codes "routed address refused") (omega arith) (omega arith) refl (omega arith)
 row_is_reply host NoRoute name h = line_is_reply 550 (codes "no route") (omega arith) (omega arith) refl (omega arith)
 row_is_reply host BadSequence name h = line_is_reply 503 (codes "bad sequence") (omega arith) (omega arith) refl (omega arith)
 row_is_reply host NoValidRecipients name h = line_is_reply 554 (codes "no valid recipients") (omega arith) (omega arith) refl (omega arith)
@@ -92,6 +97,7 @@ row_is_reply host StartMailInput name h = line_is_reply 354 (codes "end with a l
 row_is_reply host ChunkOk name h = line_is_reply 250 (codes "chunk OK") (omega arith) (omega arith) refl (omega arith)
 row_is_reply host TooManyReceived name h = line_is_reply 554 (codes "too many Received fields") (omega arith) (omega arith) refl (omega arith)
 row_is_reply host BareLineEnd name h = line_is_reply 554 (codes "bare line end in content") (omega arith) (omega arith) refl (omega arith)
+row_is_reply host NulInContent name h = line_is_reply 554 (codes "NUL in content") (omega arith) (omega arith) refl (omega arith)
 row_is_reply host BadChunkSize name h = name_is_reply 421 host (codes " bad chunk size, closing") (omega arith) (omega arith) name refl (omega arith)
 row_is_reply host ContentTooLarge name h = line_is_reply 552 (codes "content too large") (omega arith) (omega arith) refl (omega arith)
 row_is_reply host (Queued number) name h =
@@ -153,7 +159,8 @@ rcpt_course setup (Err which) state = envelope_fault_row which
 rcpt_course setup (Ok rcpt) Fresh = tt
 rcpt_course setup (Ok rcpt) (Greeted client) = tt
 rcpt_course setup (Ok rcpt) (Open client envelope) =
-    chosen_course false (nat_le 100 (length envelope.recipients)) _ _ tt (chosen_course false (is_some (hop_of setup.routes rcpt.path)) _ _ tt tt)
+    chosen_course false (nat_le 100 (length envelope.recipients)) _ _ tt
+    (chosen_course false (refuses_path setup.routed_paths rcpt.path) _ _ tt (chosen_course false (is_some (hop_of setup.routes rcpt.path)) _ _ tt tt))
 rcpt_course setup (Ok rcpt) (Gathering client envelope content) = tt
 rcpt_course setup (Ok rcpt) (Spent client) = tt
 
@@ -188,11 +195,21 @@ bdat_course limit octets last (Gathering client envelope content) =
     chunks_course limit client envelope (content ++ octets) last
 bdat_course limit octets last (Spent client) = tt
 
+-- what holds without a refusal, and of each row that refuses, holds of what the rule says
+by_refusal : (P : Option Row → Type 0) → P None → P (Some BareLineEnd) → P (Some NulInContent) → (rule : BareNewlines) (content : List ℕ) → P (refusal_by rule content)
+by_refusal P none bare nul Pass content = none
+by_refusal P none bare nul Refuse content = by (has_bare_end content) (has_nul content)
+  where
+    by : (is_bare has : Bool) → P (if is_bare then Some BareLineEnd else (if has then Some NulInContent else None))
+    by true has = bare
+    by false true = nul
+    by false false = none
+
 -- a content that is refused is answered by a row that is no number
 refused_course : (last : Bool) (rule : BareNewlines) (course : Course) → MayCome last course → MayCome last (unless_refused rule course)
 refused_course last rule (Replies row next) may = may
 refused_course last rule (Offers client envelope content) may =
-    chosen_course last (is_refused_by rule content) (Replies BareLineEnd (Command (Greeted client))) (Offers client envelope content) tt may
+    by_refusal (λ refusal. MayCome last (offer_unless refusal client envelope content)) may tt tt rule content
 
 -- what a line asks that ends a content
 abbrev ends_content : Asked → Bool
@@ -298,7 +315,7 @@ unless_is_refused : (host : List ℕ) (rule : BareNewlines) (course : Course) �
 unfolding reply_of
 unless_is_refused host rule (Replies row next) refused = refused
 unless_is_refused host rule (Offers client envelope content) refused =
-    chosen_refused host (is_refused_by rule content) (Replies BareLineEnd (Command (Greeted client))) (Offers client envelope content) (omega arith) tt
+    by_refusal (λ refusal. IsRefused host (offer_unless refusal client envelope content)) tt (omega arith) (omega arith) rule content
 
 -- the answer of a positive reply
 positive_is_queued : (host : List ℕ) (given : Answer) (reply : Reply) → reply ≡ reply_of host (row_of_answer given) → reply.code < 300 → (number : ℕ) × (given ≡ answer.Queued number)

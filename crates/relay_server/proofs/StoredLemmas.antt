@@ -1,5 +1,5 @@
 -- What a dialogue offers may be stored, since each state that it stands in holds nothing else.
-use Rattle.std.proofs.Common.{◌≡◌, ℕ, ◌<◌, ◌≤◌, Bool, true, false, if◌then◌else◌, nat_le, is_some, List, [], ◌∷◌, ◌++◌, length, Result, Ok, Err, inl, inr, refl, sym, subst, arith, length-append}
+use Rattle.std.proofs.Common.{◌≡◌, ℕ, ◌<◌, ◌≤◌, Bool, true, false, if◌then◌else◌, nat_le, is_some, List, [], ◌∷◌, ◌++◌, length, Option, Some, None, Result, Ok, Err, inl, inr, refl, sym, ap, subst, arith, length-append}
 use Rattle.std.specs.List.{AllByRecursion}
 use Rattle.std.proofs.lemmas.Bool.{leb-true, leb-false}
 use Rattle.relay_lines.specs.ChunkArgument.{begins_with_bdat}
@@ -17,10 +17,12 @@ use Rattle.relay_envelope.specs.Path.{is_reverse}
 use Rattle.relay_envelope.proofs.Theorems.{read_mail_is_valid, read_rcpt_is_valid}
 use Rattle.relay_trace.specs.HeaderSection.{received_count_of}
 use Rattle.relay_server.specs.declared.client.Client.{Client}
-use Rattle.relay_server.specs.declared.reply_table.Row.TheVariants.{BareLineEnd, ChunkOk}
+use Rattle.relay_server.specs.declared.reply_table.Row.{Row}
+use Rattle.relay_server.specs.declared.reply_table.Row.TheVariants.{ChunkOk}
 use Rattle.relay_server.specs.Dialogue.{Offered, Turn, Answers, Comes, Takes, Turns, IsLeft, offered_by, offered_of, offers_in}
 use Rattle.relay_server.specs.DialogueLaws.{MayBeStored, OffersMayBeStored}
-use Rattle.relay_server.specs.ReplyTable.{Course, Replies, Offers, course_of, course_of_bdat, course_of_chunks, course_of_content, course_of_data, course_of_mail, course_of_rcpt, course_of_text, is_refused_by, state_behind_fault, unless_refused}
+use Rattle.relay_server.specs.ReplyTable.{Course, Replies, Offers, course_of, course_of_bdat, course_of_chunks, course_of_content, course_of_data, course_of_mail, course_of_rcpt, course_of_text, offer_unless, refusal_by, state_behind_fault, unless_refused}
+use Rattle.relay_routes.specs.RoutedPath.{refuses_path}
 use Rattle.relay_routes.specs.Routes.{hop_of}
 use Rattle.relay_server.specs.Setup.{Setup}
 use Rattle.relay_server.specs.State.{CommandState, Fresh, Greeted, Open, Gathering, Spent, State, Command, Receiving, Closed, start}
@@ -86,7 +88,9 @@ rcpt_good setup text (Err fault) old reads sound = sound
 rcpt_good setup text (Ok rcpt) Fresh reads sound = tt
 rcpt_good setup text (Ok rcpt) (Greeted client) reads sound = sound
 rcpt_good setup text (Ok rcpt) (Open client envelope) reads sound =
-    chosen setup (nat_le 100 (length envelope.recipients)) _ _ (λ _. sound) (λ few. chosen setup (is_some (hop_of setup.routes rcpt.path)) _ _ (λ _. (sound.0, grown envelope rcpt text sound.1 few reads)) (λ _. sound))
+    chosen setup (nat_le 100 (length envelope.recipients)) _ _ (λ _. sound)
+    (λ few. chosen setup (refuses_path setup.routed_paths rcpt.path) _ _ (λ _. sound)
+    (λ _. chosen setup (is_some (hop_of setup.routes rcpt.path)) _ _ (λ _. (sound.0, grown envelope rcpt text sound.1 few reads)) (λ _. sound)))
 rcpt_good setup text (Ok rcpt) (Gathering client envelope content) reads sound = sound
 rcpt_good setup text (Ok rcpt) (Spent client) reads sound = sound
 
@@ -108,14 +112,14 @@ data_good setup (Open client envelope) sound =
 data_good setup (Gathering client envelope content) sound = sound
 data_good setup (Spent client) sound = sound
 
--- an offer as it may be stored, but for its line ends
+-- an offer as it may be stored, but for what the rule refuses
 record IsNearlyStored (setup : Setup) (client : Client) (envelope : Envelope) (content : List ℕ) : Type 0 where
   word : IsHostWord client.word
   whole : IsEnvelope envelope
   fits : length content ≤ setup.max_content
   received : received_count_of content < 100
 
--- what comes is good, but for the line ends of what it offers
+-- what comes is good, but for what the rule refuses of what it offers
 abbrev IsNearlyGood : Setup → Course → Type 0
 IsNearlyGood setup (Replies row next) = IsSound next
 IsNearlyGood setup (Offers client envelope content) = IsNearlyStored setup client envelope content
@@ -124,12 +128,18 @@ chosen_nearly : (setup : Setup) (b : Bool) (one two : Course) → (b ≡ true �
 chosen_nearly setup true one two h k = h refl
 chosen_nearly setup false one two h k = k refl
 
--- a content whose line ends are refused isn't offered
+-- a content that is refused isn't offered
 unless_good : (setup : Setup) (course : Course) → IsNearlyGood setup course → IsGood setup (unless_refused setup.bare_newlines course)
 unless_good setup (Replies row next) sound = sound
 unless_good setup (Offers client envelope content) nearly =
-    chosen setup (is_refused_by setup.bare_newlines content) (Replies BareLineEnd (Command (Greeted client))) (Offers client envelope content) (λ _. nearly.word)
-    (λ kept. (nearly.word, record { client = nearly.word; envelope = nearly.whole; content = nearly.fits; received = nearly.received; line_ends = kept }))
+    by (refusal_by setup.bare_newlines content) refl
+  where
+    by : (refusal : Option Row) → refusal ≡ refusal_by setup.bare_newlines content → IsGood setup (offer_unless refusal client envelope content)
+    by None is = (
+      nearly.word,
+      record { client = nearly.word; envelope = nearly.whole; content = nearly.fits; received = nearly.received; allowed = sym (ap is_some is) },
+    )
+    by (Some row) is = nearly.word
 
 -- a content within the limit is refused, or may be stored
 content_good : (setup : Setup) (client : Client) (envelope : Envelope) (content : List ℕ) → IsHostWord client.word → IsEnvelope envelope → length content ≤ setup.max_content → IsNearlyGood setup (course_of_content client envelope content)

@@ -105,13 +105,13 @@ RepliesAreWellFormed =
     → AllByRecursion (λ turn. IsReply turn.reply) turns)
 
 -- an offer as it may be stored: the client's word is one of HELO's, the envelope is whole, the
--- content is within the limit, has fewer than 100 `Received:` fields, and isn't one whose line ends are refused
+-- content is within the limit, has fewer than 100 `Received:` fields, and isn't one that the rule refuses
 pub record MayBeStored (setup : Setup) (offer : Offered) : Type 0 where
   pub client : IsHostWord offer.client.word
   pub envelope : IsEnvelope offer.envelope
   pub content : length offer.content ≤ setup.max_content
   pub received : received_count_of offer.content < 100
-  pub line_ends : is_refused_by setup.bare_newlines offer.content ≡ false
+  pub allowed : is_refused_by setup.bare_newlines offer.content ≡ false
 
 -- each offer of a dialogue may be stored
 abbrev pub OffersMayBeStored : Type 0

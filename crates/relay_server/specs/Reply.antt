@@ -5,9 +5,9 @@ use Rattle.relay_server.specs.declared.reply_table.Row.{Row}
 use Rattle.relay_server.specs.declared.reply_table.Text.{Text}
 use Rattle.relay_server.specs.declared.reply_table.Text.TheVariants as text
 use Rattle.relay_server.specs.declared.reply_table.Row.TheVariants.{Greeting, Hello, Extensions, SenderOk, RecipientOk}
-use Rattle.relay_server.specs.declared.reply_table.Row.TheVariants.{TooManyRecipients, NoRoute, BadSequence}
+use Rattle.relay_server.specs.declared.reply_table.Row.TheVariants.{TooManyRecipients, RoutedAddress, NoRoute, BadSequence}
 use Rattle.relay_server.specs.declared.reply_table.Row.TheVariants.{NoValidRecipients, StartMailInput, ChunkOk}
-use Rattle.relay_server.specs.declared.reply_table.Row.TheVariants.{ContentTooLarge, TooManyReceived, BareLineEnd}
+use Rattle.relay_server.specs.declared.reply_table.Row.TheVariants.{ContentTooLarge, TooManyReceived, BareLineEnd, NulInContent}
 use Rattle.relay_server.specs.declared.reply_table.Row.TheVariants.{Queued, SpoolFull, Done, NotVerified, SeeStandard}
 use Rattle.relay_server.specs.declared.reply_table.Row.TheVariants.{Closing, UnknownCommand, BadOctet, LineTooLong}
 use Rattle.relay_server.specs.declared.reply_table.Row.TheVariants.{BadArgument, BadPath, BadValue, Repeated}
@@ -21,6 +21,7 @@ reply_of host Extensions = made_of 250 (host ∷ codes "PIPELINING" ∷ codes "C
 reply_of host SenderOk = one_line 250 (codes "sender OK")
 reply_of host RecipientOk = one_line 250 (codes "recipient OK")
 reply_of host TooManyRecipients = one_line 452 (codes "too many recipients")
+reply_of host RoutedAddress = one_line 553 (codes "routed address refused")
 reply_of host NoRoute = one_line 550 (codes "no route")
 reply_of host BadSequence = one_line 503 (codes "bad sequence")
 reply_of host NoValidRecipients = one_line 554 (codes "no valid recipients")
@@ -29,6 +30,7 @@ reply_of host ChunkOk = one_line 250 (codes "chunk OK")
 reply_of host ContentTooLarge = one_line 552 (codes "content too large")
 reply_of host TooManyReceived = one_line 554 (codes "too many Received fields")
 reply_of host BareLineEnd = one_line 554 (codes "bare line end in content")
+reply_of host NulInContent = one_line 554 (codes "NUL in content")
 reply_of host (Queued number) = one_line 250 (codes "queued as " ++ decimal number)
 reply_of host SpoolFull = one_line 452 (codes "spool full")
 reply_of host Done = one_line 250 (codes "OK")

@@ -1,10 +1,11 @@
 -- The reply table: to each unit and state the row that answers it, and the state behind it, or an
 -- offer (RFC 5321, section 4.3.2; RFC 3030, section 2).
-use Rattle.std.specs.Prelude.{ℕ, Bool, false, List, [], ◌∷◌, ◌++◌, length, nat_le, is_some, if◌then◌else◌, Result, Ok}
-use Rattle.std.specs.Prelude.{Err}
+use Rattle.std.specs.Prelude.{ℕ, Bool, List, [], ◌∷◌, ◌++◌, length, nat_le, Option, Some, None, is_some, Result, Ok, Err}
+use Rattle.std.specs.Prelude.{if◌then◌else◌}
 use Rattle.relay_lines.specs.declared.command.LineFault.{LineFault}
 use Rattle.relay_lines.specs.declared.command.LineFault.TheVariants as line
 use Rattle.relay_body.specs.BareEnds.{has_bare_end}
+use Rattle.relay_body.specs.Nul.{has_nul}
 use Rattle.relay_envelope.specs.declared.envelope.Envelope.{Envelope}
 use Rattle.relay_envelope.specs.declared.fault.EnvelopeFault.{EnvelopeFault}
 use Rattle.relay_envelope.specs.declared.fault.EnvelopeFault.TheVariants as envelope
@@ -16,6 +17,7 @@ use Rattle.relay_trace.specs.HeaderSection.{received_count_of}
 use Rattle.relay_server.specs.declared.client.Client.{Client}
 use Rattle.relay_server.specs.declared.reply_table.Row.{Row}
 use Rattle.relay_server.specs.declared.reply_table.Row.TheVariants as row
+use Rattle.relay_routes.specs.RoutedPath.{refuses_path}
 use Rattle.relay_routes.specs.Routes.{hop_of}
 use Rattle.relay_routes.specs.declared.bare_newlines.BareNewlines.{BareNewlines}
 use Rattle.relay_routes.specs.declared.bare_newlines.BareNewlines.TheVariants.{Pass, Refuse}
@@ -68,7 +70,7 @@ abbrev pub with_recipient : Envelope → RcptSaid → Envelope
 with_recipient envelope rcpt =
     record envelope { recipients = envelope.recipients ++ recipient_from rcpt ∷ [] }
 
--- RCPT adds a recipient that has a next hop; a transaction takes 100
+-- RCPT adds a recipient whose path isn't refused, and that has a next hop; a transaction takes 100
 abbrev pub course_of_rcpt : Setup → Result RcptSaid EnvelopeFault → CommandState → Course
 course_of_rcpt setup (Err fault) state = Replies (row_of_envelope_fault fault) (Command state)
 course_of_rcpt setup (Ok rcpt) Fresh = Replies row.BadSequence (Command Fresh)
@@ -76,9 +78,11 @@ course_of_rcpt setup (Ok rcpt) (Greeted client) = Replies row.BadSequence (Comma
 course_of_rcpt setup (Ok rcpt) (Open client envelope) =
     if nat_le 100 (length envelope.recipients)
     then Replies row.TooManyRecipients (Command (Open client envelope))
+    else (if refuses_path setup.routed_paths rcpt.path
+    then Replies row.RoutedAddress (Command (Open client envelope))
     else (if is_some (hop_of setup.routes rcpt.path)
     then Replies row.RecipientOk (Command (Open client (with_recipient envelope rcpt)))
-    else Replies row.NoRoute (Command (Open client envelope)))
+    else Replies row.NoRoute (Command (Open client envelope))))
 course_of_rcpt setup (Ok rcpt) (Gathering client envelope content) =
     Replies row.BadSequence (Command (Gathering client envelope content))
 course_of_rcpt setup (Ok rcpt) (Spent client) = Replies row.BadSequence (Command (Spent client))
@@ -126,18 +130,27 @@ course_of_bdat limit octets last (Gathering client envelope content) =
     course_of_chunks limit client envelope (content ++ octets) last
 course_of_bdat limit octets last (Spent client) = Replies row.BadSequence (Command (Spent client))
 
--- the content has a CR or an LF that stands alone, and this rule refuses that (RFC 5321, section 2.3.8)
-abbrev pub is_refused_by : BareNewlines → List ℕ → Bool
-is_refused_by Pass content = false
-is_refused_by Refuse content = has_bare_end content
+-- the row by which this rule refuses a content: a CR or an LF stands alone in it (RFC 5321, section 2.3.8), or NUL is in
+-- it, which a hop may drop, so that what stands around it comes together
+abbrev pub refusal_by : BareNewlines → List ℕ → Option Row
+refusal_by Pass content = None
+refusal_by Refuse content =
+    if has_bare_end content then Some row.BareLineEnd
+    else (if has_nul content then Some row.NulInContent else None)
 
--- what comes of the end of a content: behind all other faults, one that the rule refuses isn't offered, and its
--- transaction is over
+-- the rule refuses the content
+abbrev pub is_refused_by : BareNewlines → List ℕ → Bool
+is_refused_by rule content = is_some (refusal_by rule content)
+
+-- an offer, or the row that refuses it, and its transaction is over
+abbrev pub offer_unless : Option Row → Client → Envelope → List ℕ → Course
+offer_unless None client envelope content = Offers client envelope content
+offer_unless (Some refusal) client envelope content = Replies refusal (Command (Greeted client))
+
+-- what comes of the end of a content: after all other faults, one that the rule refuses isn't offered
 abbrev pub unless_refused : BareNewlines → Course → Course
 unless_refused rule (Replies row next) = Replies row next
-unless_refused rule (Offers client envelope content) =
-    if is_refused_by rule content then Replies row.BareLineEnd (Command (Greeted client))
-    else Offers client envelope content
+unless_refused rule (Offers client envelope content) = offer_unless (refusal_by rule content) client envelope content
 
 -- RSET gives the transaction up
 abbrev pub without_transaction : CommandState → CommandState

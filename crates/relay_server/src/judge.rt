@@ -166,7 +166,7 @@ fn judge_rcpt(
     }
 }
 
-/// A recipient is added where there is room and a hop takes its domain.
+/// A recipient is added where there is room, its path isn't refused, and a hop takes its domain.
 fn add(
     server: &Server,
     table: &Table,
@@ -181,6 +181,12 @@ fn add(
     if transaction.envelope.recipients.len() >= RECIPIENT_LIMIT {
         return Ok(Judged::Replied(
             Row::TooManyRecipients,
+            State::Command(CommandState::Open(transaction)),
+        ));
+    }
+    if server.routed_paths.refuses(&rcpt.path) {
+        return Ok(Judged::Replied(
+            Row::RoutedAddress,
             State::Command(CommandState::Open(transaction)),
         ));
     }

@@ -22,6 +22,8 @@ pub(crate) enum Row {
     RecipientOk,
     /// The transaction has 100 recipients already.
     TooManyRecipients,
+    /// The recipient's path is routed, and the configuration refuses that.
+    RoutedAddress,
     /// No next hop takes the recipient's domain.
     NoRoute,
     /// The command may not come here.
@@ -38,6 +40,8 @@ pub(crate) enum Row {
     TooManyReceived,
     /// A CR or an LF stands alone in the content, and the configuration refuses that.
     BareLineEnd,
+    /// NUL is in the content, and the configuration refuses that.
+    NulInContent,
     /// The message is in the queue, under this number.
     Queued(u64),
     /// The message was not stored, for want of room.
@@ -111,6 +115,7 @@ impl Row {
             Row::SenderOk => Text::Line(250, b"sender OK"),
             Row::RecipientOk => Text::Line(250, b"recipient OK"),
             Row::TooManyRecipients => Text::Line(452, b"too many recipients"),
+            Row::RoutedAddress => Text::Line(553, b"routed address refused"),
             Row::NoRoute => Text::Line(550, b"no route"),
             Row::BadSequence => Text::Line(503, b"bad sequence"),
             Row::NoValidRecipients => Text::Line(554, b"no valid recipients"),
@@ -119,6 +124,7 @@ impl Row {
             Row::ContentTooLarge => Text::Line(552, b"content too large"),
             Row::TooManyReceived => Text::Line(554, b"too many Received fields"),
             Row::BareLineEnd => Text::Line(554, b"bare line end in content"),
+            Row::NulInContent => Text::Line(554, b"NUL in content"),
             Row::Queued(number) => Text::Queued(number),
             Row::SpoolFull => Text::Line(452, b"spool full"),
             Row::Done => Text::Line(250, b"OK"),

@@ -8,7 +8,7 @@ ghost use Rattle.relay_body.specs.Gathering.{IsWithin, gathered_of};
 ghost use Rattle.relay_server.specs.Bounds.{IsHeld, IsHeldAt};
 ghost use Rattle.relay_server.specs.Dialogue.{row_of_answer};
 ghost use Rattle.relay_server.specs.ReplyTable.{course_of, course_of_chunks, course_of_content, course_of_text, Offers};
-ghost use Rattle.relay_server.specs.ReplyTable.{is_refused_by, unless_refused};
+ghost use Rattle.relay_server.specs.ReplyTable.{refusal_by, unless_refused};
 ghost use Rattle.relay_server.specs.Machine.{EndsBy, EntersBy, GathersChunk, IsGiven, KeepsText, Moves, RefusesChunk};
 ghost use Rattle.relay_server.specs.Machine.{offers_at};
 ghost use Rattle.relay_server.specs.Setup.{setup_of};
@@ -22,10 +22,10 @@ use crate::offer::Answer;
 use crate::reply_table::Row;
 use crate::stage::{Chunk, MailData, Skipped, Stage};
 use crate::state::{CommandState, Gathering, State, Transaction};
-use relay_body::{BodyFault, ChunkReader, DotReader, Gathered, has_bare_end};
+use relay_body::{BodyFault, ChunkReader, DotReader, Gathered, has_bare_end, has_nul};
 use relay_lines::begins_with_bdat;
 use relay_octets::Octets;
-use relay_routes::{BareNewlines, HostName, Table};
+use relay_routes::{BareNewlines, HostName, RoutedPaths, Table};
 use relay_trace::received_count;
 use std::alloc::{AllocError, Global};
 
@@ -41,6 +41,8 @@ pub(crate) struct Server {
     pub(crate) max_content: usize,
     /// What is done with a content in which a CR or an LF stands alone.
     pub(crate) bare_newlines: BareNewlines,
+    /// What is done with a recipient of this client whose path is routed.
+    pub(crate) routed_paths: RoutedPaths,
 }
 
 // Written out, so that what drops a server calls this, and doesn't look into its host's name.
@@ -51,6 +53,7 @@ impl Drop for Server {
             host: _host,
             max_content: _,
             bare_newlines: _,
+            routed_paths: _,
         } = self;
     }
 }
@@ -201,7 +204,7 @@ impl Server {
         }
     }
 
-    /// Refuses a content that has come in a circle, or whose line ends are refused, and offers another.
+    /// Refuses a content that has come in a circle, or that the configuration refuses, and offers another.
     fn end_content(
         &self,
         transaction: Transaction,
@@ -223,7 +226,8 @@ impl Server {
         self.offer(transaction, content, out)
     }
 
-    /// Refuses a content in which a CR or an LF stands alone, where the configuration says so, and offers another.
+    /// Refuses a content in which a CR or an LF stands alone, or NUL is, where the configuration says so, and offers
+    /// another.
     fn offer(
         &self,
         transaction: Transaction,
@@ -238,9 +242,9 @@ impl Server {
             out.new.items) }
         ensures held { IfOk result (IsHeldAt self.now.max_content) }
     {
-        if is_refused(self.bare_newlines, content.as_slice()) {
+        if let Some(refusal) = refusal_by(self.bare_newlines, content.as_slice()) {
             let greeted = CommandState::Greeted(transaction.into_client());
-            return self.reply(Row::BareLineEnd, State::Command(greeted), out);
+            return self.reply(refusal, State::Command(greeted), out);
         }
         Ok(Stage::Offering(transaction, content))
     }
@@ -348,13 +352,15 @@ impl Server {
     }
 }
 
-/// Whether a content has a CR or an LF that stands alone, and this rule refuses that.
-fn is_refused(rule: BareNewlines, content: &[u8]) -> bool
-    ensures { result ≡ is_refused_by rule content.now }
+/// The row by which this rule refuses a content: a CR or an LF stands alone in it, or NUL is in it.
+fn refusal_by(rule: BareNewlines, content: &[u8]) -> Option<Row>
+    ensures { result ≡ refusal_by rule content.now }
 {
     match rule {
-        BareNewlines::Pass => false,
-        BareNewlines::Refuse => has_bare_end(content),
+        BareNewlines::Pass => None,
+        BareNewlines::Refuse if has_bare_end(content) => Some(Row::BareLineEnd),
+        BareNewlines::Refuse if has_nul(content) => Some(Row::NulInContent),
+        BareNewlines::Refuse => None,
     }
 }
 

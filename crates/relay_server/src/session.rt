@@ -58,15 +58,21 @@ impl Drop for Session {
 impl Session {
     ghost use Rattle.std.specs.Prelude.{◌≡◌, [], ◌∷◌, ◌≤◌, length, take, slice_range};
     ghost use Rattle.std.specs.Prelude.{IfOk, OnOk, OnErr, IsErr, MatchOption};
+    ghost use Rattle.relay_routes.specs.Accepted.{accepted_paths};
     ghost use Rattle.relay_server.specs.Dialogue.{Said, more_said};
     ghost use Rattle.relay_server.specs.Session.{Answered, HasFailed, HasOffer, Hears, Stands, UsesPiece, Waits, next_of};
     ghost use Rattle.relay_server.specs.Session.{offered, offers_since, open_offers};
     ghost use Rattle.relay_server.specs.Setup.{Setup};
 
-    /// A session, and the greeting for the client. It fails where memory runs out.
-    pub fn new(alloc: Global, config: &Config) -> Result<(Self, Vec<u8>), AllocError>
+    /// A session with the client at this address, and the greeting for it. It fails where memory runs out.
+    pub fn new(
+        alloc: Global,
+        config: &Config,
+        client: [u8; 4],
+    ) -> Result<(Self, Vec<u8>), AllocError>
         ensures stands { IfOk result (λ made. (setup : Setup) → setup.host ≡ config.now.host
             → setup.max_content ≡ config.now.max_content → setup.bare_newlines ≡ config.now.bare_newlines
+            → setup.routed_paths ≡ accepted_paths config.now client
             → Stands setup made.0
             (record { input = []; answers = []; output = made.1.items; offers = [] })) }
         ensures settled { IfOk result (λ made. open_offers made.0 ≡ []) }
@@ -79,6 +85,7 @@ impl Session {
                 host: config.host.copy(alloc)?,
                 max_content: config.max_content,
                 bare_newlines: config.bare_newlines,
+                routed_paths: config.accepted_paths(client),
             },
             line: LineBuffer::new(),
             stage: Stage::Command(CommandState::Fresh),
