@@ -20,7 +20,7 @@ use Rattle.relay_course.specs.Progress.{Errand, Answered, answer_of, progress}
 use Rattle.relay_course.specs.Laws.{accepted_places, if_accepted_place, if_rcpt_place, rcpt_places}
 use Rattle.relay_course.specs.RelayLaws.{answered_rcpts, opening_answers, opening_replies}
 use Rattle.relay_course.proofs.Theorems.{all_rcpts_answered, answers_stay, rcpts_are_in_order}
-use Rattle.relay_meeting.specs.Script.{AreRcpts, AreTried, Tried, client_in, envelope_behind, opened_of, row_of_hop, with_tried}
+use Rattle.relay_meeting.specs.Script.{AreRcpts, AreTried, Tried, client_in, envelope_behind, opened_of, row_of_rcpt, with_tried}
 use Rattle.relay_meeting.specs.Joined.{ChildHoldsItsPlaces, HaveReadRcpts, child_envelope, recipients_at}
 use Rattle.relay_meeting.proofs.TriedLemmas.{each_place_is_tried}
 use Rattle.relay_meeting.proofs.JoinLemmas.{two_relays_meet}
@@ -35,11 +35,11 @@ abbrev gone : List Tried → List Recipient
 gone [] = []
 gone (tried ∷ more) = if_goes tried ++ gone more
 
-one-behind : (envelope : Envelope) (recipient : Recipient) (goes : Bool)
-    → with_tried envelope (record { recipient = recipient; goes = goes })
+one-behind : (envelope : Envelope) (recipient : Recipient) (routed goes : Bool)
+    → with_tried envelope (record { recipient = recipient; routed = routed; goes = goes })
     ≡ record envelope { recipients = envelope.recipients ++ cond goes (recipient ∷ []) [] }
-one-behind envelope recipient true = refl
-one-behind envelope recipient false =
+one-behind envelope recipient routed true = refl
+one-behind envelope recipient routed false =
     ap (λ (l : List Recipient). record envelope { recipients = l }) (sym (append-nil envelope.recipients))
 
 -- the server's envelope has those that go
@@ -50,14 +50,15 @@ all-behind envelope [] =
 all-behind envelope (tried ∷ more) =
     all-behind (with_tried envelope tried) more
     ∙ ap (λ (e : Envelope). record e { recipients = e.recipients ++ gone more })
-    (one-behind envelope tried.recipient tried.goes)
+    (one-behind envelope tried.recipient tried.routed tried.goes)
     ∙ ap (λ (l : List Recipient). record envelope { recipients = l })
     (append_assoc envelope.recipients (if_goes tried) (gone more))
 
-goes-accepted : (host : List ℕ) (goes : Bool) → is_accepted (reply_of host (row_of_hop goes)) ≡ goes
+goes-accepted : (host : List ℕ) (routed goes : Bool) → is_accepted (reply_of host (row_of_rcpt routed goes)) ≡ goes
 unfolding reply_of
-goes-accepted host true = refl
-goes-accepted host false = refl
+goes-accepted host routed true = refl
+goes-accepted host true false = refl
+goes-accepted host false false = refl
 
 one-accepted : (recipients : List Recipient) (place : ℕ) (recipient : Recipient) (goes : Bool)
     → slice_get recipients place ≡ Some recipient
@@ -76,7 +77,7 @@ accepted-gone setup recipients (place ∷ places) (tried ∷ more) [] all are = 
 accepted-gone setup recipients (place ∷ places) (tried ∷ more) (reply ∷ rcpts) all are =
     let behind : List ℕ = accepted_places (answered_rcpts places rcpts) in
     let goes : is_accepted reply ≡ tried.goes =
-    ap (λ (r : Reply). is_accepted r) are.0 ∙ goes-accepted setup.host tried.goes in
+    ap (λ (r : Reply). is_accepted r) are.0 ∙ goes-accepted setup.host tried.routed tried.goes in
     let at : ℕ → List Recipient = λ p. option_to_list (slice_get recipients p) in
     flat_map-append at (cond (is_accepted reply) (place ∷ []) []) behind
     ∙ ap (λ b. recipients_at recipients (cond b (place ∷ []) []) ++ recipients_at recipients behind) goes

@@ -15,7 +15,11 @@ use Rattle.relay_server.specs.declared.reply_table.Row.TheVariants as row
 use Rattle.relay_server.specs.Dialogue.{IsDialogue, Offered, Said, Takes, Turn, answers_in, offers_in, read_by, offered_by, answered_by, row_of_answer}
 use Rattle.relay_server.specs.Reply.{reply_of}
 use Rattle.relay_routes.specs.declared.bare_newlines.BareNewlines.{BareNewlines}
-use Rattle.relay_server.specs.ReplyTable.{Replies, Offers, is_refused_by, unless_refused}
+use Rattle.relay_routes.specs.declared.bare_newlines.BareNewlines.TheVariants.{Pass, Refuse}
+use Rattle.relay_body.specs.BareEnds.{has_bare_end}
+use Rattle.relay_body.specs.Nul.{has_nul}
+use Rattle.relay_server.specs.declared.reply_table.Row.{Row}
+use Rattle.relay_server.specs.ReplyTable.{Replies, Offers, offer_unless, refusal_by, unless_refused}
 use Rattle.relay_server.specs.Setup.{Setup}
 use Rattle.relay_server.specs.State.{State, Command, Greeted, Receiving, Spent}
 use Rattle.relay_book.specs.declared.change.Verdict.{Verdict}
@@ -29,7 +33,7 @@ use Rattle.relay_course.specs.Laws.{IsErrand}
 use Rattle.relay_course.specs.RelayLaws.{answered_rcpts, content_answers, content_replies, last_verdict, opening_replies, relay_progress, relay_replies}
 use Rattle.relay_course.proofs.Theorems.{commands_to_a_relay, end_is_end, end_waits_for_nothing}
 use Rattle.relay_meeting.specs.Meeting.{AreExpected, Plays, Step, replies_by, state_behind, step_of}
-use Rattle.relay_meeting.specs.Script.{AreRcpts, AreTried, Tried, course_of_last_chunk, course_of_mail_data, row_of_hop, quit_step, content_steps, rcpt_steps, with_tried, client_in, envelope_behind, opened_of, script_of}
+use Rattle.relay_meeting.specs.Script.{AreRcpts, AreTried, Tried, course_of_last_chunk, course_of_mail_data, refusal_row, row_of_rcpt, quit_step, content_steps, rcpt_steps, with_tried, client_in, envelope_behind, opened_of, script_of}
 use Rattle.relay_meeting.specs.Joined.{AreJoined, HaveEnded, IsCutShort, MayClose, Tells, TwoRelaysEnd, child_envelope, verdict_at}
 use Rattle.relay_meeting.proofs.MeetLemmas.{either_begins, meeting, taken_expected}
 use Rattle.relay_meeting.proofs.ScriptLemmas.{script_is_servers}
@@ -49,14 +53,17 @@ accepted_verdict : (host : List ℕ) → rcpt_verdict (reply_of host row.Recipie
 unfolding reply_of
 accepted_verdict host = refl
 
-refused_verdict : (host : List ℕ) → rcpt_verdict (reply_of host row.NoRoute) ≡ Some (refusal (reply_of host row.NoRoute))
+refused_verdict : (host : List ℕ) (routed : Bool)
+    → rcpt_verdict (reply_of host (refusal_row routed)) ≡ Some (refusal (reply_of host (refusal_row routed)))
 unfolding reply_of
-refused_verdict host = refl
+refused_verdict host true = refl
+refused_verdict host false = refl
 
-verdict_of_hop : (host : List ℕ) (goes : Bool) (last : Verdict)
-    → unwrap_or (rcpt_verdict (reply_of host (row_of_hop goes))) last ≡ cond goes last (refusal (reply_of host row.NoRoute))
-verdict_of_hop host true last = ap (λ v. unwrap_or v last) (accepted_verdict host)
-verdict_of_hop host false last = ap (λ v. unwrap_or v last) (refused_verdict host)
+verdict_of_rcpt : (host : List ℕ) (routed goes : Bool) (last : Verdict)
+    → unwrap_or (rcpt_verdict (reply_of host (row_of_rcpt routed goes))) last
+    ≡ cond goes last (refusal (reply_of host (refusal_row routed)))
+verdict_of_rcpt host routed true last = ap (λ v. unwrap_or v last) (accepted_verdict host)
+verdict_of_rcpt host routed false last = ap (λ v. unwrap_or v last) (refused_verdict host routed)
 
 verdicts_are : (host : List ℕ) (places : List ℕ) (tried : List Tried) (rcpts : List Reply) (last : Verdict)
     → length tried ≡ length places → AreRcpts host tried rcpts
@@ -67,7 +74,7 @@ verdicts_are host (place ∷ places) [] rcpts last n are = absurd (omega arith)
 verdicts_are host (place ∷ places) (one ∷ tried) [] last n are = absurd are
 verdicts_are host (place ∷ places) (one ∷ tried) (reply ∷ rcpts) last n are =
     let first : unwrap_or (rcpt_verdict reply) last ≡ verdict_at host last one =
-    ap (λ r. unwrap_or (rcpt_verdict r) last) are.0 ∙ verdict_of_hop host one.goes last in
+    ap (λ r. unwrap_or (rcpt_verdict r) last) are.0 ∙ verdict_of_rcpt host one.routed one.goes last in
     ap (λ v. v ∷ verdicts_of places rcpts last) first
     ∙ ap (λ l. verdict_at host last one ∷ l) (verdicts_are host places tried rcpts last (omega arith) are.1)
 
@@ -101,6 +108,24 @@ bare_verdict : (host : List ℕ) → verdict_by (reply_of host row.BareLineEnd) 
 unfolding reply_of
 bare_verdict host = refl
 
+nul_verdict : (host : List ℕ) → verdict_by (reply_of host row.NulInContent) ≡ refusal (reply_of host row.NulInContent)
+unfolding reply_of
+nul_verdict host = refl
+
+-- the row that refuses a content is a refusal for good
+abbrev RefusesFor : List ℕ → Option Row → Type 0
+RefusesFor host None = Unit {0}
+RefusesFor host (Some why) = verdict_by (reply_of host why) ≡ refusal (reply_of host why)
+
+refuses_for : (host : List ℕ) (rule : BareNewlines) (content : List ℕ) → RefusesFor host (refusal_by rule content)
+refuses_for host Pass content = tt
+refuses_for host Refuse content = by (has_bare_end content) (has_nul content)
+  where
+    by : (is_bare has : Bool) → RefusesFor host (cond is_bare (Some row.BareLineEnd) (cond has (Some row.NulInContent) None))
+    by true has = bare_verdict host
+    by false true = nul_verdict host
+    by false false = tt
+
 refused_tells : (last : Verdict) (reply : Reply) (answers : List Answer) → last ≡ refusal reply → answers ≡ []
     → Tells last answers
 refused_tells last reply answers e a = inr (λ dsn h. refused-not reply dsn (sym e ∙ h), inl a)
@@ -110,13 +135,13 @@ given_tells : (host : List ℕ) (given : Answer) (last : Verdict) (answers : Lis
 given_tells host (answer.Queued number) last answers e a = inl (e ∙ queued_verdict host number, (number, a))
 given_tells host answer.Full last answers e a = inr (λ dsn h. not_taken-later dsn (sym (full_verdict host) ∙ sym e ∙ h), inr a)
 
-offer_tells : (host : List ℕ) (client : Client) (envelope : Envelope) (content : List ℕ) (bare : Bool) (turn : Turn) (new : State)
-    → Takes host (cond bare (Replies row.BareLineEnd (Command (Greeted client))) (Offers client envelope content)) turn new
+offer_tells : (host : List ℕ) (client : Client) (envelope : Envelope) (content : List ℕ) (found : Option Row) (turn : Turn)
+    (new : State) → RefusesFor host found → Takes host (offer_unless found client envelope content) turn new
     → Tells (verdict_by turn.reply) (answers_in turn.offer)
-offer_tells host client envelope content true turn new takes =
-    refused_tells (verdict_by turn.reply) (reply_of host row.BareLineEnd) (answers_in turn.offer)
-    (ap verdict_by takes.0 ∙ bare_verdict host) (ap answers_in takes.1)
-offer_tells host client envelope content false turn new takes =
+offer_tells host client envelope content (Some why) turn new refuses takes =
+    refused_tells (verdict_by turn.reply) (reply_of host why) (answers_in turn.offer)
+    (ap verdict_by takes.0 ∙ refuses) (ap answers_in takes.1)
+offer_tells host client envelope content None turn new refuses takes =
     given_tells host takes.0 (verdict_by turn.reply) (answers_in turn.offer) (ap verdict_by takes.1) (ap answers_in takes.2)
 
 content_tells : (host : List ℕ) (rule : BareNewlines) (client : Client) (envelope : Envelope) (content : List ℕ) (over : State)
@@ -128,7 +153,7 @@ content_tells host rule client envelope content over true true turn new takes =
     refused_tells (verdict_by turn.reply) (reply_of host row.TooManyReceived) (answers_in turn.offer)
     (ap verdict_by takes.0 ∙ many_verdict host) (ap answers_in takes.1)
 content_tells host rule client envelope content over true false turn new takes =
-    offer_tells host client envelope content (is_refused_by rule content) turn new takes
+    offer_tells host client envelope content (refusal_by rule content) turn new (refuses_for host rule content) takes
 content_tells host rule client envelope content over false many turn new takes =
     refused_tells (verdict_by turn.reply) (reply_of host row.ContentTooLarge) (answers_in turn.offer)
     (ap verdict_by takes.0 ∙ large_verdict host) (ap answers_in takes.1)

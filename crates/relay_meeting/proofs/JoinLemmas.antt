@@ -1,5 +1,5 @@
 -- Two relays that meet.
-use Rattle.std.proofs.Common.{◌≡◌, inl, inr, ℕ, nat_le, Bool, true, false, List, [], ◌∷◌, ◌++◌, length, Option, None, Some, refl, sym, ap, ◌∙◌, subst, cond, arith}
+use Rattle.std.proofs.Common.{◌≡◌, inl, inr, ℕ, nat_le, Bool, true, false, List, [], ◌∷◌, ◌++◌, length, is_some, Option, None, Some, refl, sym, ap, ◌∙◌, subst, cond, arith}
 use Rattle.std.specs.Prelude.{option_to_list}
 use Rattle.std.proofs.lemmas.List.{append_assoc, append-nil, length-append}
 use Rattle.std.proofs.lemmas.List.Concat.{flat_map-append}
@@ -20,7 +20,8 @@ use Rattle.relay_server.specs.Dialogue.{Answers, IsDialogue, IsLeft, Offered, Sa
 use Rattle.relay_server.specs.DialogueLaws.{AreNumbered}
 use Rattle.relay_server.specs.Reply.{reply_of}
 use Rattle.relay_routes.specs.declared.bare_newlines.BareNewlines.{BareNewlines}
-use Rattle.relay_server.specs.ReplyTable.{Course, Replies, Offers, is_refused_by, unless_refused}
+use Rattle.relay_server.specs.declared.reply_table.Row.{Row}
+use Rattle.relay_server.specs.ReplyTable.{Course, Replies, Offers, is_refused_by, offer_unless, refusal_by, unless_refused}
 use Rattle.relay_server.specs.Setup.{Setup}
 use Rattle.relay_server.specs.State.{State, Command, Greeted, Receiving, Spent, start}
 use Rattle.relay_server.proofs.Theorems.{replies_are_well_formed, runs_compose}
@@ -60,18 +61,18 @@ plays_offer host (step ∷ script) (turn ∷ turns) plays =
           ∙ sym (append_assoc (offers_in turn.offer) (offered_by turns) behind.0),
     )
 
-bare_offer : (client : Client) (envelope : Envelope) (content : List ℕ) (bare : Bool)
-    → may_offer (cond bare (Replies row.BareLineEnd (Command (Greeted client))) (Offers client envelope content)) ≡ cond
-    bare [] (offered_of client envelope content ∷ [])
-bare_offer client envelope content true = refl
-bare_offer client envelope content false = refl
+offer_or_none : (client : Client) (envelope : Envelope) (content : List ℕ) (found : Option Row)
+    → may_offer (offer_unless found client envelope content)
+    ≡ cond (is_some found) [] (offered_of client envelope content ∷ [])
+offer_or_none client envelope content (Some why) = refl
+offer_or_none client envelope content None = refl
 
 content_offer : (rule : BareNewlines) (client : Client) (envelope : Envelope) (content : List ℕ) (many : Bool)
     → may_offer (unless_refused rule (cond many (Replies row.TooManyReceived (Command (Greeted client)))
     (Offers client envelope content)))
     ≡ cond many [] (cond (is_refused_by rule content) [] (offered_of client envelope content ∷ []))
 content_offer rule client envelope content true = refl
-content_offer rule client envelope content false = bare_offer client envelope content (is_refused_by rule content)
+content_offer rule client envelope content false = offer_or_none client envelope content (refusal_by rule content)
 
 text_offer : (rule : BareNewlines) (client : Client) (envelope : Envelope) (content : List ℕ) (over : State)
     (fits many : Bool)

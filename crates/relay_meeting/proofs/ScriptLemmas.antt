@@ -1,5 +1,5 @@
 -- The script is what the server makes of the commands.
-use Rattle.std.proofs.Common.{◌≡◌, ◌≤◌, ◌<◌, ◌^◌, ◌+◌, ℕ, nat_le, Bool, true, false, MatchBool, List, [], ◌∷◌, ◌++◌, length, is_some, Ok, Result, inr, refl, sym, ap, ◌∙◌, subst, cond, arith, append-nil}
+use Rattle.std.proofs.Common.{◌≡◌, ◌≤◌, ◌<◌, ◌^◌, ◌+◌, ℕ, nat_le, Bool, true, false, MatchBool, List, [], ◌∷◌, ◌++◌, length, is_some, Option, None, Some, Ok, Result, inr, refl, sym, ap, ◌∙◌, subst, cond, arith, append-nil}
 use Rattle.std.proofs.lemmas.List.{length-append}
 use Rattle.std.proofs.lemmas.Bool.{le-leb, lt-leb}
 use Rattle.relay_octets.specs.Line.{line_text}
@@ -14,13 +14,15 @@ use Rattle.relay_envelope.specs.declared.envelope.Envelope.{Envelope}
 use Rattle.relay_envelope.specs.declared.envelope.Recipient.{Recipient}
 use Rattle.relay_envelope.specs.Envelope.{IsEnvelope, envelope_from, mail_text, rcpt_text, recipient_from}
 use Rattle.relay_envelope.proofs.Theorems.{mail_is_command_line, mail_is_read_again, rcpt_is_command_line}
+use Rattle.relay_routes.specs.RoutedPath.{refuses_path}
 use Rattle.relay_routes.specs.Routes.{hop_of}
 use Rattle.relay_trace.specs.HeaderSection.{received_count_of}
 use Rattle.relay_server.specs.declared.client.Client.{Client}
+use Rattle.relay_server.specs.declared.reply_table.Row.{Row}
 use Rattle.relay_server.specs.declared.reply_table.Row.TheVariants as row
 use Rattle.relay_server.specs.Dialogue.{Comes}
 use Rattle.relay_routes.specs.declared.bare_newlines.BareNewlines.{BareNewlines}
-use Rattle.relay_server.specs.ReplyTable.{Course, Replies, Offers, course_of, course_of_chunks, is_refused_by, unless_refused}
+use Rattle.relay_server.specs.ReplyTable.{Course, Replies, Offers, course_of, course_of_chunks, offer_unless, refusal_by, unless_refused}
 use Rattle.relay_server.specs.Setup.{Setup}
 use Rattle.relay_server.specs.State.{CommandState, Fresh, Greeted, Open, Spent, State, Command as Awaits, Receiving, Closed}
 use Rattle.relay_server.specs.Unit.{Asked, AsksBy, announced_by, announced_of}
@@ -29,7 +31,7 @@ use Rattle.relay_course.specs.WrittenLine.{ehlo_line, mail_line, rcpt_line, data
 use Rattle.relay_course.specs.Progress.{Errand}
 use Rattle.relay_meeting.specs.Meeting.{IsScript, step_of, state_behind}
 use Rattle.relay_course.specs.Laws.{IsErrand}
-use Rattle.relay_meeting.specs.Script.{Tried, course_of_last_chunk, course_of_mail_data, row_of_hop, with_tried, quit_step, content_steps, rcpt_steps, opened_of, client_in, AreTried, IsTried, ScriptIsServers}
+use Rattle.relay_meeting.specs.Script.{Tried, course_of_last_chunk, course_of_mail_data, row_of_rcpt, with_tried, quit_step, content_steps, rcpt_steps, opened_of, client_in, AreTried, IsTried, ScriptIsServers}
 
 announces_none : (b : Bool) (n : ℕ) → n ≡ 0 → 0 ≡ cond b n 0
 announces_none true n e = sym e
@@ -86,39 +88,48 @@ mail_comes setup client envelope valid =
     (line_comes setup (Greeted client) (written_command (Mail text)) (Mail text) (asked.Mail (Ok again.0))
     (mail_is_command_line envelope valid).0 refl (Ok again.0, again.1, refl))
 
-rcpt_by : (client : Client) (envelope : Envelope) (one two : Recipient) (goes : Bool) → one ≡ two
-    → cond goes (Replies row.RecipientOk (Awaits
+-- what a RCPT is answered, and the state behind it
+abbrev behind_rcpt : Client → Envelope → Recipient → Bool → Bool → Course
+behind_rcpt client envelope recipient routed goes =
+    Replies (row_of_rcpt routed goes)
+    (Awaits (Open client (with_tried envelope (record { recipient = recipient; routed = routed; goes = goes }))))
+
+rcpt_by : (client : Client) (envelope : Envelope) (one two : Recipient) (routed has : Bool) → one ≡ two
+    → cond routed (Replies row.RoutedAddress (Awaits (Open client envelope)))
+    (cond has (Replies row.RecipientOk (Awaits
     (Open client (record envelope { recipients = envelope.recipients ++ one ∷ [] }))))
-    (Replies row.NoRoute (Awaits (Open client envelope)))
-    ≡ Replies (row_of_hop goes) (Awaits (Open client (with_tried envelope (record { recipient = two; goes = goes }))))
-rcpt_by client envelope one two true e =
+    (Replies row.NoRoute (Awaits (Open client envelope))))
+    ≡ behind_rcpt client envelope two routed (cond routed false has)
+rcpt_by client envelope one two true has e = refl
+rcpt_by client envelope one two false true e =
     ap (λ (r : Recipient). Replies row.RecipientOk
     (Awaits (Open client (record envelope { recipients = envelope.recipients ++ r ∷ [] })))) e
-rcpt_by client envelope one two false e = refl
+rcpt_by client envelope one two false false e = refl
 
 rcpt_course : (setup : Setup) (client : Client) (envelope : Envelope) (tried : Tried) (is : IsTried setup tried)
     → length envelope.recipients < 100
-    → course_of setup (asked.Rcpt (Ok is.rcpt)) (Open client envelope) ≡ Replies (row_of_hop tried.goes)
-    (Awaits (Open client (with_tried envelope tried)))
+    → course_of setup (asked.Rcpt (Ok is.rcpt)) (Open client envelope)
+    ≡ Replies (row_of_rcpt tried.routed tried.goes) (Awaits (Open client (with_tried envelope tried)))
 rcpt_course setup client envelope tried is few =
+    let routed : Bool = refuses_path setup.routed_paths is.rcpt.path in
+    let has : Bool = is_some (hop_of setup.routes is.rcpt.path) in
     ap (λ b. cond b (Replies row.TooManyRecipients (Awaits (Open client envelope)))
-    (cond (is_some (hop_of setup.routes is.rcpt.path))
-    (Replies row.RecipientOk (Awaits (Open client
+    (cond routed (Replies row.RoutedAddress (Awaits (Open client envelope)))
+    (cond has (Replies row.RecipientOk (Awaits (Open client
     (record envelope { recipients = envelope.recipients ++ recipient_from is.rcpt ∷ [] }))))
-    (Replies row.NoRoute (Awaits (Open client envelope))))) (lt-leb 100 (length envelope.recipients) few)
-    ∙ ap (λ b. cond b (Replies row.RecipientOk
-    (Awaits (Open client (record envelope { recipients = envelope.recipients ++ recipient_from is.rcpt ∷ [] }))))
-    (Replies row.NoRoute (Awaits (Open client envelope)))) is.goes
-    ∙ rcpt_by client envelope (recipient_from is.rcpt) tried.recipient tried.goes is.same
+    (Replies row.NoRoute (Awaits (Open client envelope)))))) (lt-leb 100 (length envelope.recipients) few)
+    ∙ rcpt_by client envelope (recipient_from is.rcpt) tried.recipient routed has is.same
+    ∙ ap (λ r. behind_rcpt client envelope tried.recipient r (cond r false has)) is.routed
+    ∙ ap (λ g. behind_rcpt client envelope tried.recipient tried.routed g) is.goes
 
 rcpt_comes : (setup : Setup) (client : Client) (envelope : Envelope) (tried : Tried) → IsTried setup tried
     → length envelope.recipients < 100 → Comes setup (Awaits (Open client envelope)) (rcpt_line true tried.recipient)
-    (Replies (row_of_hop tried.goes) (Awaits (Open client (with_tried envelope tried))))
+    (Replies (row_of_rcpt tried.routed tried.goes) (Awaits (Open client (with_tried envelope tried))))
 rcpt_comes setup client envelope tried is few =
     let text : List ℕ = rcpt_text tried.recipient in
     comes_as setup (Awaits (Open client envelope)) (rcpt_line true tried.recipient)
     (course_of setup (asked.Rcpt (Ok is.rcpt)) (Open client envelope))
-    (Replies (row_of_hop tried.goes) (Awaits (Open client (with_tried envelope tried))))
+    (Replies (row_of_rcpt tried.routed tried.goes) (Awaits (Open client (with_tried envelope tried))))
     (rcpt_course setup client envelope tried is few)
     (line_comes setup (Open client envelope) (written_command (Rcpt text)) (Rcpt text) (asked.Rcpt (Ok is.rcpt))
     (rcpt_is_command_line tried.recipient is.valid).0 refl (Ok is.rcpt, is.reads, refl))
@@ -166,17 +177,16 @@ sent_behind text dot_text true e writes = writes
 sent_behind text dot_text false e writes = absurd (cc)
 
 -- behind the content a command is awaited again
-offer_behind : (client : Client) (envelope : Envelope) (content : List ℕ) (bare : Bool)
-    → state_behind (cond bare (Replies row.BareLineEnd (Awaits (Greeted client))) (Offers client envelope content))
-    ≡ Awaits (Greeted client)
-offer_behind client envelope content true = refl
-offer_behind client envelope content false = refl
+offer_behind : (client : Client) (envelope : Envelope) (content : List ℕ) (found : Option Row)
+    → state_behind (offer_unless found client envelope content) ≡ Awaits (Greeted client)
+offer_behind client envelope content (Some why) = refl
+offer_behind client envelope content None = refl
 
 content_behind : (rule : BareNewlines) (client : Client) (envelope : Envelope) (content : List ℕ) (many : Bool)
     → state_behind (unless_refused rule (cond many (Replies row.TooManyReceived (Awaits (Greeted client)))
     (Offers client envelope content))) ≡ Awaits (Greeted client)
 content_behind rule client envelope content true = refl
-content_behind rule client envelope content false = offer_behind client envelope content (is_refused_by rule content)
+content_behind rule client envelope content false = offer_behind client envelope content (refusal_by rule content)
 
 text_behind : (rule : BareNewlines) (client : Client) (envelope : Envelope) (content : List ℕ) (fits many : Bool)
     → state_behind (unless_refused rule (cond fits (cond many (Replies row.TooManyReceived (Awaits (Greeted client)))

@@ -1,10 +1,11 @@
--- Each place of a valid envelope is read by the server, and its table has a hop for it or not.
-use Rattle.std.proofs.Common.{◌≡◌, ◌<◌, ℕ, zero, suc, Bool, List, [], ◌∷◌, length, is_some, Some, refl, ap, arith}
+-- Each place of a valid envelope is read by the server, which takes it or not.
+use Rattle.std.proofs.Common.{◌≡◌, ◌<◌, ℕ, zero, suc, Bool, false, List, [], ◌∷◌, length, is_some, Some, refl, ap, cond, arith}
 use Rattle.std.specs.Prelude.{slice_get}
 use Rattle.std.specs.List.{AllByRecursion}
 use Rattle.relay_envelope.specs.declared.envelope.Recipient.{Recipient}
 use Rattle.relay_envelope.specs.Envelope.{IsRecipient}
 use Rattle.relay_envelope.proofs.Theorems.{rcpt_is_read_again}
+use Rattle.relay_routes.specs.RoutedPath.{refuses_path}
 use Rattle.relay_routes.specs.Routes.{hop_of}
 use Rattle.relay_server.specs.Setup.{Setup}
 use Rattle.relay_course.specs.WrittenLine.{rcpt_line, rcpt_line_at}
@@ -32,9 +33,18 @@ tried_all setup recipients (place ∷ places) valid within =
     let here = place_of recipients place valid within.0 in
     let again = rcpt_is_read_again here.recipient here.valid in
     let behind = tried_all setup recipients places valid within.1 in
-    let tried : Tried = record { recipient = here.recipient; goes = is_some (hop_of setup.routes again.0.path) } in (
+    let routed : Bool = refuses_path setup.routed_paths again.0.path in
+    let tried : Tried = record {
+      recipient = here.recipient;
+      routed = routed;
+      goes = cond routed false (is_some (hop_of setup.routes again.0.path));
+    } in (
       tried ∷ behind.0,
-      (here.at, (record { valid = here.valid; rcpt = again.0; reads = again.1; same = again.2; goes = refl }), behind.1),
+      (
+        here.at,
+        (record { valid = here.valid; rcpt = again.0; reads = again.1; same = again.2; routed = refl; goes = refl }),
+        behind.1,
+      ),
     )
 
 pub each_place_is_tried : EachPlaceIsTried

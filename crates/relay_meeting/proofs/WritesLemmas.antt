@@ -24,7 +24,7 @@ use Rattle.relay_course.specs.RelayLaws.{AreWilling, all_extensions, content_com
 use Rattle.relay_course.proofs.Theorems.{commands_keep_up, commands_stay, commands_to_a_relay, end_is_end}
 use Rattle.relay_meeting.specs.Meeting.{Step, step_of, AreExpected, IsExpected, commands_in}
 use Rattle.relay_meeting.proofs.TriedLemmas.{rcpt_line-at}
-use Rattle.relay_meeting.specs.Script.{AreRcpts, Tried, course_of_last_chunk, course_of_mail_data, row_of_hop, with_tried, quit_step, content_steps, last_steps, rcpt_steps, opened_of, client_in, script_of, envelope_behind, AreTried, ClientWrites}
+use Rattle.relay_meeting.specs.Script.{AreRcpts, Tried, course_of_last_chunk, course_of_mail_data, refusal_row, row_of_rcpt, with_tried, quit_step, content_steps, last_steps, rcpt_steps, opened_of, client_in, script_of, envelope_behind, AreTried, ClientWrites}
 
 -- a reply that a course may have
 any_reply : (host : List ℕ) (course : Course) → (reply : Reply) × IsExpected host course reply
@@ -77,23 +77,25 @@ accepted_first : (host : List ℕ) (reply : Reply) (rcpts : List Reply) → repl
 unfolding reply_of
 accepted_first host reply rcpts e = ap (λ (r : Reply). some_accepted (r ∷ rcpts)) e
 
-refused_first : (host : List ℕ) (reply : Reply) (rcpts : List Reply) → reply ≡ reply_of host row.NoRoute
-    → some_accepted (reply ∷ rcpts) ≡ some_accepted rcpts
+refused_first : (host : List ℕ) (routed : Bool) (reply : Reply) (rcpts : List Reply)
+    → reply ≡ reply_of host (refusal_row routed) → some_accepted (reply ∷ rcpts) ≡ some_accepted rcpts
 unfolding reply_of
-refused_first host reply rcpts e = ap (λ (r : Reply). some_accepted (r ∷ rcpts)) e
+refused_first host true reply rcpts e = ap (λ (r : Reply). some_accepted (r ∷ rcpts)) e
+refused_first host false reply rcpts e = ap (λ (r : Reply). some_accepted (r ∷ rcpts)) e
 
-one_more : (host : List ℕ) (envelope : Envelope) (recipient : Recipient) (goes : Bool) (reply : Reply)
-    (rcpts : List Reply) → reply ≡ reply_of host (row_of_hop goes)
-    → cond (has_some (with_tried envelope (record { recipient = recipient; goes = goes }))) true (some_accepted rcpts)
+one_more : (host : List ℕ) (envelope : Envelope) (recipient : Recipient) (routed goes : Bool) (reply : Reply)
+    (rcpts : List Reply) → reply ≡ reply_of host (row_of_rcpt routed goes)
+    → cond (has_some (with_tried envelope (record { recipient = recipient; routed = routed; goes = goes }))) true
+    (some_accepted rcpts)
     ≡ cond (has_some envelope) true (some_accepted (reply ∷ rcpts))
-one_more host envelope recipient true reply rcpts e =
+one_more host envelope recipient routed true reply rcpts e =
     ap (λ b. cond b true (some_accepted rcpts))
     (le-leb 1 (length (envelope.recipients ++ recipient ∷ []))
     (omega (arith, length-append envelope.recipients (recipient ∷ []))))
     ∙ both_true (has_some envelope)
     ∙ ap (λ b. cond (has_some envelope) true b) (sym (accepted_first host reply rcpts e))
-one_more host envelope recipient false reply rcpts e =
-    ap (λ b. cond (has_some envelope) true b) (sym (refused_first host reply rcpts e))
+one_more host envelope recipient routed false reply rcpts e =
+    ap (λ b. cond (has_some envelope) true b) (sym (refused_first host routed reply rcpts e))
 
 rcpt_replies_are : (host : List ℕ) (setup : Setup) (client : Client) (errand : Errand) (envelope : Envelope)
     (tried : List Tried) (replies : List Reply) → AreExpected host (rcpt_steps setup client errand envelope tried) replies
@@ -119,7 +121,7 @@ rcpt_replies_are host setup client errand envelope (tried ∷ more) (reply ∷ r
       replies_are = ap (λ l. reply ∷ l) behind.replies_are;
       count = ap suc behind.count;
       are = (e.0, behind.are);
-      some = behind.some ∙ one_more host envelope tried.recipient tried.goes reply behind.rcpts e.0;
+      some = behind.some ∙ one_more host envelope tried.recipient tried.routed tried.goes reply behind.rcpts e.0;
       last_are = behind.last_are;
       all = behind.all;
     }

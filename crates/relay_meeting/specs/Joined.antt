@@ -10,7 +10,7 @@ use Rattle.relay_envelope.specs.declared.envelope.Envelope.{Envelope}
 use Rattle.relay_envelope.specs.declared.envelope.Recipient.{Recipient}
 use Rattle.relay_envelope.specs.HostName.{IsHostName}
 use Rattle.relay_trace.specs.HeaderSection.{received_count_of}
-use Rattle.relay_server.specs.declared.reply_table.Row.TheVariants.{Greeting, Extensions, SenderOk, NoRoute}
+use Rattle.relay_server.specs.declared.reply_table.Row.TheVariants.{Greeting, Extensions, SenderOk}
 use Rattle.relay_server.specs.declared.offer.Answer.{Answer}
 use Rattle.relay_server.specs.declared.offer.Answer.TheVariants.{Queued, Full}
 use Rattle.relay_server.specs.Dialogue.{IsDialogue, Offered, Said, Turn, offered_of, offered_by, read_by}
@@ -27,14 +27,14 @@ use Rattle.relay_course.specs.Course.{joined}
 use Rattle.relay_course.specs.Laws.{IsErrand, accepted_places}
 use Rattle.relay_course.specs.RelayLaws.{opening_replies}
 use Rattle.relay_meeting.specs.Meeting.{Meets, replies_by}
-use Rattle.relay_meeting.specs.Script.{AreRcpts, AreTried, Tried, client_in, envelope_behind, opened_of, script_of}
+use Rattle.relay_meeting.specs.Script.{AreRcpts, AreTried, Tried, client_in, envelope_behind, opened_of, refusal_row, script_of}
 
 -- MAIL's values, and the accepted recipients in order
 abbrev pub child_envelope : Errand → List Tried → Envelope
 child_envelope errand tried = envelope_behind (opened_of errand.envelope) tried
 
 -- what the server may offer of the errand: the text once, with that envelope; or nothing, where no recipient is
--- accepted, the text is too large, it has come in a circle, or its line ends are refused
+-- accepted, the text is too large, it has come in a circle, or the rule refuses it
 abbrev pub child_of : Setup → Errand → List Tried → List Offered
 child_of setup errand tried =
     if nat_le 1 (length (child_envelope errand tried).recipients)
@@ -94,9 +94,9 @@ TwoRelaysMeet =
     → AreJoined setup errand said closing input output replies rest
     → HaveMet setup errand tried said closing replies rest
 
--- the verdict of a place: where the server's table has no hop for it, it is refused, and else it has the last verdict
+-- the verdict of a place: where the server doesn't take its recipient, it is refused, and else it has the last verdict
 abbrev pub verdict_at : List ℕ → Verdict → Tried → Verdict
-verdict_at host last tried = if tried.goes then last else refusal (reply_of host NoRoute)
+verdict_at host last tried = if tried.goes then last else refusal (reply_of host (refusal_row tried.routed))
 
 -- Taken, by a server that offers DSN, exactly where the offer was answered by a number
 abbrev pub Tells : Verdict → List Answer → Type 0

@@ -1,6 +1,6 @@
 -- What two relays of ours say to each other: the script of an errand at a server, by what its table makes of each
 -- place.
-use Rattle.std.specs.Prelude.{◌≡◌, ℕ, nat_le, Bool, true, List, [], ◌∷◌, ◌++◌, length, if◌then◌else◌, is_some}
+use Rattle.std.specs.Prelude.{◌≡◌, ℕ, nat_le, Bool, true, false, List, [], ◌∷◌, ◌++◌, length, if◌then◌else◌, is_some}
 use Rattle.std.specs.Prelude.{slice_get, Some, Ok}
 use Rattle.relay_lines.specs.Reply.{Reply}
 use Rattle.relay_body.specs.DotText.{ends_in_line_end}
@@ -8,6 +8,7 @@ use Rattle.relay_envelope.specs.declared.envelope.Envelope.{Envelope}
 use Rattle.relay_envelope.specs.declared.envelope.Recipient.{Recipient}
 use Rattle.relay_envelope.specs.Envelope.{IsEnvelope, IsRecipient, rcpt_text, recipient_from}
 use Rattle.relay_envelope.specs.Mail.{Rcpt as RcptSaid, ReadsRcpt}
+use Rattle.relay_routes.specs.RoutedPath.{refuses_path}
 use Rattle.relay_routes.specs.Routes.{hop_of}
 use Rattle.relay_trace.specs.declared.received.Protocol.TheVariants.{Esmtp}
 use Rattle.relay_server.specs.declared.client.Client.{Client}
@@ -22,14 +23,19 @@ use Rattle.relay_course.specs.Progress.{Errand, progress}
 use Rattle.relay_course.specs.Laws.{AreWithin, IsErrand}
 use Rattle.relay_meeting.specs.Meeting.{IsScript, Step, Writes, step_of}
 
--- the recipient of a place that is tried, and whether the server's table has a hop for it
+-- the recipient of a place that is tried, whether the server refuses its path as a routed one, and whether it takes it
 pub record Tried : Type 0 where
   pub recipient : Recipient
+  pub routed : Bool
   pub goes : Bool
 
--- what its RCPT is answered
-abbrev pub row_of_hop : Bool → Row
-row_of_hop goes = if goes then row.RecipientOk else row.NoRoute
+-- by which row a RCPT is refused: its path is routed, or the server's table has no hop for it
+abbrev pub refusal_row : Bool → Row
+refusal_row routed = if routed then row.RoutedAddress else row.NoRoute
+
+-- what a RCPT is answered
+abbrev pub row_of_rcpt : Bool → Bool → Row
+row_of_rcpt routed goes = if goes then row.RecipientOk else refusal_row routed
 
 -- the server's envelope behind it
 abbrev pub with_tried : Envelope → Tried → Envelope
@@ -71,7 +77,7 @@ last_steps setup client errand envelope =
 abbrev pub rcpt_step : Client → Envelope → Tried → Step
 rcpt_step client envelope tried =
     step_of (rcpt_line true tried.recipient)
-    (Replies (row_of_hop tried.goes) (Command (Open client (with_tried envelope tried))))
+    (Replies (row_of_rcpt tried.routed tried.goes) (Command (Open client (with_tried envelope tried))))
 
 -- the RCPTs of these places, and what follows them
 abbrev pub rcpt_steps : Setup → Client → Errand → Envelope → List Tried → List Step
@@ -95,13 +101,14 @@ script_of setup errand tried =
     (Replies row.SenderOk (Command (Open (client_in errand) (opened_of errand.envelope))))
     ∷ rcpt_steps setup (client_in errand) errand (opened_of errand.envelope) tried
 
--- the server's table says so of the place
+-- the server says so of the place: its path is refused, or it goes where the table has a hop
 pub record IsTried (setup : Setup) (tried : Tried) : Type 0 where
   pub valid : IsRecipient tried.recipient
   pub rcpt : RcptSaid
   pub reads : ReadsRcpt (rcpt_text tried.recipient) (Ok rcpt)
   pub same : recipient_from rcpt ≡ tried.recipient
-  pub goes : is_some (hop_of setup.routes rcpt.path) ≡ tried.goes
+  pub routed : refuses_path setup.routed_paths rcpt.path ≡ tried.routed
+  pub goes : (if tried.routed then false else is_some (hop_of setup.routes rcpt.path)) ≡ tried.goes
 
 -- the places of these recipients are those that are tried, in order
 abbrev pub AreTried : Setup → List Recipient → List ℕ → List Tried → Type 0
@@ -111,7 +118,7 @@ AreTried setup recipients (place ∷ places) [] = ⊥
 AreTried setup recipients (place ∷ places) (tried ∷ more) =
     (slice_get recipients place ≡ Some tried.recipient) × IsTried setup tried × AreTried setup recipients places more
 
--- Each place of a valid envelope is tried as the server's table says.
+-- Each place of a valid envelope is tried as the server says.
 abbrev pub EachPlaceIsTried : Type 0
 EachPlaceIsTried =
     (setup : Setup) (envelope : Envelope) (places : List ℕ) → IsEnvelope envelope
@@ -139,4 +146,4 @@ AreRcpts host [] [] = Unit {0}
 AreRcpts host [] (reply ∷ rcpts) = ⊥
 AreRcpts host (tried ∷ more) [] = ⊥
 AreRcpts host (tried ∷ more) (reply ∷ rcpts) =
-    (reply ≡ reply_of host (row_of_hop tried.goes)) × AreRcpts host more rcpts
+    (reply ≡ reply_of host (row_of_rcpt tried.routed tried.goes)) × AreRcpts host more rcpts

@@ -12,7 +12,6 @@ use Rattle.relay_envelope.specs.declared.envelope.Envelope.{Envelope}
 use Rattle.relay_envelope.specs.declared.envelope.Recipient.{Recipient}
 use Rattle.relay_server.specs.declared.offer.Answer.{Answer}
 use Rattle.relay_server.specs.declared.offer.Answer.TheVariants.{Queued}
-use Rattle.relay_server.specs.declared.reply_table.Row.TheVariants.{NoRoute}
 use Rattle.relay_server.specs.Dialogue.{Offered, offered_of}
 use Rattle.relay_server.specs.Reply.{reply_of}
 use Rattle.relay_server.specs.ReplyTable.{is_refused_by}
@@ -32,7 +31,7 @@ use Rattle.relay_course.specs.Progress.{Errand, Progress, progress}
 use Rattle.relay_course.specs.VerdictTable.{all_later, refusal}
 use Rattle.relay_course.proofs.Theorems.{taken_where_answered}
 use Rattle.relay_meeting.specs.Joined.{HaveEnded, HaveTalked, IsCutShort, Tells, child_envelope, verdict_at}
-use Rattle.relay_meeting.specs.Script.{AreTried, Tried, client_in, envelope_behind, opened_of, with_tried}
+use Rattle.relay_meeting.specs.Script.{AreTried, Tried, client_in, envelope_behind, opened_of, refusal_row, with_tried}
 use Rattle.relay_world.specs.declared.attempt.Attempt.{Attempt}
 use Rattle.relay_world.specs.declared.attempt.Fate.TheVariants.{Replied}
 use Rattle.relay_world.specs.declared.link.Link.{Link}
@@ -61,17 +60,17 @@ none_taken [] k dsn is = none-some (Taken dsn) is
 none_taken (place ∷ places) zero dsn is = let same : Later ≡ Taken dsn = same_Some Later (Taken dsn) is in cc
 none_taken (place ∷ places) (suc k) dsn is = none_taken places k dsn is
 
--- a place has the last verdict where the server has a hop for it, and where that is Taken, the last verdict is
+-- a place has the last verdict where the server takes its recipient, and where that is Taken, the last verdict is
 last_by : (goes : Bool) (last : Verdict) (reply : Reply) (dsn : Bool)
     → cond goes last (refusal reply) ≡ Taken dsn → last ≡ Taken dsn
 last_by true last reply dsn is = is
 last_by false last reply dsn is = absurd (cc)
 
 -- who is offered has a recipient that goes
-recipients_by : (goes : Bool) (envelope : Envelope) (recipient : Recipient) → goes ≡ false
-    → with_tried envelope (record { recipient = recipient; goes = goes }) ≡ envelope
-recipients_by true envelope recipient is = absurd (false≢true (sym is))
-recipients_by false envelope recipient is = refl
+recipients_by : (routed goes : Bool) (envelope : Envelope) (recipient : Recipient) → goes ≡ false
+    → with_tried envelope (record { recipient = recipient; routed = routed; goes = goes }) ≡ envelope
+recipients_by routed true envelope recipient is = absurd (false≢true (sym is))
+recipients_by routed false envelope recipient is = refl
 
 -- the first that goes of those that are tried
 abbrev OneGoes : List Tried → Type 0
@@ -82,7 +81,7 @@ goes_first : (envelope : Envelope) (first : Tried) (tried : List Tried) (goes : 
     → 1 ≤ length (envelope_behind (with_tried envelope first) tried).recipients → OneGoes (first ∷ tried)
 goes_first envelope first tried true is more some = (0, first, refl, is)
 goes_first envelope first tried false is more some =
-    let same : with_tried envelope first ≡ envelope = recipients_by first.goes envelope first.recipient is in
+    let same : with_tried envelope first ≡ envelope = recipients_by first.routed first.goes envelope first.recipient is in
     let behind = more (subst (λ (e : Envelope). 1 ≤ length (envelope_behind e tried).recipients) same some) in
     (suc behind.0, behind.1, behind.2, behind.3)
 
@@ -228,7 +227,7 @@ module _ {D : Type 0} (host : Host D) (changes : List Change) (link : Link) (att
         short.untaken out.verdict_is dsn refl) in
         let one = of_map (verdict_at setup.host have.last) says.tried out.k (Taken dsn)
         (ap (λ l. slice_get l out.k) (sym have.verdicts_are) ∙ out.verdict_is) in
-        let last : have.last ≡ Taken dsn = last_by one.0.goes have.last (reply_of setup.host NoRoute) dsn one.2 in
+        let last : have.last ≡ Taken dsn = last_by one.0.goes have.last (reply_of setup.host (refusal_row one.0.routed)) dsn one.2 in
         let queued = tells_queued have.last serves.said.answers dsn last have.tells in
         let offered : 0 < length serves.said.offers =
         (let even = serves.answered in let count = ap length queued.1 in omega (arith, even, count)) in
@@ -266,7 +265,7 @@ module _ {D : Type 0} (host : Host D) (changes : List Change) (link : Link) (att
         let verdict : slice_get all goes.0 ≡ Some (Taken true) =
         ap (λ l. slice_get l goes.0) have.verdicts_are
         ∙ in_map (verdict_at setup.host have.last) says.tried goes.0 goes.1 goes.2
-        ∙ ap (λ b. Some (cond b have.last (refusal (reply_of setup.host NoRoute)))) goes.3
+        ∙ ap (λ b. Some (cond b have.last (refusal (reply_of setup.host (refusal_row goes.1.routed))))) goes.3
         ∙ ap (λ v. Some v) last in (
           goes.0,
           place.0,
