@@ -62,7 +62,7 @@ pub fn hub_link<D: Disk, J: Opening, T: Wait, R: Read, W: Write>(
         peer,
         at: now,
     };
-    let (mut session, greeting) = Session::new(alloc, config)?;
+    let (mut session, greeting) = Session::new(alloc, config, peer)?;
     send(writer, greeting.as_slice())?;
     converse(rt, hub, pass, &terms, &mut session, reader, writer)
 }

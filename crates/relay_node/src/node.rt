@@ -215,7 +215,7 @@ impl<D: Disk> Node<D> {
         let Some(number) = self.seats.free() else {
             return Err(NodeFault::TooMany);
         };
-        let Ok((session, out)) = Session::new(self.alloc, &self.config) else {
+        let Ok((session, out)) = Session::new(self.alloc, &self.config, peer) else {
             return Err(NodeFault::NoMemory);
         };
         let Ok(session) = Box::new(self.alloc, session) else {

@@ -87,7 +87,7 @@ impl<'a> Ends<'a> {
     pub fn new(meeting: Meeting<'a>, said: Said<'a>) -> Result<Self, AllocError> {
         let alloc = meeting.alloc;
         let attempt = begun(alloc, HOST, meeting.errand.places.as_slice())?;
-        let (session, greeting) = Session::new(alloc, meeting.config)?;
+        let (session, greeting) = Session::new(alloc, meeting.config, CLIENT)?;
         let mut ends = Ends {
             meeting,
             session,

@@ -49,7 +49,7 @@ impl<'a> Play<'a> {
     pub fn new(alloc: Global, config: &'a Config) -> Result<Self, AllocError>
         ensures { IfOk result (λ play. Plays (setup_for config.now CLIENT) play []) }
     {
-        let (session, greeting) = Session::new(alloc, config)?;
+        let (session, greeting) = Session::new(alloc, config, CLIENT)?;
         Ok(Play {
             alloc,
             table: config.accepted_table(CLIENT),

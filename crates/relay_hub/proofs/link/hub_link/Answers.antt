@@ -22,14 +22,14 @@ returns-in_err-send g c =
     let start = link_start left held c.args.pass.now in
     let greeting = c.in_ok-session.greeting.items in
     let text : c.as_slice.result.now ≡ c.in_ok-session.greeting.items = search rules in
-    let said = greeted g.J.Opening.has_answered c.args.config.now c.args.peer c.args.now left held c.args.pass.now c.in_ok-session.session greeting (c.in_ok-session.ensures.stands (setup_for c.args.config.now c.args.peer) refl refl refl) in
+    let said = greeted g.J.Opening.has_answered c.args.config.now c.args.peer c.args.now left held c.args.pass.now c.in_ok-session.session greeting (c.in_ok-session.ensures.stands (setup_for c.args.config.now c.args.peer) refl refl refl refl) in
     let part = c.in_err-send.ensures.err in
     let begun = cut_off g.J.Opening.has_answered c.args.config.now c.args.peer c.args.now start c.in_ok-session.session left held new_held [] greeting c.args.pass.now said part.0 part.1 (sym text ∙ part.2) part.3 in
     ended_by g.J.Opening.has_answered c.args.config.now c.args.peer c.args.now start left new_held c.args.pass.now _ _ c.from_residual-in_err-send.ensures.1
     (subst (HasBegun g.J.Opening.has_answered c.args.config.now c.args.peer c.args.now start left new_held c.args.pass.now) (sym c.in_err-send.ensures.output) begun)
 
 pub converse-requires : goal.converse-requires
-converse-requires g c = (_, record { stands = c.in_ok-session.ensures.stands (setup_for c.args.config.now c.args.peer) refl refl refl; settled = c.in_ok-session.ensures.settled })
+converse-requires g c = (_, record { stands = c.in_ok-session.ensures.stands (setup_for c.args.config.now c.args.peer) refl refl refl refl; settled = c.in_ok-session.ensures.settled })
 
 pub returns : goal.returns
 returns g c =
@@ -40,5 +40,5 @@ returns g c =
     let greeting = c.in_ok-session.greeting.items in
     let text : c.as_slice.result.now ≡ c.in_ok-session.greeting.items = search rules in
     let wrote = subst (Appends held new_held) text c.in_ok-send.ensures.ok in
-    let said = greeted g.J.Opening.has_answered c.args.config.now c.args.peer c.args.now left held c.args.pass.now c.in_ok-session.session greeting (c.in_ok-session.ensures.stands (setup_for c.args.config.now c.args.peer) refl refl refl) in
+    let said = greeted g.J.Opening.has_answered c.args.config.now c.args.peer c.args.now left held c.args.pass.now c.in_ok-session.session greeting (c.in_ok-session.ensures.stands (setup_for c.args.config.now c.args.peer) refl refl refl refl) in
     c.converse.ensures start (sent g.J.Opening.has_answered c.args.config.now c.args.peer c.args.now start c.in_ok-session.session left held new_held [] greeting c.args.pass.now said wrote)

@@ -10,7 +10,7 @@ pub invariant_of-self : goal.invariant_of-self
 invariant_of-self g c =
     let config = c.self.inside.config in
     let made = c.in-Ok.ensures in
-    let made_says : SessionHasSaid (setup_for config c.args.peer) c.in-Ok.session (greeted_by c.in-Ok.out.items) = record { stands = made.stands (setup_for config c.args.peer) refl refl refl; settled = made.settled } in
+    let made_says : SessionHasSaid (setup_for config c.args.peer) c.in-Ok.session (greeted_by c.in-Ok.out.items) = record { stands = made.stands (setup_for config c.args.peer) refl refl refl refl; settled = made.settled } in
     let says : SessionHasSaid (setup_for config c.args.peer) c.in-Ok-new.session.value (greeted_by c.in-Ok.out.items) = subst (λ session. SessionHasSaid (setup_for config c.args.peer) session (greeted_by c.in-Ok.out.items)) (sym c.in-Ok-new.ensures.ok) made_says in
     (all_have_histories config c.self.inside.seats _ c.in-Some.number _ c.put.ensures c.self.invariant.0 (greeted_by c.in-Ok.out.items, says), c.self.invariant.1)
 
@@ -18,7 +18,7 @@ pub returns-clause-connects : goal.returns-clause-connects
 returns-clause-connects g c = rw (← c.self.view_is) (
     let config = c.self.inside.config in
     let made = c.in-Ok.ensures in
-    let made_says : SessionHasSaid (setup_for config c.args.peer) c.in-Ok.session (greeted_by c.in-Ok.out.items) = record { stands = made.stands (setup_for config c.args.peer) refl refl refl; settled = made.settled } in
+    let made_says : SessionHasSaid (setup_for config c.args.peer) c.in-Ok.session (greeted_by c.in-Ok.out.items) = record { stands = made.stands (setup_for config c.args.peer) refl refl refl refl; settled = made.settled } in
     let says : SessionHasSaid (setup_for config c.args.peer) c.in-Ok-new.session.value (greeted_by c.in-Ok.out.items) = subst (λ session. SessionHasSaid (setup_for config c.args.peer) session (greeted_by c.in-Ok.out.items)) (sym c.in-Ok-new.ensures.ok) made_says in
     record {
       free = c.in-Some.ensures.least;

@@ -9,4 +9,4 @@ pub returns : goal.returns
 returns c =
     let setup = setup_for c.args.config.now CLIENT in
     let none : c.in_ok-from_slice.field-0 ≡ [] = search rules in
-    begun setup _ (c.in_ok-session.ensures.stands setup refl refl refl) c.in_ok-session.ensures.settled (sym c.accepted_table.ensures) none refl
+    begun setup _ (c.in_ok-session.ensures.stands setup refl refl refl refl) c.in_ok-session.ensures.settled (sym c.accepted_table.ensures) none refl
