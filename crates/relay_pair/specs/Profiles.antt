@@ -5,6 +5,7 @@ use Rattle.std.specs.List.{filter, range_with_len}
 use Rattle.std.specs.declared.net.socket_addr.SocketAddrV4.{SocketAddrV4}
 use Rattle.relay_routes.specs.Routes.{Route}
 use Rattle.relay_routes.specs.declared.bare_newlines.BareNewlines.TheVariants.{Pass}
+use Rattle.relay_routes.specs.declared.routed_paths.RoutedPaths.TheVariants as routed
 use Rattle.relay_routes.specs.declared.config.Config.{Config}
 use Rattle.relay_events.specs.Step.{outside_address}
 
@@ -77,6 +78,7 @@ pub record IsProfile (host address : List ℕ) (routes : List Route) (config : C
   pub spool_limit : config.spool_limit ≡ 67108864
   pub bare_newlines : config.bare_newlines ≡ Pass
   pub trusted_clients : config.trusted_clients ≡ None
+  pub routed_paths : config.routed_paths ≡ routed.Pass
 
 -- each of these is the configuration of the node at its place among so many
 abbrev pub HaveProfiles : ℕ → List Config → Type 0

@@ -3,6 +3,7 @@ use Rattle.std.specs.Prelude.{◌≡◌, ℕ, List, [], ◌∷◌, codes}
 use Rattle.std.specs.declared.net.socket_addr.SocketAddrV4.{SocketAddrV4}
 use Rattle.relay_routes.specs.Routes.{Route}
 use Rattle.relay_routes.specs.declared.bare_newlines.BareNewlines.TheVariants.{Pass}
+use Rattle.relay_routes.specs.declared.routed_paths.RoutedPaths.TheVariants as routed
 use Rattle.relay_routes.specs.declared.config.Config.{Config}
 use Rattle.relay_server.specs.Setup.{Setup, setup_for}
 
@@ -28,6 +29,7 @@ session_setup = record {
   host = codes "relay.example";
   max_content = 1048576;
   bare_newlines = Pass;
+  routed_paths = routed.Pass;
   routes = record { host = codes "relay.example"; routes = only_route ∷ [] };
 }
 
