@@ -100,6 +100,7 @@ status_listen = "0.0.0.0:9925"
 log = "xml"
 routes = 1
 trusted_clients = "127.0.0.1"
+routed_paths = "no"
 """, [
         '1:1: error: host = "relay example": write a name of 1 to 255 letters, digits, hyphens and periods, such as '
         'host = "relay.example.org"',
@@ -118,7 +119,8 @@ trusted_clients = "127.0.0.1"
         '12:1: error: routes = 1: write a table, such as routes = '
         '{ "example.org" = { name = "mx.example.org", at = "192.0.2.1:25" } }',
          '13:1: error: trusted_clients = "127.0.0.1": write an array of IPv4 networks, such as '
-         'trusted_clients = ["127.0.0.0/8"]'])
+         'trusted_clients = ["127.0.0.0/8"]',
+         '14:1: error: routed_paths = "no": write "pass" or "refuse", such as routed_paths = "refuse"'])
 
 
 def each_network_is_judged_on_its_own(program):

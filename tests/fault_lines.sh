@@ -62,6 +62,8 @@ sed -i '3a bare_newlines = "no"' relayd.toml
 refused 1 'relayd: config BadValue bare_newlines' list --config relayd.toml
 sed -i '4c trusted_clients = ["127.0.0.1/8"]' relayd.toml
 refused 1 'relayd: config BadValue trusted_clients' list --config relayd.toml
+sed -i '4c routed_paths = "no"' relayd.toml
+refused 1 'relayd: config BadValue routed_paths' list --config relayd.toml
 
 # The content of a configuration comes before the spool that it names.
 mkdir folder

@@ -6,7 +6,7 @@ use strsim::levenshtein;
 use toml::Table;
 
 /// The keys of a configuration.
-const KEYS: [&str; 13] = [
+const KEYS: [&str; 14] = [
     "host",
     "listen",
     "spool",
@@ -15,6 +15,7 @@ const KEYS: [&str; 13] = [
     "bare_newlines",
     "routes",
     "trusted_clients",
+    "routed_paths",
     "sessions_per_client",
     "attempts_per_hop",
     "client_timeout",

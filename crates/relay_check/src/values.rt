@@ -9,7 +9,7 @@ use std::fmt;
 use toml::{Table, Value};
 
 /// How many values there may be to replace: one for each key.
-const KEYS: usize = 13;
+const KEYS: usize = 14;
 
 /// A value that a key may have.
 #[derive(Clone, Copy, Drop)]
@@ -171,6 +171,7 @@ fn rule_of(key: Key) -> Rule {
         Key::Routes => ("a table", Good::NoRoutes),
         Key::BareNewlines => ("\"pass\" or \"refuse\"", Good::Text("refuse")),
         Key::TrustedClients => ("an array of IPv4 networks", Good::NoNetworks),
+        Key::RoutedPaths => ("\"pass\" or \"refuse\"", Good::Text("refuse")),
     };
     Rule {
         key: key.text(),
