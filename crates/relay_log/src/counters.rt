@@ -37,13 +37,15 @@ pub struct Counters {
 pub struct Rejections {
     /// 550: no route leads to the recipient.
     pub no_route: u64,
+    /// 553: the recipient's address is routed.
+    pub routed_address: u64,
     /// 452: the spool is full.
     pub spool_full: u64,
     /// 452: the message has too many recipients.
     pub too_many_recipients: u64,
     /// 552: the mail data is too large.
     pub too_large: u64,
-    /// 554: the mail data has a bare CR or LF, or too many `Received:` fields.
+    /// 554: the mail data has a bare CR or LF, or NUL, or too many `Received:` fields.
     pub bad_content: u64,
     /// 503 and 554: the command may not stand there, or no recipient was accepted before it.
     pub bad_sequence: u64,
@@ -81,6 +83,7 @@ impl Rejections {
     pub fn new() -> Self {
         Rejections {
             no_route: 0,
+            routed_address: 0,
             spool_full: 0,
             too_many_recipients: 0,
             too_large: 0,
@@ -96,6 +99,7 @@ impl Rejections {
     pub(crate) fn count(&mut self, rejection: Rejection) {
         let count = match rejection {
             Rejection::NoRoute => &mut self.no_route,
+            Rejection::RoutedAddress => &mut self.routed_address,
             Rejection::SpoolFull => &mut self.spool_full,
             Rejection::TooManyRecipients => &mut self.too_many_recipients,
             Rejection::TooLarge => &mut self.too_large,
@@ -114,13 +118,15 @@ impl Rejections {
 pub enum Rejection {
     /// No route leads to the recipient.
     NoRoute,
+    /// The recipient's address is routed.
+    RoutedAddress,
     /// The spool is full.
     SpoolFull,
     /// The message has too many recipients.
     TooManyRecipients,
     /// The mail data is too large.
     TooLarge,
-    /// The mail data has a bare CR or LF, or too many `Received:` fields.
+    /// The mail data has a bare CR or LF, or NUL, or too many `Received:` fields.
     BadContent,
     /// The command may not stand there, or no recipient was accepted before it.
     BadSequence,
@@ -139,6 +145,7 @@ impl Rejection {
         let (code, text) = line.split_at(line.len().min(3));
         match code {
             b"550" => Some(Rejection::NoRoute),
+            b"553" => Some(Rejection::RoutedAddress),
             b"452" if text.starts_with(b" spool") => Some(Rejection::SpoolFull),
             b"452" => Some(Rejection::TooManyRecipients),
             b"552" => Some(Rejection::TooLarge),

@@ -137,10 +137,11 @@ fn rejections(counters: &Counters) -> u64 {
 }
 
 /// How many replies to clients have refused something, by the reply's code and its cause.
-fn rejections_by_cause(counters: &Counters) -> [(&'static [u8], u64); 9] {
+fn rejections_by_cause(counters: &Counters) -> [(&'static [u8], u64); 10] {
     let rejected = counters.rejected;
     [
         (b"no_route", rejected.no_route),
+        (b"routed_address", rejected.routed_address),
         (b"spool_full", rejected.spool_full),
         (b"too_many_recipients", rejected.too_many_recipients),
         (b"too_large", rejected.too_large),
