@@ -15,15 +15,15 @@ for it in "$folder"/*.offers; do
     name=$(basename "$it" .offers)
     case $name in
         sequences | chunks | another_reply | another_offer | small_* | postmaster_routed | standard_paths | \
-            refused_line_ends) ;;
+            refused_line_ends | refused_nul | routed_addresses*) ;;
         *) plain+=("$name") ;;
     esac
 done
 
 "$program" dialogues "$folder" plain "${plain[@]}" small small_contents small_chunks open postmaster_routed standard_paths \
-    strict refused_line_ends > /dev/null
+    strict refused_line_ends refused_nul > /dev/null
 if "$program" dialogues "$folder" another_reply > /dev/null 2>&1; then
     echo "dialogues_of_a_node: a reply that is wrong was taken" >&2
     exit 1
 fi
-echo "dialogues_of_a_node: $((${#plain[@]} + 5)) dialogues, each with one session and with 64: as written down"
+echo "dialogues_of_a_node: $((${#plain[@]} + 6)) dialogues, each with one session and with 64: as written down"

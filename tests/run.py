@@ -182,6 +182,20 @@ def a_bare_line_end_is_refused_where_that_is_asked(field):
         field.arrived(1)
 
 
+def a_routed_address_is_refused_where_that_is_asked(field):
+    """But not of a client in a network that is named."""
+    refusal = "553 routed address refused"
+    for name, trusted, answer in (("bound", {}, refusal), ("other", {"trusted_clients": '["192.0.2.0/24"]'}, refusal),
+                                  ("exempt", {"trusted_clients": '["127.0.0.0/8"]'}, "250 recipient OK")):
+        relay = field.relay(name, routed_paths='"refuse"', **trusted)
+        with relay.running(), Client(relay) as client:
+            client.begin()
+            same("the reply to MAIL", client.say(b"MAIL FROM:<a@example.org>\r\n")[:4], "250 ")
+            for local in (b"victim%evil.example", b"evil.example!victim", b'"victim@evil.example"', b"@evil.example:victim"):
+                same("the reply to a routed RCPT", client.say(b"RCPT TO:<" + local + b"@example.org>\r\n"), answer)
+            same("the reply to RCPT", client.say(b"RCPT TO:<b@example.org>\r\n"), "250 recipient OK")
+
+
 def slow_clients_hold_up_nobody(field):
     relay = field.relay()
 
@@ -531,6 +545,7 @@ ROWS = [
     the_65th_is_sent_away,
     commands_and_chunks_come_in_one_piece,
     a_bare_line_end_is_refused_where_that_is_asked,
+    a_routed_address_is_refused_where_that_is_asked,
     slow_clients_hold_up_nobody,
     a_silent_client_is_told_and_left,
     a_client_that_drips_is_told_and_left,

@@ -33,7 +33,7 @@ use ends::Meeting;
 use errand::Errand;
 use relay_client::Attempt;
 use row::Row;
-use setup::{MET, OPEN, SMALL, STRICT, USUAL, configuration};
+use setup::{EXEMPTING, GUARDED, MET, OPEN, SMALL, STRICT, USUAL, configuration};
 use std::mem;
 use transcript::Transcript;
 use trial::{Outcome, outcome_of};
@@ -53,8 +53,8 @@ pub fn tell_size(answer: &mut Answer) {
 
 /// Holds a dialogue of dialogues.in, where the name of its host stands before its own, and tells how it came. The hosts
 /// `small`, `open` and `strict` take contents of up to 4 octets, mail for every domain, and no content in which a CR or
-/// an LF stands alone. Two dialogues are written down wrong on purpose, one in a reply and one in an offer: they must
-/// differ.
+/// an LF stands alone or NUL is; `guarded` and `exempting` take no routed paths, the second but of this client. Two
+/// dialogues are written down wrong on purpose, one in a reply and one in an offer: they must differ.
 pub fn tell_dialogue(rt: &HostRuntime, answer: &mut Answer, line: &str) {
     let (host, name) = line.split_once(' ').unwrap_or(("", line));
     answer.say(name);
@@ -78,6 +78,8 @@ fn text_of(host: &str) -> &'static str {
         "small" => SMALL,
         "open" => OPEN,
         "strict" => STRICT,
+        "guarded" => GUARDED,
+        "exempting" => EXEMPTING,
         _ => USUAL,
     }
 }

@@ -1,9 +1,10 @@
 //! What comes of a row of routes: a configuration, of which `;` between spaces ends a line; a file with one; a file and
-//! a path, whose hop is looked up; or a client, a file and a path, whose hop is looked up as the client's recipient.
+//! a path, whose hop is looked up; or a client, a file and a path, which is refused as the client's recipient or whose
+//! hop is looked up so.
 use crate::answer::{Answer, RowsFault};
 use crate::rows::read_file;
 use relay_envelope::{Path, PathBuf};
-use relay_routes::{BareNewlines, Config, Hop, Table};
+use relay_routes::{BareNewlines, Config, Hop, RoutedPaths, Table};
 use std::net::Ipv4Addr;
 
 /// Tells what comes of the lines, of the file, or of the file and the path that a row gives.
@@ -42,7 +43,8 @@ fn document_of(answer: &mut Answer, lines: &str) -> String {
     }
 }
 
-/// Tells what a configuration says: its values without the routes, and whether it refuses bare line ends, or its fault.
+/// Tells what a configuration says: its values without the routes, and whether it refuses bare line ends and routed
+/// paths, or its fault.
 fn tell_config(answer: &mut Answer, document: &str) {
     match Config::read(answer.alloc, document) {
         Ok(config) => tell_values(answer, &config),
@@ -61,6 +63,9 @@ fn tell_values(answer: &mut Answer, config: &Config) {
     if matches!(config.bare_newlines, BareNewlines::Refuse) {
         answer.say(" refuse");
     }
+    if matches!(config.routed_paths, RoutedPaths::Refuse) {
+        answer.say(" no routed paths");
+    }
 }
 
 /// Tells the hop of a path by a configuration, and that of the path as it is stored where that is another.
@@ -74,17 +79,26 @@ fn tell_hop_of(answer: &mut Answer, document: &str, path: &[u8]) {
     }
 }
 
-/// Tells the hop of a path that a client at this address gives, and none where it may not send there.
+/// Tells the hop of a path that a client at this address gives, and none where it may not send there, or that the path
+/// is refused as a routed one.
 fn tell_accepted_hop(answer: &mut Answer, document: &str, client: &str, path: &[u8]) {
     let Ok(client) = client.parse::<Ipv4Addr>() else {
         return answer.say("no client");
     };
     match Config::read(answer.alloc, document) {
         Ok(config) => match Path::read(path) {
-            Some(path) => tell_both_hops(answer, config.accepted_table(client.octets()), path),
+            Some(path) => tell_as_recipient(answer, &config, client.octets(), path),
             None => answer.say("no path"),
         },
         Err(fault) => answer.show(&fault),
+    }
+}
+
+fn tell_as_recipient(answer: &mut Answer, config: &Config, client: [u8; 4], path: Path<'_>) {
+    if config.accepted_paths(client).refuses(&path) {
+        answer.say("refused");
+    } else {
+        tell_both_hops(answer, config.accepted_table(client), path);
     }
 }
 

@@ -24,12 +24,35 @@ max_content = 4
 "example.org" = { name = "next.example", at = "127.0.0.1:2526" }
 "#;
 
-/// One domain, and no content in which a CR or an LF stands alone.
+/// One domain, and no content in which a CR or an LF stands alone, or NUL is.
 pub const STRICT: &str = r#"
 host = "relay.example"
 listen = "127.0.0.1:2525"
 spool = "relay.spool"
 bare_newlines = "refuse"
+
+[routes]
+"example.org" = { name = "next.example", at = "127.0.0.1:2526" }
+"#;
+
+/// One domain, and no routed paths.
+pub const GUARDED: &str = r#"
+host = "relay.example"
+listen = "127.0.0.1:2525"
+spool = "relay.spool"
+routed_paths = "refuse"
+
+[routes]
+"example.org" = { name = "next.example", at = "127.0.0.1:2526" }
+"#;
+
+/// One domain, and no routed paths but of the clients of this machine.
+pub const EXEMPTING: &str = r#"
+host = "relay.example"
+listen = "127.0.0.1:2525"
+spool = "relay.spool"
+trusted_clients = ["127.0.0.0/8"]
+routed_paths = "refuse"
 
 [routes]
 "example.org" = { name = "next.example", at = "127.0.0.1:2526" }
