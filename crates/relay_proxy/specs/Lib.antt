@@ -1,0 +1,5 @@
+pub mod Word
+pub mod HeaderLine
+pub mod Block
+pub mod Header
+pub mod Laws

@@ -1,0 +1,20 @@
+//! What octets begin with.
+ghost use Rattle.std.specs.Prelude.{◌≡◌, ◌++◌, ◌↔◌, IsTrue, MatchOption};
+ghost use Rattle.relay_octets.specs.Beginning.{Begins};
+
+/// What follows this beginning of the octets, where they begin so.
+pub(crate) fn behind<'a>(octets: &'a [u8], front: &[u8]) -> Option<&'a [u8]>
+    ensures { MatchOption result (¬ Begins front.now octets.now) (λ rest. octets.now ≡ front.now ++ rest.now) }
+{
+    octets.strip_prefix(front)
+}
+
+/// Whether the octets begin so.
+pub(crate) fn begins(octets: &[u8], front: &[u8]) -> bool
+    ensures { IsTrue result ↔ Begins front.now octets.now }
+{
+    match behind(octets, front) {
+        Some(_) => true,
+        None => false,
+    }
+}
