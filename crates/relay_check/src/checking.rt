@@ -5,7 +5,7 @@ ghost use Rattle.relay_check.specs.Check.{HasError, IsChecked, IsWarned, SaysCon
 use crate::document::routes_of;
 use crate::findings::Findings;
 use crate::known_keys::check_keys;
-use crate::networks::{check_networks, networks_of};
+use crate::networks::{BALANCERS, TRUSTED_CLIENTS, check_networks};
 use crate::position::Place;
 use crate::risks::check_risks;
 use crate::routes::check_routes;
@@ -84,9 +84,8 @@ fn check_text<F: Files<File = File>>(
     if let Some(routes) = routes_of(&document) {
         check_routes(alloc, routes, findings)?;
     }
-    if let Some(networks) = networks_of(&document) {
-        check_networks(alloc, networks, findings)?;
-    }
+    check_networks(alloc, &document, TRUSTED_CLIENTS, findings)?;
+    check_networks(alloc, &document, BALANCERS, findings)?;
     match Config::read(alloc, text) {
         Ok(config) => {
             check_risks(alloc, files, &config, &document, findings)?;

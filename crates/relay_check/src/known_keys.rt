@@ -21,6 +21,7 @@ const KEYS: [&str; 14] = [
     "client_timeout",
     "status_listen",
     "log",
+    "balancers",
 ];
 
 /// The keys of a route's hop.

@@ -1,24 +1,40 @@
-//! The networks of trusted clients, each on its own.
+//! The networks of trusted clients and of balancers, each on its own.
 use crate::findings::Findings;
 use crate::position::Place;
 use relay_routes::Network;
 use std::alloc::{AllocError, Global};
 use toml::{Table, Value};
 
-/// The key of the networks.
-const KEY: &str = "trusted_clients";
+/// The key of the networks of trusted clients.
+pub(crate) const TRUSTED_CLIENTS: &str = "trusted_clients";
 
-/// The values of the networks, where the document has an array of them.
-pub(crate) fn networks_of(document: &Table) -> Option<&[Value]> {
-    match document.get(KEY) {
+/// The key of the networks of balancers.
+pub(crate) const BALANCERS: &str = "balancers";
+
+/// The values of the networks at a key, where the document has an array of them.
+pub(crate) fn networks_of<'a>(document: &'a Table, key: &str) -> Option<&'a [Value]> {
+    match document.get(key) {
         Some(Value::Array(values)) => Some(values.as_slice()),
         _ => None,
     }
 }
 
-/// Finds what is wrong with each network.
+/// Finds what is wrong with each network at a key.
 pub(crate) fn check_networks(
     alloc: Global,
+    document: &Table,
+    key: &'static str,
+    findings: &mut Findings<'_>,
+) -> Result<(), AllocError> {
+    match networks_of(document, key) {
+        Some(networks) => check_each(alloc, key, networks, findings),
+        None => Ok(()),
+    }
+}
+
+fn check_each(
+    alloc: Global,
+    key: &'static str,
     networks: &[Value],
     findings: &mut Findings<'_>,
 ) -> Result<(), AllocError> {
@@ -28,22 +44,22 @@ pub(crate) fn check_networks(
                 if Network::read(text.as_bytes()).is_some() {
                     continue;
                 }
-                no_network(alloc, text.as_str())?
+                no_network(alloc, key, text.as_str())?
             }
             other => format!(in alloc;
-                "{KEY}: ({}) is no network: write a text such as \"192.0.2.0/24\"",
+                "{key}: ({}) is no network: write a text such as \"192.0.2.0/24\"",
                 other.type_str()
             )?,
         };
-        findings.error(Place::Key(KEY), message)?;
+        findings.error(Place::Key(key), message)?;
     }
     Ok(())
 }
 
 /// What is told of a text that writes no network.
-fn no_network(alloc: Global, text: &str) -> Result<String, AllocError> {
+fn no_network(alloc: Global, key: &str, text: &str) -> Result<String, AllocError> {
     format!(in alloc;
-        "{KEY}: \"{}\" is no network: write an address, or one such as \"192.0.2.0/24\" with zeros after its prefix",
+        "{key}: \"{}\" is no network: write an address, or one such as \"192.0.2.0/24\" with zeros after its prefix",
         text.escape_default()
     )
 }

@@ -1,7 +1,7 @@
 //! What is risky about a configuration by which a relay runs.
 use crate::document::{routes_of, text_at};
 use crate::findings::Findings;
-use crate::networks::{are_everybody, networks_of};
+use crate::networks::{TRUSTED_CLIENTS, are_everybody, networks_of};
 use crate::position::Place;
 use relay_disk::FileDisk;
 use relay_routes::Config;
@@ -82,7 +82,7 @@ fn check_openness(
     if config.listen.ip().is_loopback() {
         return Ok(());
     }
-    if let Some(networks) = networks_of(document) {
+    if let Some(networks) = networks_of(document, TRUSTED_CLIENTS) {
         if !are_everybody(networks) {
             return Ok(());
         }

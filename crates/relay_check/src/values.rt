@@ -1,8 +1,9 @@
 //! The values of the keys. A configuration's reader tells the first fault alone: each bad value is replaced by a good
 //! one, and the document is read again, until no fault is left.
 use crate::findings::Findings;
+use crate::networks::{BALANCERS, TRUSTED_CLIENTS};
 use crate::position::Place;
-use relay_limits::{Limit, Limits};
+use relay_limits::{Balancers, Limit, Limits};
 use relay_routes::{Config, ConfigFault, Key};
 use std::alloc::{AllocError, Global};
 use std::fmt;
@@ -18,6 +19,7 @@ enum Good {
     Number(i64),
     NoRoutes,
     NoNetworks,
+    NoBalancers,
 }
 
 impl Good {
@@ -26,7 +28,7 @@ impl Good {
             Good::Text(text) => Value::string(alloc, text)?,
             Good::Number(number) => Value::Integer(number),
             Good::NoRoutes => Value::Table(Table::new(alloc)),
-            Good::NoNetworks => Value::Array(Vec::new(alloc)),
+            Good::NoNetworks | Good::NoBalancers => Value::Array(Vec::new(alloc)),
         })
     }
 }
@@ -40,6 +42,7 @@ impl fmt::Display for Good {
                 "{ \"example.org\" = { name = \"mx.example.org\", at = \"192.0.2.1:25\" } }",
             ),
             Good::NoNetworks => f.write_str("[\"127.0.0.0/8\"]"),
+            Good::NoBalancers => f.write_str("[\"192.0.2.5\"]"),
         }
     }
 }
@@ -65,7 +68,8 @@ pub(crate) fn check_values(
         return Err(AllocError);
     };
     set_routes_aside(alloc, &mut document)?;
-    set_networks_aside(alloc, &mut document)?;
+    set_networks_aside(alloc, &mut document, TRUSTED_CLIENTS)?;
+    set_networks_aside(alloc, &mut document, BALANCERS)?;
     for _ in 0..KEYS {
         let Some(rule) = broken_rule(alloc, &document)? else {
             break;
@@ -84,10 +88,10 @@ fn set_routes_aside(alloc: Global, document: &mut Table) -> Result<(), AllocErro
     }
 }
 
-/// Replaces an array of networks by an empty one: each network is looked at on its own.
-fn set_networks_aside(alloc: Global, document: &mut Table) -> Result<(), AllocError> {
-    match document.get("trusted_clients") {
-        Some(Value::Array(_)) => replace(alloc, document, "trusted_clients", Good::NoNetworks),
+/// Replaces an array of networks at a key by an empty one: each network is looked at on its own.
+fn set_networks_aside(alloc: Global, document: &mut Table, key: &str) -> Result<(), AllocError> {
+    match document.get(key) {
+        Some(Value::Array(_)) => replace(alloc, document, key, Good::NoNetworks),
         _ => Ok(()),
     }
 }
@@ -110,7 +114,10 @@ fn broken_rule(alloc: Global, document: &Table) -> Result<Option<Rule>, AllocErr
         Err(ConfigFault::NoMemory) => Err(AllocError),
         Err(ConfigFault::Missing(key) | ConfigFault::BadValue(key)) => Ok(Some(rule_of(key))),
         Err(ConfigFault::NotToml) | Ok(_) => match Limits::of_document(document) {
-            Ok(_) => Ok(None),
+            Ok(_) => match Balancers::of_document(alloc, document)? {
+                Some(_) => Ok(None),
+                None => Ok(Some(rule_of_limit(Limit::Balancers))),
+            },
             Err(limit) => Ok(Some(rule_of_limit(limit))),
         },
     }
@@ -190,6 +197,7 @@ fn rule_of_limit(limit: Limit) -> Rule {
             Good::Text("127.0.0.1:9925"),
         ),
         Limit::Log => ("\"text\" or \"json\"", Good::Text("json")),
+        Limit::Balancers => ("an array of IPv4 networks", Good::NoBalancers),
     };
     Rule {
         key: limit.text(),

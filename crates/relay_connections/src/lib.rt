@@ -2,6 +2,7 @@
 //! those of its clients, whose sessions hear what was read of their own, and those that are leaving.
 #![tactic(auto)]
 
+mod arrivals;
 mod block;
 mod channel;
 mod client;
@@ -19,6 +20,7 @@ mod share;
 mod stream;
 mod table;
 
+pub use arrivals::{Arrivals, Arrived};
 pub use channel::{Channel, End, Readiness};
 pub use client::Intake;
 pub use clients::Clients;

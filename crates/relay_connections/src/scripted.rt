@@ -74,4 +74,8 @@ impl<R: Read, W: Write> Stream for ScriptedStream<R, W> {
     fn register(&mut self, _registry: &(), _token: usize, _again: bool) -> io::Result<()> {
         Ok(())
     }
+
+    fn deregister(&mut self, _registry: &()) -> io::Result<()> {
+        Ok(())
+    }
 }

@@ -55,6 +55,11 @@ pub trait Stream {
     fn register(&mut self, registry: &Self::Registry, token: usize, again: bool) -> io::Result<()>
         ensures remaining { remaining self.new ≡ remaining self.old }
         ensures contents { contents self.new ≡ contents self.old };
+
+    /// Has the system tell of it no more, until it is registered anew.
+    fn deregister(&mut self, registry: &Self::Registry) -> io::Result<()>
+        ensures remaining { remaining self.new ≡ remaining self.old }
+        ensures contents { contents self.new ≡ contents self.old };
 }
 
 impl Stream for TcpStream {
@@ -91,6 +96,10 @@ impl Stream for TcpStream {
         } else {
             registry.register(self, Token(token), both_ways())
         }
+    }
+
+    fn deregister(&mut self, registry: &Registry) -> io::Result<()> {
+        registry.deregister(self)
     }
 }
 

@@ -1,4 +1,5 @@
 pub mod Compacting
 pub mod Port
 pub mod Limits
+pub mod Balancers
 pub mod Pace

@@ -2,6 +2,7 @@
 //! a next hop is left alone, and when its spool is compacted.
 #![tactic(auto)]
 
+mod balancers;
 mod compacting;
 mod limit;
 mod limits;
@@ -9,6 +10,7 @@ mod log_form;
 mod pace;
 mod port;
 
+pub use balancers::Balancers;
 pub use compacting::is_worth_compacting;
 pub use limit::Limit;
 pub use limits::Limits;

@@ -16,6 +16,8 @@ pub enum Limit {
     StatusListen,
     /// How the lines of the log are written.
     Log,
+    /// The networks of balancers.
+    Balancers,
 }
 
 impl Limit {
@@ -29,6 +31,7 @@ impl Limit {
             Limit::ClientTimeout => "client_timeout",
             Limit::StatusListen => "status_listen",
             Limit::Log => "log",
+            Limit::Balancers => "balancers",
         }
     }
 
@@ -39,7 +42,7 @@ impl Limit {
         match self {
             Limit::SessionsPerClient | Limit::AttemptsPerHop => 64,
             Limit::ClientTimeout => 3_600,
-            Limit::StatusListen | Limit::Log => 0,
+            Limit::StatusListen | Limit::Log | Limit::Balancers => 0,
         }
     }
 
@@ -51,7 +54,7 @@ impl Limit {
             Limit::SessionsPerClient => 32,
             Limit::AttemptsPerHop => 20,
             Limit::ClientTimeout => 300,
-            Limit::StatusListen | Limit::Log => 0,
+            Limit::StatusListen | Limit::Log | Limit::Balancers => 0,
         }
     }
 }

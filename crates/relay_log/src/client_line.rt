@@ -77,6 +77,43 @@ impl ClientEnd {
     }
 }
 
+/// Why a connection of a balancer has no client.
+#[derive(Clone, Copy, Debug, PartialEq, Eq)]
+pub enum HeaderFault {
+    /// It begins with no header of the PROXY protocol, or has ended before its header.
+    Missing,
+    /// The header hasn't come in time.
+    Late,
+    /// The client comes by another protocol than TCP over IPv4.
+    OtherProtocol,
+    /// There was no memory, or no place with the system, for it.
+    NoMemory,
+}
+
+impl HeaderFault {
+    /// The word of the log for it.
+    fn word(self) -> &'static [u8] {
+        match self {
+            HeaderFault::Missing => b"no-proxy-header",
+            HeaderFault::Late => b"proxy-header-timeout",
+            HeaderFault::OtherProtocol => b"proxy-not-ipv4",
+            HeaderFault::NoMemory => b"no-memory",
+        }
+    }
+}
+
+/// The line of a balancer's connection that was closed since its header says no client.
+pub(crate) fn header_fault_line(
+    head: Head,
+    balancer: SocketAddrV4,
+    fault: HeaderFault,
+) -> io::Result<LogLine> {
+    let mut line = head.line(b"client-end")?;
+    head.add_address(&mut line, b"balancer", balancer)?;
+    line.octets(b"reason", fault.word())?;
+    Ok(line)
+}
+
 /// The line of a connection that has ended at this tick.
 pub(crate) fn client_end_line(
     head: Head,

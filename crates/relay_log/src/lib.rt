@@ -15,7 +15,7 @@ mod settling;
 mod talk;
 
 pub use attempt_line::Attempt;
-pub use client_line::{ClientEnd, Connection, Messages};
+pub use client_line::{ClientEnd, Connection, HeaderFault, Messages};
 pub use client_record::ClientRecord;
 pub use client_writer::ClientWriter;
 pub use counters::{Counters, Rejection, Rejections};

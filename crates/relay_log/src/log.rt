@@ -5,8 +5,9 @@ use crate::attempt_line::{
     Attempt, count_outcome, outcome_of, recipient_line, report_line, unrecorded_line,
 };
 use crate::client_line::{
-    ClientEnd, Connection, accepted_line, client_end_line, connection_line, count_of,
-    more_accepted_line, more_rejected_line, rejected_line, turned_away_line, unserved_line,
+    ClientEnd, Connection, HeaderFault, accepted_line, client_end_line, connection_line, count_of,
+    header_fault_line, more_accepted_line, more_rejected_line, rejected_line, turned_away_line,
+    unserved_line,
 };
 use crate::client_record::ClientRecord;
 use crate::counters::{Counters, Rejection, add};
@@ -208,6 +209,13 @@ impl<'a, E: Write> Log<'a, E> {
     pub fn unserved(&mut self, peer: SocketAddrV4) {
         if self.speaks {
             self.say(unserved_line(self.head, peer));
+        }
+    }
+
+    /// Logs that the connection of a balancer was closed, since its header says no client.
+    pub fn header_refused(&mut self, balancer: SocketAddrV4, fault: HeaderFault) {
+        if self.speaks {
+            self.say(header_fault_line(self.head, balancer, fault));
         }
     }
 

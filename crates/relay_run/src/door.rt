@@ -3,9 +3,10 @@ ghost use Rattle.std.specs.Prelude.{◌≤◌};
 
 use mio::net::{TcpListener, TcpStream};
 use mio::{Interest, Registry, Token};
-use relay_connections::{Channel, Clients, Leaving, Now, Refusals};
+use relay_connections::{Arrivals, Arrived, Channel, Clients, Leaving, Now, Readiness, Refusals};
 use relay_disk::FileDisk;
 use relay_files::Fault;
+use relay_limits::Balancers;
 use relay_log::Log;
 use relay_loop::{Closing, Outbox, Relay, closing_line};
 use relay_next_hops::Spares;
@@ -30,6 +31,10 @@ pub(crate) struct Door {
     paused_until: u64,
     /// Those that were told that there is no room.
     refusals: Refusals,
+    /// From where connections begin with a header of the PROXY protocol.
+    balancers: Balancers,
+    /// Those whose header is waited for.
+    arrivals: Arrivals,
 }
 
 // Written out, so that what drops it calls this, and doesn't look into its listener.
@@ -41,6 +46,8 @@ impl Drop for Door {
             is_ready: _,
             paused_until: _,
             refusals: _refusals,
+            balancers: _balancers,
+            arrivals: _arrivals,
         } = self;
     }
 }
@@ -60,9 +67,9 @@ enum Found {
 
 impl Door {
     /// The token of the listener.
-    pub(crate) const TOKEN: usize = 3 * SLOT_COUNT;
+    pub(crate) const TOKEN: usize = Arrivals::FIRST_TOKEN + SLOT_COUNT;
 
-    /// A listener at this place, of which the system tells.
+    /// A listener at this place, of which the system tells, without balancers.
     pub(crate) fn open<N: Net>(
         alloc: Global,
         net: &N,
@@ -77,12 +84,46 @@ impl Door {
             is_ready: true,
             paused_until: 0,
             refusals: Refusals::new(alloc)?,
+            balancers: Balancers::none(alloc),
+            arrivals: Arrivals::new(alloc)?,
         })
+    }
+
+    /// The same listener, where connections of these balancers begin with a header.
+    pub(crate) fn with(self, balancers: Balancers) -> Self {
+        let Door {
+            alloc,
+            listener,
+            is_ready,
+            paused_until,
+            refusals,
+            balancers: _none,
+            arrivals,
+        } = self;
+        Door {
+            alloc,
+            listener,
+            is_ready,
+            paused_until,
+            refusals,
+            balancers,
+            arrivals,
+        }
     }
 
     /// The system tells that clients may be waiting.
     pub(crate) fn note(&mut self) {
         self.is_ready = true;
+    }
+
+    /// The system tells what a connection may be ready for whose header is waited for.
+    pub(crate) fn note_arrival(&mut self, number: usize, ready: Readiness) {
+        self.arrivals.note(number, ready);
+    }
+
+    /// Closes the connections whose headers are waited for.
+    pub(crate) fn clear(&mut self) {
+        self.arrivals.clear();
     }
 
     /// No client is taken for a moment, or until a connection is closed.
@@ -95,17 +136,22 @@ impl Door {
         self.paused_until = 0;
     }
 
-    /// Whether clients may be waiting that can be taken at once.
+    /// Whether clients may be waiting that can be taken at once, or a header may have come.
     pub(crate) fn is_ready(&self, now: &Now) -> bool {
+        self.may_accept(now) || self.arrivals.is_ready()
+    }
+
+    fn may_accept(&self, now: &Now) -> bool {
         self.is_ready && self.paused_until <= now.tick
     }
 
-    /// The tick at which clients are taken again, or it is told of those that were refused, or the given one where that
-    /// is earlier.
+    /// The tick at which clients are taken again, it is told of those that were refused, or a header is waited for no
+    /// longer, or the given one where that is earlier.
     pub(crate) fn next_deadline(&self, otherwise: u64) -> u64
         ensures { result ≤ otherwise }
     {
         let next = self.refusals.next_deadline(otherwise);
+        let next = self.arrivals.next_deadline(next);
         if self.is_ready {
             next.min(self.paused_until)
         } else {
@@ -113,8 +159,8 @@ impl Door {
         }
     }
 
-    /// Takes the clients that are waiting, while the descriptors are kept that are for attempts. One for which there is
-    /// no room is told so and closed.
+    /// Takes the clients that are waiting, while the descriptors are kept that are for attempts, and then those whose
+    /// headers are whole. One for which there is no room is told so and closed.
     pub(crate) fn admit(
         &mut self,
         registry: &Registry,
@@ -127,27 +173,74 @@ impl Door {
     ) -> Result<(), Fault> {
         self.refusals.tell(now, log);
         for _ in 0..MOST_AT_ONCE {
-            if !self.is_ready(now) {
-                return Ok(());
+            if !self.may_accept(now) {
+                break;
             }
             if !spares.fill() {
                 self.pause(now);
-                return Ok(());
+                break;
             }
             match accept(&self.listener) {
                 Found::Client(stream, peer) => {
-                    if clients.has_room(*peer.ip()) {
-                        clients.open(registry, relay, stream, peer, now)?;
-                        log.connected();
+                    if self.balancers.contains(*peer.ip()) {
+                        if !self.arrivals.take(registry, stream, peer, now) {
+                            self.refusals.note(peer, now, log);
+                        }
                     } else {
-                        self.refusals.note(peer, now, log);
-                        turn_away(self.alloc, registry, relay, leaving, stream, now);
+                        self.welcome(registry, relay, clients, leaving, stream, peer, now, log)?;
                     }
                 }
                 Found::Missed => {}
                 Found::Nobody => self.is_ready = false,
                 Found::Want => self.pause(now),
             }
+        }
+        self.admit_arrived(registry, relay, clients, leaving, now, log)
+    }
+
+    /// Takes the clients of balancers whose headers are whole. A connection without one is closed.
+    fn admit_arrived(
+        &mut self,
+        registry: &Registry,
+        relay: &mut Relay<FileDisk>,
+        clients: &mut Clients,
+        leaving: &mut Leaving,
+        now: &Now,
+        log: &mut Log<'_, Vec<u8>>,
+    ) -> Result<(), Fault> {
+        for _ in 0..MOST_AT_ONCE {
+            match self.arrivals.next(registry, now) {
+                Some(Arrived::Client(stream, peer)) => {
+                    self.welcome(registry, relay, clients, leaving, stream, peer, now, log)?;
+                }
+                Some(Arrived::Refused(balancer, fault)) => {
+                    log.header_refused(balancer, fault);
+                    self.resume();
+                }
+                None => return Ok(()),
+            }
+        }
+        Ok(())
+    }
+
+    /// Opens a session for a client, or tells it that there is no room.
+    fn welcome(
+        &mut self,
+        registry: &Registry,
+        relay: &mut Relay<FileDisk>,
+        clients: &mut Clients,
+        leaving: &mut Leaving,
+        stream: TcpStream,
+        peer: SocketAddrV4,
+        now: &Now,
+        log: &mut Log<'_, Vec<u8>>,
+    ) -> Result<(), Fault> {
+        if clients.has_room(*peer.ip()) {
+            clients.open(registry, relay, stream, peer, now)?;
+            log.connected();
+        } else {
+            self.refusals.note(peer, now, log);
+            turn_away(self.alloc, registry, relay, leaving, stream, now);
         }
         Ok(())
     }

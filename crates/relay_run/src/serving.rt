@@ -14,8 +14,9 @@ use std::io::Write;
 use std::net::{Net, TcpListener, TcpStream};
 use std::rt::{Clock, Files};
 
-/// How many events a wait gives at most: one of each connection, one of the listener, and those of the page.
-const EVENT_COUNT: usize = 3 * SLOT_COUNT + 1 + StatusPage::TOKENS;
+/// How many events a wait gives at most: one of each connection, also of those whose headers are waited for, one of the
+/// listener, and those of the page.
+const EVENT_COUNT: usize = 4 * SLOT_COUNT + 1 + StatusPage::TOKENS;
 
 /// Serves clients and hands on what they bring, up to 64 sessions and 64 attempts side by side, in one thread. It
 /// returns only with a fault, and a stop at any moment is as safe as at any other. Faults are looked for in this order
@@ -40,7 +41,7 @@ pub fn run<
 ) -> Result<(), Fault>
     ensures { IfOk result (λ _. ⊥) }
 {
-    let (config, limits) = settings(alloc, rt, path)?;
+    let (config, limits, balancers) = settings(alloc, rt, path)?;
     let at = config.listen;
     let form = log_form(quiet, &limits);
     let (relay, room) = locked_relay(alloc, rt, config)?;
@@ -48,7 +49,7 @@ pub fn run<
     let Ok(poll) = Poll::new(rt) else {
         return Err(Fault::Socket);
     };
-    let door = open_door(alloc, rt, poll.registry(), at, form, errors)?;
+    let door = open_door(alloc, rt, poll.registry(), at, form, errors)?.with(balancers);
     let page = open_page(alloc, rt, poll.registry(), &limits, &relay)?;
     let mut shell = Shell::new(alloc, relay, door, spares, room, page, &limits)?;
     shell.next_hops.prepare(&shell.relay)?;

@@ -106,6 +106,7 @@ impl Shell {
     {
         self.clients.clear();
         self.leaving.clear();
+        self.door.clear();
         let Shell {
             relay,
             door,

@@ -7,7 +7,7 @@ use crate::status_page::StatusPage;
 use mio::Registry;
 use relay_disk::FileDisk;
 use relay_files::{Fault, configuration_text, locked_node};
-use relay_limits::{Limits, LogForm};
+use relay_limits::{Balancers, Limit, Limits, LogForm};
 use relay_log::{Counters, Form, Log};
 use relay_loop::Relay;
 use relay_routes::{Config, ConfigFault};
@@ -23,18 +23,21 @@ use std::time::Duration;
 /// each.
 const ADDRESS_SECONDS: u64 = 60;
 
-/// The configuration and the limits in the file at this path. Faults are looked for in this order: the file, the
-/// configuration, the limits.
+/// The configuration, the limits and the balancers in the file at this path. Faults are looked for in this order: the
+/// file, the configuration, the limits, the balancers.
 pub(crate) fn settings<F: Files<File = File>>(
     alloc: Global,
     files: &F,
     path: &str,
-) -> Result<(Config, Limits), Fault> {
+) -> Result<(Config, Limits, Balancers), Fault> {
     let text = configuration_text(alloc, files, path)?;
     let document = document(alloc, text.as_str())?;
     let config = Config::of_document(alloc, &document)?;
     let limits = Limits::of_document(&document)?;
-    Ok((config, limits))
+    match Balancers::of_document(alloc, &document)? {
+        Some(balancers) => Ok((config, limits, balancers)),
+        None => Err(Fault::Limit(Limit::Balancers)),
+    }
 }
 
 /// The form of the log's lines; none where it is quiet.

@@ -11,7 +11,7 @@ use crate::shell::Shell;
 use crate::status_page::StatusPage;
 use mio::Events;
 use mio::event::Event;
-use relay_connections::{Leaving, Now, Readiness};
+use relay_connections::{Arrivals, Leaving, Now, Readiness};
 use relay_next_hops::NextHops;
 
 /// The most milliseconds that a wait lasts.
@@ -32,8 +32,11 @@ impl Shell {
             self.clients.note(token, ready);
         } else if token < Leaving::FIRST_TOKEN {
             self.next_hops.note(token - NextHops::FIRST_TOKEN, ready);
-        } else if token < Door::TOKEN {
+        } else if token < Arrivals::FIRST_TOKEN {
             self.leaving.note(token - Leaving::FIRST_TOKEN, ready);
+        } else if token < Door::TOKEN {
+            let number = token - Arrivals::FIRST_TOKEN;
+            self.door.note_arrival(number, ready);
         } else if token < StatusPage::TOKEN {
             self.door.note();
         } else {

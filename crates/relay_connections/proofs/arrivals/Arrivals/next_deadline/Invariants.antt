@@ -1,0 +1,6 @@
+-- so far it is not behind the given tick
+use Rattle.std.proofs.Common.{◌≤◌}
+use Rattle.relay_connections.proofs.arrivals.Arrivals.next_deadline.Given as goal
+
+abbrev pub invariant-loop-slot : goal.invariant-loop-slot
+invariant-loop-slot g l = l.next ≤ l.otherwise

@@ -1,0 +1,104 @@
+ghost use Rattle.std.specs.List.{list_any};
+ghost use Rattle.std.specs.Net.Addr.{ipv4_octets};
+ghost use Rattle.std.specs.Prelude.{◌≡◌, [], IfOk, List, MatchOption};
+ghost use Rattle.toml.specs.View.{items_view, table_view, view};
+ghost use Rattle.relay_limits.specs.Balancers.{ReadsBalancers};
+ghost use Rattle.relay_limits.specs.Limits.{value_of};
+ghost use Rattle.relay_limits.specs.declared.limit.Limit.{Limit};
+ghost use Rattle.relay_routes.specs.Network.{AreNetworks, GivesNetwork, is_in};
+ghost use Rattle.relay_routes.specs.declared.network.Network.{Network};
+
+use crate::limit::Limit;
+use relay_routes::Network;
+use std::alloc::{AllocError, Global};
+use std::marker::Model;
+use std::net::Ipv4Addr;
+use toml::Value;
+
+/// The networks of balancers: each connection from there begins with a header of the PROXY protocol, which says whose
+/// it is.
+#[derive(Debug)]
+pub struct Balancers {
+    networks: Vec<Network>,
+}
+
+// Written out, so that what drops them calls this, and doesn't look into each.
+impl Drop for Balancers {
+    fn drop(self) {
+        let Balancers {
+            networks: _networks,
+        } = self;
+    }
+}
+
+impl Model for Balancers {
+    ghost use Rattle.std.specs.Prelude.{List};
+    ghost use Rattle.relay_routes.specs.declared.network.Network.{Network};
+
+    ghost Value = { List Network };
+
+    ghost view = { λ balancers. balancers.networks.items };
+}
+
+impl Balancers {
+    /// No balancer.
+    pub fn none(alloc: Global) -> Self
+        ensures { result ≡ [] }
+    {
+        Balancers {
+            networks: Vec::new(alloc),
+        }
+    }
+
+    /// The networks that a document names at `balancers`, an array; no balancer where nothing is said, and none of this
+    /// where a value is no network. It fails where memory runs out.
+    pub fn of_document(alloc: Global, document: &toml::Table) -> Result<Option<Self>, AllocError>
+        ensures { IfOk result (ReadsBalancers (value_of Limit.Balancers (table_view document.now))) }
+    {
+        let Some(value) = document.get(Limit::Balancers.text()) else {
+            return Ok(Some(Balancers::none(alloc)));
+        };
+        let Value::Array(values) = value else {
+            return Ok(None);
+        };
+        match read_networks(alloc, values.as_slice())? {
+            Some(networks) => Ok(Some(Balancers { networks })),
+            None => Ok(None),
+        }
+    }
+
+    /// Whether an address is a balancer's.
+    pub fn contains(&self, address: Ipv4Addr) -> bool
+        ensures { result ≡ list_any (is_in (ipv4_octets address)) self.now }
+    {
+        let client = address.octets();
+        self.networks.iter().any(|network| network.contains(client))
+    }
+}
+
+/// The networks that the values write, where each writes one.
+fn read_networks(alloc: Global, values: &[Value]) -> Result<Option<Vec<Network>>, AllocError>
+    ensures { IfOk result (λ found. MatchOption found
+        ((networks : List Network) → ¬ AreNetworks (items_view values.now) networks)
+        (λ networks. AreNetworks (items_view values.now) networks.items)) }
+{
+    let mut networks = Vec::new(alloc);
+    for value in values {
+        match read_network(value) {
+            Some(network) => networks.push(network)?,
+            None => return Ok(None),
+        }
+    }
+    Ok(Some(networks))
+}
+
+/// The network that the value writes.
+fn read_network(value: &Value) -> Option<Network>
+    ensures { MatchOption result
+        ((network : Network) → ¬ GivesNetwork (view value.now) network) (GivesNetwork (view value.now)) }
+{
+    match value {
+        Value::String(text) => Network::read(text.as_bytes()),
+        _ => None,
+    }
+}
