@@ -28,6 +28,7 @@ test:
 	TIMES=10 tests/run_log.py build/relayd
 	TIMES=10 tests/status_page.py build/relayd
 	TIMES=10 tests/run_hops.py build/relayd
+	TIMES=10 tests/run_proxy.py build/relayd
 	TIMES=10 tests/run_mail.py build/relayd
 	TIMES=10 tests/run_faults.py build/relayd
 	TIMES=10 tests/run_load.py build/relayd

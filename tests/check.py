@@ -101,6 +101,7 @@ log = "xml"
 routes = 1
 trusted_clients = "127.0.0.1"
 routed_paths = "no"
+balancers = "192.0.2.5"
 """, [
         '1:1: error: host = "relay example": write a name of 1 to 255 letters, digits, hyphens and periods, such as '
         'host = "relay.example.org"',
@@ -120,7 +121,8 @@ routed_paths = "no"
         '{ "example.org" = { name = "mx.example.org", at = "192.0.2.1:25" } }',
          '13:1: error: trusted_clients = "127.0.0.1": write an array of IPv4 networks, such as '
          'trusted_clients = ["127.0.0.0/8"]',
-         '14:1: error: routed_paths = "no": write "pass" or "refuse", such as routed_paths = "refuse"'])
+         '14:1: error: routed_paths = "no": write "pass" or "refuse", such as routed_paths = "refuse"',
+        '15:1: error: balancers = "192.0.2.5": write an array of IPv4 networks, such as balancers = ["192.0.2.5"]'])
 
 
 def each_network_is_judged_on_its_own(program):
@@ -131,6 +133,9 @@ def each_network_is_judged_on_its_own(program):
                 f'4:1: error: trusted_clients: "10.0.0.0/33" {no_network}',
                 f'4:1: error: trusted_clients: "10.0.0.0/08" {no_network}',
                 '4:1: error: trusted_clients: (integer) is no network: write a text such as "192.0.2.0/24"'])
+    check(program, HEAD + 'balancers = ["192.0.2.5", "192.0.2.5/24"]\n' + ROUTES, [
+        f'4:1: error: balancers: "192.0.2.5/24" {no_network}'], 1)
+    passed(program, HEAD + 'balancers = ["192.0.2.5", "192.0.2.64/26"]\n' + ROUTES, UNREAD)
 
 
 def unknown_keys_are_errors_though_a_relay_ignores_them(program):

@@ -282,6 +282,22 @@ def run_balanced(program, packages, _balancer, folder, runs):
     return f"{HaProxy.name}: two relays behind it"
 
 
+def run_proxied(program, packages, header, folder, runs):
+    """A relay behind a balancer that says by this header whose each connection is, and that asks by one of its own
+    whether the relay answers."""
+    with contextlib.ExitStack() as stack:
+        field = stack.enter_context(contextlib.closing(Field(program, packages, folder, runs, balancers='["127.0.0.1"]')))
+        stack.enter_context(field.serving())
+        balancer = stack.enter_context(contextlib.closing(HaProxy(packages, field.relay.port, field.relay.port, header)))
+        for number in range(7, 11):
+            client = f"127.0.0.{number}"
+            with smtplib.SMTP("127.0.0.1", balancer.port, "client.example", PATIENCE, (client, 0)) as link:
+                same("refused", link.sendmail("a@out.example", [f"b{number}@out.example"], SMALL), {})
+            [message] = all_taken(field.sink, [f"b{number}@out.example"], SMALL)
+            same("the client in the trace header", f"[{client}]".encode() in message.content.split(b"\r\n")[0], True)
+    return f"{HaProxy.name}: {header}"
+
+
 def run_source(program, packages, _source, folder, runs):
     """Postfix's smtp-source: 64 sessions at once, and 640 messages."""
     room = packages / "postfix"
@@ -322,6 +338,9 @@ def main():
     if "postfix" in had:
         # `serve` takes one client after the other.
         plays.append(("run", (run_source, "postfix")))
+    if "haproxy" in had and can_make_rooms():
+        # The key is one of `run`.
+        plays += [("run", (run_proxied, header)) for header in ("send-proxy", "send-proxy-v2")]
     for by, (run, what) in plays:
         with tempfile.TemporaryDirectory() as folder:
             try:

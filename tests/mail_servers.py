@@ -228,9 +228,14 @@ exec smtpd -d
 
 
 class HaProxy(Server):
-    """A balancer before two relays: it hands on connections, in turn, and knows nothing of mail but its greeting."""
+    """A balancer before two relays: it hands on connections, in turn, and knows nothing of mail but its greeting. It may
+    begin each by a header of the PROXY protocol."""
 
     name, package, users = "HAProxy", "haproxy", ("haproxy",)
+
+    def __init__(self, packages, one, two, header=""):
+        self.header = header
+        super().__init__(packages, one, two)
 
     def files(self):
         return {
@@ -245,8 +250,8 @@ backend relays
     timeout connect 5s
     timeout server 400s
     option smtpchk EHLO balancer.example
-    server one 127.0.0.1:{self.to_out} check inter 10s
-    server two 127.0.0.1:{self.to_in} check inter 10s
+    server one 127.0.0.1:{self.to_out} check inter 10s {self.header}
+    server two 127.0.0.1:{self.to_in} check inter 10s {self.header}
 """,
             "start": """
 exec haproxy -db -f /etc/balancer.cfg
