@@ -1,5 +1,5 @@
 -- The Host fields of a request.
-use Rattle.std.proofs.Common.{◌≡◌, ℕ, ◌+◌, ◌<◌, Bool, true, List, [], ◌∷◌, ◌++◌, Option, None, Some, Bor, length, take, drop, map, filter, cond, is_some, ap, sym, refl, ◌∙◌}
+use Rattle.std.proofs.Common.{◌≡◌, ℕ, ◌+◌, ◌<◌, true, List, [], ◌∷◌, ◌++◌, Option, None, Some, Bor, length, take, drop, map, filter, cond, is_some, ap, sym, refl, ◌∙◌}
 use Rattle.std.specs.Option.{option_copied}
 use Rattle.std.proofs.Common.{get_or}
 use Rattle.std.proofs.lemmas.Bool.{false≢true}

@@ -1,4 +1,4 @@
-use Rattle.std.proofs.Common.{◌≡◌, ◌-◌, ℕ, List, rules, sym}
+use Rattle.std.proofs.Common.{◌≡◌, ◌-◌, rules, sym}
 use Rattle.relay_page.specs.Rows.{shown_name}
 use Rattle.relay_page.proofs.rows.push_hop.Goals as goal
 

@@ -1,4 +1,4 @@
-use Rattle.std.proofs.Common.{◌≡◌, ◌-◌, ℕ, rules, sym}
+use Rattle.std.proofs.Common.{◌≡◌, ◌-◌, rules, sym}
 use Rattle.relay_page.specs.Rows.{waiting_row}
 use Rattle.relay_page.proofs.rows.push_waiting.Goals as goal
 
