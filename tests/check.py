@@ -27,7 +27,7 @@ MISSING = f"No such file or directory (os error 2); {OWNER}"
 UNREAD = [f"3:1: warning: spool file relay.spool: {MISSING}", f"3:1: warning: spool file relay.spool.2: {MISSING}"]
 NO_ROUTES = "warning: no routes: each recipient is refused; add a line for each domain"
 NO_POSTMASTER = ("warning: no route for the relay's own name: mail to its postmaster is refused (RFC 5321, 4.5.1); "
-                 "add a route for host")
+                "add a route for host")
 
 
 def run(program, *words):
@@ -119,20 +119,20 @@ balancers = "192.0.2.5"
         '11:1: error: log = "xml": write "text" or "json", such as log = "json"',
         '12:1: error: routes = 1: write a table, such as routes = '
         '{ "example.org" = { name = "mx.example.org", at = "192.0.2.1:25" } }',
-         '13:1: error: trusted_clients = "127.0.0.1": write an array of IPv4 networks, such as '
-         'trusted_clients = ["127.0.0.0/8"]',
-         '14:1: error: routed_paths = "no": write "pass" or "refuse", such as routed_paths = "refuse"',
+        '13:1: error: trusted_clients = "127.0.0.1": write an array of IPv4 networks, such as '
+        'trusted_clients = ["127.0.0.0/8"]',
+        '14:1: error: routed_paths = "no": write "pass" or "refuse", such as routed_paths = "refuse"',
         '15:1: error: balancers = "192.0.2.5": write an array of IPv4 networks, such as balancers = ["192.0.2.5"]'])
 
 
 def each_network_is_judged_on_its_own(program):
     no_network = 'is no network: write an address, or one such as "192.0.2.0/24" with zeros after its prefix'
     refused(program, HEAD + 'trusted_clients = ["192.0.2.9", "192.0.2.9/24", "10.0.0.0/33", "10.0.0.0/08", 5]\n'
-            + ROUTES, [
-                f'4:1: error: trusted_clients: "192.0.2.9/24" {no_network}',
-                f'4:1: error: trusted_clients: "10.0.0.0/33" {no_network}',
-                f'4:1: error: trusted_clients: "10.0.0.0/08" {no_network}',
-                '4:1: error: trusted_clients: (integer) is no network: write a text such as "192.0.2.0/24"'])
+           + ROUTES, [
+               f'4:1: error: trusted_clients: "192.0.2.9/24" {no_network}',
+               f'4:1: error: trusted_clients: "10.0.0.0/33" {no_network}',
+               f'4:1: error: trusted_clients: "10.0.0.0/08" {no_network}',
+               '4:1: error: trusted_clients: (integer) is no network: write a text such as "192.0.2.0/24"'])
     check(program, HEAD + 'balancers = ["192.0.2.5", "192.0.2.5/24"]\n' + ROUTES, [
         f'4:1: error: balancers: "192.0.2.5/24" {no_network}'], 1)
     passed(program, HEAD + 'balancers = ["192.0.2.5", "192.0.2.64/26"]\n' + ROUTES, UNREAD)
@@ -202,10 +202,10 @@ def a_route_to_the_relay_itself_is_a_warning(program):
     for listen, at in (("127.0.0.1:2525", "127.0.0.1:2525"), ("0.0.0.0:2525", "127.0.0.2:2525")):
         route = f'"a.example" = {{ name = "a", at = "{at}" }}\n'
         passed(program, HEAD.replace("127.0.0.1:2525", listen) + ROUTES + route,
-               [*UNREAD, f"7:1: warning: route a.example leads to this relay's own address {at}: its mail goes round; "
-                "write another host's address"])
+              [*UNREAD, f"7:1: warning: route a.example leads to this relay's own address {at}: its mail goes round; "
+               "write another host's address"])
     passed(program, HEAD.replace("127.0.0.1:2525", "127.0.0.1:2524") + ROUTES
-           + '"a.example" = { name = "a", at = "127.0.0.1:2525" }\n', UNREAD)
+          + '"a.example" = { name = "a", at = "127.0.0.1:2525" }\n', UNREAD)
 
 
 def files_that_can_not_be_read_are_told_with_the_reason(program):
@@ -215,7 +215,7 @@ def files_that_can_not_be_read_are_told_with_the_reason(program):
     if os.geteuid() != 0:
         pathlib.Path("relay.spool").touch(mode=0)
         check(program, HEAD + ROUTES, [
-            f"3:1: warning: spool file relay.spool: Permission denied (os error 13); {OWNER}", UNREAD[1]], 0)
+           f"3:1: warning: spool file relay.spool: Permission denied (os error 13); {OWNER}", UNREAD[1]], 0)
         pathlib.Path("relay.spool").unlink()
 
 
@@ -253,9 +253,9 @@ def main(program):
         files_that_can_not_be_read_are_told_with_the_reason, the_next_hop_of_an_address_is_told, faults_have_their_line]
     for row in rows:
         with tempfile.TemporaryDirectory() as folder:
-            os.chdir(folder)
-            row(program)
-            os.chdir("/")
+           os.chdir(folder)
+           row(program)
+           os.chdir("/")
     print(f"check: {len(rows)} rows")
 
 
