@@ -71,11 +71,11 @@ still_free [] number free = refl
 still_free (run ∷ runs) zero free = ap (λ (r : Option Run). r ∷ runs) (sym free)
 still_free (run ∷ runs) (suc number) free = ap (λ (l : List (Option Run)). run ∷ l) (still_free runs number free)
 
--- The others go on behind an attempt that is gone.
+-- The others go on after an attempt that is gone.
 module _ (host : List ℕ) (table : RouteTable) (queue : Queue) (number : ℕ) (run : Run) (before after : AttemptTable)
     (serves : Serves host table before queue) (its : slot_at before.runs number ≡ Some run)
     (gone : after.runs ≡ slice_set before.runs number None) where
-  -- what runs behind it ran before, under another number
+  -- what runs after it ran before, under another number
   still : (n : ℕ) (other : Run) → slot_at after.runs n ≡ Some other → slot_at before.runs n ≡ Some other
   still n other is =
       by (slot_in_set before.runs number n None other (subst (λ (l : List (Option Run)). slot_at l n ≡ Some other) gone is))

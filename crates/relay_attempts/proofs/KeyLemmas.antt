@@ -55,7 +55,7 @@ insert_has (first ∷ keys) new = by (nat_cmp new first) refl (insert_has keys n
     by Equal e more = subst (λ (k : ℕ). Contains (first ∷ keys) k) (sym (exact_unsigned new first e)) (head_in first keys)
     by Greater e more = tail_in first new (insert_key nat_cmp keys new) more
 
--- what the set has behind an insert: what it had, and the new number
+-- what the set has after an insert: what it had, and the new number
 pub keys_keep : (old new : List ℕ) (key : ℕ) → new ≡ insert_key nat_cmp old key → (number : ℕ) → Contains old number → Contains new number
 keys_keep old new key is number h = subst (λ (l : List ℕ). Contains l number) (sym is) (insert_keeps old key number h)
 

@@ -56,7 +56,7 @@ ruled_was_held places least (ruling ∷ rulings) place are out = by (cases_eq ru
     by (inl same) rest = subst (λ n. holds_at places n ≡ true) same are.1
     by (inr off) rest = rest (ap (λ (b : Bool). b || is_ruled rulings place) (sym (ne_eqb ruling.place place off)) ∙ out)
 
--- what is held behind an outcome was held before it
+-- what is held after an outcome was held before it
 pub was_held : (version : Version) (accept : Accept) (at : ℕ) (places : List Place) (rulings : List Ruling) (place : ℕ) → AreRulings places 0 rulings
     → holds_at (places_ruled version accept at places rulings) place ≡ true → holds_at places place ≡ true
 was_held version accept at places rulings place are held = by (is_ruled rulings place) refl
@@ -117,7 +117,7 @@ same_ruled outcome (entry ∷ entries) message found held = by (entry.0 == outco
         cond-false (entry.0 == outcome.message) (Some entry.1) (message_of (ruled outcome entries) outcome.message) is
         ∙ rest (sym (cond-false (entry.0 == outcome.message) (Some entry.1) (message_of entries outcome.message) is) ∙ found) held
 
--- messages behind others
+-- messages after others
 pub found_first : (entries more : List (ℕ × Message)) (number : ℕ) (message : Message) → message_of entries number ≡ Some message → message_of (entries ++ more) number ≡ Some message
 found_first [] more number message found = absurd (none_some message found)
 found_first (entry ∷ entries) more number message found = by (entry.0 == number) (found_first entries more number message) found

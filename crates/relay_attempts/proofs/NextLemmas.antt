@@ -284,7 +284,7 @@ module _ (table : RouteTable) (runs : List (Option Run)) where
   pub next_never : (queue : Queue) (now : ℕ) → stranded_of table queue.messages ≡ [] → IsLeastOf (moments queue.messages) None → IsNextDue table runs queue now None
   next_never queue now none empty = λ moment within. no_works moment queue none (λ m there low. in_none m (subst (λ (l : List ℕ). Contains l m) empty there))
 
-  -- at or behind a first moment, as far as there are moments
+  -- at or after a first moment, as far as there are moments
   pub next_after : (queue : Queue) (now due : ℕ) (result : Option ℕ) → stranded_of table queue.messages ≡ [] → IsLeastOf (moments queue.messages) (Some due)
       → MatchOption result (last_second < due) (λ moment. (due ≤ last_second) × (moment ≡ max now due)) → IsNextDue table runs queue now result
   next_after queue now due None none least past = next_past queue now due none least past

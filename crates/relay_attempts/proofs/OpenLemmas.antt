@@ -1,4 +1,4 @@
--- Attempts that serve a queue when a node is opened, and behind an accept, which may be one more message with a held place that has no hop.
+-- Attempts that serve a queue when a node is opened, and after an accept, which may be one more message with a held place that has no hop.
 use Rattle.std.proofs.Common.{◌≡◌, ℕ, zero, suc, ◌==◌, Bool, true, false, cond, List, [], ◌∷◌, ◌++◌, map, Option, None, Some, refl, sym, subst, ap, ◌∙◌, if◌then◌else◌}
 use Rattle.std.specs.Option.{option_map_or}
 use Rattle.std.proofs.lemmas.Bool.{cond-true, eq-eqb}
@@ -33,7 +33,7 @@ idle_serves host table attempts queue free known = record {
   once = λ n other run another is also same its. absurd (free_has_none attempts.runs n run free is);
 }
 
--- behind an accept the attempts go on, and the message that was accepted may be stranded
+-- after an accept the attempts go on, and the message that was accepted may be stranded
 pub accepted_serves : (host : List ℕ) (table : RouteTable) (queue new : Queue) (accept : Accept) (number : ℕ) (before after : AttemptTable) → Rise 0 queue.next queue.messages → number ≡ queue.next
     → new ≡ step queue (change.Accept accept) → after.runs ≡ before.runs
     → after.stranded ≡ before.stranded ++ (if is_stranded_at table new.messages number then number ∷ [] else []) → Serves host table before queue → Serves host table after new

@@ -14,7 +14,7 @@ lower : (all : List Place) (less least : ℕ) (numbers : List ℕ) → less ≤ 
 lower all less least [] below held = tt
 lower all less least (number ∷ numbers) below held = (omega (arith, below, held.0), held.1, held.2)
 
--- what stands from a number on, and behind the first
+-- what stands from a number on, and after the first
 next_at : (all : List Place) (n : ℕ) (place : Place) (places : List Place) → ((i : ℕ) → slice_get all (n + i) ≡ slice_get (place ∷ places) i)
     → (i : ℕ) → slice_get all (suc n + i) ≡ slice_get places i
 next_at all n place places at i = let next : suc n + i ≡ n + suc i = omega arith in ap (slice_get all) next ∙ at (suc i)

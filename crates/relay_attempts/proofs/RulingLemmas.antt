@@ -28,7 +28,7 @@ ruled_more (place ∷ places) (first ∷ verdicts) verdict index is within =
     (λ n. ruling place first ∷ (rulings_of places verdicts ++ ruling (get_or (place ∷ places) n 0) verdict ∷ []))
     (sym at)
 
--- there is none behind the last place
+-- there is none after the last place
 pub ruled_all : (places : List ℕ) (verdicts : List Verdict) (verdict : Verdict)
     → length places ≤ length (rulings_of places verdicts)
     → rulings_of places (verdicts ++ verdict ∷ []) ≡ rulings_of places verdicts

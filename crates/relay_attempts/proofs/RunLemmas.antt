@@ -18,7 +18,7 @@ use Rattle.relay_attempts.proofs.PlaceLemmas.{due_are_held, due_go_there}
 no_slot : {A : Type 0} (x : A) → None ≡ Some x → ⊥
 no_slot x e = cc
 
--- what stands in a slot behind a put: what was put there, or what stood there before
+-- what stands in a slot after a put: what was put there, or what stood there before
 pub slot_in_set : (runs : List (Option Run)) (number other : ℕ) (value : Option Run) (run : Run) → slot_at (slice_set runs number value) other ≡ Some run
     → ((other ≡ number) × (value ≡ Some run)) ⊎ (slot_at runs other ≡ Some run)
 slot_in_set [] number other value run is = inr is
@@ -100,7 +100,7 @@ module _ (host : List ℕ) (table : RouteTable) (number : ℕ) (hop : List ℕ) 
       by (inr before) (inl again) = absurd (not_another one another run again.1 before (sym same) (sym its))
       by (inr before) (inr also) = once one other run another before also same its
 
-  -- behind a start the attempts still are those of the queue
+  -- after a start the attempts still are those of the queue
   pub start_serves : (before after : AttemptTable) → before.runs ≡ old → after.runs ≡ new → after.stranded ≡ before.stranded → Serves host table before queue → Serves host table after queue
   start_serves before after old_is new_is same serves = record {
     stranded = same ∙ serves.stranded;

@@ -21,7 +21,7 @@ module _ {D : Type 0} (host : List ℕ) (outcome : Outcome) (change : Change) (o
   reported_from : ReportedFrom host old.queue (reported_as outcome is.report)
   reported_from = subst (ReportedFrom host old.queue) is.change_is is.reported
 
-  -- it is staged behind the changes that records await
+  -- it is staged after the changes that records await
   pub stages_outcome : (honest : Type 0) (words : DiskWords D) (changes pending : List Change) (row : Row)
       (used : ℕ) (new : Kept D) (left : Row) (number : ℕ) → Awaits honest words old changes pending row
       → old.queue.next ≡ length changes + length pending + 1 → Stages old new row left change used number

@@ -1,4 +1,4 @@
--- The messages with a held place that has no hop, behind an outcome.
+-- The messages with a held place that has no hop, after an outcome.
 use Rattle.std.proofs.Common.{◌≡◌, ◌⊎◌, inl, inr, ℕ, zero, suc, ◌+◌, ◌<◌, ◌==◌, ◌||◌, not, cond, Bool, true, false, List, [], ◌∷◌, ◌++◌, map, Option, None, Some, MatchOption, is_some, refl, sym, ap, ◌∙◌, subst, arith, if◌then◌else◌}
 use Rattle.std.specs.List.{filter, list_any}
 use Rattle.std.specs.Option.{option_map_or}
@@ -128,7 +128,7 @@ module _ (table : RouteTable) (outcome : Outcome) where
   abbrev left : Bool → List ℕ → List ℕ
   left b all = if b then all else without outcome.message all
 
-  -- behind the verdicts of an outcome its message goes from the numbers, unless it is still stranded
+  -- after the verdicts of an outcome its message goes from the numbers, unless it is still stranded
   ruled_numbers : (least next : ℕ) (entries : List (ℕ × Message)) → Rise least next entries
       → ((message : Message) → message_of entries outcome.message ≡ Some message → AreRulings message.places 0 outcome.rulings)
       → stranded_of table (ruled outcome entries) ≡ left (is_stranded_at table (ruled outcome entries) outcome.message) (stranded_of table entries)
@@ -249,7 +249,7 @@ module _ (table : RouteTable) (outcome : Outcome) (queue : Queue) (rise : Rise 0
       same : Some message ≡ Some m → message ≡ m
       same e = cc
 
-  -- the numbers behind an outcome
+  -- the numbers after an outcome
   step_numbers : stranded_of table (ruled_on ++ added)
       ≡ left table outcome (is_stranded_at table (ruled_on ++ added) outcome.message) (stranded_of table queue.messages) ++ one_if (is_stranded_at table (ruled_on ++ added) queue.next) queue.next
   step_numbers =
@@ -262,7 +262,7 @@ module _ (table : RouteTable) (outcome : Outcome) (queue : Queue) (rise : Rise 0
       ∙ ap (λ (o : Option Message). left table outcome (is_stranded_at table (ruled_on ++ added) outcome.message) (stranded_of table queue.messages) ++ one_if (lost_at table outcome o) queue.next)
       (sym (found_last ruled_on added queue.next (ruled_none_at_next outcome 0 queue.next queue.messages rise)))
 
-  -- what is noted behind it is what is stranded
+  -- what is noted after it is what is stranded
   pub known_behind : (new : Queue) (number : ℕ) (old mid all : List ℕ) → new ≡ step queue (change.Outcome outcome) → number ≡ queue.next → old ≡ stranded_of table queue.messages
       → mid ≡ (if is_stranded_at table new.messages outcome.message then old else without outcome.message old)
       → all ≡ mid ++ (if is_stranded_at table new.messages number then number ∷ [] else []) → all ≡ stranded_of table new.messages

@@ -149,7 +149,7 @@ module _ (host : List ℕ) (queue : Queue) (runs : List (Option Run)) (number : 
       subst (λ (r : Run). Follows r.client host told.envelope told.text told.places told.input told.output) one
       tells.follows
 
-  -- what it hears more is told behind it
+  -- what it hears more is told after it
   pub heard_told : (after : Attempt) (more out : List ℕ) (verdicts : Option (List Verdict))
       → Hears queue run after more out verdicts
       → FollowsOn after host told.envelope told.text told.places (told.input ++ more) (told.output ++ out) verdicts

@@ -61,7 +61,7 @@ module _ (host : List ℕ) (table : RouteTable) (number : ℕ) (hop : List ℕ) 
     pub least : ℕ
     pub free : IsLeastFree runs least
 
-  -- why none starts: the first of these, and want of memory behind them all
+  -- why none starts: the first of these, and want of memory after them all
   abbrev pub RefusesToStart : {D : Type 0} → Kept D → List (Option Run) → NodeFault → Type 0
   RefusesToStart records runs Stopped = records.spool.live ≡ false
   RefusesToStart records runs Unknown =

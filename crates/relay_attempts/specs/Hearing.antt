@@ -20,7 +20,7 @@ module _ (host : List ℕ) (queue : Queue) (now number : ℕ) (piece : List ℕ)
   abbrev pub told_later : Told → Told
   told_later told = told_more told (take hearing.used piece) hearing.out.items
 
-  -- it goes on behind the whole piece
+  -- it goes on after the whole piece
   pub record GoesOn : Type 0 where
     pub was : slot_at old.runs number ≢ None
     pub used : hearing.used ≡ length piece

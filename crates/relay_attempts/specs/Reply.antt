@@ -32,7 +32,7 @@ pub record Told : Type 0 where
   pub input : List ℕ
   pub output : List ℕ
 
--- with this read and written behind it
+-- with this read and written after it
 abbrev pub told_more : Told → List ℕ → List ℕ → Told
 told_more told input output = record told { input = told.input ++ input; output = told.output ++ output }
 
@@ -58,7 +58,7 @@ IsItsCourse host told broken verdicts =
 abbrev pub outcome_at : ℕ → Told → List Verdict → Outcome
 outcome_at now told verdicts = outcome_of told.message now told.hop (rulings_of told.places verdicts)
 
--- behind so many octets of a piece, and with this written, it has ended with these verdicts
+-- after so many octets of a piece, and with this written, it has ended with these verdicts
 pub record ReadsToEnd (host : List ℕ) (told : Told) (piece : List ℕ) : Type 0 where
   pub used : ℕ
   pub within : used ≤ length piece
@@ -70,7 +70,7 @@ pub record ReadsToEnd (host : List ℕ) (told : Told) (piece : List ℕ) : Type 
 -- keep these changes.
 module _ {D : Type 0} (honest : Type 0) (words : DiskWords D) (host : List ℕ) (now : ℕ) (changes : List Change)
     (number : ℕ) (told : Told) where
-  -- it goes on behind the whole piece, and nothing was added
+  -- it goes on after the whole piece, and nothing was added
   pub record AttemptGoesOn (piece : List ℕ) (old new : Kept D) (runs : List (Option Run)) (replied : Replied)
       : Type 0 where
     pub used : replied.used ≡ length piece

@@ -23,10 +23,10 @@ use Rattle.relay_attempts.specs.Attempts.{AttemptTable}
 use Rattle.relay_attempts.specs.Outcomes.{outcome_of, rulings_of}
 use Rattle.relay_attempts.specs.Reply.{IsItsCourse, ReadsToEnd, TellsAt, Told, outcome_at, told_more}
 
--- The words below are of a row of changes that are pending, behind those that records keep.
+-- The words below are of a row of changes that are pending, after those that records keep.
 module _ {D : Type 0} (honest : Type 0) (words : DiskWords D) (host : List ℕ) (changes pending : List Change)
     (row : Row) where
-  -- the outcome is staged behind the row with the report that is due of it, as the change of this number
+  -- the outcome is staged after the row with the report that is due of it, as the change of this number
   pub record StagesOutcome (outcome : Outcome) (used : ℕ) (new : Kept D) (left : Row) (number : ℕ) : Type 0 where
     pub number_is : number ≡ length changes + length pending + 1
     pub report : List ℕ
@@ -38,7 +38,7 @@ module _ {D : Type 0} (honest : Type 0) (words : DiskWords D) (host : List ℕ) 
 
   -- The words below are of a call at a moment, for the attempt of a number, of which this is told.
   module _ (now number : ℕ) (told : Told) where
-    -- it goes on behind the whole piece, and nothing was staged
+    -- it goes on after the whole piece, and nothing was staged
     pub record GoesOnBehind (piece : List ℕ) (old new : Kept D) (left : Row) (runs : List (Option Run))
         (replied : Replied) : Type 0 where
       pub used : replied.used ≡ length piece
@@ -83,7 +83,7 @@ RefusesToStageOutcome host outcome old new row left Full =
     (new ≡ old) × (left ≡ row) × HasNoRoomBehind host outcome old row
 RefusesToStageOutcome host outcome old new row left other = ⊥
 
--- there is no room for the outcome with which it ends, behind a row
+-- there is no room for the outcome with which it ends, after a row
 pub record HasNoRoomAtEndBehind {D : Type 0} (host : List ℕ) (now : ℕ) (told : Told) (piece : List ℕ) (old : Kept D)
     (row : Row) : Type 0 where
   pub ends : ReadsToEnd host told piece

@@ -23,7 +23,7 @@ abbrev pub is_try_of : List ℕ → Work → Bool
 is_try_of hop (NoRoute number) = false
 is_try_of hop (Try number name) = bytes_eq name hop
 
--- a try of this hop behind those, unless an attempt is running for it or it is among them
+-- a try of this hop after those, unless an attempt is running for it or it is among them
 abbrev pub one_try : List (Option Run) → ℕ → List Work → List ℕ → List Work
 one_try runs number before hop =
     if not (is_running runs number hop) && not (list_any (is_try_of hop) before) then Try number hop ∷ [] else []

@@ -55,7 +55,7 @@ impl Attempts {
         }
     }
 
-    /// Stages an outcome of a queued message behind the changes of a row, with the report that is due of it, in one
+    /// Stages an outcome of a queued message after the changes of a row, with the report that is due of it, in one
     /// change; then it is known which messages are stranded by it, or by the report, and which are no more. No device
     /// is called.
     pub(crate) fn conclude_into<D: Disk>(

@@ -18,7 +18,7 @@ impl Attempts {
     /// The least moment, from this one on, at which [`Attempts::due`] has work: this one where a held place has no
     /// hop, and else the first at which a place is due that has one, and for whose message and hop no attempt is
     /// running. None where there is no work at any moment. It looks at the places in the order of their moments, at
-    /// none behind the first that is to be tried, and takes no memory.
+    /// none after the first that is to be tried, and takes no memory.
     pub fn next_due<D: Disk>(
         &self,
         table: &Table,

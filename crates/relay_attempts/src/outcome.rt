@@ -51,7 +51,7 @@ pub(crate) fn add_outcome<D: Disk>(
     records.add(alloc, change, octets, used)
 }
 
-/// Stages an outcome of a queued message behind the changes of a row, with the report that is due of it by this host,
+/// Stages an outcome of a queued message after the changes of a row, with the report that is due of it by this host,
 /// in one change; what its report says doesn't count. The answer is its number, and `used` is how many octets of its
 /// piece the call had used. No device is called.
 ///

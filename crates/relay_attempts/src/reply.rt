@@ -87,7 +87,7 @@ impl Attempts {
     }
 
     /// Uses octets that the server of an attempt wrote, as [`Attempts::reply`] does, but puts the outcome at the
-    /// attempt's end behind the changes of a row, in one change with the report that is due of it. No device is
+    /// attempt's end after the changes of a row, in one change with the report that is due of it. No device is
     /// called: until the row has come into the spool, a stop leaves nothing of the outcome.
     ///
     /// `Unknown` is answered where there is no such attempt, and nothing is changed then. At `NoMemory` and `Full`

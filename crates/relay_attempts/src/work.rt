@@ -127,7 +127,7 @@ impl<'a> Finder<'a> {
         }
     }
 
-    /// Adds a try of a hop that is there, unless an attempt is running for it, or one stands behind the first works.
+    /// Adds a try of a hop that is there, unless an attempt is running for it, or one stands after the first works.
     fn push_try(
         &self,
         works: &mut Vec<Work>,

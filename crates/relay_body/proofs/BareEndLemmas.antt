@@ -78,7 +78,7 @@ bare_end_is_seen content =
 
 -- The search: from one CR or LF to the next.
 
--- a CR or an LF stands at this place of the octets behind `from`
+-- a CR or an LF stands at this place of the octets after `from`
 abbrev pub IsEnd : List ℕ → ℕ → ℕ → Type 0
 IsEnd octets from k = Passes (is_byte2 13 10) (drop from octets) k
 
@@ -91,7 +91,7 @@ pass_over (octet ∷ octets) (suc place) within none =
     plain_first octet octets (none 0 (omega arith))
     ∙ pass_over octets place (omega (arith, within)) (λ k low. none (suc k) (omega (arith, low)))
 
--- what begins with CR LF goes on behind it
+-- what begins with CR LF goes on after it
 behind_crlf : (octets : List ℕ) → begins_with_crlf octets ≡ true → has_bare_end octets ≡ has_bare_end (drop 2 octets)
 behind_crlf [] begins = absurd (false≢true begins)
 behind_crlf (octet ∷ []) begins = absurd (false≢true begins)
@@ -124,7 +124,7 @@ stands_at octets from place so_far first =
     ∙ pass_over (drop from octets) place (omega (arith, high)) (not_before octets from place first)
     ∙ ap has_bare_end (drop-drop place from octets)
 
--- behind a CR LF it goes on
+-- after a CR LF it goes on
 pub goes_on : (octets : List ℕ) (from place next : ℕ) → SeesNone octets from → NoneBefore (IsEnd octets from) 0 (length (drop from octets)) place
     → begins_with_crlf (drop (from + place) octets) ≡ true → 2 ≤ length (drop (from + place) octets) → next ≡ from + (place + 2) → SeesNone octets next
 goes_on octets from place next so_far first begins two is = record {

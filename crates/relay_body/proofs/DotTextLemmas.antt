@@ -34,7 +34,7 @@ end_is_line octets rest e = record {
   first = no_crlf_one 46;
 }
 
--- two readings of a text, each with something behind it, have the same lines
+-- two readings of a text, each with something after it, have the same lines
 pub texts_agree : (lines others : List (List ℕ)) (behind rest : List ℕ) → AreTextLines lines
     → AreTextLines others
     → lines_text lines ++ (end_of_data ++ behind) ≡ lines_text others ++ (end_of_data ++ rest)
@@ -63,7 +63,7 @@ texts_agree (line ∷ lines) (other ∷ others) behind rest h k e =
     let later = texts_agree lines others behind rest h.1 k.1 same.1 in
     (ap (λ l. l ∷ lines) same.0 ∙ ap (λ ls. other ∷ ls) later.0, later.1)
 
--- no text begins another, and what stands behind it is the same
+-- no text begins another, and what stands after it is the same
 pub no_text_begins_another : NoTextBeginsAnother
 no_text_begins_another text content other more behind rest one two e =
     let texts =
@@ -255,7 +255,7 @@ pub record Splits (octets : List ℕ) : Type 0 where
   pub none : HasNoCrlf part
   pub octets_are : octets ≡ lines_text lines ++ part
 
--- an octet before octets that begin with no LF behind a CR
+-- an octet before octets that begin with no LF after a CR
 no_crlf_more : (octet next : ℕ) (octets more : List ℕ) → octet == 13 && next == 10 ≡ false
     → HasNoCrlf octets → (rest : List ℕ) → next ∷ more ≡ octets ++ rest → HasNoCrlf (octet ∷ octets)
 no_crlf_more octet next [] more apart none rest e = no_crlf_one octet
@@ -350,7 +350,7 @@ reading_is_open reader limit octets reading = (
   λ failed. subst (λ (phase : Phase). IsPart phase reading.part reading.content) failed reading.part_is,
 )
 
--- the test of line ends is true of no octets and of octets with CR LF behind them
+-- the test of line ends is true of no octets and of octets with CR LF after them
 pub line_end_is_seen : LineEndIsSeen
 line_end_is_seen content front (inl none) = ap ends_in_line_end none
 line_end_is_seen content front (inr ends) =

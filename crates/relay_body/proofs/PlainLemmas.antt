@@ -17,7 +17,7 @@ use Rattle.relay_body.proofs.DotTextLemmas.{ends_behind_lines, nothing_ends_so}
 use Rattle.relay_body.proofs.ReadingLemmas.{begins_more, begun_is_some, cr_off, ends_in_cr-append, is_part_by, line_goes_on, lines_text-more, uses_both, without_period-append}
 use Rattle.relay_body.proofs.WritingLemmas.{with_period-crlf}
 
--- what comes behind the octets that were used is used
+-- what comes after the octets that were used is used
 pub uses_octet : (old between new : DotReader) (piece : List ℕ) (used : ℕ) (done : Bool) → Uses old between (take used piece) false → Uses between new (get_or piece used 0 ∷ []) done → used < length piece → Uses old new (take (used + 1) piece) done
 uses_octet old between new piece used done one two some =
     uses_both old between new (take used piece) (get_or piece used 0 ∷ [])
@@ -129,7 +129,7 @@ more_is_something : (part : List ℕ) (octet : ℕ) → is_nothing (part ++ octe
 more_is_something [] octet = refl
 more_is_something (first ∷ part) octet = refl
 
--- an octet behind others doesn't touch the period in front of them
+-- an octet after others doesn't touch the period in front of them
 octet_behind : (test : Bool) (first octet : ℕ) (octets : List ℕ)
     → ◌≡◌ {A = List ℕ} ((if test then 46 ∷ first ∷ octets else first ∷ octets) ++ octet ∷ [])
     (if test then 46 ∷ first ∷ (octets ++ octet ∷ []) else first ∷ (octets ++ octet ∷ []))
@@ -210,7 +210,7 @@ writes_next content text written place begins behind_cr so_far some adds =
     (sym (take_more content place 0 some))
     (writes_octet (take place content) text written begins behind_cr octet so_far adds)
 
--- behind the whole content, the end of mail data makes the text whole
+-- after the whole content, the end of mail data makes the text whole
 pub writes_whole : (content front text written : List ℕ) (begins behind_cr : Bool)
     → WritesFront front text begins behind_cr → front ≡ content → ends_in_line_end content ≡ true
     → written ≡ text ++ end_of_data → WritesDotText content written

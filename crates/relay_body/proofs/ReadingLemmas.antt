@@ -1,4 +1,4 @@
--- What a reader has in hand, phase by phase, behind the octets that it uses.
+-- What a reader has in hand, phase by phase, after the octets that it uses.
 use Rattle.std.proofs.Common.{◌≡◌, ◌≢◌, ℕ, suc, ◌+◌, ◌-◌, ◌<◌, Bool, true, false, ◌&&◌, ◌==◌, if◌then◌else◌, List, [], ◌∷◌, ◌++◌, length, map, take, drop, get_or, refl, sym, ap, subst, ◌∙◌, arith, append_assoc, eq-eqb}
 use Rattle.std.proofs.SliceLists.{all_by_recursion_push}
 use Rattle.std.proofs.lemmas.List.{append-nil, map_push, flat_map_more, take_all, take-take, drop-take, take-append-drop, take_rest}
@@ -206,7 +206,7 @@ cr_off (octet ∷ next ∷ more) ends =
     let shorter = cr_off (next ∷ more) ends in
     (octet ∷ shorter.0, ap (λ l. octet ∷ l) shorter.1)
 
--- an LF behind a CR ends the line
+-- an LF after a CR ends the line
 pub lf_ends_line : (old : DotReader) (gathering : Gathering) (octet : ℕ) → old.phase ≡ WithinCr
     → octet ≡ 10
     →
@@ -234,7 +234,7 @@ lf_ends_line old gathering octet phase lf keeps = record {
       (keeps limit (content_of reading.lines ++ reading.content) reading.keeps);
 }
 
--- another octet behind a CR stays within the line
+-- another octet after a CR stays within the line
 pub octet_stays : (old : DotReader) (phase : Phase) (gathering : Gathering) (octet : ℕ)
     → old.phase ≡ WithinCr → octet ≢ 10 → phase ≡ phase_behind octet
     →

@@ -12,7 +12,7 @@ use Rattle.relay_body.proofs.DotTextLemmas.{each_content_is_written, ends_behind
 
 -- A search
 
--- such a place, behind some octets, stands at their number
+-- such a place, after some octets, stands at their number
 stands_behind : (octets before after : List ℕ) → octets ≡ before ++ period_line ++ after
     → (length octets ≡ length before + 3 + length after) × OccursAt octets period_line
     (length before)
@@ -104,7 +104,7 @@ period_off : (octets : List ℕ) → begins_with_period octets ≡ true
 period_off [] begins = absurd (cc begins)
 period_off (octet ∷ octets) begins = (octets, ap (λ o. o ∷ octets) (eqb-true octet 46 begins))
 
--- behind a line end no line begins with a period
+-- after a line end no line begins with a period
 pub no_period_behind : (front behind : List ℕ) → HasNoPeriodLine ((front ++ crlf) ++ behind)
     → begins_with_period behind ≡ false
 no_period_behind front behind none = elim (cases_Bool (begins_with_period behind)) [
@@ -158,7 +158,7 @@ sends_run run ends none =
       sent = ap (λ l. period_for l ++ l) written.content_is ∙ sym (sent_for_run written.lines none_of_lines);
     }
 
--- lines behind lines
+-- lines after lines
 all_lines : (lines more : List (List ℕ)) → AreLines lines → AreLines more → AreLines (lines ++ more)
 all_lines [] more none each = each
 all_lines (line ∷ lines) more each others = (each.0, all_lines lines more each.1 others)
@@ -253,7 +253,7 @@ sends_last content old so_far rest new adds none new_is =
       regroup : (a b c d e : List ℕ) → ((a ++ (b ++ c)) ++ d) ++ e ≡ a ++ ((b ++ (c ++ d)) ++ e)
       regroup a b c d e = simp append_assoc
 
--- what was there stays in front, and so it does where more is sent behind it
+-- what was there stays in front, and so it does where more is sent after it
 pub stays_in_front : (content old so_far rest sent new : List ℕ) → AddsSoFar content old so_far rest
     → new ≡ so_far ++ sent → (more : List ℕ) × (new ≡ old ++ more)
 stays_in_front content old so_far rest sent new adds new_is =

@@ -84,7 +84,7 @@ part_read phase octets content run read runs some none =
           ap (λ t. t ++ run) read.content_is ∙ append_assoc (content_of read.lines) read.tail run;
     }
 
--- lines more, behind which no line begins with a period
+-- lines more, after which no line begins with a period
 record ReadsTo (octets content lines_read behind : List ℕ) : Type 0 where
   read : Reads LineStart (octets ++ lines_read) (content ++ lines_read)
   no_period : begins_with_period behind ≡ false
@@ -173,7 +173,7 @@ part_is_open octet more no_crlf = elim (cases_Bool (ends_in_line_end (octet ∷ 
   | inr none ↦ none
 ]
 
--- the phase behind a run, by whether it ends in a line end
+-- the phase after a run, by whether it ends in a line end
 pub record IsBehind (phase : Phase) (run : List ℕ) : Type 0 where
   pub at_line_end : ends_in_line_end run ≡ true → phase ≡ LineStart
   pub within : ends_in_line_end run ≡ false → phase ≡ phase_behind (get_or run (length run - 1) 0)

@@ -1,4 +1,4 @@
--- Chunks (RFC 3030, section 2): behind each BDAT come as many octets as it says, and they are
+-- Chunks (RFC 3030, section 2): after each BDAT come as many octets as it says, and they are
 -- content as they are.
 use Rattle.std.specs.Prelude.{◌≡◌, ℕ, ◌+◌, ◌≤◌, ◌↔◌, ◌++◌, ◌∷◌, [], List, false, IsSome, IsTrue, length, map, take}
 use Rattle.std.specs.Option.{option_map_or}
@@ -53,7 +53,7 @@ IsBetweenChunks reader = reader.stage ≡ Awaits 0
 abbrev pub HasNoMemory : ChunkReader → Type 0
 HasNoMemory reader = reader.stage ≡ Failed
 
--- the reader was given these chunks whole, and stands behind them
+-- the reader was given these chunks whole, and stands after them
 pub record HasChunks (reader : ChunkReader) (limit : ℕ) (chunks : List Chunk) : Type 0 where
   pub each : AreWhole chunks
   pub between : IsBetweenChunks reader
@@ -67,7 +67,7 @@ pub record IsInChunk (reader : ChunkReader) (limit : ℕ) (chunks : List Chunk) 
   pub awaits : reader.stage ≡ Awaits missing
   pub gathers : Gathers reader limit (content_of_chunks chunks ++ chunk.octets)
 
--- whatever chunks the reader was given before, a chunk of this size has begun behind them
+-- whatever chunks the reader was given before, a chunk of this size has begun after them
 pub record BeginsChunk (old new : ChunkReader) (size : ℕ) : Type 0 where
   pub begins : (limit : ℕ) (chunks : List Chunk) → HasChunks old limit chunks
       → IsInChunk new limit chunks (new_chunk size)
@@ -88,7 +88,7 @@ chunk_limit_of reader = reader.gathering.limit
 abbrev pub chunks_held_by : ChunkReader → ℕ
 chunks_held_by reader = option_map_or length reader.gathering.kept 0
 
--- pieces are fed one behind the other, and each is used whole
+-- pieces are fed one after the other, and each is used whole
 abbrev pub IsFed : ChunkReader → List (List ℕ) → ChunkReader → Type 0
 IsFed old [] new = old ≡ new
 IsFed old (piece ∷ pieces) new =
@@ -127,7 +127,7 @@ SizesCutOnce =
     → map Chunk.size chunks ≡ map Chunk.size others → content_of_chunks chunks ≡ content_of_chunks others
     → chunks ≡ others
 
--- The same octets, cut into any pieces, leave the same reader behind, with the same content.
+-- The same octets, cut into any pieces, leave the same reader after, with the same content.
 abbrev pub CuttingSaysNothing : Type 0
 CuttingSaysNothing =
     (old new other : ChunkReader) (limit : ℕ) (chunks : List Chunk) (chunk : Chunk)

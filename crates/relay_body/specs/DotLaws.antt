@@ -34,7 +34,7 @@ EachContentIsWritten =
 abbrev pub ContentEndsInLineEnd : Type 0
 ContentEndsInLineEnd = (text content : List ℕ) → ReadsDotText text content → ends_in_line_end content ≡ true
 
--- the test of line ends is true of no octets, and of octets with CR LF behind them
+-- the test of line ends is true of no octets, and of octets with CR LF after them
 abbrev pub LineEndIsSeen : Type 0
 LineEndIsSeen =
     (content front : List ℕ) → (content ≡ []) ⊎ (content ≡ front ++ crlf) → ends_in_line_end content ≡ true

@@ -22,7 +22,7 @@ abbrev pub begins_with_period : List ℕ → Bool
 begins_with_period [] = false
 begins_with_period (octet ∷ octets) = octet == 46
 
--- what comes next belongs to a line that isn't the end of mail data, and behind no CR
+-- what comes next belongs to a line that isn't the end of mail data, and after no CR
 abbrev pub RunsOn : Phase → List ℕ → Type 0
 RunsOn LineStart rest = begins_with_period rest ≡ false
 RunsOn Within rest = Unit {0}
@@ -42,7 +42,7 @@ StandsForItself WithinCr octet = octet ≢ 10
 StandsForItself Done octet = ⊥
 StandsForItself Failed octet = ⊥
 
--- the phase within a line, behind its last octet
+-- the phase within a line, after its last octet
 abbrev pub phase_behind : ℕ → Phase
 phase_behind octet = if octet == 13 then WithinCr else Within
 
@@ -55,7 +55,7 @@ pub record HasNoPeriodLine (octets : List ℕ) : Type 0 where
   pub nowhere : (before after : List ℕ) → octets ≢ before ++ period_line ++ after
 
 -- up to this place the octets are lines of which no other than the first begins with a period, and
--- behind it one does
+-- after it one does
 pub record EndsRun (octets : List ℕ) (end : ℕ) : Type 0 where
   pub some : 0 < end
   pub within : end ≤ length octets
@@ -68,7 +68,7 @@ pub record EndsRun (octets : List ℕ) (end : ℕ) : Type 0 where
 abbrev pub period_for : List ℕ → List ℕ
 period_for lines = if begins_with_period lines then 46 ∷ [] else []
 
--- Behind what stood there is sent what the content's lines in front of this rest are sent as, and
+-- After what stood there is sent what the content's lines in front of this rest are sent as, and
 -- the rest's period.
 pub record AddsSoFar (content old new rest : List ℕ) : Type 0 where
   pub lines : List (List ℕ)

@@ -55,7 +55,7 @@ pub record WritesDotText (content text : List ℕ) : Type 0 where
   pub content_is : content ≡ lines_text lines
   pub text_is : text ≡ lines_text (map with_period lines) ++ end_of_data
 
--- the dot text of the content stands behind what stood there
+-- the dot text of the content stands after what stood there
 pub record AddsDotText (content old new : List ℕ) : Type 0 where
   pub text : List ℕ
   pub writes : WritesDotText content text

@@ -23,7 +23,7 @@ pub fn sizes_cut_once()
     ensures { SizesCutOnce }
 {}
 
-/// The same octets, cut into any pieces, leave the same reader behind.
+/// The same octets, cut into any pieces, leave the same reader after.
 pub fn cutting_says_nothing()
     ensures { CuttingSaysNothing }
 {}

@@ -20,14 +20,14 @@ pub(crate) enum Phase {
     PeriodCr,
     /// Within a line that isn't the end of mail data.
     Within,
-    /// The same, behind a CR.
+    /// The same, after a CR.
     WithinCr,
     Done,
     Failed,
 }
 
 impl Phase {
-    /// The phase within a line behind this octet.
+    /// The phase within a line after this octet.
     pub(crate) fn behind(octet: u8) -> Phase
         ensures { result ≡ phase_behind octet }
     {
@@ -37,7 +37,7 @@ impl Phase {
         }
     }
 
-    /// The phase behind a run, of which there is an octet.
+    /// The phase after a run, of which there is an octet.
     fn behind_run(run: &[u8]) -> Phase
         requires { 0 < length run.now }
         ensures line { ends_in_line_end run.now ≡ true → result ≡ Phase.LineStart }
@@ -246,7 +246,7 @@ impl DotReader {
         Ok(used)
     }
 
-    /// Uses the octet behind a period that a line begins with.
+    /// Uses the octet after a period that a line begins with.
     fn behind_period(&mut self, octet: u8) -> Result<(), AllocError>
         requires { self.old.phase ≡ Phase.Period }
         ensures uses { OnOk result (Uses self.old self.new (octet ∷ []) false) }
@@ -263,7 +263,7 @@ impl DotReader {
         }
     }
 
-    /// Uses the octet behind a period and a CR that a line begins with. The CR was held back, and
+    /// Uses the octet after a period and a CR that a line begins with. The CR was held back, and
     /// is content where no LF comes.
     fn behind_period_cr(&mut self, octet: u8) -> Result<bool, AllocError>
         requires { self.old.phase ≡ Phase.PeriodCr }
@@ -282,7 +282,7 @@ impl DotReader {
         }
     }
 
-    /// Uses the octet behind a CR within a line.
+    /// Uses the octet after a CR within a line.
     fn behind_cr(&mut self, octet: u8) -> Result<(), AllocError>
         requires { self.old.phase ≡ Phase.WithinCr }
         ensures uses { OnOk result (Uses self.old self.new (octet ∷ []) false) }

@@ -23,7 +23,7 @@ pub fn write_dots(alloc: Global, content: &[u8]) -> Result<Vec<u8>, AllocError>
     Ok(text)
 }
 
-/// Puts the dot text of a content behind what stands in `out` (RFC 5321, section 4.5.2). It grows
+/// Puts the dot text of a content after what stands in `out` (RFC 5321, section 4.5.2). It grows
 /// once where at most one line begins with a period. It fails where memory runs out, and then `out`
 /// stays as it was.
 pub fn push_dots(out: &mut Vec<u8>, content: &[u8]) -> Result<(), AllocError>
@@ -39,7 +39,7 @@ pub fn push_dots(out: &mut Vec<u8>, content: &[u8]) -> Result<(), AllocError>
     pushed
 }
 
-/// Puts the dot text of a content behind what stands in `out`, or a beginning of it. What stands
+/// Puts the dot text of a content after what stands in `out`, or a beginning of it. What stands
 /// between two periods to be put is copied as one run.
 fn push_runs(out: &mut Vec<u8>, content: &[u8]) -> Result<(), AllocError>
     requires { IsTrue (ends_in_line_end content.now) }
@@ -59,7 +59,7 @@ fn push_runs(out: &mut Vec<u8>, content: &[u8]) -> Result<(), AllocError>
     Ok(())
 }
 
-/// Puts a period behind what stands in `out` where these lines begin with one.
+/// Puts a period after what stands in `out` where these lines begin with one.
 fn push_period(out: &mut Vec<u8>, lines: &[u8]) -> Result<(), AllocError>
     ensures ok { OnOk result (out.new.items ≡ out.old.items ++ period_for lines.now) }
     ensures err { OnErr result (out.new.items ≡ out.old.items) }

@@ -49,7 +49,7 @@ pub fn no_text_is_empty()
     ensures { NoTextIsEmpty }
 {}
 
-/// The test of line ends is true of no octets and of octets with CR LF behind them.
+/// The test of line ends is true of no octets and of octets with CR LF after them.
 pub fn line_end_is_seen()
     ensures { LineEndIsSeen }
 {}

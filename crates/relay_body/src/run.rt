@@ -7,7 +7,7 @@ use memchr::memmem;
 /// A line end, and the period that begins the next line.
 const PERIOD_LINE: &[u8; 3] = b"\r\n.";
 
-/// The place behind the first line end that a period follows.
+/// The place after the first line end that a period follows.
 pub(crate) fn run_end(octets: &[u8]) -> Option<usize>
     ensures ends { MatchOption result (HasNoPeriodLine octets.now) (λ end. EndsRun octets.now end) }
 {

@@ -41,7 +41,7 @@ no_last_other text n behind is small other = record {
       other (ap length same.1 ∙ sym same.0);
 }
 
--- what stands behind the moment, and behind what MAIL says
+-- what stands after the moment, and after what MAIL says
 behind_moment : List ℕ → ℕ → List ℕ → List Recipient → List ℕ → List ℕ
 behind_moment path ret envid recipients stored = sized_2 path ++ (ret ∷ (sized_2 envid ++ (counted recipient_octets recipients ++ sized_4 stored)))
 
@@ -57,7 +57,7 @@ spells_accept text accept valid e = record {
   stored_fits = text_fits accept valid;
 }
 
--- what stands behind a moment
+-- what stands after a moment
 pub behind_at : (text : List ℕ) (at : ℕ) (rest : List ℕ) (other : ℕ) (path : List ℕ) (ret : ℕ) (envid : List ℕ) (recipients : List Recipient) (stored : List ℕ)
     → text ≡ octets_8 at ++ rest → at < 2 ^ 64 → SpellsAccept text other path ret envid recipients stored
     → (at ≡ other) × SpellsFields rest path ret envid (counted recipient_octets recipients ++ sized_4 stored)
@@ -95,7 +95,7 @@ no_mail_fields text at rest is small out = record {
   none = λ accept valid e. out.none _ _ _ _ (behind_at text at rest _ _ _ _ _ _ is small (spells_accept text accept valid e)).1;
 }
 
--- what stands behind the fields of MAIL
+-- what stands after the fields of MAIL
 behind_mail : (text : List ℕ) (at : ℕ) (rest path : List ℕ) (ret : ℕ) (envid behind : List ℕ) (accept : AcceptFields)
     → text ≡ octets_8 at ++ rest → at < 2 ^ 64 → SpellsFields rest path ret envid behind → IsAccept accept → text ≡ accept_octets accept
     → behind ≡ counted recipient_octets accept.envelope.recipients ++ sized_4 accept.stored_text
@@ -248,7 +248,7 @@ pub begun_is_text : (text : List ℕ) (at : ℕ) (envelope : Envelope) (head : �
     → text ≡ accept_octets (record { at = at; envelope = envelope; stored_text = stored })
 begun_is_text text at envelope head stored begun is = begun.text_is ∙ ap (λ (s : List ℕ). accept_octets (record { at = at; envelope = envelope; stored_text = s })) (sym is)
 
--- the same behind the octet of an accept
+-- the same after the octet of an accept
 pub begins_record : (text fields : List ℕ) (at : ℕ) (envelope : Envelope) (head : ℕ) → text ≡ 1 ∷ fields → BeginsAccept fields at envelope head → BeginsRecord text at envelope (head + 1)
 begins_record text fields at envelope head is begun =
     let rest : drop head fields ≡ drop (head + 1) text = ap (λ n. drop n (1 ∷ fields)) (sym (add-one head)) ∙ ap (drop (head + 1)) (sym is) in

@@ -38,7 +38,7 @@ code_8 a b x y ha hb e =
     let f = fronts 8 (to_be_bytes w64 a) (to_be_bytes w64 b) x y refl refl e in
     (sym (from_be_bytes-to_be_bytes_8 a ha) ∙ ap (from_be_bytes w64) f.0 ∙ from_be_bytes-to_be_bytes_8 b hb, f.1)
 
--- texts behind their lengths
+-- texts after their lengths
 pub code_sized : (enc : ℕ → List ℕ) (limit : ℕ) → IsCode (λ n. n < limit) enc → IsCode (λ (text : List ℕ). length text < limit) (λ text. enc (length text) ++ text)
 code_sized enc limit code a b x y ha hb e =
     let f = code (length a) (length b) (a ++ x) (b ++ y) ha hb (sym (append_assoc (enc (length a)) a x) ∙ e ∙ append_assoc (enc (length b)) b y) in

@@ -302,7 +302,7 @@ make_leaves changes outcome queue message place way meets is =
       leaves = found.2;
     }
 
--- what is held behind it
+-- what is held after it
 behind_other : (outcome : OutcomeFields) (queue : Queue) (message : Message) (number place : ℕ) → (queue.next ≡ number → ⊥) → holds (behind outcome queue message) number place ≡ holds (ruled outcome queue.messages) number place
 behind_other outcome queue message number place off =
     report_or_not (λ tail. holds (ruled outcome queue.messages ++ tail) number place ≡ holds (ruled outcome queue.messages) number place) queue.next outcome outcome.report message

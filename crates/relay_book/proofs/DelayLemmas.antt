@@ -107,7 +107,7 @@ marked_later version accept at n old Later held =
 abbrev pub AreMarked : (ℕ → Bool) → List Place → Type 0
 AreMarked marks places = (n : ℕ) (place : Place) → slice_get places n ≡ Some place → place.held ≡ true → place.delayed ≡ marks n
 
--- the marks behind one ruling
+-- the marks after one ruling
 abbrev pub marks_behind : Version → AcceptFields → ℕ → (ℕ → Bool) → Ruling → ℕ → Bool
 marks_behind version accept at marks ruling n =
     if ruling.place == n && is_later ruling.verdict then marks n || is_delay version accept at n else marks n
@@ -150,7 +150,7 @@ merged : (before delay first rest : Bool) → (first ≡ true → rest ≡ false
 merged before delay true rest out = ap (λ (test : Bool). if test then (before || delay) || delay else before || delay) (out refl)
 merged before delay false rest out = refl
 
--- behind all verdicts of an outcome
+-- after all verdicts of an outcome
 pub marked_ruled : (version : Version) (accept : AcceptFields) (at : ℕ) (marks : ℕ → Bool) (places : List Place) (least : ℕ) (rulings : List Ruling) → AreRulings places least rulings
     → AreMarked marks places
     → AreMarked (λ n. if waits_in n rulings then marks n || is_delay version accept at n else marks n) (places_ruled version accept at places rulings)

@@ -187,7 +187,7 @@ past_a_pair latest other key below =
     let off = ne_eqb (latest + 1) key.0 (λ same. omega (arith, same, below)) in
     ap (λ (o : Ordering). not (is_le (ordering_then o (nat_cmp other key.1)))) (cond-false (nat_lt (latest + 1) key.0) _ _ on ∙ cond-false ((latest + 1) == key.0) _ _ off)
 
--- a key up to a moment is before the first key behind it
+-- a key up to a moment is before the first key after it
 pub before_next : (keys : List (ℕ × ℕ)) (latest other : ℕ) (key : ℕ × ℕ) → key.0 ≤ latest → Contains keys key
     → Contains (filter (range_contains pair_cmp Unbounded (Excluded (latest + 1, other))) keys) key
 before_next keys latest other key below there =

@@ -30,7 +30,7 @@ message_from number at envelope recipients stored places = record {
 }
 
 module _ (version : Version) where
-  -- what stands behind a message's moment
+  -- what stands after a message's moment
   abbrev behind_moment : ℕ × Message → List ℕ → List ℕ
   behind_moment entry rest =
       sized_2 entry.1.accept.envelope.reverse_path

@@ -164,7 +164,7 @@ pub rise_less : (less least next : ℕ) (entries : List (ℕ × Message)) → le
 rise_less less least next [] below rise = omega (arith, below, rise)
 rise_less less least next (entry ∷ entries) below rise = (omega (arith, below, rise.0), rise.1)
 
--- the messages behind an outcome
+-- the messages after an outcome
 pub ruled_at : (outcome : OutcomeFields) (entry : ℕ × Message) (entries : List (ℕ × Message)) → entry.0 ≡ outcome.message
     → ruled outcome (entry ∷ entries) ≡ if_held entry.0 (message_after outcome entry.1) ++ entries
 ruled_at outcome entry entries same = cond-true (entry.0 == outcome.message) _ _ (eq-eqb entry.0 outcome.message same)
@@ -276,7 +276,7 @@ ruled_comes outcome least next (entry ∷ entries) number message rise is =
       number_is = comes.number_is;
     }
 
-    -- the first entry, as it is or behind the outcome
+    -- the first entry, as it is or after the outcome
     front : (now : Message) (rest : List (ℕ × Message)) → now.accept ≡ entry.1.accept → length now.places ≡ length entry.1.places → now.number ≡ entry.1.number
         → (message_of rest number ≡ Some message → (entry.0 ≡ number → ⊥) → Comes entries number message)
         → message_of ((entry.0, now) ∷ rest) number ≡ Some message → (entry.0 ≡ number) ⊎ (entry.0 ≡ number → ⊥) → Comes (entry ∷ entries) number message

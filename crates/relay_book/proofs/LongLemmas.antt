@@ -1,4 +1,4 @@
--- Texts behind a length of four octets, with a rest.
+-- Texts after a length of four octets, with a rest.
 use Rattle.std.proofs.Common.{◌≡◌, ℕ, ◌+◌, ◌<◌, ◌^◌, List, ◌++◌, length, sym, ap, ◌∙◌, arith, append_assoc, length-append}
 use Rattle.relay_book.specs.Record.{octets_4}
 use Rattle.relay_book.specs.SnapshotFields.{HasNoLong}

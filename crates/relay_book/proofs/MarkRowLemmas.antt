@@ -7,7 +7,7 @@ use Rattle.relay_book.specs.Queue.{marks_of_entry}
 use Rattle.relay_book.specs.Book.{if_there, live, marks_live, marks_of_slot, number_of_slot, numbers_live}
 use Rattle.relay_book.proofs.PlaceLemmas.{none_some, some_is}
 
--- the entry at a place, and those behind it
+-- the entry at a place, and those after it
 pub entry_at : (entries : List (ℕ × Option Message)) (index : ℕ) (entry : ℕ × Option Message) → slice_get entries index ≡ Some entry → drop index entries ≡ entry ∷ drop (suc index) entries
 entry_at [] index entry is = absurd (none_some entry is)
 entry_at (first ∷ entries) zero entry is = ap (λ (e : ℕ × Option Message). e ∷ entries) (some_is first entry is)
@@ -38,7 +38,7 @@ drop_past [] (suc index) past = refl
 drop_past (entry ∷ entries) zero past = absurd (omega (arith, past))
 drop_past (entry ∷ entries) (suc index) past = drop_past entries index (omega (arith, past))
 
--- behind the last entry
+-- after the last entry
 pub marks_end : (test : Place → Bool) (entries : List (ℕ × Option Message)) (index : ℕ) (marks all : List (ℕ × ℕ)) → length entries ≤ index → marks ++ marks_live test (drop index entries) ≡ all → marks ≡ all
 marks_end test entries index marks all past before =
     sym (append-nil marks) ∙ ap (λ (l : List (ℕ × Option Message)). marks ++ marks_live test l) (sym (drop_past entries index past)) ∙ before
@@ -68,7 +68,7 @@ numbers_step test entries index number slot old new all is before new_is =
     ∙ ap (λ (l : List (ℕ × Option Message)). old ++ numbers_live test l) (sym (entry_at entries index (number, slot) (sym is)))
     ∙ before
 
--- behind the last entry
+-- after the last entry
 pub numbers_end : (test : Message → Bool) (entries : List (ℕ × Option Message)) (index : ℕ) (numbers all : List ℕ) → length entries ≤ index → numbers ++ numbers_live test (drop index entries) ≡ all → numbers ≡ all
 numbers_end test entries index numbers all past before =
     sym (append-nil numbers) ∙ ap (λ (l : List (ℕ × Option Message)). numbers ++ numbers_live test l) (sym (drop_past entries index past)) ∙ before

@@ -151,7 +151,7 @@ module _ (test : ℕ → Message → ℕ → Bool) where
       let keyed = key_of_moment keys entries 0 next due rise told there in
       in_none {A = ℕ × ℕ} (due, keyed.number) (subst (λ (l : List (ℕ × ℕ)). Contains {X = ℕ × ℕ} l (due, keyed.number)) is (left (due, keyed.number) keyed.told keyed.waits)))
 
-  -- a key is not behind those that follow it
+  -- a key is not after those that follow it
   not_behind : (key other : ℕ × ℕ) → pair_cmp key other ≡ Less → key.0 ≤ other.0
   not_behind key other less = by (cases_order key.0 other.0)
     where

@@ -32,7 +32,7 @@ first_behind old new first rest is left stays =
     ap (λ (l : List ℕ). l ++ old.behind) is ∙ append_assoc first rest old.behind
     ∙ (λ i. first ++ (sym (left ∙ rest_is old.front first rest is) i ++ sym stays i))
 
--- the text is what is held, where nothing stands behind that
+-- the text is what is held, where nothing stands after that
 pub text_is_front : (pieces : InPieces) → pieces.behind ≡ [] → text_of pieces ≡ pieces.front
 text_is_front pieces none = ap (λ (l : List ℕ). pieces.front ++ l) none ∙ append-nil pieces.front
 

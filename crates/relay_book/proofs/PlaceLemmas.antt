@@ -150,7 +150,7 @@ ruled_step version accept at places ruling rest place holds none = by (cases_eq 
         let there = cond-false (ruling.place == place) here rest (ne_eqb ruling.place place out) in
         (λ i. after_other version accept at places ruling place out i && stays (sym there i))
 
--- behind an outcome those places are held that were and didn't leave
+-- after an outcome those places are held that were and didn't leave
 pub ruled_holds : (version : Version) (accept : AcceptFields) (at : ℕ) (places : List Place) (least : ℕ) (rulings : List Ruling) (place : ℕ)
     → AreRulings places least rulings
     → holds_at (places_ruled version accept at places rulings) place ≡ (holds_at places place && stays (way_among accept.at at rulings place))

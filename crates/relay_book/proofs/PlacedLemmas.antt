@@ -242,7 +242,7 @@ module _ (version : Version) where
         text_is = is_counted (IsPlacedBy version) (placed_octets version) text count behind (zip recipients places) rest is reads.are reads.text_is;
       }
 
-  -- a row that is written behind its count
+  -- a row that is written after its count
   pub row_written : (recipients : List Recipient) (places : List Place) (old mid new : List ℕ) → length places ≡ length recipients
       → new ≡ mid ++ flat_map (placed_octets version) (zip recipients places) → mid ≡ old ++ length recipients ∷ []
       → new ≡ old ++ counted (placed_octets version) (zip recipients places)

@@ -92,7 +92,7 @@ accepted_queued number accept few valid = record {
   some = new_held accept.at accept.envelope.recipients valid.envelope.some;
 }
 
--- a message behind an outcome
+-- a message after an outcome
 ruled_queued : (outcome : OutcomeFields) (entry : ℕ × Message) → IsOutcome outcome → IsQueued entry
     → list_any is_held (message_after outcome entry.1).places ≡ true → IsQueued (entry.0, message_after outcome entry.1)
 ruled_queued outcome entry valid is some = record {
@@ -148,7 +148,7 @@ reported_queued number outcome entries (Some message) few valid fits all found (
       tt,
     )
 
--- numbers rise behind a report too
+-- numbers rise after a report too
 rise_reported : (number : ℕ) (outcome : OutcomeFields) (entries : List (ℕ × Message)) (message : Option Message) (report : List ℕ) → Rise 1 number entries
     → Rise 1 (number + 1) (entries ++ reported number outcome report message)
 rise_reported number outcome entries message [] rise = rise_none

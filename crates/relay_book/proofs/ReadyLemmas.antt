@@ -56,7 +56,7 @@ is_ready_outcome book outcome message change queued fits found is made room told
     added : reported book.queue.next outcome outcome.report (message_of book.queue.messages outcome.message) ≡ entry_of book.queue.next queued
     added = ap (reported book.queue.next outcome outcome.report) found ∙ sym made
 
--- what is behind an outcome, and what is added
+-- what is after an outcome, and what is added
 pub ready_ruled : (book : Shown) (outcome : OutcomeFields) (text : List ℕ) (queued : Option Message) → IsReady book (record { change = Outcome (record outcome { report = text }); message = queued })
     → AllTold book.told (ruled outcome book.queue.messages)
 ready_ruled book outcome text queued ready =

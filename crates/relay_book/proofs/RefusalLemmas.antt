@@ -21,7 +21,7 @@ none_short text short = record {
       omega (arith, short, long);
 }
 
--- what stands behind a code
+-- what stands after a code
 behind_code : (text : List ℕ) (code : ℕ) (behind : List ℕ) (other : ℕ) (field rest : List ℕ) → text ≡ octets_2 code ++ behind → code < 2 ^ 16 → IsRefusal other field
     → text ≡ refusal_octets other field ++ rest → behind ≡ length field ∷ (field ++ rest)
 behind_code text code behind other field rest is small valid e =
@@ -42,7 +42,7 @@ none_without_length text code behind is small empty = record {
       omega (arith, long, empty);
 }
 
--- what stands behind a length
+-- what stands after a length
 behind_length : (text : List ℕ) (code len : ℕ) (behind : List ℕ) (other : ℕ) (field rest : List ℕ) → text ≡ octets_2 code ++ (len ∷ behind) → code < 2 ^ 16 → IsRefusal other field
     → text ≡ refusal_octets other field ++ rest → (len ≡ length field) × (behind ≡ field ++ rest)
 behind_length text code len behind other field rest is small valid e =

@@ -45,7 +45,7 @@ one_more_row {A} Valid octets_of count text values rest value given behind more 
       one_more_read octets_of text values given rest behind before.1 is ∙ ap (λ (l : List A). flat_map octets_of l ++ behind) (sym all),
     )
 
--- behind fewer values than so many stands no further one
+-- after fewer values than so many stands no further one
 row_from : {A : Type 0} (Valid : A → Type 0) (octets_of : A → List ℕ) → IsCode Valid octets_of → (done values : List A) (behind rest : List ℕ)
     → length done < length values → AllByRecursion Valid done → AllByRecursion Valid values → HasNone Valid octets_of behind
     → flat_map octets_of done ++ behind ≡ flat_map octets_of values ++ rest → ⊥
@@ -76,7 +76,7 @@ pub no_ruling_row : (count done : ℕ) (text : List ℕ) (values : List Ruling) 
     → HasNoRow IsRuling ruling_octets count text
 no_ruling_row = no_row IsRuling ruling_octets code_ruling
 
--- a count, and the row behind it
+-- a count, and the row after it
 pub no_count : {A : Type 0} (Valid : A → Type 0) (octets_of : A → List ℕ) (text : List ℕ) → length text ≡ 0 → HasNoCounted Valid octets_of text
 no_count Valid octets_of text empty = record {
   none = λ values rest some e. let long : length text ≡ suc (length (flat_map octets_of values ++ rest)) = ap length e in omega (arith, long, empty);
@@ -105,7 +105,7 @@ pub is_counted : {A : Type 0} (Valid : A → Type 0) (octets_of : A → List ℕ
 is_counted Valid octets_of text count behind values rest is are more =
     is ∙ (λ i. sym are.so_many i ∷ more i)
 
--- rows behind their counts are one
+-- rows after their counts are one
 pub counted_are_one : {A : Type 0} (Valid : A → Type 0) (octets_of : A → List ℕ) → IsCode Valid octets_of → (values others : List A) (x y : List ℕ)
     → AreSome Valid values → AreSome Valid others → counted octets_of values ++ x ≡ counted octets_of others ++ y → (values ≡ others) × (x ≡ y)
 counted_are_one Valid octets_of code values others x y are also e =
@@ -128,7 +128,7 @@ drop_whole [] (suc index) past = refl
 drop_whole (value ∷ values) zero past = absurd (omega (arith, past))
 drop_whole (value ∷ values) (suc index) past = drop_whole values index (omega (arith, past))
 
--- all of it behind its count
+-- all of it after its count
 pub flat_end : {A : Type 0} (octets_of : A → List ℕ) (values : List A) (index : ℕ) (old mid new : List ℕ) → length values ≤ index → mid ≡ old ++ length values ∷ []
     → new ++ flat_map octets_of (drop index values) ≡ mid ++ flat_map octets_of values → new ≡ old ++ counted octets_of values
 flat_end {A} octets_of values index old mid new past mid_is whole =

@@ -18,7 +18,7 @@ use Rattle.relay_book.proofs.SnapshotWriteLemmas.{live_from}
 behind : (front rest : List ℕ) (n : ℕ) → n ≤ length rest → n ≤ length (front ++ rest)
 behind front rest n few = let all = length-append front rest in omega (arith, all, few)
 
--- behind a number of eight octets, and a text behind its length
+-- after a number of eight octets, and a text after its length
 behind_8 : (number : ℕ) (rest : List ℕ) (n : ℕ) → n ≤ length rest → n + 8 ≤ length (octets_8 number ++ rest)
 unfolding octets_8
 behind_8 number rest n few = omega (arith, few)

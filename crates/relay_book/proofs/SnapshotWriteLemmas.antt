@@ -52,7 +52,7 @@ back_valid : (entries more : List (ℕ × Message)) → AllByRecursion IsQueued 
 back_valid [] more all = all
 back_valid (entry ∷ entries) more all = back_valid entries more all.1
 
--- an entry's message may be stored, and so may those behind it
+-- an entry's message may be stored, and so may those after it
 pub slot_valid : (entries : List (ℕ × Option Message)) (index number : ℕ) (slot : Option Message) → Some (number, slot) ≡ slice_get entries index
     → AllByRecursion IsQueued (live (drop index entries)) → AllByRecursion IsQueued (if_there number slot)
 slot_valid entries index number slot is all =

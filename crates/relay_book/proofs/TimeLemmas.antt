@@ -74,7 +74,7 @@ get_other (place ∷ places) zero (suc m) new out = refl
 get_other (place ∷ places) (suc n) zero new out = refl
 get_other (place ∷ places) (suc n) (suc m) new out = get_other places n m new (λ same. out (ap suc same))
 
--- the Later verdicts behind one ruling
+-- the Later verdicts after one ruling
 abbrev pub laters_behind : ℕ → (ℕ → List ℕ) → Ruling → ℕ → List ℕ
 laters_behind at laters ruling n = if ruling.place == n && is_later ruling.verdict then at ∷ laters n else laters n
 
@@ -125,7 +125,7 @@ first_only places ruling rulings n are e = by (cases_eq ruling.place n)
     by (inl same) = waits_behind places (ruling.place + 1) rulings n are (omega (arith, same))
     by (inr out) = absurd (false≢true (sym (ap (λ (test : Bool). test && is_later ruling.verdict) (ne_eqb ruling.place n out)) ∙ e))
 
--- behind all verdicts of an outcome
+-- after all verdicts of an outcome
 pub timed_ruled : (version : Version) (accept : AcceptFields) (at : ℕ) (laters : ℕ → List ℕ) (places : List Place) (least : ℕ) (rulings : List Ruling) → AreRulings places least rulings
     → AreTimed accept.at laters places → AreTimed accept.at (λ n. if waits_in n rulings then at ∷ laters n else laters n) (places_ruled version accept at places rulings)
 timed_ruled version accept at laters places least [] are timed n place got held = timed n place got held

@@ -91,7 +91,7 @@ told_if_held keys number message told = by (list_any is_held message.places)
     by true = (told, tt)
     by false = tt
 
--- behind an outcome
+-- after an outcome
 pub told_ruled : (keys : List (ℕ × ℕ)) (outcome : OutcomeFields) (entries : List (ℕ × Message)) (message : Message) → AllTold keys entries
     → message_of entries outcome.message ≡ Some message → AreTold keys outcome.message (message_after outcome message).places → AllTold keys (ruled outcome entries)
 told_ruled keys outcome [] message told found new = tt
@@ -165,7 +165,7 @@ needed_or_not : (due number : ℕ) (entries : List (ℕ × Message)) (message : 
 needed_or_not due number entries message none is =
     sym (ap (λ (o : Option Message). option_map_or (λ message. list_any (is_held_until due) message.places) o false) is) ∙ none
 
--- behind a removal
+-- after a removal
 pub all_told_removed : (test : ℕ × ℕ → Bool) (keys fewer : List (ℕ × ℕ)) (due number next : ℕ) (entries : List (ℕ × Message))
     → ((key : ℕ × ℕ) → test key ≡ true → (key.0 ≡ due) × (key.1 ≡ number))
     → fewer ≡ remove_key test keys → Rise 0 next entries

@@ -1,4 +1,4 @@
--- What is written, field behind field.
+-- What is written, field after field.
 use Rattle.std.proofs.Common.{◌≡◌, ℕ, List, [], ◌∷◌, ◌++◌, ap, ◌∙◌, append_assoc}
 use Rattle.std.specs.List.{zip}
 use Rattle.relay_book.specs.declared.change.Accept.{Accept as AcceptFields}
@@ -44,7 +44,7 @@ module _ (accept : AcceptFields) where
   accept_written old mid next new one two three =
       fields_written old mid next new (counted recipient_octets accept.envelope.recipients) (sized_4 accept.stored_text) one two three
 
--- a message behind its number, with its places
+-- a message after its number, with its places
 pub entry_written : (number : ℕ) (message : Message) (old first mid next new : List ℕ) → first ≡ old ++ octets_8 number
     → mid ≡ first ++ mail_octets message.accept.at message.accept.envelope.reverse_path (ret_number message.accept.envelope.ret) (written message.accept.envelope.envid)
     → next ≡ mid ++ counted (placed_octets WithDelay) (zip message.accept.envelope.recipients message.places) → new ≡ next ++ sized_4 message.accept.stored_text

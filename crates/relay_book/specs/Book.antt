@@ -35,7 +35,7 @@ shown next entries room told =
 abbrev pub kept : Message → Option Message
 kept message = if list_any is_held message.places then Some message else None
 
--- an entry behind an outcome for it
+-- an entry after an outcome for it
 abbrev pub slot_after : OutcomeFields → Option Message → Option Message
 slot_after outcome None = None
 slot_after outcome (Some message) = kept (message_after outcome message)
@@ -72,7 +72,7 @@ IsTold keys number place = place.held ≡ true → Contains {X = ℕ × ℕ} key
 abbrev pub AreTold : List (ℕ × ℕ) → ℕ → List Place → Type 0
 AreTold keys number places = AllByRecursion (IsTold keys number) places
 
--- the keys tell when each place is due; they may tell more, and a key that was left behind makes
+-- the keys tell when each place is due; they may tell more, and a key that was left after makes
 -- no place due
 abbrev pub AllTold : List (ℕ × ℕ) → List (ℕ × Message) → Type 0
 AllTold keys entries = AllByRecursion (λ entry. AreTold keys entry.0 entry.1.places) entries

@@ -29,7 +29,7 @@ abbrev pub due_at : Queue → ℕ → ℕ → Option ℕ
 due_at queue number place = option_and_then (due_in place) (message_of queue.messages number)
 
 -- the due moment of a place by the list of changes: the moment of acceptance where the place has no
--- Later verdict, and else a wait that grows with their number behind the last one
+-- Later verdict, and else a wait that grows with their number after the last one
 abbrev pub due_by : List Change → ℕ → ℕ → Option ℕ
 due_by changes number place =
     option_map (λ accept. due_moment_of accept.at (laters_of changes number place))

@@ -1,4 +1,4 @@
--- When a place is due (RFC 5321, section 4.5.4.1): at acceptance, and behind its Later verdicts by a growing
+-- When a place is due (RFC 5321, section 4.5.4.1): at acceptance, and after its Later verdicts by a growing
 -- wait.
 use Rattle.std.specs.Prelude.{ℕ, ◌+◌, ◌-◌, ◌*◌, ◌^◌, ◌==◌, min, Bool, true, false, ◌&&◌, ◌||◌, List, [], ◌∷◌, length}
 use Rattle.std.specs.Prelude.{fold, if◌then◌else◌}
@@ -8,7 +8,7 @@ use Rattle.relay_book.specs.declared.change.Verdict.TheVariants.{Taken, Refused,
 use Rattle.relay_book.specs.declared.change.Change.{Change}
 use Rattle.relay_book.specs.declared.change.Change.TheVariants.{Accept, Outcome}
 
--- profile: the wait behind the first Later verdict, half an hour, and the longest, four hours, in
+-- profile: the wait after the first Later verdict, half an hour, and the longest, four hours, in
 -- seconds
 abbrev pub first_wait : ℕ
 first_wait = 1800
@@ -16,7 +16,7 @@ first_wait = 1800
 abbrev pub longest_wait : ℕ
 longest_wait = 14400
 
--- behind each further one twice as long
+-- after each further one twice as long
 abbrev pub wait_after : ℕ → ℕ
 wait_after laters = min (first_wait * 2 ^ (laters - 1)) longest_wait
 

@@ -19,11 +19,11 @@ use Rattle.relay_book.specs.declared.due_report.DueReport.{DueReport}
 use Rattle.relay_book.specs.declared.due_report.DueReport.TheVariants.{OfFailure, OfRelay, OfDelay}
 use Rattle.relay_book.specs.declared.message.Place.{Place}
 
--- profile: a place is tried for so long behind its acceptance, in seconds (RFC 5321, section 4.5.4.1)
+-- profile: a place is tried for so long after its acceptance, in seconds (RFC 5321, section 4.5.4.1)
 abbrev pub patience : ℕ
 patience = 432000
 
--- profile: a place that waits for so long behind its acceptance, in seconds, is late
+-- profile: a place that waits for so long after its acceptance, in seconds, is late
 abbrev pub lateness : ℕ
 lateness = 14400
 

@@ -13,7 +13,7 @@ use Rattle.relay_book.specs.Record.{IsAccept, IsOutcome, IsRefusal, IsRuling, ac
 use Rattle.relay_book.specs.Record.{octets_2, octets_8, outcome_kind, outcome_octets, recipient_octets, ret_number}
 use Rattle.relay_book.specs.Record.{ruling_octets, sized_2, sized_4, written}
 
--- a text behind its length, an octet, and a text behind its length
+-- a text after its length, an octet, and a text after its length
 pub record SpellsFields (text first : List ℕ) (number : ℕ) (second rest : List ℕ) : Type 0 where
   pub text_is : text ≡ sized_2 first ++ (number ∷ (sized_2 second ++ rest))
   pub first_fits : length first < 2 ^ 16
@@ -24,11 +24,11 @@ pub record HasFields (recipient : Recipient) (path : List ℕ) (number : ℕ) (o
   pub notify_is : number ≡ notify_number recipient.notify
   pub orcpt_is : orcpt ≡ written recipient.orcpt
 
--- no text behind a length of two octets begins these octets
+-- no text after a length of two octets begins these octets
 pub record HasNoSized (text : List ℕ) : Type 0 where
   pub none : (field rest : List ℕ) → length field < 2 ^ 16 → text ≢ sized_2 field ++ rest
 
--- they are no text behind a length of four octets
+-- they are no text after a length of four octets
 pub record IsNoSized (text : List ℕ) : Type 0 where
   pub none : (field : List ℕ) → length field < 2 ^ 32 → text ≢ sized_4 field
 
@@ -62,13 +62,13 @@ pub record AreSome {A : Type 0} (Valid : A → Type 0) (values : List A) : Type 
   pub within : length values ≤ 100
   pub valid : AllByRecursion Valid values
 
--- no valid values behind their count begin the text
+-- no valid values after their count begin the text
 pub record HasNoCounted {A : Type 0} (Valid : A → Type 0) (octets_of : A → List ℕ)
     (text : List ℕ) : Type 0 where
   pub none : (values : List A) (rest : List ℕ) → AreSome Valid values
       → text ≢ counted octets_of values ++ rest
 
--- a refusal's code, and its text behind a length of one octet
+-- a refusal's code, and its text after a length of one octet
 abbrev pub refusal_octets : ℕ → List ℕ → List ℕ
 refusal_octets code text = octets_2 code ++ (length text ∷ text)
 

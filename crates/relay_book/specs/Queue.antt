@@ -45,13 +45,13 @@ tells_delay (Some OfFailure) = false
 tells_delay (Some OfRelay) = false
 tells_delay (Some OfDelay) = true
 
--- a place behind a Later verdict, by which this report was due
+-- a place after a Later verdict, by which this report was due
 abbrev pub waiting_place : ℕ → Place → Option DueReport → Place
 waiting_place at place due =
     held_place (min (place.laters + 1) 4) (tells_delay due || place.delayed)
     (at + wait_after (min (place.laters + 1) 4))
 
--- a place behind a verdict, by what it makes of the place and by the report that was due
+-- a place after a verdict, by what it makes of the place and by the report that was due
 abbrev pub place_after : ℕ → Place → Fate → Option DueReport → Place
 place_after at place Waits due = waiting_place at place due
 place_after at place Late due = waiting_place at place due
@@ -63,13 +63,13 @@ abbrev pub place_ruled : Version → AcceptFields → ℕ → Place → Ruling �
 place_ruled version accept at place ruling =
     place_after at place (fate_of accept.at at ruling.verdict) (due_for version accept at place ruling)
 
--- the places of a message behind a verdict
+-- the places of a message after a verdict
 abbrev pub places_after : Version → AcceptFields → ℕ → List Place → Ruling → List Place
 places_after version accept at places ruling =
     option_map_or (λ place. slice_set places ruling.place (place_ruled version accept at place ruling))
     (slice_get places ruling.place) places
 
--- behind all verdicts of an outcome
+-- after all verdicts of an outcome
 abbrev pub places_ruled : Version → AcceptFields → ℕ → List Place → List Ruling → List Place
 places_ruled version accept at places rulings = fold (places_after version accept at) places rulings
 
@@ -86,7 +86,7 @@ message_after outcome message =
 abbrev pub if_held : ℕ → Message → List (ℕ × Message)
 if_held number message = if list_any is_held message.places then (number, message) ∷ [] else []
 
--- the messages behind an outcome
+-- the messages after an outcome
 abbrev pub ruled : OutcomeFields → List (ℕ × Message) → List (ℕ × Message)
 ruled outcome [] = []
 ruled outcome (entry ∷ entries) =

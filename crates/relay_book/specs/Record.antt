@@ -32,7 +32,7 @@ octets_4 number = to_be_bytes w32 number
 unfoldable pub octets_8 : ℕ → List ℕ
 octets_8 number = to_be_bytes w64 number
 
--- a text behind its length of two octets, and of four
+-- a text after its length of two octets, and of four
 abbrev pub sized_2 : List ℕ → List ℕ
 sized_2 text = octets_2 (length text) ++ text
 
@@ -65,7 +65,7 @@ abbrev pub recipient_octets : Recipient → List ℕ
 recipient_octets recipient =
     sized_2 recipient.path ++ notify_number recipient.notify ∷ sized_2 (written recipient.orcpt)
 
--- elements behind their count of one octet
+-- elements after their count of one octet
 abbrev pub counted : {A : Type 0} → (A → List ℕ) → List A → List ℕ
 counted octets_of elements = length elements ∷ flat_map octets_of elements
 
@@ -79,7 +79,7 @@ accept_octets accept =
     ++ (counted recipient_octets accept.envelope.recipients
     ++ sized_4 accept.stored_text))))
 
--- a verdict by its number; a refusal with its code and its text behind a length of one octet
+-- a verdict by its number; a refusal with its code and its text after a length of one octet
 abbrev pub verdict_octets : Verdict → List ℕ
 verdict_octets (Taken true) = 1 ∷ []
 verdict_octets (Taken false) = 2 ∷ []

@@ -43,7 +43,7 @@ abbrev pub snapshot_kind : Version → ℕ
 snapshot_kind WithoutDelay = 3
 snapshot_kind WithDelay = 5
 
--- the encoding of a queue by a version: the next number, and the messages behind their count
+-- the encoding of a queue by a version: the next number, and the messages after their count
 unfoldable pub snapshot_by : Version → Queue → List ℕ
 snapshot_by version queue =
     snapshot_kind version

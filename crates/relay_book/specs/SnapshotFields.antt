@@ -16,7 +16,7 @@ use Rattle.relay_book.specs.Record.{counted, octets_4, octets_8, sized_2, sized_
 use Rattle.relay_book.specs.Snapshot.{IsPlace, IsPlaceBy, IsQueuedBy, delay_octets, entry_octets, placed_octets}
 use Rattle.relay_book.specs.Snapshot.{snapshot_kind}
 
--- no text behind a length of four octets begins these octets
+-- no text after a length of four octets begins these octets
 pub record HasNoLong (text : List ℕ) : Type 0 where
   pub none : (field rest : List ℕ) → length field < 2 ^ 32 → text ≢ sized_4 field ++ rest
 
@@ -68,7 +68,7 @@ pub record ReadsRow (version : Version) (count : ℕ) (text : List ℕ) (recipie
   pub are : AreSoMany (IsPlacedBy version) count (zip recipients places)
   pub text_is : text ≡ flat_map (placed_octets version) (zip recipients places) ++ rest
 
--- 1 to 100 recipients and their places are read from the text behind their count, up to the rest
+-- 1 to 100 recipients and their places are read from the text after their count, up to the rest
 pub record ReadsPlaced (version : Version) (text : List ℕ) (recipients : List Recipient) (places : List Place)
     (rest : List ℕ)
     : Type 0 where

@@ -45,7 +45,7 @@ pub struct Book {
     next: u64,
     messages: IndexMap<u64, Option<Message>>,
     /// How many entries have ended: they are cleared away together, since one by one each would move all
-    /// behind it.
+    /// after it.
     ended: usize,
     /// When each held place is due, with its message's number. There may be more keys, so `due` asks the
     /// places themselves: those of a change that was made ready and isn't committed stay until the next
@@ -321,7 +321,7 @@ impl Book {
         }
     }
 
-    /// Puts a message behind the others. It takes no memory.
+    /// Puts a message after the others. It takes no memory.
     #[tactic(auto, using(crate::proofs::LiveLemmas::pushed_last, crate::proofs::ToldLemmas::all_told_last))]
     fn push(&mut self, message: Message)
         requires room { 0 < self.old.room }
@@ -449,7 +449,7 @@ impl Book {
     }
 
     /// Forgets that a place of a message was due, unless one still is. No clause says that its key is
-    /// gone: a key that stays behind costs memory, and a look at its message when it comes up, and makes
+    /// gone: a key that stays after costs memory, and a look at its message when it comes up, and makes
     /// no place due.
     fn forget(&mut self, due: u64, number: u64)
         ensures queue { self.new.queue ≡ self.old.queue }

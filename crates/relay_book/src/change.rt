@@ -14,7 +14,7 @@ pub struct Accept {
     pub at: Moment,
     /// Who sent it to whom, and with which parameters.
     pub envelope: Envelope,
-    /// The content behind its time stamp line; of a report, its text.
+    /// The content after its time stamp line; of a report, its text.
     pub stored_text: Octets,
 }
 

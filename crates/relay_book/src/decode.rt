@@ -33,7 +33,7 @@ use tail::behind;
 /// The change of which these octets are the record, with one copy of each text. It fails with `BadRecord`
 /// exactly where they are no record of a change, and where memory runs out. Memory is wanted first for
 /// the recipients or the verdicts: what stands before them, and how many they are, is read first, and
-/// octets that spell no such fields are refused however little memory there is. What is behind, and
+/// octets that spell no such fields are refused however little memory there is. What is after, and
 /// whether the fields are valid, may be left unjudged where memory runs out.
 #[tactic(auto, using(crate::proofs::ChangeFieldLemmas::refused_changes, crate::proofs::BeginLemmas::begun_changes))]
 pub fn decode_change(alloc: Global, text: &[u8]) -> Result<Change, BookFault>
@@ -101,7 +101,7 @@ fn head_of(alloc: Global, octets: &[u8]) -> Result<Option<AcceptHead>, BookFault
     Ok(Some((at, envelope, head + 1)))
 }
 
-/// The text behind its length of four octets that the whole text is.
+/// The text after its length of four octets that the whole text is.
 #[tactic(auto, using(crate::proofs::AcceptLemmas::no_last_short, crate::proofs::AcceptLemmas::no_last_other))]
 fn read_last(text: &[u8]) -> Option<&[u8]>
     ensures { MatchOption result (IsNoSized text.now)

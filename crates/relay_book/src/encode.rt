@@ -73,7 +73,7 @@ fn number_of_ret(ret: Option<Ret>) -> u8
     }
 }
 
-/// Adds recipients behind their count.
+/// Adds recipients after their count.
 fn push_recipients(out: &mut Vec<u8>, recipients: &[Recipient]) -> Result<(), AllocError>
     requires few { length recipients.now ≤ 100 }
     requires valid { AllByRecursion IsRecipient recipients.now }
@@ -137,7 +137,7 @@ fn push_outcome(out: &mut Vec<u8>, outcome: &Outcome) -> Result<(), AllocError>
     push_sized_4(out, outcome.report.as_slice())
 }
 
-/// Adds verdicts behind their count.
+/// Adds verdicts after their count.
 fn push_rulings(out: &mut Vec<u8>, rulings: &[Ruling]) -> Result<(), AllocError>
     requires few { length rulings.now ≤ 100 }
     requires valid { AllByRecursion IsRuling rulings.now }
@@ -200,7 +200,7 @@ pub(crate) fn push_entry(
     push_sized_4(out, message.accept.stored_text.as_slice())
 }
 
-/// Adds recipients, each followed by its place, behind their count.
+/// Adds recipients, each followed by its place, after their count.
 fn push_placed(
     out: &mut Vec<u8>,
     recipients: &[Recipient],

@@ -1,4 +1,4 @@
-//! Fields of a record: numbers, and texts behind their lengths.
+//! Fields of a record: numbers, and texts after their lengths.
 ghost use Rattle.std.specs.Prelude.{◌≡◌, ◌≢◌, ◌<◌, ◌^◌, ◌++◌, ◌∷◌, [], ℕ, List, length, OnOk, OnErr, MatchOption};
 ghost use Rattle.relay_book.specs.Record.{octets_2, octets_4, octets_8, sized_2, sized_4};
 ghost use Rattle.relay_book.specs.Fields.{HasNoSized};
@@ -30,7 +30,7 @@ pub(crate) fn read_4(text: &[u8]) -> Option<(u32, &[u8])>
     }
 }
 
-/// A text behind its length of two octets, and what follows it.
+/// A text after its length of two octets, and what follows it.
 pub(crate) fn read_sized_2(text: &[u8]) -> Option<(&[u8], &[u8])>
     ensures { MatchOption result
         (HasNoSized text.now)
@@ -45,7 +45,7 @@ pub(crate) fn read_sized_2(text: &[u8]) -> Option<(&[u8], &[u8])>
     }
 }
 
-/// A text behind its length of four octets, and what follows it.
+/// A text after its length of four octets, and what follows it.
 pub(crate) fn read_sized_4(text: &[u8]) -> Option<(&[u8], &[u8])>
     ensures { MatchOption result
         (HasNoLong text.now)
@@ -107,7 +107,7 @@ pub(crate) fn push_8(out: &mut Vec<u8>, number: u64) -> Result<(), AllocError>
     out.extend_from_slice(&number.to_be_bytes())
 }
 
-/// Adds a text behind its length of two octets.
+/// Adds a text after its length of two octets.
 #[tactic(auto, unfolding(crate::specs::Record::octets_2))]
 pub(crate) fn push_sized_2(out: &mut Vec<u8>, text: &[u8]) -> Result<(), AllocError>
     requires { length text.now < 2 ^ 16 }
@@ -117,7 +117,7 @@ pub(crate) fn push_sized_2(out: &mut Vec<u8>, text: &[u8]) -> Result<(), AllocEr
     out.extend_from_slice(text)
 }
 
-/// Adds a text behind its length of four octets. It makes room for both at once, and for no more: such a text is most
+/// Adds a text after its length of four octets. It makes room for both at once, and for no more: such a text is most
 /// of its record.
 #[tactic(auto, unfolding(crate::specs::Record::octets_4))]
 pub(crate) fn push_sized_4(out: &mut Vec<u8>, text: &[u8]) -> Result<(), AllocError>

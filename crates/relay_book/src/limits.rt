@@ -18,17 +18,17 @@ pub const STORED_TEXT_LIMIT: usize = 1 << 25;
 /// The most octets of a refusal's text.
 pub const REFUSAL_LIMIT: usize = 200;
 
-/// For how many seconds behind its acceptance a place is tried (RFC 5321, section 4.5.4.1).
+/// For how many seconds after its acceptance a place is tried (RFC 5321, section 4.5.4.1).
 pub const PATIENCE: u64 = 432_000;
 
-/// For how many seconds behind its acceptance a place may wait before it is late (RFC 3461, section 4.1).
+/// For how many seconds after its acceptance a place may wait before it is late (RFC 3461, section 4.1).
 pub const LATENESS: u64 = 14_400;
 
-/// How many seconds a place waits behind its first Later verdict; behind each further one it waits
+/// How many seconds a place waits after its first Later verdict; after each further one it waits
 /// twice as long.
 pub const FIRST_WAIT: u64 = 1_800;
 
-/// The longest wait behind a Later verdict, in seconds.
+/// The longest wait after a Later verdict, in seconds.
 pub const LONGEST_WAIT: u64 = 14_400;
 
 /// The most octets of a stored text: a report may have more.

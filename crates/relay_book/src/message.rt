@@ -116,7 +116,7 @@ impl Places {
     }
 }
 
-/// A place behind a verdict.
+/// A place after a verdict.
 fn place_ruled(
     version: Version,
     accept: &Accept,

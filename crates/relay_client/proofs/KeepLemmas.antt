@@ -150,7 +150,7 @@ keeps_reply old_reader new_reader old new errand input output piece out more rep
     keeps-reply old_reader new_reader old new errand input output piece out more reply ended k h
     (subst (λ (r : Reply). Answers errand old new r ended out more) e does)
 
--- what is left of a piece behind its used octets
+-- what is left of a piece after its used octets
 abbrev pub left_of : List ℕ → ℕ → List ℕ
 left_of piece used = take (length piece - used) (drop used piece)
 

@@ -49,7 +49,7 @@ sizes_stay said new one texts none fits is =
     let all = ap text_sizes is in
     omega (arith, none, fits, more, all)
 
--- what one verdict needs of the texts stays, whatever comes behind them
+-- what one verdict needs of the texts stays, whatever comes after them
 settled_stays : (one : Said) (texts more : List ℕ) → text_size one ≤ length texts
     → settled_by one (texts ++ more) ≡ settled_by one texts
 settled_stays Accepted texts more le = refl
@@ -57,7 +57,7 @@ settled_stays Delayed texts more le = refl
 settled_stays (Rejected code size) texts more le =
     ap (λ (t : List ℕ). Some (Refused code t)) (take-append-le size texts more le)
 
--- one more refusal, with its text behind the others
+-- one more refusal, with its text after the others
 pub rejected_more : (said : List Said) (texts text : List ℕ) (code : ℕ) → length texts ≡ text_sizes said
     → settled_of (said ++ Rejected code (length text) ∷ []) (texts ++ text)
     ≡ settled_of said texts ++ Some (Refused code text) ∷ []

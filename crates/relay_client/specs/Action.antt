@@ -1,4 +1,4 @@
--- What an action behind a reply makes of the progress.
+-- What an action after a reply makes of the progress.
 use Rattle.relay_lines.specs.Reply.{Reply}
 use Rattle.relay_book.specs.declared.change.Verdict.TheVariants.{Later}
 use Rattle.relay_course.specs.declared.awaited.Awaited.TheVariants.{Ehlo, Helo, Content}

@@ -63,7 +63,7 @@ HasEnded attempt = attempt.stage ≡ Ended
 abbrev pub HasFailed : Attempt → Type 0
 HasFailed attempt = attempt.stage ≡ Failed
 
--- the stage behind a feed of an attempt that runs
+-- the stage after a feed of an attempt that runs
 abbrev pub stage_by : Option (List Verdict) → Stage
 stage_by None = Running
 stage_by (Some verdicts) = Ended

@@ -33,7 +33,7 @@ settled_by Accepted texts = None
 settled_by Delayed texts = Some Later
 settled_by (Rejected code size) texts = Some (Refused code (take size texts))
 
--- the verdicts of these, which have these texts, one behind another
+-- the verdicts of these, which have these texts, one after another
 abbrev pub settled_of : List Said → List ℕ → List (Option Verdict)
 settled_of [] texts = []
 settled_of (one ∷ said) texts = settled_by one texts ∷ settled_of said (drop (text_size one) texts)

@@ -1,4 +1,4 @@
-//! The table of a conversation: what is done behind a reply (RFC 5321, sections 3.1 to 3.3 and 4.2).
+//! The table of a conversation: what is done after a reply (RFC 5321, sections 3.1 to 3.3 and 4.2).
 ghost use Rattle.std.specs.Prelude.{◌≡◌};
 ghost use Rattle.relay_lines.specs.Reply.{Reply};
 ghost use Rattle.relay_course.specs.Progress.{Errand, Progress, behind_answer};
@@ -6,7 +6,7 @@ ghost use Rattle.relay_client.specs.Action.{done_by};
 
 use relay_course::{Awaited, ReplyKind};
 
-/// What is done behind a reply.
+/// What is done after a reply.
 #[derive(Clone, Copy)]
 pub(crate) enum Action {
     /// EHLO.
@@ -17,7 +17,7 @@ pub(crate) enum Action {
     GreetPlainly,
     /// The transaction begins.
     Begin,
-    /// The next RCPT, or the content behind the last one.
+    /// The next RCPT, or the content after the last one.
     GoOn,
     /// The text.
     SendText,

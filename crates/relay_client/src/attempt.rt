@@ -79,7 +79,7 @@ impl Attempt {
 
     /// Uses the next piece of what the server wrote, to the attempt's end or all of it, and writes what the replies in
     /// it lead to. The message is the same at each call. Where octets are no reply, all places may be tried again, and
-    /// the whole piece is used. Behind its end an attempt uses and writes nothing.
+    /// the whole piece is used. After its end an attempt uses and writes nothing.
     ///
     /// It fails where memory runs out, and from then on each call does.
     pub fn feed(&mut self, mail: &MailObject<'_>, piece: &[u8]) -> Result<Driven, AllocError>
@@ -111,7 +111,7 @@ impl Attempt {
     ///
     /// It asks nothing of the stage. An attempt that has ended, or failed, answers as one that runs: Later
     /// for each of its places, whatever verdicts it has given. So what was given at the end stands, and a
-    /// loss told behind it says nothing of the places.
+    /// loss told after it says nothing of the places.
     pub fn broken(&self) -> Result<Verdicts, AllocError>
         ensures lost { IfOk result (λ verdicts.
             (host text places input output : List ℕ) (envelope : Envelope)

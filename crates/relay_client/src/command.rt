@@ -118,7 +118,7 @@ pub(crate) fn write_data(out: &mut Vec<u8>) -> Result<(), AllocError>
     out.extend_from_slice(b"DATA\r\n")
 }
 
-/// Writes the dot text of a text that ends in CR LF; another isn't sent behind DATA, and nothing is written.
+/// Writes the dot text of a text that ends in CR LF; another isn't sent after DATA, and nothing is written.
 #[tactic(auto, using(crate::proofs::WrittenLemmas::dots_written, crate::proofs::WrittenLemmas::none_written))]
 pub(crate) fn write_dot_text(out: &mut Vec<u8>, text: &[u8]) -> Result<(), AllocError>
     ensures { OnOk result ((dot_text : List ℕ) → IsSentAs text.now dot_text

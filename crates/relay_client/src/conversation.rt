@@ -205,7 +205,7 @@ impl Conversation {
         }
     }
 
-    /// The text, behind a server's leave to send it.
+    /// The text, after a server's leave to send it.
     fn send_text(
         &mut self,
         mail: &MailObject<'_>,
@@ -246,7 +246,7 @@ impl Conversation {
         Ok(Some(self.end(&last, out)?))
     }
 
-    /// Ends by a reply behind which it may be tried again.
+    /// Ends by a reply after which it may be tried again.
     fn put_off(&mut self, out: &mut Vec<u8>) -> Result<Option<Verdicts>, AllocError>
         ensures { IfOk result (λ ended. (errand : Errand) (old : Progress) → Holds self.old errand old
             → Does errand old (ended_by errand Verdict.Later old)

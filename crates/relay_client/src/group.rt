@@ -86,7 +86,7 @@ impl Conversation {
         Ok(())
     }
 
-    /// Behind a reply to MAIL or to a RCPT: where nothing waits the next RCPT, and behind the last one the content.
+    /// After a reply to MAIL or to a RCPT: where nothing waits the next RCPT, and after the last one the content.
     pub(crate) fn go_on(
         &mut self,
         mail: &MailObject<'_>,

@@ -5,6 +5,6 @@ use relay_envelope::Envelope;
 pub struct MailObject<'a> {
     /// Who sent it to whom, and with which parameters.
     pub envelope: &'a Envelope,
-    /// The content behind its time stamp line, as it is passed on.
+    /// The content after its time stamp line, as it is passed on.
     pub stored_text: &'a [u8],
 }

@@ -32,7 +32,7 @@ enum Said {
 #[derive(Drop)]
 pub(crate) struct Settled {
     said: Vec<Said>,
-    /// The texts of the refusals, one behind another.
+    /// The texts of the refusals, one after another.
     texts: Vec<u8>,
 }
 
@@ -200,7 +200,7 @@ fn verdict_by(
     }
 }
 
-/// The texts behind the text of this one.
+/// The texts after the text of this one.
 #[tactic(auto, using(std::proofs::lemmas::List::drop_min))]
 fn behind_text(one: Option<Said>, texts: &[u8]) -> &[u8]
     ensures { result.now ≡ drop (size_by one) texts.now }

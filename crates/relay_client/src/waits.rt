@@ -30,7 +30,7 @@ impl Waits {
         }
     }
 
-    /// A command was written, and waits behind the others. It fails where memory runs out.
+    /// A command was written, and waits after the others. It fails where memory runs out.
     pub(crate) fn push(&mut self, waited: Awaited) -> Result<(), AllocError>
         ensures { OnOk result (self.new ≡ self.old ++ waited ∷ []) }
     {

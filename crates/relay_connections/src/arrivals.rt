@@ -139,8 +139,8 @@ impl<S: Stream + Drop> Arrival<S> {
     }
 }
 
-/// The connections of balancers whose headers are waited for, up to 64, each for five seconds. They are no sessions yet,
-/// and count for no client's address.
+/// The connections of balancers whose headers are waited for, up to 64, each for five seconds. They are no sessions
+/// yet, and count for no client's address.
 pub struct Arrivals<S = TcpStream> {
     alloc: Global,
     arrivals: Table<Box<Arrival<S>>>,

@@ -35,7 +35,7 @@ keep-up-by errand replies more (Some all) e =
 pub commands_keep_up : CommandsKeepUp
 commands_keep_up errand replies more = keep-up-by errand replies more (progress errand replies).verdicts refl
 
--- of these replies a first part is answered, behind what was answered before
+-- of these replies a first part is answered, after what was answered before
 abbrev AnswersSome : Progress → Progress → List Reply → Type 0
 AnswersSome old new replies =
     (front : List Reply) × (rest : List Reply) × (replies ≡ front ++ rest)
@@ -47,7 +47,7 @@ one-answered errand waited waits reply now =
     ap (λ l. replies_in l) (answer-goes errand waited (kind_of reply.code) reply (answered_by waited waits reply now)).0.3
     ∙ map-append (λ (one : Answered). one.reply) now.answered (answer_of waited reply ∷ [])
 
--- one reply and those behind it
+-- one reply and those after it
 answered-first : (errand : Errand) (now : Progress) (reply : Reply) (replies : List Reply) (waits : List Awaited)
     → now.waits ≡ waits
     → ((mid : Progress) → AnswersSome mid (behind_replies errand mid replies) replies)

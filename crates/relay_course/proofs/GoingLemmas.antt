@@ -154,7 +154,7 @@ abbrev pub answered_by : Awaited → List Awaited → Reply → Progress → Pro
 answered_by waited waits reply now =
     record now { waits = waits; answered = now.answered ++ answer_of waited reply ∷ [] }
 
--- behind one reply more
+-- after one reply more
 pub record Answers (old new : Progress) (reply : Reply) : Type 0 where
   pub begins : Begins old.commands new.commands
   pub lives : Lives new
@@ -193,7 +193,7 @@ behind_replies-append errand now [] more = refl
 behind_replies-append errand now (reply ∷ replies) more =
     behind_replies-append errand (behind_reply errand now reply) replies more
 
--- behind many replies
+-- after many replies
 pub record GoesAlong (old new : Progress) (replies : List Reply) : Type 0 where
   pub begins : Begins old.commands new.commands
   pub lives : Lives new

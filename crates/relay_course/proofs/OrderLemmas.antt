@@ -46,7 +46,7 @@ AreRcpts [] = Unit {0}
 AreRcpts (Rcpt place ∷ waits) = AreRcpts waits
 AreRcpts (_ ∷ waits) = ⊥
 
--- a MAIL and RCPTs behind it, of which the first may be answered
+-- a MAIL and RCPTs after it, of which the first may be answered
 abbrev IsGroup : List Awaited → Type 0
 IsGroup (Mail ∷ waits) = AreRcpts waits
 IsGroup waits = AreRcpts waits
@@ -71,7 +71,7 @@ abbrev IsOrderly : Errand → Progress → Type 0
 IsOrderly errand now =
     Places errand now × MayWait now.waits now.unasked × (content_replies_in now.answered ≡ [])
 
--- an attempt that the content's reply ended, behind all RCPTs
+-- an attempt that the content's reply ended, after all RCPTs
 abbrev pub EndedByContent : Errand → Progress → Verdict → Type 0
 EndedByContent errand end last =
     (content : Reply) × (content_replies_in end.answered ≡ content ∷ [])
@@ -198,7 +198,7 @@ rcpts-group (Rcpt other ∷ waits) h = h
 rcpts-group (Data ∷ waits) h = absurd h
 rcpts-group (Content ∷ waits) h = absurd h
 
--- the RCPT of the next place waits behind the others
+-- the RCPT of the next place waits after the others
 rcpt-places : (errand : Errand) (place : ℕ) (more : List ℕ) (now : Progress) → now.unasked ≡ place ∷ more
     → Places errand now → Places errand (with_rcpt errand place more now)
 rcpt-places errand place more now next places =
@@ -319,7 +319,7 @@ content-ends errand waits kind reply old same may places none =
       ),
     )
 
--- what is known behind an answer that isn't the content's
+-- what is known after an answer that isn't the content's
 open-behind : (errand : Errand) (waited : Awaited) (waits : List Awaited) (reply : Reply) (old : Progress)
     → if_content waited reply ≡ [] → old.verdicts ≡ None → Places errand (answered_by waited waits reply old)
     → content_replies_in old.answered ≡ [] → IsOpen errand (answered_by waited waits reply old)

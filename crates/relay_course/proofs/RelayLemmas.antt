@@ -88,7 +88,7 @@ some-come errand (place ∷ other ∷ places) (reply ∷ replies) commands exten
     ∙ ap (λ (a : List Answered). progress_at commands (rcpt_waits left) [] extensions a)
     (append_assoc answered (one ∷ []) (answered_rcpts (other ∷ places) replies))
 
--- the reply to MAIL, and those to all RCPTs behind it
+-- the reply to MAIL, and those to all RCPTs after it
 mail-and-all : (errand : Errand) (places : List ℕ) (mail : Reply) (rcpts : List Reply) (commands : List (List ℕ))
     (extensions : Extensions) (answered : List Answered)
     → kind_of mail.code ≡ Completion → length rcpts ≡ length places
@@ -106,7 +106,7 @@ mail-and-all errand (place ∷ places) mail rcpts commands extensions answered i
     (behind_answer errand Mail k mail (progress_at commands (rcpt_waits (place ∷ places)) [] extensions more)) rcpts) is
     ∙ all-come errand place places rcpts commands extensions more e
 
--- the reply to MAIL, and those to some of the RCPTs behind it
+-- the reply to MAIL, and those to some of the RCPTs after it
 mail-and-some : (errand : Errand) (places : List ℕ) (mail : Reply) (rcpts : List Reply) (commands : List (List ℕ))
     (extensions : Extensions) (answered : List Answered)
     → kind_of mail.code ≡ Completion → length rcpts < length places
@@ -226,7 +226,7 @@ content-comes errand input content commands answered true is =
     (append_assoc answered (answer_of Data input ∷ []) (answer_of Content content ∷ []))
 content-comes errand input content commands answered false is = refl
 
--- behind the RCPTs' replies: the content, where one was accepted, and the end
+-- after the RCPTs' replies: the content, where one was accepted, and the end
 finish : (errand : Errand) (input content : Reply) (commands : List (List ℕ)) (answered : List Answered) (some : Bool)
     → kind_of input.code ≡ Intermediate → some_accepted (rcpt_replies answered) ≡ some
     → behind_replies errand (behind_rcpts errand (progress_at commands [] [] all_extensions answered))

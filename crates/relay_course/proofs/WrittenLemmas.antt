@@ -29,7 +29,7 @@ use Rattle.relay_course.proofs.GoingLemmas.{answered_by}
 abbrev IsPlace : Errand → ℕ → Type 0
 IsPlace errand place = (place < length errand.envelope.recipients) × Contains errand.places place
 
--- DATA waits only where the text is sent behind it
+-- DATA waits only where the text is sent after it
 abbrev MaySend : Errand → Awaited → Type 0
 MaySend errand Data = ends_in_line_end errand.text ≡ true
 MaySend errand _ = Unit {0}

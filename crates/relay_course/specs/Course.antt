@@ -14,7 +14,7 @@ use Rattle.relay_course.specs.Progress.{Errand, progress}
 abbrev pub joined : List (List ℕ) → List ℕ
 joined commands = flat_map (λ command. command) commands
 
--- how a text is sent behind DATA (RFC 5321, section 4.5.2); one that doesn't end in CR LF isn't
+-- how a text is sent after DATA (RFC 5321, section 4.5.2); one that doesn't end in CR LF isn't
 abbrev pub IsSentAs : List ℕ → List ℕ → Type 0
 IsSentAs text dot_text = MatchBool (ends_in_line_end text) (WritesDotText text dot_text) (dot_text ≡ [])
 
@@ -23,12 +23,12 @@ abbrev pub errand_of : List ℕ → Envelope → List ℕ → List ℕ → List 
 errand_of host envelope text dot_text places =
     record { host = host; envelope = envelope; text = text; dot_text = dot_text; places = places }
 
--- what comes behind the replies is none (RFC 5321, section 4.2)
+-- what comes after the replies is none (RFC 5321, section 4.2)
 abbrev pub IsFaulty : List ℕ → Type 0
 IsFaulty rest = (fault : ReplyFault) × HasFault rest fault
 
 -- How the replies and the end of the input decide the verdicts. Where the replies ended the attempt, it has read
--- nothing behind them. Else it goes on while more may come; or the caller told that the connection is lost, or what
+-- nothing after them. Else it goes on while more may come; or the caller told that the connection is lost, or what
 -- comes is no reply: then each place may be tried again, and the replies read before count for nothing.
 abbrev pub Concludes : List ℕ → Bool → List ℕ → Option (List Verdict) → Option (List Verdict) → Type 0
 Concludes places told rest (Some all) verdicts = (told ≡ false) × (rest ≡ []) × (verdicts ≡ Some all)

@@ -1,4 +1,4 @@
--- What a server offers (RFC 5321, section 4.1.1.1): the first word of each line of its reply to EHLO behind the first
+-- What a server offers (RFC 5321, section 4.1.1.1): the first word of each line of its reply to EHLO after the first
 -- line.
 use Rattle.std.specs.Prelude.{ℕ, Bool, false, ◌||◌, List, [], ◌∷◌, codes}
 use Rattle.relay_lines.specs.Reply.{Reply}
@@ -10,7 +10,7 @@ abbrev pub offers : List ℕ → List (List ℕ) → Bool
 offers keyword [] = false
 offers keyword (line ∷ lines) = is_word (first_word line) keyword || offers keyword lines
 
--- the lines behind the first, which is the server's name and a greeting
+-- the lines after the first, which is the server's name and a greeting
 abbrev pub behind_first : List (List ℕ) → List (List ℕ)
 behind_first [] = []
 behind_first (line ∷ lines) = lines

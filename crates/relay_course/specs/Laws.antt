@@ -35,7 +35,7 @@ EachReplyAnswers =
     (errand : Errand) (replies : List Reply) (reply : Reply) → (progress errand replies).verdicts ≡ None
     → length (progress errand (replies ++ reply ∷ [])).answered ≡ length (progress errand replies).answered + 1
 
--- What was written stays written, whatever replies come behind.
+-- What was written stays written, whatever replies come after.
 abbrev pub CommandsStay : Type 0
 CommandsStay =
     (errand : Errand) (replies more : List Reply)
@@ -54,13 +54,13 @@ EndWaitsForNothing =
     (errand : Errand) (replies : List Reply) (verdicts : List Verdict)
     → (progress errand replies).verdicts ≡ Some verdicts → (progress errand replies).waits ≡ []
 
--- Where nothing waits, replies behind change nothing.
+-- Where nothing waits, replies after change nothing.
 abbrev pub EndIsEnd : Type 0
 EndIsEnd =
     (errand : Errand) (replies more : List Reply) → (progress errand replies).waits ≡ []
     → progress errand (replies ++ more) ≡ progress errand replies
 
--- Behind so many replies as many commands are written, or nothing more is.
+-- After so many replies as many commands are written, or nothing more is.
 abbrev pub CommandsKeepUp : Type 0
 CommandsKeepUp =
     (errand : Errand) (replies more : List Reply)
@@ -76,7 +76,7 @@ abbrev pub AnsweredAreFirst : Type 0
 AnsweredAreFirst =
     (errand : Errand) (replies : List Reply) → Begins (replies_in (progress errand replies).answered) replies
 
--- What was answered stays answered, whatever replies come behind.
+-- What was answered stays answered, whatever replies come after.
 abbrev pub AnswersStay : Type 0
 AnswersStay =
     (errand : Errand) (replies more : List Reply)
@@ -145,11 +145,11 @@ pub record IsErrand (errand : Errand) : Type 0 where
   pub few : length errand.places ≤ 100
   pub within : AreWithin errand.places errand.envelope.recipients
 
--- the text is what stands behind the colon of this recipient's RCPT, with its parameters or with none
+-- the text is what stands after the colon of this recipient's RCPT, with its parameters or with none
 abbrev pub IsRcptOf : Recipient → List ℕ → Type 0
 IsRcptOf recipient text = (text ≡ rcpt_text recipient) ⊎ (text ≡ recipient.path)
 
--- the commands that are written as a line alone, with nothing behind it
+-- the commands that are written as a line alone, with nothing after it
 abbrev pub MayAsk : Errand → Command → Type 0
 MayAsk errand (Helo host) = host ≡ errand.host
 MayAsk errand (Ehlo host) = host ≡ errand.host

@@ -19,7 +19,7 @@ use Rattle.relay_course.specs.WrittenLine.{quit_line}
 use Rattle.relay_course.specs.VerdictTable.{content_verdict_by, kind_of, refusal, some_accepted, verdicts_of}
 
 -- what an attempt has to do, which never changes: our host's name, the message's envelope and stored text, that text as
--- it is sent behind DATA, and the places to try, in order
+-- it is sent after DATA, and the places to try, in order
 pub record Errand : Type 0 where
   pub host : List ℕ
   pub envelope : Envelope
@@ -88,7 +88,7 @@ abbrev pub behind_rcpts : Errand → Progress → Progress
 behind_rcpts errand old =
     if some_accepted (rcpt_replies old.answered) then with_content errand old else ended_by errand Later old
 
--- a reply to MAIL or to a RCPT has come: where nothing waits the next RCPT is written, and behind the last one the
+-- a reply to MAIL or to a RCPT has come: where nothing waits the next RCPT is written, and after the last one the
 -- content
 abbrev pub with_next : Errand → List Awaited → List ℕ → Progress → Progress
 with_next errand (waited ∷ waits) unasked old = old
@@ -142,7 +142,7 @@ at_greeting errand = record {
   verdicts = None;
 }
 
--- the reply answers what waits first; behind the end it answers nothing
+-- the reply answers what waits first; after the end it answers nothing
 abbrev pub with_answer : Errand → List Awaited → Reply → Progress → Progress
 with_answer errand [] reply old = old
 with_answer errand (waited ∷ waits) reply old =
@@ -156,6 +156,6 @@ abbrev pub behind_replies : Errand → Progress → List Reply → Progress
 behind_replies errand old [] = old
 behind_replies errand old (reply ∷ replies) = behind_replies errand (behind_reply errand old reply) replies
 
--- how far an attempt has come behind these replies
+-- how far an attempt has come after these replies
 abbrev pub progress : Errand → List Reply → Progress
 progress errand replies = behind_replies errand (at_greeting errand) replies

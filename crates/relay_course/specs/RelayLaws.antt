@@ -80,7 +80,7 @@ abbrev pub last_verdict : List Reply → Reply → Verdict
 last_verdict rcpts content =
     if some_accepted rcpts then content_verdict_by true (kind_of content.code) content else Later
 
--- how far an attempt has come behind all replies: to the end
+-- how far an attempt has come after all replies: to the end
 abbrev pub relay_progress : Errand → Reply → Reply → Reply → List Reply → Reply → Reply → Progress
 relay_progress errand greeting hello mail rcpts input content = record {
   commands = relay_commands errand rcpts;
@@ -112,7 +112,7 @@ opening_progress errand greeting hello mail rcpts = record {
   verdicts = None;
 }
 
--- Before all RCPTs are answered, nothing is written behind them, and the others wait.
+-- Before all RCPTs are answered, nothing is written after them, and the others wait.
 abbrev pub NothingBeforeAllRcpts : Type 0
 NothingBeforeAllRcpts =
     (errand : Errand) (greeting hello mail input : Reply) (rcpts : List Reply)

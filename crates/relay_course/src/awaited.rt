@@ -11,8 +11,8 @@ pub enum Awaited {
     Mail,
     /// The RCPT of this place was written, from 0.
     Rcpt(u8),
-    /// DATA was written, without mail data behind it.
+    /// DATA was written, without mail data after it.
     Data,
-    /// The content was written: mail data behind DATA, or the last chunk with its BDAT.
+    /// The content was written: mail data after DATA, or the last chunk with its BDAT.
     Content,
 }

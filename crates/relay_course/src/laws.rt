@@ -16,7 +16,7 @@ pub fn each_reply_answers()
     ensures { EachReplyAnswers }
 {}
 
-/// What was written stays written, whatever replies come behind.
+/// What was written stays written, whatever replies come after.
 pub fn commands_stay()
     ensures { CommandsStay }
 {}
@@ -31,12 +31,12 @@ pub fn end_waits_for_nothing()
     ensures { EndWaitsForNothing }
 {}
 
-/// Where nothing waits, replies behind change nothing.
+/// Where nothing waits, replies after change nothing.
 pub fn end_is_end()
     ensures { EndIsEnd }
 {}
 
-/// Behind so many replies as many commands are written, or nothing more is.
+/// After so many replies as many commands are written, or nothing more is.
 pub fn commands_keep_up()
     ensures { CommandsKeepUp }
 {}
@@ -46,7 +46,7 @@ pub fn answered_are_first()
     ensures { AnsweredAreFirst }
 {}
 
-/// What was answered stays answered, whatever replies come behind.
+/// What was answered stays answered, whatever replies come after.
 pub fn answers_stay()
     ensures { AnswersStay }
 {}
@@ -98,7 +98,7 @@ pub fn commands_to_a_relay()
     ensures { CommandsToARelay }
 {}
 
-/// Before all RCPTs are answered, nothing is written behind them, and the others wait.
+/// Before all RCPTs are answered, nothing is written after them, and the others wait.
 pub fn nothing_before_all_rcpts()
     ensures { NothingBeforeAllRcpts }
 {}

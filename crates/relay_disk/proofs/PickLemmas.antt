@@ -44,7 +44,7 @@ earlier_octet synced earlier image at = cond (is_changed synced earlier at) (sli
 before_write : List ℕ → List Call → List ℕ → ℕ → List ℕ
 before_write synced earlier image = table (earlier_octet synced earlier image)
 
--- before the latest cut: the synced octets come back behind the image
+-- before the latest cut: the synced octets come back after the image
 uncut_octet : List ℕ → List ℕ → ℕ → ℕ
 uncut_octet synced image at = cond (nat_lt at (length image)) (slice_index image at) (slice_index synced at)
 

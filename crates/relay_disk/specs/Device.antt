@@ -35,7 +35,7 @@ pub record Cuts (size : ℕ) (old new : List ℕ) : Type 0 where
   pub no_shorter : min size (length old) ≤ length new
   pub no_longer : length new ≤ length old
 
--- a write that a stop interrupts leaves what stands before its range and behind it
+-- a write that a stop interrupts leaves what stands before its range and after it
 abbrev pub WritesLeaveTheRest : Type 0
 WritesLeaveTheRest =
     (place count : ℕ) (old new : List ℕ) → Writes place count old new

@@ -4,7 +4,7 @@ use Rattle.relay_disk.specs.declared.disk.DiskFault.{DiskFault}
 use Rattle.relay_disk.specs.declared.once.OnceDisk.{OnceDisk}
 use Rattle.relay_disk.specs.Device.{DiskWords, CountsFailure}
 
--- how many calls pass before the one that fails, behind a call; none where it has failed
+-- how many calls pass before the one that fails, after a call; none where it has failed
 abbrev pub left_behind : Option ℕ → Option ℕ
 left_behind None = None
 left_behind (Some zero) = None
@@ -13,7 +13,7 @@ left_behind (Some (suc calls)) = Some calls
 -- The words below take those of the disk beneath.
 module _ {D : Type 0} (words : DiskWords D) where
   -- What contracts say of it: what they say of the disk beneath, and which of its own calls have failed. The one
-  -- failure isn't a fuse, behind which each call would fail.
+  -- failure isn't a fuse, after which each call would fail.
   abbrev pub once_words : DiskWords (OnceDisk D)
   once_words = record {
     seen = λ once. words.seen once.disk;

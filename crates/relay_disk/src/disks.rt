@@ -37,7 +37,7 @@ pub struct Disks<D> {
 }
 
 impl<D: Disk> Disks<D> {
-    /// Brings the disk of this side to the front, and the other behind it; done twice, it changes
+    /// Brings the disk of this side to the front, and the other after it; done twice, it changes
     /// nothing. The fuse stays in front: so it counts the calls of either disk while that stands there.
     pub fn turn(&mut self, side: Side)
         ensures { IsTurned D.honest D.words side self.old self.new }

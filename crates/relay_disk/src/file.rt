@@ -20,7 +20,7 @@ const STANDARD_ERROR: RawFd = 2;
 
 /// An open file. Reads and writes are positioned, and `sync` hands its octets and its length to the device.
 ///
-/// Want of space is a failure like any other: the octets that were there stay. Behind a failed sync
+/// Want of space is a failure like any other: the octets that were there stay. After a failed sync
 /// each later one fails, until the file is opened anew: the system may have dropped octets that it
 /// couldn't write, and would answer the second sync well.
 #[derive(Drop)]

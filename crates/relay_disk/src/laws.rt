@@ -1,7 +1,7 @@
 //! What is true of calls that a stop interrupts, whichever disk they go to.
 ghost use Rattle.relay_disk.specs.Device.{WritesLeaveTheRest, CutsLeaveAFront};
 
-/// A write leaves what stands before its range and behind it.
+/// A write leaves what stands before its range and after it.
 pub fn writes_leave_the_rest()
     ensures { WritesLeaveTheRest }
 {}

@@ -8,7 +8,7 @@ use crate::{Disk, DiskFault};
 use std::mem;
 
 /// A disk over another, of which one call of `size`, `read`, `write_at`, `cut` and `sync` fails: it isn't handed on,
-/// and so changes nothing. The calls before it and behind it go on, and are what the disk beneath answers.
+/// and so changes nothing. The calls before it and after it go on, and are what the disk beneath answers.
 #[derive(Debug, Drop)]
 pub struct OnceDisk<D> {
     disk: D,

@@ -1,4 +1,4 @@
--- What is read behind a path, word by word, is what the row of words says.
+-- What is read after a path, word by word, is what the row of words says.
 use Rattle.std.proofs.Common.{◌≡◌, ℕ, true, List, Result, refl}
 use Rattle.relay_envelope.specs.Path.{Path, BeginsWithPath, is_forward, is_reverse}
 use Rattle.relay_envelope.specs.Parameters.{mail_parameters_of, rcpt_parameters_of}
@@ -9,7 +9,7 @@ use Rattle.relay_envelope.proofs.RowOfWordsLemmas.{text_is_row}
 use Rattle.relay_envelope.proofs.RowIsReadLemmas.{mail_row_is_read, rcpt_row_is_read}
 use Rattle.relay_envelope.proofs.RowIsOneLemmas.{mail_row_says_one, rcpt_row_says_one}
 
--- what is read behind a path is what its row says
+-- what is read after a path is what its row says
 pub behind_mail : (text : List ℕ) (path : Path) (rest : List ℕ) → BeginsWithPath text path rest → is_reverse path ≡ true
     → IsBehindPath is_reverse SaysMail mail_of text (mail_of path (mail_parameters_of rest))
 behind_mail text path rest begins allowed =

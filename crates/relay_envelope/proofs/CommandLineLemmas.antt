@@ -199,7 +199,7 @@ may_follow front text good short = record {
   short = short;
 }
 
--- a path behind a short keyword
+-- a path after a short keyword
 path_follows : (front text : List ℕ) → length text ≤ 256 → length front ≤ 10 → length (front ++ text) + 2 ≤ 2048
 path_follows front text short few = omega (arith, length-append front text)
 

@@ -23,7 +23,7 @@ bad_or_behind : {P A : Type 0} (is_allowed : Path → Bool) (row_says : List (Li
 bad_or_behind is_allowed row_says joined text one two bad behind =
     true≢false (sym behind.allowed ∙ bad.none_allowed behind.path behind.rest behind.begins)
 
--- where each row behind a path is read in one way, a text has one reading
+-- where each row after a path is read in one way, a text has one reading
 reading_is_one : {P A : Type 0} (is_allowed : Path → Bool) (row_says : List (List ℕ) → Result P EnvelopeFault → Type 0)
     (joined : Path → Result P EnvelopeFault → Result A EnvelopeFault) (read : List ℕ → Result P EnvelopeFault)
     → ((text : List ℕ) (result : Result A EnvelopeFault) (behind : IsBehindPath is_allowed row_says joined text result)

@@ -10,7 +10,7 @@ use Rattle.relay_envelope.specs.Parameters.{FirstPart, OnePart, and_then, are_re
 use Rattle.relay_envelope.specs.declared.fault.EnvelopeFault.{EnvelopeFault}
 use Rattle.relay_envelope.specs.declared.parameters.Outcomes.{Outcomes}
 
--- behind a first part
+-- after a first part
 pub each_more : {A : Type 0} (with_one : List ℕ → A → Result A EnvelopeFault) (octet : ℕ) (text word behind : List ℕ) (old new : A) → FirstPart octet text word behind → Ok new ≡ with_one word old → with_each with_one (slice_split (is_octet octet) text) old ≡ with_each with_one (slice_split (is_octet octet) behind) new
 each_more with_one octet text word behind old new first e =
     ap (λ parts. with_each with_one parts old) first.parts
@@ -31,7 +31,7 @@ pub each_last : {A : Type 0} (with_one : List ℕ → A → Result A EnvelopeFau
 each_last with_one octet text old one =
     ap (λ parts. with_each with_one parts old) one.parts ∙ and_then-ok (with_one text old)
 
--- outcomes behind a first word
+-- outcomes after a first word
 pub outcomes_more : (text word behind : List ℕ) (old : Outcomes) (new : Option Outcomes) → FirstPart 44 text word behind → new ≡ with_outcome word old → with_outcomes (slice_split (is_octet 44) text) old ≡ option_and_then (λ next. with_outcomes (slice_split (is_octet 44) behind) next) new
 outcomes_more text word behind old new first e =
     ap (λ parts. with_outcomes parts old) first.parts
@@ -48,7 +48,7 @@ readable-joined : (octet : ℕ) (octets : Option (List ℕ)) → are_readable (j
 readable-joined octet None = sym (and-false (is_printable octet))
 readable-joined octet (Some octets) = refl
 
--- the first octet that a text stands for, and those behind it
+-- the first octet that a text stands for, and those after it
 pub readable_more : (text : List ℕ) (octet : ℕ) (rest : List ℕ) → FirstOctet text octet rest → are_readable (decoded text) ≡ is_printable octet && are_readable (decoded rest)
 readable_more text octet rest first = ap are_readable first.decoding ∙ readable-joined octet (decoded rest)
 

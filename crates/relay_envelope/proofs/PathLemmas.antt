@@ -150,13 +150,13 @@ source_body : (body route address : List ℕ) (source : IsSourceRoute route) →
 source_body body route address source e =
     e ∙ ap (λ l. l ++ address) source.text_is ∙ ap (λ l. 64 ∷ l) (append_assoc source.row (58 ∷ []) address)
 
--- a body with a source route begins with `@`, and so does no address behind none
+-- a body with a source route begins with `@`, and so does no address after none
 source_or_none : (body route address other more : List ℕ) → IsSourceRoute route → body ≡ route ++ address → other ≡ [] → begins_with_at more ≡ false → body ≡ other ++ more → ⊥
 source_or_none body route address other more source e none begins f =
     let same : more ≡ body = sym (f ∙ ap (λ l. l ++ more) none) in
     true≢false (sym (ap begins_with_at (same ∙ source_body body route address source e)) ∙ begins)
 
--- a body has one route, and one address behind it
+-- a body has one route, and one address after it
 route_is_one : (body route address other more : List ℕ) → SplitsRoute body route address → SplitsRoute body other more → (route ≡ other) × (address ≡ more)
 route_is_one body route address other more one two =
     elim one.is_route [
@@ -202,7 +202,7 @@ skipped (octet ∷ spaces) tail h =
     ap (λ b. drop (cond b (1 + prefix_len is_space (spaces ++ 60 ∷ tail)) 0) (octet ∷ (spaces ++ 60 ∷ tail))) parts.0
     ∙ ap (λ n. drop n (octet ∷ (spaces ++ 60 ∷ tail))) more ∙ skipped spaces tail parts.1
 
--- behind its spaces a text is the path and the rest
+-- after its spaces a text is the path and the rest
 behind_spaces : (text : List ℕ) (path : Path) (rest : List ℕ) → BeginsWithPath text path rest → drop (prefix_len is_space text) text ≡ 60 ∷ (body_of path ++ 62 ∷ rest)
 behind_spaces text path rest begins =
     let path_is : path_text path ++ rest ≡ 60 ∷ (body_of path ++ 62 ∷ rest) = ap (λ l. 60 ∷ l) (append_assoc (body_of path) (62 ∷ []) rest) in

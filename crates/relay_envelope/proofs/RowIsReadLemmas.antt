@@ -126,7 +126,7 @@ module _ {A V W : Type 0} (k : Keywords A V W) where
     is_faulty = step;
   }
 
-  -- the words behind those that are read
+  -- the words after those that are read
   each_said : (before words : List (List ℕ)) (old : A) → GivesAll before old → Says (before ++ words) (with_each with_word words old)
   each_said before [] old g = subst (λ (l : List (List ℕ)). GivesAll l old) (sym (append-nil before)) g
   each_said before (word ∷ words) old g =
@@ -190,7 +190,7 @@ rcpt_keywords = record {
   apart = λ (e : ◌≡◌ {A = ℕ} 6 5). omega (arith, e);
 }
 
--- a second keyword's value as it was written, behind the tests before it
+-- a second keyword's value as it was written, after the tests before it
 alike_behind : {A : Type 0} (given : Bool) (put : List ℕ → A) (value : List ℕ) (test : Bool) (empty first second : Bool) (old : A) (other : Result A EnvelopeFault)
     → (if empty then Ok old else (if first then other else (if second then (if given then Err Repeated else (if test then Ok (put value) else Err BadValue)) else Err UnknownParameter)))
     ≡ (if empty then Ok old else (if first then other else (if second then (if given then Err Repeated else ok_or (option_map put (if test then Some value else None)) BadValue) else Err UnknownParameter)))

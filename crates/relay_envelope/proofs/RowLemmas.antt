@@ -70,7 +70,7 @@ pub row_len-end : (stop : ℕ) (place : Place) (text : List ℕ) (i : ℕ) → i
 row_len-end stop place text i e =
     ap (λ l. counted i (row_len_from stop place l)) (drop_all i text (omega arith)) ∙ row_len-nil stop place i ∙ ap (λ n. if is_outside place then Some n else None) e
 
--- the rest of a quoted string, and a row behind it
+-- the rest of a quoted string, and a row after it
 record InString (stop : ℕ) (front : List ℕ) : Type 0 where
   contents : List Content
   row : List ℕ
@@ -86,7 +86,7 @@ record BehindEscape (stop : ℕ) (front : List ℕ) : Type 0 where
   front_is : front ≡ octet ∷ rest
   in_string : InString stop rest
 
--- what may stand behind a place
+-- what may stand after a place
 abbrev Continues : ℕ → Place → List ℕ → Type 0
 Continues stop Outside front = IsRow stop front
 Continues stop Inside front = InString stop front
@@ -137,7 +137,7 @@ if_one : (a : Bool) (x next : Place) → (if a then Some x else None) ≡ Some n
 if_one true x next e = (refl, (let same : next ≡ x = cc in same))
 if_one false x next e = absurd (let no : ⊥ = cc in no)
 
--- what may stand behind the next place may stand here behind the octet
+-- what may stand after the next place may stand here after the octet
 step_back : (stop : ℕ) (place : Place) (octet : ℕ) (next : Place) (front : List ℕ) → is_outside place && (octet == stop) ≡ false → place_after place octet ≡ Some next → Continues stop next front → Continues stop place (octet ∷ front)
 step_back stop Outside octet next front more e goes =
     elim (if_either (octet == 34) (is_plain octet) Inside Outside next e) [
@@ -318,7 +318,7 @@ no_row stop text apart e is_row =
     let found = e ∙ row_len-whole stop text apart is_row in
     let no : ⊥ = cc in no
 
--- the octet behind a length ends the row
+-- the octet after a length ends the row
 end_is : (stop : ℕ) (text : List ℕ) (n : ℕ) → n < length text → EndsRow stop (drop n text) → get_or text n 0 ≡ stop
 end_is stop text n h ends = subst (EndsRow stop) (drop_more text n 0 h) ends
 

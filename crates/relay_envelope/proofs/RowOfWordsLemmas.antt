@@ -40,7 +40,7 @@ pub all_append : (P : List ℕ → Type 0) (xs ys : List (List ℕ)) → AllByRe
 all_append P [] ys one two = two
 all_append P (x ∷ xs) ys one two = (one.0, all_append P xs ys one.1 two)
 
--- behind a word of another keyword
+-- after a word of another keyword
 pub given_as_before : {V : Type 0} (keyword : List ℕ) (read : List ℕ → Option V) (before : List (List ℕ)) (word : List ℕ) (value : Option V) → IsGiven keyword read before value → has_keyword keyword word ≡ false → IsGiven keyword read (before ++ word ∷ []) value
 given_as_before keyword read before word None none other = all_append _ before (word ∷ []) none (other, tt)
 given_as_before keyword read before word (Some value) one other = record {
@@ -54,7 +54,7 @@ given_as_before keyword read before word (Some value) one other = record {
   value_is = one.value_is;
 }
 
--- behind the first word of this keyword
+-- after the first word of this keyword
 pub given_now : {V : Type 0} (keyword : List ℕ) (read : List ℕ → Option V) (before : List (List ℕ)) (word : List ℕ) (value : V) → NoneHas keyword before → has_keyword keyword word ≡ true → read (value_of_word word) ≡ Some value → IsGiven keyword read (before ++ word ∷ []) (Some value)
 given_now keyword read before word value none here is = record {
   before = before;

@@ -25,7 +25,7 @@ at_no_place [] place within none = absurd (omega arith)
 at_no_place (octet ∷ text) zero within none = ap not (neither (is_at octet) (list_any is_at text) none).0
 at_no_place (octet ∷ text) (suc place) within none = at_no_place text place (omega arith) (neither (is_at octet) (list_any is_at text) none).1
 
--- what stands behind the last `@`
+-- what stands after the last `@`
 after_last_is : (text front back : List ℕ) → SplitsAtLast 64 text front back → after_last is_at text ≡ back
 after_last_is text front back split =
     let whole : text ≡ (front ++ 64 ∷ []) ++ back = split.text_is ∙ sym (append_assoc front (64 ∷ []) back) in

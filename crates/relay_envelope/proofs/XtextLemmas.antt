@@ -7,14 +7,14 @@ use Rattle.std.proofs.lemmas.Bool.Decides.{nat_tests}
 use Rattle.relay_envelope.specs.Xtext.{Part, IsPart, part_text, octet_of, octet_of_digits, octet_of_xchar, onto_octets, joined_octets, is_xchar, is_digit, value_of_digit, decoded, encoded, encoded_octet, SpellsXtext, FirstOctet, digit_of, DecodedIsSpelled, EncodedIsDecoded}
 use Rattle.relay_envelope.specs.Xtext.Part.{Xchar, Hexchar}
 
--- behind an octet that is no `+`
+-- after an octet that is no `+`
 pub decoded_char : (octet : ℕ) (text : List ℕ) → octet == 43 ≡ false → decoded (octet ∷ text) ≡ onto_octets (octet_of_xchar octet) (decoded text)
 unfolding decoded
 decoded_char octet [] h = refl
 decoded_char octet (next ∷ []) h = refl
 decoded_char octet (high ∷ low ∷ text) h = cond-false (octet == 43) _ _ h
 
--- behind `+`
+-- after `+`
 pub decoded_code : (high low : ℕ) (text : List ℕ) → decoded (43 ∷ high ∷ low ∷ text) ≡ onto_octets (octet_of_digits high low) (decoded text)
 unfolding decoded
 decoded_code high low text = refl

@@ -69,11 +69,11 @@ abbrev pub orcpt_text : Option (List ℕ) → List ℕ
 orcpt_text None = []
 orcpt_text (Some orcpt) = codes " ORCPT=" ++ orcpt
 
--- what is written behind the colon of MAIL FROM
+-- what is written after the colon of MAIL FROM
 abbrev pub mail_text : Envelope → List ℕ
 mail_text envelope = envelope.reverse_path ++ ret_text envelope.ret ++ envid_text envelope.envid
 
--- what is written behind the colon of RCPT TO
+-- what is written after the colon of RCPT TO
 abbrev pub rcpt_text : Recipient → List ℕ
 rcpt_text recipient = recipient.path ++ notify_text recipient.notify ++ orcpt_text recipient.orcpt
 

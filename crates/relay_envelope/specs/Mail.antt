@@ -1,4 +1,4 @@
--- What stands behind the colon of `MAIL FROM:` and of `RCPT TO:` (RFC 5321, sections 4.1.1.2 and 4.1.1.3; RFC 3461,
+-- What stands after the colon of `MAIL FROM:` and of `RCPT TO:` (RFC 5321, sections 4.1.1.2 and 4.1.1.3; RFC 3461,
 -- section 4).
 use Rattle.std.specs.Prelude.{◌≡◌, ℕ, Bool, true, false, ◌⊎◌, List, Result, Ok, Err}
 use Rattle.std.specs.Option.{option_copied}
@@ -20,7 +20,7 @@ pub record Rcpt : Type 0 where
   pub path : Path
   pub parameters : RcptParameters
 
--- a path with the parameters behind it
+-- a path with the parameters after it
 abbrev pub mail_of : Path → Result MailParameters EnvelopeFault → Result Mail EnvelopeFault
 mail_of path (Ok parameters) = Ok (record { reverse_path = path; parameters = parameters })
 mail_of path (Err fault) = Err fault
@@ -35,7 +35,7 @@ pub record HasBadPath {A : Type 0} (is_allowed : Path → Bool) (text : List ℕ
   pub none_allowed : (path : Path) (rest : List ℕ) → BeginsWithPath text path rest → is_allowed path ≡ false
   pub result_is : result ≡ Err BadPath
 
--- the text begins with a path that may stand there, and the row of words behind it says these parameters, or this fault
+-- the text begins with a path that may stand there, and the row of words after it says these parameters, or this fault
 pub record IsBehindPath {P A : Type 0} (is_allowed : Path → Bool)
     (row_says : List (List ℕ) → Result P EnvelopeFault → Type 0)
     (joined : Path → Result P EnvelopeFault → Result A EnvelopeFault) (text : List ℕ) (result : Result A EnvelopeFault)

@@ -28,7 +28,7 @@ pub record IsDomainName (domain : List ℕ) : Type 0 where
   pub not_empty : 0 < length domain
   pub octets : are_domain_octets domain ≡ true
 
--- what stands behind the `@`: Domain, or address-literal (section 4.1.3)
+-- what stands after the `@`: Domain, or address-literal (section 4.1.3)
 abbrev pub IsDomain : List ℕ → Type 0
 IsDomain domain = IsDomainName domain ⊎ IsAddressLiteral domain
 
@@ -76,7 +76,7 @@ pub record SplitsBehindBracket (text front back : List ℕ) : Type 0 where
   pub front_is : front ≡ in_brackets row
   pub text_is : text ≡ front ++ back
 
--- the body is a route, and the address behind it
+-- the body is a route, and the address after it
 pub record SplitsRoute (body route address : List ℕ) : Type 0 where
   pub text_is : body ≡ route ++ address
   pub is_route : IsRoute route address

@@ -61,7 +61,7 @@ abbrev pub HasBadValue : {V : Type 0} → List ℕ → (List ℕ → Option V) �
 HasBadValue keyword read before word =
     (has_keyword keyword word ≡ true) × NoneHas keyword before × (read (value_of_word word) ≡ None)
 
--- behind these words the word has this fault
+-- after these words the word has this fault
 abbrev pub IsFaulty :
     {V W : Type 0} → List ℕ → List ℕ → (List ℕ → Option V) → (List ℕ → Option W) → List (List ℕ) → List ℕ
     → EnvelopeFault → Type 0
@@ -73,7 +73,7 @@ IsFaulty first second read_first read_second before word BadValue =
     HasBadValue first read_first before word ⊎ HasBadValue second read_second before word
 IsFaulty first second read_first read_second before word BadPath = ⊥
 
--- the row begins with words that give values, and the word behind them is faulty
+-- the row begins with words that give values, and the word after them is faulty
 pub record HasFault {V W : Type 0} (first second : List ℕ) (read_first : List ℕ → Option V)
     (read_second : List ℕ → Option W) (words : List (List ℕ)) (fault : EnvelopeFault) : Type 0 where
   pub before : List (List ℕ)
@@ -104,12 +104,12 @@ SaysRcpt words (Ok given) =
     Gives (codes "NOTIFY") (codes "ORCPT") notify_of read_orcpt words given.notify given.orcpt
 SaysRcpt words (Err fault) = HasFault (codes "NOTIFY") (codes "ORCPT") notify_of read_orcpt words fault
 
--- What is read behind a path of MAIL is what the row says: each keyword once at most, with its value, or a first fault.
+-- What is read after a path of MAIL is what the row says: each keyword once at most, with its value, or a first fault.
 abbrev pub MailRowIsRead : Type 0
 MailRowIsRead =
     (text : List ℕ) (words : List (List ℕ)) → IsRowOf text words → SaysMail words (mail_parameters_of text)
 
--- What is read behind a path of RCPT is what the row says.
+-- What is read after a path of RCPT is what the row says.
 abbrev pub RcptRowIsRead : Type 0
 RcptRowIsRead =
     (text : List ℕ) (words : List (List ℕ)) → IsRowOf text words → SaysRcpt words (rcpt_parameters_of text)

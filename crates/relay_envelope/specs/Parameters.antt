@@ -25,7 +25,7 @@ is_octet wanted octet = octet == wanted
 unfoldable pub keyword_of : List ℕ → List ℕ
 keyword_of word = before_first (is_octet 61) word
 
--- esmtp-value: what stands behind it, and nothing where there is none
+-- esmtp-value: what stands after it, and nothing where there is none
 unfoldable pub value_of_word : List ℕ → List ℕ
 value_of_word word = after_first (is_octet 61) word
 
@@ -63,7 +63,7 @@ is_original_address text = nat_lt 0 (length text) && is_readable_xtext text
 abbrev pub address_type_of : List ℕ → List ℕ
 address_type_of value = before_first (is_octet 59) value
 
--- that address: what stands behind it
+-- that address: what stands after it
 abbrev pub address_of : List ℕ → List ℕ
 address_of value = after_first (is_octet 59) value
 
@@ -157,12 +157,12 @@ abbrev pub with_each :
 with_each with_one [] old = Ok old
 with_each with_one (word ∷ words) old = and_then (λ new. with_each with_one words new) (with_one word old)
 
--- what stands behind a path of MAIL: parameters with spaces between them
+-- what stands after a path of MAIL: parameters with spaces between them
 unfoldable pub mail_parameters_of : List ℕ → Result MailParameters EnvelopeFault
 mail_parameters_of text =
     with_each with_mail_parameter (slice_split (is_octet 32) text) (record { ret = None; envid = None })
 
--- what stands behind a path of RCPT
+-- what stands after a path of RCPT
 unfoldable pub rcpt_parameters_of : List ℕ → Result RcptParameters EnvelopeFault
 rcpt_parameters_of text =
     with_each with_rcpt_parameter (slice_split (is_octet 32) text) (record { notify = None; orcpt = None })
@@ -182,7 +182,7 @@ abbrev pub rcpt_answer : Result RcptSliced EnvelopeFault → Result RcptParamete
 rcpt_answer (Ok given) = Ok (rcpt_value given)
 rcpt_answer (Err fault) = Err fault
 
--- the text falls into a first part before this octet, and the rest behind it
+-- the text falls into a first part before this octet, and the rest after it
 pub record FirstPart (octet : ℕ) (text front back : List ℕ) : Type 0 where
   pub parts : slice_split (is_octet octet) text ≡ front ∷ slice_split (is_octet octet) back
   pub front_is : front ≡ before_first (is_octet octet) text

@@ -63,7 +63,7 @@ domain_of Null = None
 domain_of (Postmaster word) = None
 domain_of (Mailbox route local domain) = Some domain
 
--- the domain in a path as it is stored: what stands behind its last `@`, but for the octet at its end
+-- the domain in a path as it is stored: what stands after its last `@`, but for the octet at its end
 abbrev pub domain_in : List ℕ → Option (List ℕ)
 domain_in text = if list_any is_at text then Some (without_last (after_last is_at text)) else None
 

@@ -7,7 +7,7 @@ use Rattle.relay_envelope.specs.Row.{is_plain, is_text_octet}
 use Rattle.relay_envelope.specs.declared.row.Place.{Place}
 use Rattle.relay_envelope.specs.declared.row.Place.TheVariants.{Outside, Inside, Escaped}
 
--- the place behind an octet, where it may stand here
+-- the place after an octet, where it may stand here
 abbrev pub place_after : Place → ℕ → Option Place
 place_after Outside octet = if octet == 34 then Some Inside else (if is_plain octet then Some Outside else None)
 place_after Inside octet =
@@ -30,7 +30,7 @@ abbrev pub counted : ℕ → Option ℕ → Option ℕ
 counted passed None = None
 counted passed (Some n) = Some (passed + n)
 
--- how long the row is that the text begins with behind this place, to its first plain `stop` or the text's end
+-- how long the row is that the text begins with after this place, to its first plain `stop` or the text's end
 unfoldable pub row_len_from : ℕ → Place → List ℕ → Option ℕ
 row_len_from stop place [] = if is_outside place then Some 0 else None
 row_len_from stop place (octet ∷ text) =

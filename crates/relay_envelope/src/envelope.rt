@@ -111,7 +111,7 @@ impl Orcpt {
         address_type
     }
 
-    /// The address, which is xtext: what stands behind the first `;`. It takes no memory.
+    /// The address, which is xtext: what stands after the first `;`. It takes no memory.
     pub fn address(&self) -> &[u8]
         ensures { result.now ≡ address_of self.now }
     {

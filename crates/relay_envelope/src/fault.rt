@@ -1,6 +1,6 @@
 use thiserror::Error;
 
-/// Why what stands behind the colon of MAIL or RCPT is refused. The first fault from left to right is answered: the
+/// Why what stands after the colon of MAIL or RCPT is refused. The first fault from left to right is answered: the
 /// path's, then each parameter's, of which an unknown keyword comes before one given twice, and that before its value.
 #[derive(Clone, Copy, Debug, Drop, PartialEq, Eq, Error)]
 pub enum EnvelopeFault {

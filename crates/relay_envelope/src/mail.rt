@@ -1,4 +1,4 @@
-//! What stands behind the colon of `MAIL FROM:` (RFC 5321, section 4.1.1.2).
+//! What stands after the colon of `MAIL FROM:` (RFC 5321, section 4.1.1.2).
 ghost use Rattle.std.specs.Prelude.{◌≡◌};
 ghost use Rattle.relay_envelope.specs.Path.{value_of, is_reverse as reverse};
 ghost use Rattle.relay_envelope.specs.Parameters.{mail_parameters_of};
@@ -19,7 +19,7 @@ pub struct Mail<'a> {
     pub envid: Option<&'a [u8]>,
 }
 
-/// Reads what stands behind the colon of `MAIL FROM:`. It takes no memory.
+/// Reads what stands after the colon of `MAIL FROM:`. It takes no memory.
 pub fn read_mail(text: &[u8]) -> Result<Mail<'_>, EnvelopeFault>
     ensures { ReadsMail text.now (mail_reading result) }
 {

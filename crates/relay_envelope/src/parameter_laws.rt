@@ -2,13 +2,13 @@
 ghost use Rattle.relay_envelope.specs.ParameterRow.{MailRowIsRead, MailRowSaysOne, RcptRowIsRead, RcptRowSaysOne};
 ghost use Rattle.relay_envelope.specs.ParameterRow.{TextIsRow};
 
-/// Behind a path of MAIL each keyword stands once at most, with the value that is read of it, or the first faulty word
+/// After a path of MAIL each keyword stands once at most, with the value that is read of it, or the first faulty word
 /// fixes the fault.
 pub fn mail_row_is_read()
     ensures { MailRowIsRead }
 {}
 
-/// The same behind a path of RCPT.
+/// The same after a path of RCPT.
 pub fn rcpt_row_is_read()
     ensures { RcptRowIsRead }
 {}

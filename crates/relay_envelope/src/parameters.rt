@@ -57,7 +57,7 @@ pub(crate) struct RcptParameters<'a> {
     pub(crate) orcpt: Option<&'a [u8]>,
 }
 
-/// Reads what stands behind the path of MAIL.
+/// Reads what stands after the path of MAIL.
 #[tactic(auto, unfolding(crate::specs::Parameters::mail_parameters_of))]
 pub(crate) fn read_mail_parameters(text: &[u8]) -> Result<MailParameters<'_>, EnvelopeFault>
     ensures { mail_answer result ≡ mail_parameters_of text.now }
@@ -74,7 +74,7 @@ pub(crate) fn read_mail_parameters(text: &[u8]) -> Result<MailParameters<'_>, En
     with_mail_parameter(given, rest)
 }
 
-/// Reads what stands behind the path of RCPT.
+/// Reads what stands after the path of RCPT.
 #[tactic(auto, unfolding(crate::specs::Parameters::rcpt_parameters_of))]
 pub(crate) fn read_rcpt_parameters(text: &[u8]) -> Result<RcptParameters<'_>, EnvelopeFault>
     ensures { rcpt_answer result ≡ rcpt_parameters_of text.now }

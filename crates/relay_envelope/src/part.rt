@@ -4,7 +4,7 @@ ghost use Rattle.relay_envelope.specs.Parameters.{FirstPart, OnePart, keyword_of
 
 use memchr::memchr;
 
-/// What stands before the first such octet, and behind it.
+/// What stands before the first such octet, and after it.
 pub(crate) fn first_part(octet: u8, text: &[u8]) -> Option<(&[u8], &[u8])>
     ensures { MatchOption result (OnePart octet text.now)
         (λ parts. FirstPart octet text.now parts.0.now parts.1.now) }

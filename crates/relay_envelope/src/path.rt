@@ -74,7 +74,7 @@ pub fn domain_in(path: &[u8]) -> Option<&[u8]>
     }
 }
 
-/// The path that the text begins with behind spaces, and what follows it.
+/// The path that the text begins with after spaces, and what follows it.
 pub(crate) fn begin_path(text: &[u8]) -> Option<(Path<'_>, &[u8])>
     ensures { MatchOption result
         ((path : PathText) (rest : List ℕ) → ¬ BeginsWithPath text.now path rest)

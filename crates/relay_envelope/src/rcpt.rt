@@ -1,4 +1,4 @@
-//! What stands behind the colon of `RCPT TO:` (RFC 5321, section 4.1.1.3).
+//! What stands after the colon of `RCPT TO:` (RFC 5321, section 4.1.1.3).
 ghost use Rattle.std.specs.Prelude.{◌≡◌};
 ghost use Rattle.relay_envelope.specs.Path.{value_of, is_forward as forward};
 ghost use Rattle.relay_envelope.specs.Parameters.{rcpt_parameters_of};
@@ -19,7 +19,7 @@ pub struct Rcpt<'a> {
     pub orcpt: Option<&'a [u8]>,
 }
 
-/// Reads what stands behind the colon of `RCPT TO:`. It takes no memory.
+/// Reads what stands after the colon of `RCPT TO:`. It takes no memory.
 pub fn read_rcpt(text: &[u8]) -> Result<Rcpt<'_>, EnvelopeFault>
     ensures { ReadsRcpt text.now (rcpt_reading result) }
 {

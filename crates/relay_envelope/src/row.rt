@@ -13,7 +13,7 @@ enum Place {
     Outside,
     /// Inside a quoted string.
     Inside,
-    /// Behind a `\` in a quoted string.
+    /// After a `\` in a quoted string.
     Escaped,
 }
 
@@ -65,7 +65,7 @@ fn is_end(stop: u8, place: Place, octet: u8) -> bool
     is_outside(place) && octet == stop
 }
 
-/// The place behind an octet, where it may stand here.
+/// The place after an octet, where it may stand here.
 fn place_after(place: Place, octet: u8) -> Option<Place>
     ensures { result ≡ place_after place octet }
 {

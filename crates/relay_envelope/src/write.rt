@@ -10,7 +10,7 @@ use crate::xtext::Xtext;
 use relay_octets::Octets;
 use std::alloc::{AllocError, Global};
 
-/// What stands behind the colon of `MAIL FROM:`. It fails where memory runs out.
+/// What stands after the colon of `MAIL FROM:`. It fails where memory runs out.
 pub fn write_mail(alloc: Global, envelope: &Envelope) -> Result<Octets, AllocError>
     ensures { IfOk result (λ text. text ≡ mail_text envelope.now) }
 {
@@ -20,7 +20,7 @@ pub fn write_mail(alloc: Global, envelope: &Envelope) -> Result<Octets, AllocErr
     Ok(text)
 }
 
-/// What stands behind the colon of `RCPT TO:`. It fails where memory runs out.
+/// What stands after the colon of `RCPT TO:`. It fails where memory runs out.
 pub fn write_rcpt(alloc: Global, recipient: &Recipient) -> Result<Octets, AllocError>
     ensures { IfOk result (λ text. text ≡ rcpt_text recipient.now) }
 {

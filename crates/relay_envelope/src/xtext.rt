@@ -130,7 +130,7 @@ pub(crate) fn first_octet(text: &[u8]) -> Option<(u8, &[u8])>
     }
 }
 
-/// The octet of the two digits behind a `+`, and what follows them.
+/// The octet of the two digits after a `+`, and what follows them.
 #[tactic(auto, using(crate::proofs::XtextLemmas::decoded_digits))]
 fn behind_plus(digits: &[u8]) -> Option<(u8, &[u8])>
     ensures { MatchOption result

@@ -1,15 +1,14 @@
 ghost use Rattle.std.specs.List.{list_any};
 ghost use Rattle.std.specs.Net.Addr.{ipv4_octets};
-ghost use Rattle.std.specs.Prelude.{◌≡◌, [], IfOk, List, MatchOption};
-ghost use Rattle.toml.specs.View.{items_view, table_view, view};
+ghost use Rattle.std.specs.Prelude.{◌≡◌, [], IfOk};
+ghost use Rattle.toml.specs.View.{table_view};
 ghost use Rattle.relay_limits.specs.Balancers.{ReadsBalancers};
 ghost use Rattle.relay_limits.specs.Limits.{value_of};
 ghost use Rattle.relay_limits.specs.declared.limit.Limit.{Limit};
-ghost use Rattle.relay_routes.specs.Network.{AreNetworks, GivesNetwork, is_in};
-ghost use Rattle.relay_routes.specs.declared.network.Network.{Network};
+ghost use Rattle.relay_routes.specs.Network.{is_in};
 
 use crate::limit::Limit;
-use relay_routes::Network;
+use relay_routes::{Network, read_networks};
 use std::alloc::{AllocError, Global};
 use std::marker::Model;
 use std::net::Ipv4Addr;
@@ -73,32 +72,5 @@ impl Balancers {
     {
         let client = address.octets();
         self.networks.iter().any(|network| network.contains(client))
-    }
-}
-
-/// The networks that the values write, where each writes one.
-fn read_networks(alloc: Global, values: &[Value]) -> Result<Option<Vec<Network>>, AllocError>
-    ensures { IfOk result (λ found. MatchOption found
-        ((networks : List Network) → ¬ AreNetworks (items_view values.now) networks)
-        (λ networks. AreNetworks (items_view values.now) networks.items)) }
-{
-    let mut networks = Vec::new(alloc);
-    for value in values {
-        match read_network(value) {
-            Some(network) => networks.push(network)?,
-            None => return Ok(None),
-        }
-    }
-    Ok(Some(networks))
-}
-
-/// The network that the value writes.
-fn read_network(value: &Value) -> Option<Network>
-    ensures { MatchOption result
-        ((network : Network) → ¬ GivesNetwork (view value.now) network) (GivesNetwork (view value.now)) }
-{
-    match value {
-        Value::String(text) => Network::read(text.as_bytes()),
-        _ => None,
     }
 }

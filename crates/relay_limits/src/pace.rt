@@ -3,7 +3,7 @@ ghost use Rattle.relay_limits.specs.Pace.{IsHeld, MayBegin, answered_pace, held_
 ghost use Rattle.relay_limits.specs.Pace.{next_outage, outage_of, standing, unknown_pace, with_leaving};
 ghost use Rattle.relay_limits.specs.Pace.{with_limit, with_running};
 
-/// How many seconds a next hop that can't be reached is left alone the first time. Behind each further attempt it is
+/// How many seconds a next hop that can't be reached is left alone the first time. After each further attempt it is
 /// twice as long, up to the longest.
 const FIRST_HOLD: u64 = 60;
 

@@ -9,7 +9,7 @@ use std::str;
 /// What stands before the port.
 const HERE: &[u8] = b"127.0.0.1:";
 
-/// The port behind `127.0.0.1:`, 1 to 65,535 in 1 to 5 digits, where a text is such an address.
+/// The port after `127.0.0.1:`, 1 to 65,535 in 1 to 5 digits, where a text is such an address.
 #[tactic(auto, unfolding(crate::specs::Port::port_in))]
 pub(crate) fn port_in(text: &[u8]) -> Option<u16>
     ensures { result ≡ port_in text.now }

@@ -141,7 +141,7 @@ true_from_not : (b : Bool) → not b ≡ false → b ≡ true
 true_from_not true e = refl
 true_from_not false e = cc
 
--- behind a first word that isn't all of the text stands a space
+-- after a first word that isn't all of the text stands a space
 space_behind : (text : List ℕ) → prefix_len is_no_space text < length text
     → 1 ≤ length
     (take (prefix_len is_space (drop (prefix_len is_no_space text) text)) (drop (prefix_len is_no_space text) text))
@@ -229,7 +229,7 @@ leading_zero_says_nothing digits size is few = record {
   fits = is.fits;
 }
 
--- behind digits of a size that ends within a row of digits stands neither nothing nor a space
+-- after digits of a size that ends within a row of digits stands neither nothing nor a space
 size_ends_with_digits : (digits behind : List ℕ) → AllPass is_ascii_digit digits
     → 10 < length digits → (last : Bool) (size : ℕ)
     → SpellsBdat (digits ++ behind) (with_size last size) → ⊥

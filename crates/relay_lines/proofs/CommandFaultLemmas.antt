@@ -155,7 +155,7 @@ unknown-words word argument none =
       | inr unknown ↦ unknown.1
     ]
 
--- a bad argument stands behind a verb that is offered and isn't BDAT, and what spells no command is
+-- a bad argument stands after a verb that is offered and isn't BDAT, and what spells no command is
 -- one
 bad_argument-verb : (word argument : List ℕ) → reading_of_words word argument ≡ Err BadArgument
     → IsVerb true word × (¬ IsSameWord word (codes "BDAT"))
@@ -200,7 +200,7 @@ not_offered-word word argument e =
       | inr none ↦ absurd (let clash = sym e ∙ none.1 in cc)
     ]
 
--- a bad chunk size stands behind BDAT
+-- a bad chunk size stands after BDAT
 bad_chunk_size-word : (word argument : List ℕ) → reading_of_words word argument ≡ Err BadChunkSize
     → IsSameWord word (codes "BDAT")
 bad_chunk_size-word word argument e =

@@ -12,7 +12,7 @@ use Rattle.std.proofs.lemmas.Bool.{eqb-true, false≢true}
 use Rattle.relay_lines.specs.HeldLine.{HeldLine, Holds, HoldsLine, GoesOn, last_is_cr}
 use borrow.Rule.Slice.PartMut.{put_mid}
 
--- the octets kept behind a write of what fits
+-- the octets kept after a write of what fits
 pub kept_after : (array octets written : List ℕ) (len count width : ℕ) → len ≤ 2048
     → length array ≡ 2048 → count ≡ min (2048 - len) (length octets) → written ≡ take count octets
     → take (len + count) (put_mid len width array written) ≡ take 2048 (take len array ++ octets)
@@ -133,7 +133,7 @@ cr_behind (octet ∷ []) e = ([], ap (λ o. o ∷ []) (eqb-true octet 13 e))
 cr_behind (octet ∷ next ∷ more) e =
     let front = cr_behind (next ∷ more) e in (octet ∷ front.0, ap (λ l. octet ∷ l) front.1)
 
--- an LF behind a CR ends the line before it
+-- an LF after a CR ends the line before it
 pub lf_ends : (octets piece : List ℕ) → HasNoCrlf octets → ends_in_cr octets ≡ true
     → begins_with_lf piece ≡ true
     → (line : List ℕ) × (octets ≡ line ++ 13 ∷ []) × ReadsLine (octets ++ take 1 piece) line []

@@ -115,7 +115,7 @@ read_is_cut reader octets rest replies read = record {
   ends = inl (held_is_unfinished reader rest read.holds);
 }
 
--- a cut goes on when more comes behind
+-- a cut goes on when more comes after
 pub cut_goes_on : CutGoesOn
 cut_goes_on octets rest more replies cut = cut_more octets replies rest more cut
 

@@ -62,7 +62,7 @@ line_has_one_code line code other is is_other =
     (sym one.line_is ∙ two.line_is) in
     same.0
 
--- a line that may stand behind these breaks no rule
+-- a line that may stand after these breaks no rule
 breaks_none : (fault : ReplyFault) (c d : ℕ) (lines : List (List ℕ)) (line : List ℕ)
     → IsLineOf line d → length line ≤ 2046 → (0 < length lines → c ≡ d) → length lines < 100
     → Breaks fault c lines line → ⊥

@@ -63,7 +63,7 @@ step_fault rest piece used fault has =
     ∙ ap (λ l. rest ++ l) (take-append-drop used piece) in
     subst P all has
 
--- what comes behind replies comes behind the rest
+-- what comes after replies comes after the rest
 pub cut_more : (octets : List ℕ) (replies : List Reply) (rest more : List ℕ)
     → CutsReplies octets replies rest → CutsReplies (octets ++ more) replies (rest ++ more)
 cut_more octets [] rest more cut = ap (λ l. l ++ more) cut

@@ -90,7 +90,7 @@ same_first octets line rest stream other more e one two =
     let P : List ℕ → Type 0 = λ l. ReadsLine l line rest in
     first_line_is_one stream line rest other more (subst P e one) two
 
--- both have the same lines that others follow, and the same octets behind them
+-- both have the same lines that others follow, and the same octets after them
 pub record SameLines (c d : ℕ) (lines others : List (List ℕ)) (rest more : List ℕ) : Type 0 where
   pub lines_are : lines ≡ others
   pub rest_is : rest ≡ more
@@ -179,7 +179,7 @@ reply_parts octets reply reads =
     let P : List (List ℕ) → Type 0 = λ ls. AllByRecursion IsReplyLine ls in
     each_parts reads.middle reads.last (subst P reads.lines_are reads.is_reply.each)
 
--- the first line behind those of a reply that others follow
+-- the first line after those of a reply that others follow
 pub last_reads : (octets behind : List ℕ) (reply : Reply) (reads : ReadsReply octets reply)
     → ReadsLine ((reads.line ++ crlf) ++ behind) reads.line behind
 last_reads octets behind reply reads =
@@ -189,7 +189,7 @@ last_reads octets behind reply reads =
       first = line_has_none reads.line reply.code true reads.last reads.last_is parts.1.line;
     }
 
--- a reply and what is behind it
+-- a reply and what is after it
 pub reply_split : (octets behind : List ℕ) (reply : Reply) (reads : ReadsReply octets reply)
     → octets ++ behind ≡ followed_lines reply.code reads.middle ++ ((reads.line ++ crlf) ++ behind)
 reply_split octets behind reply reads =
@@ -222,7 +222,7 @@ further_line c d lines others rest more further each =
     let P : List (List ℕ) → Type 0 = λ ls. AllByRecursion IsReplyLine ls in
     each_further lines further.text further.later (subst P further.others_are each)
 
--- the text behind a code is told by what follows the code
+-- the text after a code is told by what follows the code
 text_is_one : (behind text other : List ℕ) → IsBehindCode true text behind
     → IsBehindCode true other behind → text ≡ other
 text_is_one behind text other (inl one) (inl two) = ap (drop 1) (sym one ∙ two)

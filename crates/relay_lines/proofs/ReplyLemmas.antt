@@ -5,7 +5,7 @@ use Rattle.std.specs.List.{flat_map}
 use Rattle.relay_octets.specs.Beginning.{Begins}
 use Rattle.relay_lines.specs.Reply.{middle_line, last_line, lines_of_reply, last_text}
 
--- the last line stands behind the others
+-- the last line stands after the others
 pub lines_of_reply-append : (code : ℕ) (middle : List (List ℕ)) (last : List ℕ)
     → lines_of_reply code (middle ++ last ∷ []) ≡ flat_map
     (middle_line code) middle ++ last_line code last
@@ -17,7 +17,7 @@ lines_of_reply-append code (text ∷ next ∷ more) last =
     ∙ sym
     (append_assoc (middle_line code text) (flat_map (middle_line code) (next ∷ more)) (last_line code last))
 
--- behind all the other lines, with the last line they are the reply's
+-- after all the other lines, with the last line they are the reply's
 pub all_written : (before now : List ℕ) (code index : ℕ) (middle lines : List (List ℕ))
     (last : List ℕ)
     → now ≡ before ++ flat_map (middle_line code) (take index middle) → length middle ≤ index

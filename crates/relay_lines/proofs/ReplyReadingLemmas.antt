@@ -200,7 +200,7 @@ part_is_held old new octets rest held code lines open_still more short =
           ∙ ap (λ ls. followed_lines new.code ls ++ (held.part ++ octets)) (sym lines);
     }
 
--- the octets behind the lines that are held have this fault
+-- the octets after the lines that are held have this fault
 fault_behind : (old : ReplyReader) (octets rest line : List ℕ) (fault : ReplyFault)
     (held : HoldsRest old rest)
     → ShowsLine (held.part ++ octets) line → Breaks fault old.code old.lines.items line
@@ -382,7 +382,7 @@ ended_has_fault old new octets rest used fault held ends breaks =
     (subst Q ends.2.kept breaks) in
     fault_behind old octets rest broken.line fault held broken.shows broken.breaks
 
--- the line has ended behind the lines that are held
+-- the line has ended after the lines that are held
 pub ended_behind : (old mid : ReplyReader) (rest octets : List ℕ) (held : HoldsRest old rest)
     → EndsLine held.part octets mid.line → mid.code ≡ old.code → mid.lines.items ≡ old.lines.items
     → mid.has_failed ≡ old.has_failed

@@ -126,7 +126,7 @@ plain-same text word some printable free begins ends same = record {
 pub digit-printable : (octet : ℕ) → is_ascii_digit octet ≡ true → is_printable octet ≡ true
 digit-printable octet digit = grind (arith, nat_tests)
 
--- what stands behind a chunk-size is printable, and ends in no blank
+-- what stands after a chunk-size is printable, and ends in no blank
 pub behind-printable : (last : Bool) (behind : List ℕ) → StandsBehindSize last behind
     → list_all is_printable behind ≡ true
 behind-printable false behind none = ap (list_all is_printable) none

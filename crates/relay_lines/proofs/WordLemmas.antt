@@ -33,7 +33,7 @@ list_all-front p (x ∷ xs) =
     (λ here. and_from (p x) (list_all p (take_while p xs)) here (list_all-front p xs))
     (λ not_here. refl)
 
--- nothing more is counted behind it
+-- nothing more is counted after it
 prefix_len-behind : (p : ℕ → Bool) (xs : List ℕ) → prefix_len p (drop (prefix_len p xs) xs) ≡ 0
 prefix_len-behind p xs =
     elim (cases_lt (prefix_len p xs) (length xs)) [
@@ -48,7 +48,7 @@ AllPass-reverse p xs all k d h =
     let within : k < length xs = omega (arith, same) in
     ap p (get_or-reverse xs k d within) ∙ all (length xs - 1 - k) d (omega arith)
 
--- where a text ends in no such octet, those behind it are counted
+-- where a text ends in no such octet, those after it are counted
 suffix_len-join : (p : ℕ → Bool) (text back : List ℕ) → AllPass p back → suffix_len p text ≡ 0
     → suffix_len p (text ++ back) ≡ length back
 suffix_len-join p text back all clean =
@@ -59,7 +59,7 @@ suffix_len-join p text back all clean =
     let same = length-reverse back in
     omega (arith, counted, same, clean)
 
--- blanks behind a text that ends in none are dropped
+-- blanks after a text that ends in none are dropped
 pub trim-join : (text blanks : List ℕ) → AllPass is_blank blanks → suffix_len is_blank text ≡ 0
     → without_trailing_blanks (text ++ blanks) ≡ text
 unfolding without_trailing_blanks
@@ -195,7 +195,7 @@ argument_of-split line word argument split =
     ap argument_of (text-split line word argument split)
     ∙ argument_of-join word split.spaces argument split.word_has_no_space split.are_spaces split.apart split.argument_begins_with_no_space
 
--- behind the first word stands a space or nothing
+-- after the first word stands a space or nothing
 apart_behind : (behind : List ℕ) → prefix_len is_no_space behind ≡ 0
     → take (prefix_len is_space behind) behind ≡ [] → drop (prefix_len is_space behind) behind ≡ []
 apart_behind [] begins none = refl
@@ -242,7 +242,7 @@ line-splits line =
       text_ends_in_no_blank = ap (suffix_len is_blank) joined ∙ trim-clean line;
     }
 
--- a keyword that a text begins with is found, and what is found stands behind it
+-- a keyword that a text begins with is found, and what is found stands after it
 pub behind_keyword-found : (keyword text rest : List ℕ) → BeginsWithKeyword text keyword rest
     → behind_keyword keyword text ≡ Some rest
 unfolding behind_keyword

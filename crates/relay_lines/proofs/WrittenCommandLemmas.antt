@@ -96,7 +96,7 @@ prefix_len-graphic p [] other all = refl
 prefix_len-graphic p (octet ∷ text) other all =
     cond-false (p octet) (1 + prefix_len p text) 0 (other octet (all 0 0 (omega arith)))
 
--- a chunk-size begins with no space, and no blank ends it, nor what stands behind it
+-- a chunk-size begins with no space, and no blank ends it, nor what stands after it
 digit-no_space : (octet : ℕ) → is_ascii_digit octet ≡ true → is_space octet ≡ false
 digit-no_space octet digit = grind (arith, nat_tests)
 
@@ -211,7 +211,7 @@ bdat-reads chunk small =
     (prefix_len-front_none is_space digits behind size.some begins)
     (behind-ends chunk.last digits behind ends (marker-stands chunk.last)) (refl, spells)
 
--- MAIL and RCPT, with what stands behind the colon
+-- MAIL and RCPT, with what stands after the colon
 mail-reads : (text : List ℕ) → MayFollow (codes "MAIL FROM:") text
     → reading_of (codes "MAIL FROM:" ++ text) ≡ Ok (Mail text)
 mail-reads text is =

@@ -28,7 +28,7 @@ pub record IsEndMarker (text : List ℕ) : Type 0 where
   pub are_spaces : AllPass is_space spaces
   pub is_last : IsSameWord word (codes "LAST")
 
--- what stands behind the chunk-size: nothing, or the end-marker at the last chunk
+-- what stands after the chunk-size: nothing, or the end-marker at the last chunk
 abbrev pub StandsBehindSize : Bool → List ℕ → Type 0
 StandsBehindSize false behind = behind ≡ []
 StandsBehindSize true behind = IsEndMarker behind

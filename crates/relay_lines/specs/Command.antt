@@ -102,7 +102,7 @@ reading_of_words word argument = reading_of_verb (verb_of word) argument
 abbrev pub is_bdat : List ℕ → Bool
 is_bdat word = is_word word (codes "BDAT")
 
--- the reading of a text without blanks at its end: a bad octet is found before the verb, but behind
+-- the reading of a text without blanks at its end: a bad octet is found before the verb, but after
 -- BDAT, where it makes a bad chunk size; the verb is found before its argument
 unfoldable pub reading_of_text : List ℕ → Result Command LineFault
 reading_of_text text =
@@ -170,7 +170,7 @@ SplitIsOne =
     (line word argument other more : List ℕ) → SplitsLine line word argument
     → SplitsLine line other more → (word ≡ other) × (argument ≡ more)
 
--- A line's reading is that of its word and its argument, and the spaces between them and behind
+-- A line's reading is that of its word and its argument, and the spaces between them and after
 -- them say nothing.
 abbrev pub ReadingIsOfWords : Type 0
 ReadingIsOfWords =

@@ -24,7 +24,7 @@ pub record HoldsLine (held : HeldLine) (line : List ℕ) : Type 0 where
 abbrev pub EndsLine : List ℕ → List ℕ → HeldLine → Type 0
 EndsLine octets more held = (line : List ℕ) × ReadsLine (octets ++ more) line [] × HoldsLine held line
 
--- a CR is the last of the octets so far, and of these behind them
+-- a CR is the last of the octets so far, and of these after them
 abbrev pub last_is_cr : Bool → List ℕ → Bool
 last_is_cr before [] = before
 last_is_cr before (octet ∷ octets) = ends_in_cr (octet ∷ octets)

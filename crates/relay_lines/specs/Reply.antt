@@ -35,7 +35,7 @@ lines_of_reply code (text ∷ next ∷ more) = middle_line code text ++ lines_of
 abbrev pub reply_text : Reply → List ℕ
 reply_text reply = lines_of_reply reply.code reply.lines
 
--- any octets but CR LF; a line has at most 2,048 octets with its code, the mark behind it and its
+-- any octets but CR LF; a line has at most 2,048 octets with its code, the mark after it and its
 -- CR LF
 pub record IsReplyLine (text : List ℕ) : Type 0 where
   pub line : HasNoCrlf text
@@ -85,7 +85,7 @@ abbrev pub followed_lines : ℕ → List (List ℕ) → List ℕ
 followed_lines code lines = flat_map (middle_line code) lines
 
 -- The octets are this reply as it may come: Reply-code "-" text CRLF any number of times, and then
--- Reply-code [ SP text ] CRLF. That is its written form, or this with a space behind the last code
+-- Reply-code [ SP text ] CRLF. That is its written form, or this with a space after the last code
 -- where no text follows.
 pub record ReadsReply (octets : List ℕ) (reply : Reply) : Type 0 where
   pub middle : List (List ℕ)

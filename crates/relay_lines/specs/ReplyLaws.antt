@@ -47,7 +47,7 @@ BeginningIsUnfinished =
     (octets more : List ℕ) (reply : Reply) → ReadsReply (octets ++ more) reply → 0 < length more
     → IsUnfinished octets
 
--- A fault stays one, whatever comes behind.
+-- A fault stays one, whatever comes after.
 abbrev pub FaultStays : Type 0
 FaultStays =
     (octets more : List ℕ) (fault : ReplyFault) → HasFault octets fault → HasFault (octets ++ more) fault
@@ -74,13 +74,13 @@ CutIsOne =
     (octets rest more : List ℕ) (replies others : List Reply) → CutsAllReplies octets replies rest
     → CutsAllReplies octets others more → (replies ≡ others) × (rest ≡ more)
 
--- What comes behind replies comes behind their rest.
+-- What comes after replies comes after their rest.
 abbrev pub CutGoesOn : Type 0
 CutGoesOn =
     (octets rest more : List ℕ) (replies : List Reply) → CutsReplies octets replies rest
     → CutsReplies (octets ++ more) replies (rest ++ more)
 
--- What is cut stays cut when more comes behind: the further replies are those of the rest and what
+-- What is cut stays cut when more comes after: the further replies are those of the rest and what
 -- came.
 abbrev pub CutStays : Type 0
 CutStays =

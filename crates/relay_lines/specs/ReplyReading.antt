@@ -32,7 +32,7 @@ ShowsLine octets line =
     ((rest : List ℕ) × ReadsLine octets line rest × (length line ≤ 2046))
     ⊎ ((rest : List ℕ) × (octets ≡ line ++ rest) × HasNoCrlf line × (length line ≡ 2048))
 
--- the line is none of a reply: it has no code, or another octet behind that than a hyphen or a
+-- the line is none of a reply: it has no code, or another octet after that than a hyphen or a
 -- space
 pub record IsNoReplyLine (line : List ℕ) : Type 0 where
   pub none : (code : ℕ) (is_last : Bool) (text : List ℕ) → ¬ SpellsLine line code is_last text
@@ -43,7 +43,7 @@ pub record IsLineOf (line : List ℕ) (code : ℕ) : Type 0 where
   pub text : List ℕ
   pub spells : SpellsLine line code is_last text
 
--- The rule that a line breaks behind these lines of a reply. Of two that it breaks the first
+-- The rule that a line breaks after these lines of a reply. Of two that it breaks the first
 -- counts: a line that is none, then another code, then a line that is too long or the 101st.
 abbrev pub Breaks : ReplyFault → ℕ → List (List ℕ) → List ℕ → Type 0
 Breaks BadLine code lines line = IsNoReplyLine line
@@ -54,7 +54,7 @@ Breaks TooLong code lines line =
     × ((2046 < length line) ⊎ (100 ≤ length lines))
 Breaks NoMemory code lines line = ⊥
 
--- the octets begin with lines of a reply, and the line behind them breaks a rule
+-- the octets begin with lines of a reply, and the line after them breaks a rule
 pub record HasFault (octets : List ℕ) (fault : ReplyFault) : Type 0 where
   pub code : ℕ
   pub lines : List (List ℕ)

@@ -16,7 +16,7 @@ pub record HasCode (line : List ℕ) (code : ℕ) : Type 0 where
 pub record HasNoCode (line : List ℕ) : Type 0 where
   pub none : (code : ℕ) (behind : List ℕ) → IsCode code → line ≢ code_digits code ++ behind
 
--- the line breaks no rule behind these lines of a reply
+-- the line breaks no rule after these lines of a reply
 pub record IsNextLine
     (code : ℕ) (lines : List (List ℕ)) (line : List ℕ) (line_code : ℕ) (is_last : Bool) : Type 0 where
   pub spells : SpellsLine line line_code is_last (drop 4 line)

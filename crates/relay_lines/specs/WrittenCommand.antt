@@ -7,7 +7,7 @@ use Rattle.relay_lines.specs.Word.{is_blank, is_printable, IsHostWord}
 use Rattle.relay_lines.specs.Command.{Command, Helo, Ehlo, Mail, Rcpt, Data, Bdat, Rset, Noop, Vrfy, Help, Quit}
 use Rattle.relay_lines.specs.Command.{reading_of}
 
--- SP end-marker behind the size of the last chunk, and behind that of another nothing
+-- SP end-marker after the size of the last chunk, and after that of another nothing
 abbrev pub end_marker : Bool → List ℕ
 end_marker true = codes " LAST"
 end_marker false = []

@@ -8,7 +8,7 @@ use crate::word::{argument_of, behind_keyword, first_word, is_word};
 use std::str;
 use thiserror::Error;
 
-/// What stands behind the verb BDAT.
+/// What stands after the verb BDAT.
 #[derive(Clone, Copy, Debug, PartialEq, Eq)]
 pub struct BdatArgument {
     /// How many octets of content follow the line at once.
@@ -17,15 +17,15 @@ pub struct BdatArgument {
     pub last: bool,
 }
 
-/// A text behind BDAT that is neither a size nor a size and LAST. A size is 1 to 10 digits, leading
+/// A text after BDAT that is neither a size nor a size and LAST. A size is 1 to 10 digits, leading
 /// zeros among them, and at most 4,294,967,295.
 #[derive(Clone, Copy, Debug, PartialEq, Eq, Error)]
 #[error("bad chunk size")]
 pub struct BadChunkSize;
 
 impl BdatArgument {
-    /// Reads what stands behind BDAT and its spaces: `size` or `size LAST`, with LAST in any letter
-    /// case and one space before it or several. No blanks stand behind it.
+    /// Reads what stands after BDAT and its spaces: `size` or `size LAST`, with LAST in any letter
+    /// case and one space before it or several. No blanks stand after it.
     pub fn parse(text: &[u8]) -> Result<BdatArgument, BadChunkSize>
         ensures value { MatchResult result (λ argument. bdat_argument_of text.now ≡ Some argument)
             (λ _. bdat_argument_of text.now ≡ None) }

@@ -22,9 +22,9 @@ pub enum Command<'a> {
     Helo(&'a [u8]),
     /// The same, of a client that asks for the service extensions.
     Ehlo(&'a [u8]),
-    /// What stands behind the colon of `FROM:`.
+    /// What stands after the colon of `FROM:`.
     Mail(&'a [u8]),
-    /// What stands behind the colon of `TO:`.
+    /// What stands after the colon of `TO:`.
     Rcpt(&'a [u8]),
     /// The mail data comes next.
     Data,
@@ -43,7 +43,7 @@ pub enum Command<'a> {
 }
 
 /// Why a line is no command. Faults are looked for in the order BadByte, Unknown, and then that of
-/// the verb, and the first one is answered. Behind BDAT any octet is a bad chunk size.
+/// the verb, and the first one is answered. After BDAT any octet is a bad chunk size.
 #[derive(Clone, Copy, Debug, PartialEq, Eq, Error)]
 pub enum LineFault {
     /// The line begins with no verb.
@@ -58,7 +58,7 @@ pub enum LineFault {
     /// The verb is EXPN or TURN, whatever its argument.
     #[error("not implemented")]
     NotOffered,
-    /// What stands behind BDAT is no size, nor a size and LAST, so that nobody knows what follows
+    /// What stands after BDAT is no size, nor a size and LAST, so that nobody knows what follows
     /// the line.
     #[error("bad chunk size")]
     BadChunkSize,

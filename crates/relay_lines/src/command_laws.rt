@@ -15,7 +15,7 @@ pub fn split_is_one()
     ensures { SplitIsOne }
 {}
 
-/// A line's reading is that of its word and its argument, and the spaces between them and behind
+/// A line's reading is that of its word and its argument, and the spaces between them and after
 /// them say nothing.
 pub fn reading_is_of_words()
     ensures { ReadingIsOfWords }

@@ -14,7 +14,7 @@ use std::marker::Model;
 /// The most lines that a reply has.
 pub const REPLY_LINES: usize = 100;
 
-/// What a reply line has beside its text: the code, the mark behind it, and CR LF.
+/// What a reply line has beside its text: the code, the mark after it, and CR LF.
 const LINE_FRAME: usize = 6;
 
 /// A reply (RFC 5321, 4.2): a code of three digits, the first 2 to 5, and 1 to 100 lines of text. A
@@ -182,7 +182,7 @@ fn push_last(out: &mut Vec<u8>, code: u16, text: &[u8], more: &[u8]) -> Result<(
     }
 }
 
-/// Writes the code, the mark behind it, the text in two parts, and CR LF.
+/// Writes the code, the mark after it, the text in two parts, and CR LF.
 fn push_reply_line(
     out: &mut Vec<u8>,
     code: u16,

@@ -30,12 +30,12 @@ pub fn cut_is_one()
     ensures { CutIsOne }
 {}
 
-/// What comes behind replies comes behind their rest.
+/// What comes after replies comes after their rest.
 pub fn cut_goes_on()
     ensures { CutGoesOn }
 {}
 
-/// What is cut stays cut when more comes behind: the further replies are those of the rest and what
+/// What is cut stays cut when more comes after: the further replies are those of the rest and what
 /// came.
 pub fn cut_stays()
     ensures { CutStays }
@@ -61,7 +61,7 @@ pub fn beginning_is_unfinished()
     ensures { BeginningIsUnfinished }
 {}
 
-/// A fault stays one, whatever comes behind.
+/// A fault stays one, whatever comes after.
 pub fn fault_stays()
     ensures { FaultStays }
 {}

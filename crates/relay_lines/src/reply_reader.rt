@@ -16,14 +16,14 @@ use thiserror::Error;
 /// How many digits a code has.
 const CODE_LEN: usize = 3;
 
-/// Where the text of a line begins: behind the code, and a hyphen or a space.
+/// Where the text of a line begins: after the code, and a hyphen or a space.
 const TEXT_START: usize = 4;
 
 /// Why octets are no reply. A line is judged when it is whole, or has 2,048 octets and no end among
 /// them. Of two rules that it breaks the first of this list is answered.
 #[derive(Clone, Copy, Debug, PartialEq, Eq, Error)]
 pub enum ReplyFault {
-    /// The line begins with no code, or neither a hyphen nor a space follows that. Each call behind
+    /// The line begins with no code, or neither a hyphen nor a space follows that. Each call after
     /// a fault answers this too.
     #[error("bad line in reply")]
     BadLine,
@@ -106,7 +106,7 @@ impl ReplyReader {
     }
 
     /// Uses the next piece up to the end of a reply, and gives that reply, or uses all of the
-    /// piece. The first fault is answered by its kind. Behind a fault each call answers that the
+    /// piece. The first fault is answered by its kind. After a fault each call answers that the
     /// line is bad, and uses nothing.
     pub fn feed(&mut self, piece: &[u8]) -> Result<ReplyCut, ReplyFault>
         ensures reads { IfOk result (λ cut. (octets : List ℕ) (replies : List Coded) (rest : List ℕ)

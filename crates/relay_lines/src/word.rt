@@ -123,7 +123,7 @@ pub fn first_word(text: &[u8]) -> &[u8]
     &text[..word_len(text)]
 }
 
-/// What stands behind the first word and the spaces after it.
+/// What stands after the first word and the spaces after it.
 #[tactic(auto, unfolding(crate::specs::Word::argument_of))]
 pub(crate) fn argument_of(text: &[u8]) -> &[u8]
     ensures { result.now ≡ argument_of text.now }
@@ -140,7 +140,7 @@ pub fn is_word(text: &[u8], word: &[u8]) -> bool
     text.eq_ignore_ascii_case(word)
 }
 
-/// What stands behind a keyword, where the text begins with it in any letter case.
+/// What stands after a keyword, where the text begins with it in any letter case.
 #[tactic(auto, using(crate::proofs::WordLemmas::behind_keyword_short), unfolding(crate::specs::Word::behind_keyword))]
 pub(crate) fn behind_keyword<'a>(keyword: &[u8], text: &'a [u8]) -> Option<&'a [u8]>
     ensures { option_copied result ≡ behind_keyword keyword.now text.now }

@@ -21,7 +21,7 @@ const WITH_ESMTP: &[u8] = b" with ESMTP id ";
 /// How many octets of a message are searched for that: more than a time stamp line has.
 const STAMP_LIMIT: usize = 1_024;
 
-/// How many octets the paths of recipients have in one line. Even if each has to stand behind a backslash, the line has
+/// How many octets the paths of recipients have in one line. Even if each has to stand after a backslash, the line has
 /// room for them.
 const LIST_LIMIT: usize = 320;
 

@@ -272,8 +272,8 @@ impl<'a, E: Write> Log<'a, E> {
         }
     }
 
-    /// Logs that a next hop that was left alone has said something again: so many seconds after it was left alone first,
-    /// and after so many failures.
+    /// Logs that a next hop that was left alone has said something again: so many seconds after it was left alone
+    /// first, and after so many failures.
     pub fn came_back(&mut self, hop: &[u8], at: SocketAddrV4, seconds: u64, failures: u64) {
         if self.speaks {
             self.say(hop_back_line(self.head, hop, at, seconds, failures));

@@ -308,7 +308,7 @@ each-answers errand greeting hello mail input content rcpts e =
     (answer_of Content content) (answer_of Content content) input content content in
     omega (arith, length-append answers last, length-append rcpts behind, rcpts-count errand.places rcpts e, same)
 
--- What both ends have said: the turns are of the script, and their replies, with others behind them, are those of a
+-- What both ends have said: the turns are of the script, and their replies, with others after them, are those of a
 -- whole conversation. Of these the client has read a beginning, and that of a server that closed.
 pub record Conversed (setup : Setup) (errand : Errand) (tried : List Tried) (closing : Option Reply) (turns : List Turn)
     (replies : List Reply) : Type 0 where

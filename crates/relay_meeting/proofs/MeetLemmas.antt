@@ -48,7 +48,7 @@ taken_state : (host : List ℕ) (course : Course) (turn : Turn) (new : State) �
 taken_state host (Replies row next) turn new takes = takes.2
 taken_state host (Offers client envelope content) turn new takes = takes.3
 
--- what was written behind the replies read so far, of the commands of a script: more than the commands done
+-- what was written after the replies read so far, of the commands of a script: more than the commands done
 pub record Written (commands : List (List ℕ)) (all : List (List ℕ)) (least : ℕ) : Type 0 where
   pub front : List (List ℕ)
   pub of_script : Begins front all
@@ -109,7 +109,7 @@ reaches (y ∷ front) (x ∷ one) two begins h =
       some = r.some;
     }
 
--- where octets were written behind the commands done, so was a command
+-- where octets were written after the commands done, so was a command
 not_all_done : (front done : List (List ℕ)) (behind : List ℕ) → Begins front done → joined front ≡ joined done ++ behind
     → 0 < length behind → ⊥
 not_all_done front done behind begins e h =
@@ -164,7 +164,7 @@ next_is done todo commands next behind written e h =
     next_of_tail r.tail written.of_client.0 done commands todo next behind r.begins r.some
     (written.of_client.1 ∙ ap (λ l. l ++ written.of_client.0) r.front_is) e
 
--- no unit stands behind a close
+-- no unit stands after a close
 none_closed : (setup : Setup) (old new : State) (turn : Turn) → old ≡ Closed → Answers setup old turn new → ⊥
 none_closed setup old new turn e is = subst (λ (s : State). IsUnit s turn.asked) e (asked_is_a_unit setup old new turn is)
 
@@ -172,7 +172,7 @@ some_octets : (octets : List ℕ) → (octets ≡ [] → ⊥) → 0 < length oct
 some_octets [] h = absurd (h refl)
 some_octets (octet ∷ octets) h = omega arith
 
--- the turn behind those done is of the script's next command
+-- the turn after those done is of the script's next command
 pub record TurnIs (setup : Setup) (step : Step) (turn : Turn) (new : State) : Type 0 where
   pub asked_is : turn.asked ≡ step.command
   pub takes : Takes setup.host step.course turn new

@@ -88,7 +88,7 @@ mail_comes setup client envelope valid =
     (line_comes setup (Greeted client) (written_command (Mail text)) (Mail text) (asked.Mail (Ok again.0))
     (mail_is_command_line envelope valid).0 refl (Ok again.0, again.1, refl))
 
--- what a RCPT is answered, and the state behind it
+-- what a RCPT is answered, and the state after it
 abbrev behind_rcpt : Client → Envelope → Recipient → Bool → Bool → Course
 behind_rcpt client envelope recipient routed goes =
     Replies (row_of_rcpt routed goes)
@@ -170,13 +170,13 @@ chunk_comes setup client envelope text short some =
           (Replies row.NoValidRecipients (Awaits (Spent client))))) (sym some);
     }
 
--- the mail data that is sent behind DATA
+-- the mail data that is sent after DATA
 sent_behind : (text dot_text : List ℕ) (test : Bool) → test ≡ true
     → MatchBool test (WritesDotText text dot_text) (dot_text ≡ []) → WritesDotText text dot_text
 sent_behind text dot_text true e writes = writes
 sent_behind text dot_text false e writes = absurd (cc)
 
--- behind the content a command is awaited again
+-- after the content a command is awaited again
 offer_behind : (client : Client) (envelope : Envelope) (content : List ℕ) (found : Option Row)
     → state_behind (offer_unless found client envelope content) ≡ Awaits (Greeted client)
 offer_behind client envelope content (Some why) = refl

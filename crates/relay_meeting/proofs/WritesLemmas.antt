@@ -52,7 +52,7 @@ fill host (step ∷ script) (reply ∷ replies) e =
 abbrev pub has_some : Envelope → Bool
 has_some envelope = nat_le 1 (length envelope.recipients)
 
--- the replies to the RCPTs, and those behind them
+-- the replies to the RCPTs, and those after them
 pub record RcptReplies (host : List ℕ) (setup : Setup) (client : Client) (errand : Errand) (envelope : Envelope)
     (tried : List Tried) (replies : List Reply) : Type 0 where
   pub rcpts : List Reply
@@ -131,7 +131,7 @@ abbrev pub content_replies_by : Errand → Bool → Reply → Reply → List Rep
 content_replies_by errand some input content =
     cond some (cond (ends_in_line_end errand.text) (input ∷ content ∷ []) (content ∷ [])) []
 
--- the replies behind the RCPTs
+-- the replies after the RCPTs
 pub record LastReplies (errand : Errand) (some : Bool) (last : List Reply) : Type 0 where
   pub input : Reply
   pub content : Reply

@@ -45,7 +45,7 @@ child_of setup errand tried =
     else [])
     else []
 
--- what a server end wrote: the output of its dialogue, and behind that the reply with which it closed, if it did so
+-- what a server end wrote: the output of its dialogue, and after that the reply with which it closed, if it did so
 -- unasked
 abbrev pub output_with : List ℕ → Option Reply → List ℕ
 output_with output None = output
@@ -70,7 +70,7 @@ pub record AreJoined (setup : Setup) (errand : Errand) (said : Said) (closing : 
   pub up : Begins said.input output
   pub down : Begins input (output_with said.output closing)
 
--- what the two have said: turns of the script, of which the client has read a beginning of the replies, and behind all
+-- what the two have said: turns of the script, of which the client has read a beginning of the replies, and after all
 -- of these of the one with which the server closed, and no fault; and the text was offered at most once
 pub record HaveMet (setup : Setup) (errand : Errand) (tried : List Tried) (said : Said) (closing : Option Reply)
     (replies : List Reply)

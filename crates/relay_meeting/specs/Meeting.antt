@@ -19,12 +19,12 @@ pub record Step : Type 0 where
 abbrev pub step_of : List ℕ → Course → Step
 step_of command course = record { command = command; course = course }
 
--- the state behind a course
+-- the state after a course
 abbrev pub state_behind : Course → State
 state_behind (Replies row next) = next
 state_behind (Offers client envelope content) = Command (Greeted client)
 
--- from this state each command is a unit of which this comes, in the state behind the one before, and the last one
+-- from this state each command is a unit of which this comes, in the state after the one before, and the last one
 -- closes
 abbrev pub IsScript : Setup → State → List Step → Type 0
 IsScript setup old [] = old ≡ Closed
@@ -55,7 +55,7 @@ Plays host [] (turn ∷ turns) = ⊥
 Plays host (step ∷ script) (turn ∷ turns) =
     (turn.asked ≡ step.command) × Takes host step.course turn (state_behind step.course) × Plays host script turns
 
--- the script behind some turns
+-- the script after some turns
 abbrev pub behind_turns : List Step → List Turn → List Step
 behind_turns script [] = script
 behind_turns [] (turn ∷ turns) = []
@@ -65,7 +65,7 @@ behind_turns (step ∷ script) (turn ∷ turns) = behind_turns script turns
 abbrev pub replies_by : List Turn → List Reply
 replies_by turns = map (λ turn. turn.reply) turns
 
--- A client that writes by the replies it has read: what was written stays written; behind so many replies as many
+-- A client that writes by the replies it has read: what was written stays written; after so many replies as many
 -- commands are written, or nothing more is; and on a greeting and replies as they may be it writes commands of the
 -- script.
 pub record Writes (host : List ℕ) (greeting : Reply) (commands : List Reply → List (List ℕ)) (script : List Step)
@@ -81,8 +81,8 @@ pub record Meets (setup : Setup) (script : List Step) (turns : List Turn) (new :
   pub plays : Plays setup.host script turns
   pub goes_on : IsScript setup new (behind_turns script turns)
 
--- Of a client that writes a script and a server that has read a beginning of what the client wrote behind a beginning
--- of the server's replies, and of any that come behind those, the turns are of the script.
+-- Of a client that writes a script and a server that has read a beginning of what the client wrote after a beginning
+-- of the server's replies, and of any that come after those, the turns are of the script.
 abbrev pub Meeting : Type 0
 Meeting =
     (setup : Setup) (greeting : Reply) (commands : List Reply → List (List ℕ)) (script : List Step) (new : State)

@@ -37,12 +37,12 @@ refusal_row routed = if routed then row.RoutedAddress else row.NoRoute
 abbrev pub row_of_rcpt : Bool → Bool → Row
 row_of_rcpt routed goes = if goes then row.RecipientOk else refusal_row routed
 
--- the server's envelope behind it
+-- the server's envelope after it
 abbrev pub with_tried : Envelope → Tried → Envelope
 with_tried envelope tried =
     if tried.goes then record envelope { recipients = envelope.recipients ++ tried.recipient ∷ [] } else envelope
 
--- the server's envelope behind the RCPTs of all of these
+-- the server's envelope after the RCPTs of all of these
 abbrev pub envelope_behind : Envelope → List Tried → Envelope
 envelope_behind envelope [] = envelope
 envelope_behind envelope (tried ∷ more) = envelope_behind (with_tried envelope tried) more
@@ -60,7 +60,7 @@ abbrev pub course_of_last_chunk : Setup → Client → Envelope → List ℕ →
 course_of_last_chunk setup client envelope text =
     unless_refused setup.bare_newlines (course_of_chunks setup.max_content client envelope text true)
 
--- the content, and QUIT: mail data behind DATA, or one last chunk
+-- the content, and QUIT: mail data after DATA, or one last chunk
 abbrev pub content_steps : Setup → Client → Errand → Envelope → List Step
 content_steps setup client errand envelope =
     if ends_in_line_end errand.text

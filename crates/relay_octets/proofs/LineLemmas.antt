@@ -9,7 +9,7 @@ use Rattle.std.proofs.Math.Bool.{and-false, or-false, or-true}
 use Rattle.std.specs.List.{list_all}
 use Rattle.relay_octets.specs.Line.{crlf, HasNoCrlf, ReadsLine, ends_in_cr, begins_with_lf, has_crlf, FirstLineIsOne, FirstLineStays, CrlfIsTested, NoCrIsNoCrlf, JoinHasNoCrlf}
 
--- a CR LF behind some octets stands at their number
+-- a CR LF after some octets stands at their number
 occurs_behind : (octets before after : List ℕ) → octets ≡ before ++ crlf ++ after
     → OccursAt octets crlf (length before)
 occurs_behind octets before after e =

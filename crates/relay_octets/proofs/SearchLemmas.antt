@@ -10,7 +10,7 @@ pub record EndsNoneBefore (octets : List ℕ) (place : ℕ) : Type 0 where
   pub within : place ≤ length octets
   pub none : (k : ℕ) → k + 1 < place → ¬ OccursAt octets crlf k
 
--- an LF stands at this place of the octets behind `from`
+-- an LF stands at this place of the octets after `from`
 abbrev pub IsLineFeed : List ℕ → ℕ → ℕ → Type 0
 IsLineFeed octets from k = Passes (is_byte 10) (drop from octets) k
 
@@ -21,7 +21,7 @@ cr_of octets k here = ap (λ i. get_or octets i 0) (sym (add-zero k)) ∙ here.r
 lf_of : (octets : List ℕ) (k : ℕ) → OccursAt octets crlf k → get_or octets (k + 1) 0 ≡ 10
 lf_of octets k here = here.reads 1 (omega arith)
 
--- the LF of a CR LF that ends behind `from` is among those that the search behind it sees
+-- the LF of a CR LF that ends after `from` is among those that the search after it sees
 seen_behind : (octets : List ℕ) (from k : ℕ) → from ≤ k + 1 → OccursAt octets crlf k
     → IsLineFeed octets from (k + 1 - from)
 seen_behind octets from k behind here =
@@ -43,7 +43,7 @@ none_behind octets from so_far nowhere =
           nowhere (k + 1 - from) (omega arith) (omega arith) (seen_behind octets from k behind here)
     ])
 
--- behind an LF with no CR before it, the search goes on
+-- after an LF with no CR before it, the search goes on
 pub goes_on : (octets : List ℕ) (from place : ℕ) → EndsNoneBefore octets from
     → NoneBefore (IsLineFeed octets from) 0 (length (drop from octets)) place
     → (0 < from + place → get_or octets (from + place - 1) 0 ≢ 13)
@@ -72,7 +72,7 @@ reads_crlf octets k cr lf zero low = ap (λ i. get_or octets i 0) (add-zero k) �
 reads_crlf octets k cr lf (suc zero) low = lf
 reads_crlf octets k cr lf (suc (suc j)) low = absurd (omega arith)
 
--- an LF behind a CR ends the first line
+-- an LF after a CR ends the first line
 pub found_behind : (octets : List ℕ) (from place line_feed : ℕ) → line_feed ≡ from + place
     → EndsNoneBefore octets from
     → NoneBefore (IsLineFeed octets from) 0 (length (drop from octets)) place

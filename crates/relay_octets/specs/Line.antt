@@ -49,7 +49,7 @@ FirstLineIsOne =
     → ReadsLine stream other more
     → (line ≡ other) × (rest ≡ more)
 
--- what comes behind a whole line doesn't change it
+-- what comes after a whole line doesn't change it
 abbrev pub FirstLineStays : Type 0
 FirstLineStays =
     (stream line rest more : List ℕ) → ReadsLine stream line rest

@@ -6,7 +6,7 @@ pub fn first_line_is_one()
     ensures { FirstLineIsOne }
 {}
 
-/// A whole line stays what it is, whatever comes behind it.
+/// A whole line stays what it is, whatever comes after it.
 pub fn first_line_stays()
     ensures { FirstLineStays }
 {}

@@ -1,4 +1,4 @@
--- Round the seam of two pieces: what stands in the window and in the piece behind alike.
+-- Round the seam of two pieces: what stands in the window and in the piece after alike.
 use Rattle.std.proofs.Common.{◌≡◌, ℕ, ◌+◌, ◌-◌, ◌<◌, ◌≤◌, List, [], ◌∷◌, ◌++◌, length, take, drop, get_or, suc, take-add, sym, ap, ◌∙◌, refl, arith, append_assoc, append-nil, length-append, length-take, length-drop, take-append-drop, Vec}
 use Rattle.std.proofs.lemmas.Grind.{flat_map-append}
 use Rattle.std.proofs.lemmas.List.{drop-drop, drop-append-le, drop_all}
@@ -45,14 +45,14 @@ more_text held piece ahead count =
     ∙ ap (λ (xs : List ℕ). held ++ (take count (drop ahead piece) ++ xs)) (sym (drop-drop count ahead piece))
     ∙ ap (λ (xs : List ℕ). held ++ xs) (take-append-drop count (drop ahead piece))
 
--- what stands behind a window, by the piece behind it
+-- what stands after a window, by the piece after it
 pub behind_is : (pieces rest : List (Vec ℕ Global)) (piece : Vec ℕ Global) (ahead : ℕ) → pieces ≡ piece ∷ rest → ahead ≤ length piece.items
     → drop ahead (joined pieces) ≡ drop ahead piece.items ++ joined rest
 behind_is pieces rest piece ahead is within =
     ap (λ (all : List (Vec ℕ Global)). drop ahead (joined all)) is
     ∙ drop-append-le ahead piece.items (joined rest) within
 
--- the text stays where the window and the piece behind it have the same as before
+-- the text stays where the window and the piece after it have the same as before
 pub same_text : (pieces rest : List (Vec ℕ Global)) (piece : Vec ℕ Global) (old new : List ℕ) (was ahead : ℕ) → pieces ≡ piece ∷ rest → was ≤ length piece.items → ahead ≤ length piece.items
     → new ++ drop ahead piece.items ≡ old ++ drop was piece.items → new ++ drop ahead (joined pieces) ≡ old ++ drop was (joined pieces)
 same_text pieces rest piece old new was ahead is fits within same =
@@ -62,7 +62,7 @@ same_text pieces rest piece old new was ahead is fits within same =
     ∙ append_assoc old (drop was piece.items) (joined rest)
     ∙ ap (λ (xs : List ℕ). old ++ xs) (sym (behind_is pieces rest piece was is fits))
 
--- a piece that is put behind all others
+-- a piece that is put after all others
 pub put_first : (pieces : List (Vec ℕ Global)) (piece : Vec ℕ Global) (ahead : ℕ) → ahead ≤ length (first_of pieces)
     → (ahead ≤ length (first_of (pieces ++ piece ∷ []))) × (take ahead (first_of (pieces ++ piece ∷ [])) ≡ take ahead (first_of pieces))
 put_first [] piece ahead within =
@@ -86,7 +86,7 @@ pub first_at : (pieces : List (Vec ℕ Global)) (piece : Vec ℕ Global) → 0 <
 first_at [] piece some is = absurd (omega (arith, some))
 first_at (first ∷ pieces) piece some is = ap (λ (one : Vec ℕ Global). one ∷ pieces) (sym is)
 
--- a piece and those behind it
+-- a piece and those after it
 module _ (pieces rest : List (Vec ℕ Global)) (piece : Vec ℕ Global) (is : pieces ≡ piece ∷ rest) where
   counted : length pieces ≡ suc (length rest)
   counted = ap length is

@@ -1,4 +1,4 @@
--- What of a text in pieces can be read, and what of the piece behind it stands there too.
+-- What of a text in pieces can be read, and what of the piece after it stands there too.
 use Rattle.std.specs.Prelude.{◌≡◌, ℕ, ◌-◌, ◌≤◌, List, length, take, drop}
 use Rattle.relay_pieces.specs.declared.window.Window.{Window}
 

@@ -48,7 +48,7 @@ impl Pieces {
         }
     }
 
-    /// Puts a piece behind the text. It fails where memory runs out.
+    /// Puts a piece after the text. It fails where memory runs out.
     pub fn push(&mut self, piece: Vec<u8>) -> Result<(), AllocError>
         ensures { OnOk result (text_of self.new ≡ text_of self.old ++ piece.items) }
     {
@@ -87,7 +87,7 @@ impl Pieces {
     }
 
     /// Sees that so many octets can be read, or all where the text has fewer. Memory is wanted only where fewer could
-    /// be read, and more stands behind them; where it runs out, the text is lost.
+    /// be read, and more stands after them; where it runs out, the text is lost.
     pub fn hold_first(&mut self, count: usize) -> Result<(), AllocError>
         ensures text { OnOk result (text_of self.new ≡ text_of self.old) }
         ensures held { OnOk result (length self.new.front < count → self.new.behind ≡ []) }
@@ -113,7 +113,7 @@ impl Pieces {
         Ok(())
     }
 
-    /// Sees that more can be read, and tells whether more stood behind. Memory is wanted only where it does; where it
+    /// Sees that more can be read, and tells whether more stood after. Memory is wanted only where it does; where it
     /// runs out, the text is lost.
     pub fn take_up(&mut self) -> Result<bool, AllocError>
         ensures next { IfOk result (TakesUp self.old self.new) }

@@ -14,7 +14,7 @@ pub(crate) struct Window {
     pub(crate) held: Vec<u8>,
     /// How many octets of what is held were let go.
     pub(crate) used: usize,
-    /// How many octets of what is held, its last ones, are the first ones of the piece behind.
+    /// How many octets of what is held, its last ones, are the first ones of the piece after.
     pub(crate) ahead: usize,
     ghost within: { used ≤ length held.items },
 }
@@ -23,7 +23,7 @@ impl Window {
     ghost use Rattle.std.specs.Prelude.{◌<◌, ◌++◌, OnOk};
     ghost use Rattle.relay_pieces.specs.Window.{Overlaps, front_of};
 
-    /// Puts octets of the piece behind to those that can be read: as many as these are, or as it has.
+    /// Puts octets of the piece after to those that can be read: as many as these are, or as it has.
     pub(crate) fn join(&mut self, piece: &[u8]) -> Result<(), AllocError>
         requires overlaps { Overlaps self.old piece.now }
         requires left { self.old.ahead ≤ length (front_of self.old) }
@@ -54,7 +54,7 @@ impl Window {
         self.used = 0;
     }
 
-    /// Goes on in the piece behind itself, where all that can be read are octets of that too.
+    /// Goes on in the piece after itself, where all that can be read are octets of that too.
     pub(crate) fn turn(&mut self, piece: Vec<u8>)
         requires overlaps { Overlaps self.old piece.items }
         requires left { length (front_of self.old) ≤ self.old.ahead }

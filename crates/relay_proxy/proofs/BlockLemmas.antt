@@ -15,7 +15,7 @@ use Rattle.relay_proxy.specs.declared.source.Source.{Source}
 use Rattle.relay_proxy.specs.declared.source.Source.TheVariants.{Own, Client, Other}
 use Rattle.relay_proxy.proofs.LineLemmas.{no_line}
 
--- octets behind the signature: command, family, two of the length, and the rest
+-- octets after the signature: command, family, two of the length, and the rest
 abbrev pub fields : ℕ → ℕ → ℕ → ℕ → List ℕ → List ℕ
 fields command family high low rest = command ∷ family ∷ high ∷ low ∷ rest
 

@@ -13,36 +13,36 @@ use Rattle.relay_proxy.proofs.WordLemmas.{address_is_one, port_is_one, port_word
 
 -- the addresses and ports of a client
 pub no_source_address : (text : List ℕ) → HasNoAddress text → HasNoClient text
-no_source_address text lacks = record { none = λ client w. lacks.none (v4_ip client) w.behind_source w.source_is }
+no_source_address text lacks = record { none = λ client w. lacks.none (v4_ip client) w.after_source w.source_is }
 
 pub no_destination : (text rest : List ℕ) (address : Ipv4Addr) → ReadsAddress text address rest → HasNoAddress rest → HasNoClient text
 no_destination text rest address reads lacks = record {
   none = λ client w.
-      let (same, rests) = address_is_one text (v4_ip client) address w.behind_source rest w.source_is reads in
-      lacks.none w.destination w.behind_destination (subst (λ (t : List ℕ). ReadsAddress t w.destination w.behind_destination) rests w.destination_is);
+      let (same, rests) = address_is_one text (v4_ip client) address w.after_source rest w.source_is reads in
+      lacks.none w.destination w.after_destination (subst (λ (t : List ℕ). ReadsAddress t w.destination w.after_destination) rests w.destination_is);
 }
 
-behind_both : (text rest last : List ℕ) (source destination : Ipv4Addr) (client : SocketAddrV4) → ReadsAddress text source rest → ReadsAddress rest destination last
-    → (w : WritesClient text client) → (v4_ip client ≡ source) × (w.behind_destination ≡ last)
-behind_both text rest last source destination client reads other w =
-    let (same, rests) = address_is_one text (v4_ip client) source w.behind_source rest w.source_is reads in
-    let (again, lasts) = address_is_one rest w.destination destination w.behind_destination last (subst (λ (t : List ℕ). ReadsAddress t w.destination w.behind_destination) rests w.destination_is) other in
+after_both : (text rest last : List ℕ) (source destination : Ipv4Addr) (client : SocketAddrV4) → ReadsAddress text source rest → ReadsAddress rest destination last
+    → (w : WritesClient text client) → (v4_ip client ≡ source) × (w.after_destination ≡ last)
+after_both text rest last source destination client reads other w =
+    let (same, rests) = address_is_one text (v4_ip client) source w.after_source rest w.source_is reads in
+    let (again, lasts) = address_is_one rest w.destination destination w.after_destination last (subst (λ (t : List ℕ). ReadsAddress t w.destination w.after_destination) rests w.destination_is) other in
     (same, lasts)
 
 pub no_client_port : (text rest last : List ℕ) (source destination : Ipv4Addr) → ReadsAddress text source rest → ReadsAddress rest destination last
     → HasNoPortWord last → HasNoClient text
 no_client_port text rest last source destination reads other lacks = record {
   none = λ client w.
-      let (same, lasts) = behind_both text rest last source destination client reads other w in
+      let (same, lasts) = after_both text rest last source destination client reads other w in
       lacks.none (v4_port client) w.last (subst (λ (t : List ℕ). ReadsPort t (v4_port client) w.last) lasts w.port_is);
 }
 
 pub no_last_port : (text rest last end : List ℕ) (source destination : Ipv4Addr) (port : ℕ) → ReadsAddress text source rest
     → ReadsAddress rest destination last → ReadsPort last port end → HasNoPort end → HasNoClient text
-no_last_port text rest last end source destination port reads other behind lacks = record {
+no_last_port text rest last end source destination port reads other after lacks = record {
   none = λ client w.
-      let (same, lasts) = behind_both text rest last source destination client reads other w in
-      let (ports, ends) = port_word_is_one last (v4_port client) port w.last end (subst (λ (t : List ℕ). ReadsPort t (v4_port client) w.last) lasts w.port_is) behind in
+      let (same, lasts) = after_both text rest last source destination client reads other w in
+      let (ports, ends) = port_word_is_one last (v4_port client) port w.last end (subst (λ (t : List ℕ). ReadsPort t (v4_port client) w.last) lasts w.port_is) after in
       lacks.none w.destination_port (subst (λ (t : List ℕ). IsPort t w.destination_port) ends w.last_is);
 }
 
@@ -51,8 +51,8 @@ client_by one two ip port = λ j. record { ip = ip j; port = port j }
 
 client_is_one : (text : List ℕ) (one two : SocketAddrV4) → WritesClient text one → WritesClient text two → one ≡ two
 client_is_one text one two p q =
-    let (ips, lasts) = behind_both text q.behind_source q.behind_destination (v4_ip two) q.destination one q.source_is q.destination_is p in
-    let (ports, ends) = port_word_is_one q.behind_destination (v4_port one) (v4_port two) p.last q.last (subst (λ (t : List ℕ). ReadsPort t (v4_port one) p.last) lasts p.port_is) q.port_is in
+    let (ips, lasts) = after_both text q.after_source q.after_destination (v4_ip two) q.destination one q.source_is q.destination_is p in
+    let (ports, ends) = port_word_is_one q.after_destination (v4_port one) (v4_port two) p.last q.last (subst (λ (t : List ℕ). ReadsPort t (v4_port one) p.last) lasts p.port_is) q.port_is in
     client_by one two ips ports
 
 -- lines whose octets differ at a place

@@ -119,7 +119,7 @@ and_false : (test : Bool) → test && false ≡ false
 and_false true = refl
 and_false false = refl
 
--- no CR LF stands in a line and the CR behind it
+-- no CR LF stands in a line and the CR after it
 no_crlf_before_end : (front more text : List ℕ) (octet : ℕ) → HasNoCrlf text → front ++ (octet ∷ more) ≡ text ++ crlf → HasNoCrlf front
 no_crlf_before_end front more text octet none is =
     let (others, last, end) = last_of octet more in
@@ -139,29 +139,29 @@ front_of_line front more octet source h =
         let short = h.short in
         at_line begins (no_crlf_before_end front more h.line octet h.one_line h.header_is) (omega (arith, length-append front (octet ∷ more)))
 
--- what stands behind the signature
-behind_signature : (front more behind : List ℕ) (octet : ℕ) (source : Source) (b : IsBlock (front ++ (octet ∷ more)) source) → front ≡ signature ++ behind
-    → behind ++ (octet ∷ more) ≡ fields b.command b.family b.high b.low b.rest
-behind_signature front more behind octet source b is =
-    append_cancel_left signature (behind ++ (octet ∷ more)) (fields b.command b.family b.high b.low b.rest)
+-- what stands after the signature
+after_signature : (front more after : List ℕ) (octet : ℕ) (source : Source) (b : IsBlock (front ++ (octet ∷ more)) source) → front ≡ signature ++ after
+    → after ++ (octet ∷ more) ≡ fields b.command b.family b.high b.low b.rest
+after_signature front more after octet source b is =
+    append_cancel_left signature (after ++ (octet ∷ more)) (fields b.command b.family b.high b.low b.rest)
     (sym (ap (λ (l : List ℕ). l ++ (octet ∷ more)) is) ∙ b.header_is)
 
-front_of_fields : (front more behind : List ℕ) (octet : ℕ) (source : Source) (b : IsBlock (front ++ (octet ∷ more)) source) → front ≡ signature ++ behind
-    → (length behind < 4) ⊎ (4 ≤ length behind) → IsUnfinished front
-front_of_fields front more behind octet source b is (inl few) = at_fields behind is few
-front_of_fields front more behind octet source b is (inr many) =
-    let at = fields_of behind many in
-    let whole : fields (get_or behind 0 0) (get_or behind 1 0) (get_or behind 2 0) (get_or behind 3 0) (drop 4 behind ++ (octet ∷ more)) ≡ fields b.command b.family b.high b.low b.rest =
-    ap (λ (l : List ℕ). l ++ (octet ∷ more)) (sym at) ∙ behind_signature front more behind octet source b is in
-    let highs : get_or behind 2 0 ≡ b.high = cc whole in
-    let lows : get_or behind 3 0 ≡ b.low = cc whole in
-    let rests : drop 4 behind ++ (octet ∷ more) ≡ b.rest = cc whole in
-    let sizes : two_octets (get_or behind 2 0) (get_or behind 3 0) ≡ length b.rest =
-    ap (λ (n : ℕ). two_octets n (get_or behind 3 0)) highs ∙ ap (λ (n : ℕ). two_octets b.high n) lows ∙ sym b.whole in
+front_of_fields : (front more after : List ℕ) (octet : ℕ) (source : Source) (b : IsBlock (front ++ (octet ∷ more)) source) → front ≡ signature ++ after
+    → (length after < 4) ⊎ (4 ≤ length after) → IsUnfinished front
+front_of_fields front more after octet source b is (inl few) = at_fields after is few
+front_of_fields front more after octet source b is (inr many) =
+    let at = fields_of after many in
+    let whole : fields (get_or after 0 0) (get_or after 1 0) (get_or after 2 0) (get_or after 3 0) (drop 4 after ++ (octet ∷ more)) ≡ fields b.command b.family b.high b.low b.rest =
+    ap (λ (l : List ℕ). l ++ (octet ∷ more)) (sym at) ∙ after_signature front more after octet source b is in
+    let highs : get_or after 2 0 ≡ b.high = cc whole in
+    let lows : get_or after 3 0 ≡ b.low = cc whole in
+    let rests : drop 4 after ++ (octet ∷ more) ≡ b.rest = cc whole in
+    let sizes : two_octets (get_or after 2 0) (get_or after 3 0) ≡ length b.rest =
+    ap (λ (n : ℕ). two_octets n (get_or after 3 0)) highs ∙ ap (λ (n : ℕ). two_octets b.high n) lows ∙ sym b.whole in
     let short = b.short in
     let counted = ap length rests in
-    at_rest (get_or behind 0 0) (get_or behind 1 0) (get_or behind 2 0) (get_or behind 3 0) (drop 4 behind) (is ∙ ap (λ (l : List ℕ). signature ++ l) at)
-    (omega (arith, sizes, counted, length-append (drop 4 behind) (octet ∷ more))) (omega (arith, sizes))
+    at_rest (get_or after 0 0) (get_or after 1 0) (get_or after 2 0) (get_or after 3 0) (drop 4 after) (is ∙ ap (λ (l : List ℕ). signature ++ l) at)
+    (omega (arith, sizes, counted, length-append (drop 4 after) (octet ∷ more))) (omega (arith, sizes))
 
 front_of_block : (front more : List ℕ) (octet : ℕ) (source : Source) → IsBlock (front ++ (octet ∷ more)) source → IsUnfinished front
 front_of_block front more octet source b =
@@ -169,7 +169,7 @@ front_of_block front more octet source b =
   where
     by : Begins front signature ⊎ Begins signature front → IsUnfinished front
     by (inl begun) = at_signature begun
-    by (inr (behind, is)) = front_of_fields front more behind octet source b is (cases_lt (length behind) 4)
+    by (inr (after, is)) = front_of_fields front more after octet source b is (cases_lt (length after) 4)
 
 pub front_is_unfinished : FrontIsUnfinished
 front_is_unfinished front more octet source (inl h) = front_of_line front more octet source h

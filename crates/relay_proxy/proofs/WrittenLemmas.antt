@@ -52,8 +52,8 @@ writes_client client destination one two =
     let target = ipv4_text (ipv4_octets (v4_ip destination)) in
     let ports = decimal (v4_port client) ++ (codes " " ++ decimal (v4_port destination)) in
     record {
-      behind_source = target ++ (codes " " ++ ports);
-      behind_destination = ports;
+      after_source = target ++ (codes " " ++ ports);
+      after_destination = ports;
       last = decimal (v4_port destination);
       destination = v4_ip destination;
       destination_port = v4_port destination;
@@ -86,8 +86,8 @@ no_cr_in_line client destination one two =
     let first : HasNo 13 (codes "PROXY TCP4 ") = (refl, (refl, (refl, (refl, (refl, (refl, (refl, (refl, (refl, (refl, (refl, tt))))))))))) in
     let last : HasNo 13 (codes " " ++ other) = has_no-append 13 (codes " ") other space (no_cr_in_port destination two) in
     let ports : HasNo 13 (port ++ (codes " " ++ other)) = has_no-append 13 port (codes " " ++ other) (no_cr_in_port client one) last in
-    let behind : HasNo 13 (codes " " ++ (port ++ (codes " " ++ other))) = has_no-append 13 (codes " ") (port ++ (codes " " ++ other)) space ports in
-    let targets : HasNo 13 (target ++ (codes " " ++ (port ++ (codes " " ++ other)))) = has_no-append 13 target (codes " " ++ (port ++ (codes " " ++ other))) (no_cr_in_address destination two) behind in
+    let after : HasNo 13 (codes " " ++ (port ++ (codes " " ++ other))) = has_no-append 13 (codes " ") (port ++ (codes " " ++ other)) space ports in
+    let targets : HasNo 13 (target ++ (codes " " ++ (port ++ (codes " " ++ other)))) = has_no-append 13 target (codes " " ++ (port ++ (codes " " ++ other))) (no_cr_in_address destination two) after in
     let after : HasNo 13 (codes " " ++ (target ++ (codes " " ++ (port ++ (codes " " ++ other))))) = has_no-append 13 (codes " ") (target ++ (codes " " ++ (port ++ (codes " " ++ other)))) space targets in
     let words : HasNo 13 (client_words client destination) = has_no-append 13 source (codes " " ++ (target ++ (codes " " ++ (port ++ (codes " " ++ other))))) (no_cr_in_address client one) after in
     has_no-append 13 (codes "PROXY TCP4 ") (client_words client destination) first words
@@ -163,8 +163,8 @@ writes_ipv4 client destination more one two =
     let last = to_be_bytes w16 (v4_port destination) ++ more in
     let two_ports : (length port ≡ 2) × (length (to_be_bytes w16 (v4_port destination)) ≡ 2) = (refl, refl) in
     let both : length (source ++ target) ≡ 8 = length-append source target ∙ omega (arith, one.four, two.four) in
-    let behind : drop 8 (client_fields client destination more) ≡ port ++ last = ap (λ (l : List ℕ). drop 8 l) (sym (append_assoc source target (port ++ last))) ∙ drop_at (source ++ target) (port ++ last) 8 both in
-    let port_there : take 2 (drop 8 (client_fields client destination more)) ≡ port = ap (λ (l : List ℕ). take 2 l) behind ∙ take_at port last 2 refl in
+    let after : drop 8 (client_fields client destination more) ≡ port ++ last = ap (λ (l : List ℕ). drop 8 l) (sym (append_assoc source target (port ++ last))) ∙ drop_at (source ++ target) (port ++ last) 8 both in
+    let port_there : take 2 (drop 8 (client_fields client destination more)) ≡ port = ap (λ (l : List ℕ). take 2 l) after ∙ take_at port last 2 refl in
     record {
       whole = omega (arith, two_ports.0, two_ports.1, one.four, two.four, length-append source (target ++ (port ++ last)), length-append target (port ++ last), length-append port last, length-append (to_be_bytes w16 (v4_port destination)) more);
       address_is = sym (take_at source (target ++ (port ++ last)) 4 one.four);

@@ -12,7 +12,7 @@ use Rattle.relay_proxy.specs.declared.source.Source.TheVariants.{Own, Client, Ot
 abbrev pub signature : List ℕ
 signature = 13 ∷ 10 ∷ 13 ∷ 10 ∷ 0 ∷ 13 ∷ 10 ∷ 81 ∷ 85 ∷ 73 ∷ 84 ∷ 10 ∷ []
 
--- profile: the most octets behind the first 16, so that a block has 536 at most: what the smallest segment of TCP that
+-- profile: the most octets after the first 16, so that a block has 536 at most: what the smallest segment of TCP that
 -- each host must take has room for (section 2)
 abbrev pub rest_limit : ℕ
 rest_limit = 520
@@ -61,8 +61,8 @@ SaysOfBlock command family rest Other =
 pub record HasNoMeaning (command family : ℕ) (rest : List ℕ) : Type 0 where
   pub none : (source : Source) → ¬ SaysOfBlock command family rest source
 
--- the octets are a header of version 2: signature, version and command, family and protocol, the length of the rest, and
--- the rest, that say this
+-- the octets are a header of version 2: signature, version and command, family and protocol, the length of the rest,
+-- and the rest, that say this
 pub record IsBlock (header : List ℕ) (source : Source) : Type 0 where
   pub command : ℕ
   pub family : ℕ

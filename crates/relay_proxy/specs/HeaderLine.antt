@@ -18,14 +18,14 @@ line_limit = 107
 
 -- the text writes source and destination address, source and destination port, and this is the source
 pub record WritesClient (text : List ℕ) (client : SocketAddrV4) : Type 0 where
-  pub behind_source : List ℕ
-  pub behind_destination : List ℕ
+  pub after_source : List ℕ
+  pub after_destination : List ℕ
   pub last : List ℕ
   pub destination : Ipv4Addr
   pub destination_port : ℕ
-  pub source_is : ReadsAddress text (v4_ip client) behind_source
-  pub destination_is : ReadsAddress behind_source destination behind_destination
-  pub port_is : ReadsPort behind_destination (v4_port client) last
+  pub source_is : ReadsAddress text (v4_ip client) after_source
+  pub destination_is : ReadsAddress after_source destination after_destination
+  pub port_is : ReadsPort after_destination (v4_port client) last
   pub last_is : IsPort last destination_port
 
 -- the text writes no client

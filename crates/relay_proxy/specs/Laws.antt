@@ -24,7 +24,8 @@ HeaderIsOne =
 
 -- A header has 13 to 536 octets.
 abbrev pub HeaderIsBounded : Type 0
-HeaderIsBounded = (header : List ℕ) (source : Source) → IsHeader header source → (13 ≤ length header) × (length header ≤ 536)
+HeaderIsBounded = (header : List ℕ) (source : Source) → IsHeader header source
+    → (13 ≤ length header) × (length header ≤ 536)
 
 -- Where a header stands no more octets are waited for.
 abbrev pub HeaderIsFinished : Type 0
@@ -38,7 +39,8 @@ FrontIsUnfinished =
 -- A header is read, whatever follows it.
 abbrev pub HeaderIsRead : Type 0
 HeaderIsRead =
-    (header rest : List ℕ) (source : Source) (reading : Reading) → IsHeader header source → Reads (header ++ rest) reading
+    (header rest : List ℕ) (source : Source) (reading : Reading) → IsHeader header source
+    → Reads (header ++ rest) reading
     → reading ≡ Found (record { source = source; length = length header })
 
 -- Where no more octets are read than are missing at least, a header that stands then is all that was read.

@@ -3,7 +3,7 @@ ghost use Rattle.std.specs.Prelude.{◌≡◌, ◌++◌, ◌↔◌, IsTrue, Matc
 ghost use Rattle.relay_octets.specs.Beginning.{Begins};
 
 /// What follows this beginning of the octets, where they begin so.
-pub(crate) fn behind<'a>(octets: &'a [u8], front: &[u8]) -> Option<&'a [u8]>
+pub(crate) fn after<'a>(octets: &'a [u8], front: &[u8]) -> Option<&'a [u8]>
     ensures { MatchOption result (¬ Begins front.now octets.now) (λ rest. octets.now ≡ front.now ++ rest.now) }
 {
     octets.strip_prefix(front)
@@ -13,7 +13,7 @@ pub(crate) fn behind<'a>(octets: &'a [u8], front: &[u8]) -> Option<&'a [u8]>
 pub(crate) fn begins(octets: &[u8], front: &[u8]) -> bool
     ensures { IsTrue result ↔ Begins front.now octets.now }
 {
-    match behind(octets, front) {
+    match after(octets, front) {
         Some(_) => true,
         None => false,
     }

@@ -5,7 +5,7 @@ ghost use Rattle.relay_proxy.specs.Header.{Reads, least_left};
 ghost use Rattle.relay_proxy.specs.HeaderLine.{line_word};
 
 use crate::block::{SIGNATURE, read_block};
-use crate::front::{begins, behind};
+use crate::front::{begins, after};
 use crate::line::{WORD, read_line};
 use crate::source::Source;
 
@@ -37,7 +37,7 @@ pub enum Reading {
 pub fn read_header(octets: &[u8]) -> Reading
     ensures { Reads octets.now result }
 {
-    if let Some(rest) = behind(octets, SIGNATURE) {
+    if let Some(rest) = after(octets, SIGNATURE) {
         return read_block(rest);
     }
     if begins(octets, WORD) {

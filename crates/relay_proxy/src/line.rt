@@ -4,7 +4,7 @@ ghost use Rattle.relay_octets.specs.Beginning.{Begins};
 ghost use Rattle.relay_proxy.specs.Header.{Reads};
 ghost use Rattle.relay_proxy.specs.HeaderLine.{HasNoClient, HasNoSource, SaysOfLine, WritesClient, line_word};
 
-use crate::front::{begins, behind};
+use crate::front::{begins, after};
 use crate::header::{Header, Reading, least_left};
 use crate::source::Source;
 use crate::word::{read_address, read_port, read_port_word};
@@ -43,7 +43,7 @@ pub(crate) fn read_line(octets: &[u8]) -> Reading
 fn source_of(line: &[u8]) -> Option<Source>
     ensures { MatchOption result (HasNoSource line.now) (SaysOfLine line.now) }
 {
-    if let Some(text) = behind(line, b"PROXY TCP4 ") {
+    if let Some(text) = after(line, b"PROXY TCP4 ") {
         return match client_of(text) {
             Some(client) => Some(Source::Client(client)),
             None => None,
@@ -62,9 +62,9 @@ fn source_of(line: &[u8]) -> Option<Source>
 fn client_of(text: &[u8]) -> Option<SocketAddrV4>
     ensures { MatchOption result (HasNoClient text.now) (WritesClient text.now) }
 {
-    let (address, behind_source) = read_address(text)?;
-    let (_, behind_destination) = read_address(behind_source)?;
-    let (port, last) = read_port_word(behind_destination)?;
+    let (address, after_source) = read_address(text)?;
+    let (_, after_destination) = read_address(after_source)?;
+    let (port, last) = read_port_word(after_destination)?;
     match read_port(last) {
         Some(_) => Some(SocketAddrV4::new(address, port)),
         None => None,

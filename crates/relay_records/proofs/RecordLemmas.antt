@@ -72,11 +72,11 @@ module _ {D : Type 0} (honest : Type 0) (words : DiskWords D) (seen old : Kept D
   with_one : honest → (bodies : List (List ℕ)) → bodies ≡ seen.spool.bodies ++ body ∷ [] → StandsFor bodies (changes ++ change ∷ [])
   with_one h bodies are = stands_with bodies seen.spool.bodies changes change body (before h) fits_list body_is are
 
-  -- the next number is that of the change behind the list
+  -- the next number is that of the change after the list
   pub number_is : (number : ℕ) → number ≡ seen.queue.next → number ≡ length changes + 1
   number_is number next = next ∙ ap (λ (q : Queue). q.next) seen_queue ∙ next_is_one_more changes
 
-  -- the note is of the change behind the list
+  -- the note is of the change after the list
   pub noted_here : (used : ℕ) (note : Noted) → NotesNext seen.queue change body used note → IsNoted (Some note) changes change used
   noted_here used note notes = record {
     note = note;

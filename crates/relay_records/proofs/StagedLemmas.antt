@@ -21,11 +21,11 @@ use Rattle.relay_records.specs.Records.{Keeps, Kept}
 use Rattle.relay_records.specs.Staged.{AreNotes, Awaits, CutsAll, Row, Settles, Stages, StandsForOrWithAll, no_row}
 use Rattle.relay_records.proofs.ListLemmas.{next_is_one_more, queue_of_more}
 
--- the queue of two lists, one behind the other
+-- the queue of two lists, one after the other
 queue_of_all : (changes pending : List Change) → queue_of (changes ++ pending) ≡ fold step (queue_of changes) pending
 queue_of_all changes pending = fold-append step empty_queue changes pending
 
--- changes that fit behind others that do
+-- changes that fit after others that do
 fit_behind : (queue : Queue) (changes pending : List Change) → FitsFrom queue changes → FitsFrom (fold step queue changes) pending → FitsFrom queue (changes ++ pending)
 fit_behind queue [] pending first second = second
 fit_behind queue (change ∷ changes) pending first second = (first.0, fit_behind (step queue change) changes pending first.1 second)
@@ -65,7 +65,7 @@ row_is_full words old new (Damaged place) refused other memory = absurd refused
 row_is_full words old new NotEmpty refused other memory = absurd refused
 row_is_full words old new NoSecond refused other memory = absurd refused
 
--- the next number behind them
+-- the next number after them
 next_behind : (changes pending : List Change) → (queue_of (changes ++ pending)).next ≡ length changes + length pending + 1
 next_behind changes pending =
     let next = next_is_one_more (changes ++ pending) in

@@ -21,7 +21,7 @@ abbrev pub IsNoFaultOfImage : Cause → Type 0
 IsNoFaultOfImage cause = (cause ≡ Spool Device) ⊎ (cause ≡ Spool NoMemory) ⊎ (cause ≡ Spool Full)
 
 -- Of the other disks a stop leaves nothing that it doesn't leave of the records' own: so it is with those
--- themselves, behind a stop, and where `open` has refused them.
+-- themselves, after a stop, and where `open` has refused them.
 module _ {D : Type 0} (honest : Type 0) (words : DiskWords D) where
   -- The lists that records keep leave one queue.
   abbrev pub OneListIsKept : Type 0
@@ -52,7 +52,7 @@ module _ {D : Type 0} (honest : Type 0) (words : DiskWords D) where
       (records : Kept D) (changes : List Change) → Keeps honest words records changes
       → Awaits honest words records changes [] no_row
 
-  -- The next number of records that await changes comes behind these.
+  -- The next number of records that await changes comes after these.
   abbrev pub AwaitedAreNumbered : Type 0
   AwaitedAreNumbered =
       (records : Kept D) (changes pending : List Change) (row : Row) → Awaits honest words records changes pending row

@@ -24,7 +24,7 @@ pub record Row : Type 0 where
 abbrev pub no_row : Row
 no_row = record { bodies = []; notes = [] }
 
--- a note of each change, the first of which comes next in this queue, and each other behind those before it
+-- a note of each change, the first of which comes next in this queue, and each other after those before it
 abbrev pub AreNotes : Queue → List Change → List Noted → Type 0
 AreNotes queue [] notes = notes ≡ []
 AreNotes queue (change ∷ changes) notes =

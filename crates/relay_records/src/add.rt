@@ -94,7 +94,7 @@ pub(crate) fn ready_of(alloc: Global, book: &mut Book, change: Change) -> Result
     }
 }
 
-/// Appends the record of a change that is ready, and commits the change behind it.
+/// Appends the record of a change that is ready, and commits the change after it.
 fn append<D: Disk>(
     spool: &mut Spool<D>,
     book: &mut Book,

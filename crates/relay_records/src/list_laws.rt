@@ -40,7 +40,7 @@ pub fn none_is_awaited<D: Disk>()
     ensures { NoneIsAwaited D.honest D.words }
 {}
 
-/// The next number of records that await changes comes behind these.
+/// The next number of records that await changes comes after these.
 pub fn awaited_are_numbered<D: Disk>()
     ensures { AwaitedAreNumbered D.honest D.words }
 {}

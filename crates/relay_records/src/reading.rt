@@ -13,7 +13,7 @@ use relay_pieces::Pieces;
 use relay_spool::SpoolFault;
 use std::alloc::Global;
 
-/// The book that a body leaves behind so many others, which left this book. It fails with `BadRecord` exactly where it
+/// The book that a body leaves after so many others, which left this book. It fails with `BadRecord` exactly where it
 /// leaves none, and where memory runs out.
 #[tactic(auto, using(crate::proofs::ReadLemmas::read_by_place))]
 fn read_body(alloc: Global, mut book: Book, before: usize, body: Pieces) -> Result<Book, BookFault>

@@ -142,7 +142,7 @@ impl<D: Disk> Records<D> {
 
     /// The least moment at which a held place is due of which a question holds, in seconds from 1970: it may pass
     /// the greatest moment. None where the question holds of no held place. It asks of the places in the order of
-    /// their moments, and of none behind the answer's, and takes no memory.
+    /// their moments, and of none after the answer's, and takes no memory.
     pub fn first_due_where<Q: PlaceQuestion>(&self, question: &Q) -> Option<u64>
         ensures { IsLeastOf (moments_of (Q.holds question.now) self.now.queue.messages) result }
     {

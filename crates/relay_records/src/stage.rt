@@ -22,8 +22,8 @@ use relay_spool::{BODY_OVERHEAD, SIZE_LIMIT, SpoolFault};
 use std::alloc::Global;
 
 impl<D: Disk> Records<D> {
-    /// Takes a change into the queue, of which these octets are the record, and puts it behind the changes of a
-    /// row. It is judged behind those, and the answer is its number; `used` is how many octets of its piece the
+    /// Takes a change into the queue, of which these octets are the record, and puts it after the changes of a
+    /// row. It is judged after those, and the answer is its number; `used` is how many octets of its piece the
     /// call had used. No device is called. `NoMemory` and `Full` leave records and row as they were.
     pub fn stage(
         &mut self,
@@ -53,7 +53,7 @@ impl<D: Disk> Records<D> {
         Ok(number)
     }
 
-    /// Whether the spool may grow by the bodies of a row and by this one behind them.
+    /// Whether the spool may grow by the bodies of a row and by this one after them.
     fn has_room_behind(&self, row: &Staged, octets: &Octets) -> bool
         ensures { IsTrue result
             ↔ (self.now.spool.size + room_of row.now.bodies + 5 + length octets.now ≤ 2 ^ 40) }
@@ -63,7 +63,7 @@ impl<D: Disk> Records<D> {
         room <= left && BODY_OVERHEAD <= left - room && octets.len() <= left - room - BODY_OVERHEAD
     }
 
-    /// Brings the records of a row into the spool, behind one pair of syncs, and answers the note of each change.
+    /// Brings the records of a row into the spool, after one pair of syncs, and answers the note of each change.
     /// At `Stopped` the device failed: a stop leaves the changes as they were or with all of the row. At `Full`
     /// the records stay as they were, whose queue has the changes and whose spool has not: no row that was
     /// staged for these records is too large for them. It takes no memory.

@@ -60,7 +60,7 @@ impl Staged {
         self.bodies.room()
     }
 
-    /// Puts a change behind the others. Where memory runs out, the row stays as it was.
+    /// Puts a change after the others. Where memory runs out, the row stays as it was.
     pub(crate) fn push(&mut self, noted: Noted) -> Result<(), AllocError>
         requires { length noted.octets < 2 ^ 32 }
         ensures bodies { OnOk result (self.new.bodies ≡ self.old.bodies ++ noted.octets ∷ []) }

@@ -1,4 +1,4 @@
--- A pass over a text finds each number behind the stem, wherever it stands.
+-- A pass over a text finds each number after the stem, wherever it stands.
 use Rattle.std.proofs.Common.{◌≡◌, ◌⊎◌, inl, inr, ℕ, ◌+◌, ◌-◌, ◌<◌, ◌≤◌, ◌^◌, List, ◌++◌, length, take, drop, Contains, decimal, Some, None, refl, sym, ap, subst, ◌∙◌, arith, append_assoc, length-append}
 use Rattle.std.proofs.lemmas.Bool.{cases_lt, cases_eq}
 use Rattle.std.proofs.lemmas.List.{take_at, drop_at, drop-drop, length-take, length-drop, take-append-drop}
@@ -11,7 +11,7 @@ use Rattle.relay_report.specs.Boundary.{StandsIn, numbered}
 use Rattle.relay_report.specs.Numbers.{leading, beginnings, all_begun, Collects, Collecting, NextIsBehind}
 use Rattle.relay_report.proofs.BegunLemmas.{started, started_finds, started_only}
 
--- a word behind some octets stands at their number
+-- a word after some octets stands at their number
 pub occurs_behind : (text word before after : List ℕ) → text ≡ before ++ (word ++ after) → OccursAt text word (length before)
 occurs_behind text word before after e =
     let here : drop (length before) text ≡ word ++ after = ap (drop (length before)) e ∙ drop_at before (word ++ after) (length before) refl in
@@ -22,7 +22,7 @@ occurs_behind text word before after e =
 pub before_end : (text word before after : List ℕ) → text ≡ before ++ (word ++ after) → length before < length text + 1
 before_end text word before after e = let fits : length text ≡ length before + length (word ++ after) = ap length e ∙ length-append before (word ++ after) in omega (arith, fits)
 
--- what stands behind a place stands in the whole
+-- what stands after a place stands in the whole
 pub stands_behind : (word text : List ℕ) (place : ℕ) → StandsIn word (drop place text) → StandsIn word text
 stands_behind word text place stands = record {
   before = take place text ++ stands.before;
@@ -30,7 +30,7 @@ stands_behind word text place stands = record {
   text_is = sym (take-append-drop place text) ∙ ap (λ l. take place text ++ l) stands.text_is ∙ sym (append_assoc (take place text) stands.before (word ++ stands.after));
 }
 
--- and what stands in the whole at a later place stands behind it
+-- and what stands in the whole at a later place stands after it
 pub stands_later : (word text before after : List ℕ) (place : ℕ) → text ≡ before ++ (word ++ after) → place ≤ length before → StandsIn word (drop place text)
 stands_later word text before after place e far = record {
   before = drop place before;
@@ -46,7 +46,7 @@ stands_later word text before after place e far = record {
 un_numbered : (stem text before after : List ℕ) (k : ℕ) → text ≡ before ++ (numbered stem k ++ after) → text ≡ before ++ (stem ++ (decimal k ++ after))
 un_numbered stem text before after k e = e ∙ ap (λ l. before ++ l) (append_assoc stem (decimal k) after)
 
--- what was found behind the stem's first place stands in the text
+-- what was found after the stem's first place stands in the text
 behind_stands : (stem rest : List ℕ) (place k : ℕ) → OccursAt rest stem place → Contains (started (drop (place + length stem) rest)) k → StandsIn (numbered stem k) rest
 behind_stands stem rest place k at has =
     let (after, e, fits) = started_only k (drop (place + length stem) rest) has in
@@ -56,7 +56,7 @@ behind_stands stem rest place k at has =
       text_is = sym (take-append-drop place rest) ∙ ap (λ l. take place rest ++ l) (OccursAt-split rest stem place at ∙ ap (λ l. stem ++ l) e ∙ sym (append_assoc stem (decimal k) after));
     }
 
--- a numbered stem in the rest is found at the first place, or stands behind it
+-- a numbered stem in the rest is found at the first place, or stands after it
 found_or_later : (stem rest : List ℕ) (place step k : ℕ) → NoneBefore (OccursAt rest stem) 0 (length rest + 1) place → OccursAt rest stem place
     → NextIsBehind stem step → k < 2 ^ 64 → StandsIn (numbered stem k) rest
     → Contains (started (drop (place + length stem) rest)) k ⊎ StandsIn (numbered stem k) (drop (place + step) rest)
@@ -111,7 +111,7 @@ collect_step stem text rest more old now new place step so found behind new_is m
     only k (inl has) = so.only k has
     only k (inr has) = inr (so.part k (behind_stands stem rest place k found.1 has))
 
--- the numbers of a list with the longest one at a place behind them
+-- the numbers of a list with the longest one at a place after them
 pub begun_behind : (taken : List ℕ) (more text : List ℕ) → more ≡ taken ++ option_to_list (leading text) → all_begun more ≡ all_begun taken ++ started text
 begun_behind taken more text e = ap all_begun e ∙ flat_map-append (beginnings 20) taken (option_to_list (leading text))
 

@@ -8,7 +8,7 @@ use Rattle.relay_report.specs.Boundary.{StandsIn, StandsNowhere}
 use Rattle.relay_report.specs.Parts.{CutsAt, BeginsOnce, CutIsOne, NowhereBehindLine, PartsComeBack, HasNoThree}
 use Rattle.relay_report.proofs.CollectLemmas.{occurs_behind, before_end, stands_later}
 
--- a mark that stands at a place of a piece followed by the mark stands in the piece, or ends behind it
+-- a mark that stands at a place of a piece followed by the mark stands in the piece, or ends after it
 within : (mark text piece behind : List ℕ) (place : ℕ) → text ≡ piece ++ behind → OccursAt text mark place → place + length mark ≤ length piece → StandsIn mark piece
 within mark text piece behind place e at fits = record {
   before = take place piece;
@@ -66,7 +66,7 @@ no_cut mark text none = record {
 pub cut_by : (mark text piece rest : List ℕ) (place : ℕ) → 0 < length mark → FindsNeedle text mark 0 (Some place) → piece ≡ take place text → rest ≡ drop (place + length mark) text → CutsAt mark text piece rest
 cut_by mark text piece rest place some found piece_is rest_is = rw (piece_is, rest_is) (found_cut mark text place some found)
 
--- behind a line end, a word without a line end stands nowhere if it stands in neither half
+-- after a line end, a word without a line end stands nowhere if it stands in neither half
 pub nowhere_behind_line : NowhereBehindLine
 nowhere_behind_line word front back plain in_front in_back = record { nowhere = λ before after e. case before after e (cases_lt (length front) (length before + length word)) (cases_lt (length front) (length before)) }
   where

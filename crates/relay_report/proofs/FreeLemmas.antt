@@ -15,11 +15,11 @@ use Rattle.relay_report.proofs.RowLemmas.{all_below_are_many}
 abbrev begins : List ℕ → List ℕ → Bool
 begins stem text = bytes_eq (take (length stem) text) stem
 
--- the numbers that stand behind the stem at the beginning of the text
+-- the numbers that stand after the stem at the beginning of the text
 abbrev excluded_here : List ℕ → List ℕ → List ℕ
 excluded_here stem text = if begins stem text then begun (drop (length stem) text) else []
 
--- the numbers that stand behind the stem somewhere in the text
+-- the numbers that stand after the stem somewhere in the text
 abbrev excluded : List ℕ → List ℕ → List ℕ
 excluded stem [] = []
 excluded stem (octet ∷ octets) = excluded_here stem (octet ∷ octets) ++ excluded stem octets
@@ -36,7 +36,7 @@ begins_true stem text e = (bytes_eq-Decides (take (length stem) text) stem).1 e
 begins_says : (stem text : List ℕ) → begins stem text ≡ true → take (length stem) text ≡ stem
 begins_says stem text e = (bytes_eq-Decides (take (length stem) text) stem).0 e
 
--- a number behind the stem at the beginning
+-- a number after the stem at the beginning
 here_finds : (stem text after : List ℕ) (k : ℕ) → k < 2 ^ 64 → text ≡ stem ++ (decimal k ++ after) → Contains (excluded_here stem text) k
 here_finds stem text after k fits e =
     let yes_begins = begins_true stem text (ap (take (length stem)) e ∙ take_at stem (decimal k ++ after) (length stem) refl) in

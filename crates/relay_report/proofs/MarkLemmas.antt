@@ -187,7 +187,7 @@ least_is_outside count values words least words_is room fits is = record {
 pub row_length : (count : ℕ) (numbers words : List ℕ) → words ≡ marked (empty_row count) numbers → length words ≡ count
 row_length count numbers words is = ap length is ∙ (marks (empty_row count) numbers).size ∙ empty_length count
 
--- the numbers of one list behind those of another
+-- the numbers of one list after those of another
 pub marked_append : (words one two : List ℕ) → marked words (one ++ two) ≡ marked (marked words one) two
 marked_append words [] two = refl
 marked_append words (x ∷ one) two = marked_append (marked_one words x) one two
@@ -199,7 +199,7 @@ by_word words index place number is low set_there =
     let bit : number % 64 ≡ place = omega arith in
     ap (λ p. bit_at (get_or words p 0) (number % 64)) word ∙ ap (λ b. bit_at (get_or words index 0) b) bit ∙ set_there
 
--- behind a word of ones
+-- after a word of ones
 pub full_word : (words : List ℕ) (index least : ℕ) → least ≡ 64 * index → ((lower : ℕ) → lower < least → IsMarked words lower)
     → get_or words index 0 ≡ 18446744073709551615 → (lower : ℕ) → lower < least + 64 → IsMarked words lower
 full_word words index least is below ones lower low = split (cases_lt lower least)

@@ -24,7 +24,7 @@ overlaps text word place far short one two = record {
       ap (λ p. get_or word p 0) first ∙ sym (two.reads j (omega (arith, l, less, short))) ∙ ap (λ p. get_or text p 0) same ∙ one.reads (far + j) (omega (arith, l, less, short)) ∙ sym (get_or-drop far word j 0);
 }
 
--- one octet behind a place is no later than the next one
+-- one octet after a place is no later than the next one
 pub first_step : (word : List ℕ) → NextIsBehind word 1
 first_step word text place far one some near two = absurd (omega (arith, some, near))
 

@@ -114,7 +114,7 @@ header_filled told date boundary may day above =
       ),
     )
 
--- behind its header section
+-- after its header section
 behind_header_is : (lines : List (List ℕ)) (rest : List ℕ) → AllByRecursion IsFilledLine lines
     → drop (header_end_of (lines_text lines ++ (crlf ++ rest))) (lines_text lines ++ (crlf ++ rest)) ≡ crlf ++ rest
 behind_header_is lines rest each =

@@ -59,7 +59,7 @@ has_parts text start mark pieces first second third one two three start_is is cu
   three_is = d;
 }
 
--- a line without a CR, behind CR LF
+-- a line without a CR, after CR LF
 pub no_cr_begins : (line : List ℕ) → IsFirstByte (is_byte 13) line None → BeginsOnce (crlf ++ line)
 no_cr_begins line none = record { some = omega arith; once = once }
   where
@@ -101,7 +101,7 @@ cr_opens_none text behind line size empty reads line_is not_once = record {
       not_once (subst (λ l. BeginsOnce (crlf ++ l)) (sym (line_is ∙ lines.0)) opens.no_cr);
 }
 
--- an empty line with no line behind it opens nothing
+-- an empty line with no line after it opens nothing
 pub line_opens_none : (text behind : List ℕ) → ReadsLine text [] behind → HasNoCrlf behind → OpensWithNone text
 line_opens_none text behind empty none = record {
   none = λ other more opens.

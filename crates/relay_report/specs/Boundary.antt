@@ -11,7 +11,7 @@ pub record StandsIn (word text : List ℕ) : Type 0 where
 pub record StandsNowhere (word text : List ℕ) : Type 0 where
   pub nowhere : (before after : List ℕ) → text ≢ before ++ (word ++ after)
 
--- the stem, and the number behind it
+-- the stem, and the number after it
 abbrev pub numbered : List ℕ → ℕ → List ℕ
 numbered stem number = stem ++ decimal number
 
@@ -26,15 +26,15 @@ pub record IsLeastFree (stem one two three : List ℕ) (number : ℕ) : Type 0 w
   pub free : IsTaken stem one two three number → ⊥
   pub least : (lower : ℕ) → lower < number → IsTaken stem one two three lower
 
--- what a boundary begins with, behind its two dashes: the number of the report stands in it
+-- what a boundary begins with, after its two dashes: the number of the report stands in it
 abbrev pub stem_of : ℕ → List ℕ
 stem_of number = codes "--=_relay_" ++ decimal number ++ codes "_"
 
--- the boundary of a report with its own number behind it
+-- the boundary of a report with its own number after it
 abbrev pub boundary_text : ℕ → ℕ → List ℕ
 boundary_text number least = codes "=_relay_" ++ decimal number ++ codes "_" ++ decimal least
 
--- The boundary of a report with these parts: of those that stand in none of them behind two dashes, the one with
+-- The boundary of a report with these parts: of those that stand in none of them after two dashes, the one with
 -- the least number.
 pub record IsBoundary (number : ℕ) (one two three boundary : List ℕ) : Type 0 where
   pub least : ℕ

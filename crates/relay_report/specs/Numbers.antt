@@ -1,4 +1,4 @@
--- The numbers that stand behind a stem.
+-- The numbers that stand after a stem.
 use Rattle.std.specs.Prelude.{◌⊎◌, ℕ, zero, suc, ◌+◌, ◌*◌, ◌-◌, ◌/◌, ◌<◌, ◌^◌, nat_le, nat_lt, ◌&&◌, Bool, ◌==◌, List}
 use Rattle.std.specs.Prelude.{[], ◌∷◌, Option, None, Some, Contains, length, ◌≤◌, if◌then◌else◌}
 use Rattle.std.specs.List.{flat_map}
@@ -17,7 +17,7 @@ may_grow value octet = (nat_le 48 octet && nat_le octet 57) && nat_le (one_more 
 abbrev pub longer : ℕ → ℕ → Option ℕ
 longer value octet = if may_grow value octet then Some (one_more value octet) else None
 
--- the number, with the digits at the beginning of the octets behind it, as far as it has 64 bits
+-- the number, with the digits at the beginning of the octets after it, as far as it has 64 bits
 abbrev pub grown : ℕ → List ℕ → ℕ
 grown value [] = value
 grown value (octet ∷ octets) = if may_grow value octet then grown (one_more value octet) octets else value
@@ -58,7 +58,7 @@ pub record Collecting (stem text rest old new : List ℕ) : Type 0 where
   pub part : (number : ℕ) → StandsIn (numbered stem number) rest → StandsIn (numbered stem number) text
   pub shorter : length rest ≤ length text
 
--- behind a place of the word its next one is at least so far
+-- after a place of the word its next one is at least so far
 abbrev pub NextIsBehind : List ℕ → ℕ → Type 0
 NextIsBehind word step =
     (text : List ℕ) (place far : ℕ) → OccursAt text word place → 0 < far → far < step → OccursAt text word (place + far)

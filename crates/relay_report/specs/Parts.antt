@@ -24,7 +24,7 @@ NowhereBehindLine =
     (word front back : List ℕ) → ((place : ℕ) → place < length word → slice_index word place ≢ 10)
     → StandsNowhere word front → StandsNowhere word back → StandsNowhere word (front ++ (10 ∷ back))
 
--- three pieces, each followed by the mark, and what stands behind the last mark
+-- three pieces, each followed by the mark, and what stands after the last mark
 abbrev pub three_pieces : List ℕ → List ℕ → List ℕ → List ℕ → List ℕ → List ℕ
 three_pieces mark one two three tail = one ++ (mark ++ (two ++ (mark ++ (three ++ (mark ++ tail)))))
 

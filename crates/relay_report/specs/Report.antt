@@ -69,13 +69,13 @@ pub record IsReportedOf (host : List ℕ) (number : ℕ) (outcome : OutcomeField
   pub version : outcome.version ≡ WithDelay
   pub report : IsDueReport (told_by host number outcome message) outcome.report
 
--- A change behind a queue: an outcome of it is of the second version, and has the report that is due, from this host,
+-- A change after a queue: an outcome of it is of the second version, and has the report that is due, from this host,
 -- under the number of the change, and none where none is due.
 abbrev pub ReportedFrom : List ℕ → Queue → Change → Type 0
 ReportedFrom host queue (Accept accept) = Unit {0}
 ReportedFrom host queue (Outcome outcome) =
     MatchOption (message_of queue.messages outcome.message) ⊥ (IsReportedOf host queue.next outcome)
 
--- the same behind a list of changes
+-- the same after a list of changes
 abbrev pub Reported : List ℕ → List Change → Change → Type 0
 Reported host changes change = ReportedFrom host (queue_of changes) change

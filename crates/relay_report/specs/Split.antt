@@ -30,15 +30,15 @@ pub record Delimits (text mark pieces : List ℕ) : Type 0 where
   pub mark_is : mark ≡ crlf ++ line
   pub pieces_are : pieces ≡ crlf ++ rest
 
--- what stands behind a header section and its empty line
+-- what stands after a header section and its empty line
 abbrev pub behind_header : List ℕ → List ℕ
 behind_header text = drop (header_end_of text + 2) text
 
--- the part of a piece: what stands behind the end of the boundary's line, the header section, and its empty line
+-- the part of a piece: what stands after the end of the boundary's line, the header section, and its empty line
 abbrev pub part_of : List ℕ → List ℕ
 part_of piece = behind_header (drop 2 piece)
 
--- Three parts of a text: behind its header section stands the boundary's line, which cuts what follows into pieces.
+-- Three parts of a text: after its header section stands the boundary's line, which cuts what follows into pieces.
 pub record HasParts (text one two three : List ℕ) : Type 0 where
   pub line : List ℕ
   pub rest : List ℕ

@@ -126,7 +126,7 @@ attempt_fields hop date due verdict =
     field (codes "Status") (status_of due verdict) ++ remote_mta hop verdict ++ diagnostic_code verdict
     ++ last_attempt_date date verdict
 
--- per-recipient-fields (section 2.3), behind an empty line
+-- per-recipient-fields (section 2.3), after an empty line
 abbrev pub recipient_fields : List ℕ → List ℕ → Option (List ℕ) → Recipient → DueReport → Verdict → List ℕ
 recipient_fields hop date until recipient due verdict =
     crlf ++ original_recipient recipient.orcpt

@@ -13,7 +13,7 @@ use std::alloc::{AllocError, Global};
 const USUAL_LEN: usize = 32;
 
 /// The boundary of a report of this number with these parts (RFC 2046, section 5.1.1): `=_relay_`, the number, `_`,
-/// and the least number for which it stands in none of the parts behind two dashes. It fails where memory runs out.
+/// and the least number for which it stands in none of the parts after two dashes. It fails where memory runs out.
 #[tactic(auto, using(crate::proofs::LeastLemmas::boundary_by))]
 pub fn boundary_for(alloc: Global, number: u64, parts: &Parts<'_>) -> Result<Vec<u8>, AllocError>
     ensures { IfOk result (λ boundary. IsBoundary number parts.now.first.now parts.now.second.now

@@ -1,4 +1,4 @@
-//! The numbers that stand behind a stem in a text.
+//! The numbers that stand after a stem in a text.
 ghost use Rattle.std.specs.Prelude.{◌≡◌, ◌++◌, ◌+◌, ◌<◌, ◌≤◌, length, drop, take, IfSome, OnOk, MatchOption, Some};
 ghost use Rattle.std.specs.Option.{option_to_list};
 ghost use Rattle.memchr.specs.Find.{FindsNeedle};
@@ -24,7 +24,7 @@ fn longer(value: u64, octet: u8) -> Option<u64>
     }
 }
 
-/// The number with the digits behind it that the text begins with, as far as it has 64 bits.
+/// The number with the digits after it that the text begins with, as far as it has 64 bits.
 fn grown(first: u64, text: &[u8]) -> u64
     ensures { result ≡ grown first text.now }
 {
@@ -66,7 +66,7 @@ fn push_leading(taken: &mut Vec<u64>, text: &[u8]) -> Result<(), AllocError>
 }
 
 /// Adds the longest number at each place where the stem stands in the text: their digits begin all the numbers
-/// that stand behind the stem somewhere.
+/// that stand after the stem somewhere.
 pub(crate) fn collect(
     taken: &mut Vec<u64>,
     stem: &Finder<'_>,
@@ -84,7 +84,7 @@ pub(crate) fn collect(
     Ok(())
 }
 
-/// How far behind a place of the stem its next one is at least: as long as the stem, where it doesn't overlap itself.
+/// How far after a place of the stem its next one is at least: as long as the stem, where it doesn't overlap itself.
 #[tactic(auto, using(crate::proofs::NearLemmas::first_step))]
 fn least_step(stem: &[u8]) -> usize
     requires { 0 < length stem.now }

@@ -20,7 +20,7 @@ pub struct Parts<'a> {
     pub third: &'a [u8],
 }
 /// The three parts of a report (RFC 2046, section 5.1.1): slices of its text. None where the text has no three parts:
-/// a boundary's line behind its header section that cuts what follows in three. It takes no memory.
+/// a boundary's line after its header section that cuts what follows in three. It takes no memory.
 pub fn split_report(text: &[u8]) -> Option<Parts<'_>>
     ensures { MatchOption result (HasNoParts text.now)
         (λ parts. HasParts text.now parts.first.now parts.second.now parts.third.now) }
@@ -39,7 +39,7 @@ pub fn split_report(text: &[u8]) -> Option<Parts<'_>>
     }
 }
 
-/// The boundary's line that stands behind an empty line, with the line end before it, and what follows.
+/// The boundary's line that stands after an empty line, with the line end before it, and what follows.
 fn delimiter(text: &[u8]) -> Option<(&[u8], &[u8])>
     ensures delimiter { MatchOption result (OpensWithNone text.now)
         (λ parts. Delimits text.now parts.0.now parts.1.now) }
@@ -61,7 +61,7 @@ fn delimiter(text: &[u8]) -> Option<(&[u8], &[u8])>
     }
 }
 
-/// What stands behind an empty line at the front.
+/// What stands after an empty line at the front.
 fn behind_empty_line(text: &[u8]) -> Option<&[u8]>
     ensures line { MatchOption result (HasNoEmptyLine text.now) (λ behind. ReadsLine text.now [] behind.now) }
     ensures shorter { MatchOption result (Unit {0}) (λ behind. length behind.now + 2 ≤ length text.now) }
@@ -88,7 +88,7 @@ fn has_no_cr(line: &[u8]) -> bool
     }
 }
 
-/// The part of a piece: what stands behind the end of the boundary's line, the header section, and its empty line.
+/// The part of a piece: what stands after the end of the boundary's line, the header section, and its empty line.
 fn part_of(piece: &[u8]) -> &[u8]
     ensures { result.now ≡ part_of piece.now }
 {
@@ -96,7 +96,7 @@ fn part_of(piece: &[u8]) -> &[u8]
     behind(headed, header_end(headed).saturating_add(2))
 }
 
-/// What stands behind so many octets: nothing where there are fewer.
+/// What stands after so many octets: nothing where there are fewer.
 fn behind(text: &[u8], size: usize) -> &[u8]
     ensures { result.now ≡ drop size text.now }
 {
@@ -107,7 +107,7 @@ fn behind(text: &[u8], size: usize) -> &[u8]
     }
 }
 
-/// What stands before the first mark, and behind it.
+/// What stands before the first mark, and after it.
 pub(crate) fn cut_at<'a>(text: &'a [u8], mark: &[u8]) -> Option<(&'a [u8], &'a [u8])>
     requires { BeginsOnce mark.now }
     ensures { MatchOption result (StandsNowhere mark.now text.now)
@@ -123,7 +123,7 @@ pub(crate) fn cut_at<'a>(text: &'a [u8], mark: &[u8]) -> Option<(&'a [u8], &'a [
     }
 }
 
-/// The three pieces between the marks, and what stands behind the last one.
+/// The three pieces between the marks, and what stands after the last one.
 pub(crate) fn split_in_three<'a>(
     text: &'a [u8],
     mark: &[u8],

@@ -239,7 +239,7 @@ fn returned_type(whole: bool) -> &'static [u8]
     }
 }
 
-/// Adds a part behind its head, and the line end that belongs to the next boundary.
+/// Adds a part after its head, and the line end that belongs to the next boundary.
 fn push_body_part(
     out: &mut Vec<u8>,
     boundary: &[u8],
@@ -264,7 +264,7 @@ fn push_part_head(out: &mut Vec<u8>, boundary: &[u8], kind: &[u8]) -> Result<(),
     out.extend_from_slice(b"\r\n")
 }
 
-/// Adds the boundary's line behind the last part.
+/// Adds the boundary's line after the last part.
 fn push_closing_line(out: &mut Vec<u8>, boundary: &[u8]) -> Result<(), AllocError>
     ensures { OnOk result (out.new.items ≡ out.old.items ++ closing_line boundary.now) }
 {

@@ -56,7 +56,7 @@ fn push_original_envelope_id(
     }
 }
 
-/// Adds the fields of a recipient behind an empty line.
+/// Adds the fields of a recipient after an empty line.
 pub(crate) fn push_recipient_fields(
     alloc: Global,
     out: &mut Vec<u8>,

@@ -1,4 +1,4 @@
--- Time on a disk: what might have been left stays so, call behind call.
+-- Time on a disk: what might have been left stays so, call after call.
 use Rattle.std.proofs.Common.{ℕ, ◌≤◌, List, length, arith}
 use Rattle.relay_disk.specs.Device.{DiskWords, Elapses}
 use Rattle.relay_room.specs.Room.{HasHeld, Lasts}
@@ -18,7 +18,7 @@ module _ {D : Type 0} (words : DiskWords D) where
     keeps = λ moment image by left. time.keeps moment image (omega (arith, by, run.later)) (run.keeps moment image by left);
   }
 
-  -- one run behind another
+  -- one run after another
   pub lasts_twice : (old mid new : D) → Lasts words old mid → Lasts words mid new → Lasts words old new
   lasts_twice old mid new run time = record {
     later = omega (arith, run.later, time.later);

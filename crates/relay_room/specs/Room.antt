@@ -19,6 +19,6 @@ pub record Lasts {D : Type 0} (words : DiskWords D) (old new : D) : Type 0 where
   pub keeps : (moment : ℕ) (image : List ℕ) → moment ≤ words.moment old → words.left_since old moment image
       → words.left_since new moment image
 
--- what stays behind a test that found so much room: the ballast, where there is as much again beside it
+-- what stays after a test that found so much room: the ballast, where there is as much again beside it
 abbrev pub kept_of : ℕ → ℕ → ℕ
 kept_of room size = if nat_le (size * 2) room then size else 0

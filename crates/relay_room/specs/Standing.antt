@@ -4,8 +4,8 @@ use Rattle.std.specs.Prelude.{ℕ, ◌+◌, ◌-◌, ◌*◌, ◌/◌, ◌^◌, 
 use Rattle.relay_room.specs.declared.standing.Standing.{Standing}
 use Rattle.relay_room.specs.declared.standing.Standing.TheVariants.{Roomy, Short}
 
--- The state begins with a failure of the device, behind which nothing is known of the room. profile: an attempt needs
--- 64 KiB then, and behind a second failure as much as the ballast has.
+-- The state begins with a failure of the device, after which nothing is known of the room. profile: an attempt needs
+-- 64 KiB then, and after a second failure as much as the ballast has.
 abbrev pub standing_at_failure : Standing → ℕ → Standing
 standing_at_failure Roomy size = Short 0 (2 ^ 16)
 standing_at_failure (Short room need) size = Short 0 (max size (2 ^ 16))

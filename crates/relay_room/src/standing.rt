@@ -41,7 +41,7 @@ impl Standing {
         Standing::Short { room: 0, need }
     }
 
-    /// How it stands behind a test that found this room, where the ballast is of this size.
+    /// How it stands after a test that found this room, where the ballast is of this size.
     pub fn behind_test(self, room: usize, size: usize) -> Self
         requires { size < 2 ^ 62 }
         ensures { result ≡ standing_at_test self room size }

@@ -54,7 +54,7 @@ drop_behind : (front : List ℕ) (octet : ℕ) (back : List ℕ) → drop (suc (
 drop_behind [] octet back = refl
 drop_behind (first ∷ front) octet back = drop_behind front octet back
 
--- what stands behind the first colon
+-- what stands after the first colon
 after_colon : (front back : List ℕ) → HasNo 58 front → after_first is_colon (front ++ 58 ∷ back) ≡ back
 after_colon front back h = rw (colon_place front back h, add-one) (drop_behind front 58 back)
 

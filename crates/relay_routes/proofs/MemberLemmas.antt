@@ -37,7 +37,7 @@ route_is_one key value one two a b =
     let hop = hop_is_one value one.hop two.hop a.hop b.hop in
     λ j. record { domain = domain j; hop = hop j }
 
--- what stands behind the routes of the members so far
+-- what stands after the routes of the members so far
 pub record Behind (rest : Members) (routes whole : List Route) : Type 0 where
   pub tail : List Route
   pub whole_is : whole ≡ routes ++ tail

@@ -53,7 +53,7 @@ alone text None none nowhere = λ network is. by network is
     by network (inr at) = nowhere network at
 alone text (Some network) none at = inr at
 
--- no text writes a network where no number below 100 stands behind its first "/"
+-- no text writes a network where no number below 100 stands after its first "/"
 pub no_length : (text address behind : List ℕ) → text ≡ address ++ 47 ∷ behind → HasNo 47 address → ((number : ℕ) → number < 100 → behind ≡ decimal number → ⊥) → (network : Network) → ¬ IsNetworkText text network
 no_length text address behind text_is none nowhere network (inl p) =
     let (front, back) = split_is_one 47 address p.address behind (decimal p.length) none (no_slash p.address (ipv4_octets network.first) p.is_at.first) (sym text_is ∙ text_of_prefix text network p) in

@@ -46,7 +46,7 @@ bytes_are xs ys = (bytes_eq-Decides xs ys).1
 differs : (octets key other : List ℕ) → bytes_eq octets key ≡ true → bytes_eq key other ≡ false → bytes_eq octets other ≡ false
 differs octets key other here apart = rw (bytes_same octets key here) apart
 
--- where no entry is found, the first route is for another domain, and none is found behind it
+-- where no entry is found, the first route is for another domain, and none is found after it
 entry_absent : (route : Route) (routes : List Route) (domain : List ℕ) → entry_of (route ∷ routes) domain ≡ None → (bytes_eq domain route.domain ≡ false) × (entry_of routes domain ≡ None)
 entry_absent route routes domain absent =
     elim (cases_Bool (bytes_eq domain route.domain)) [
@@ -103,7 +103,7 @@ pub agree_with_one_more : (routes : List Route) (domain : List ℕ) (hop : Hop) 
 agree_with_one_more routes domain hop agree absent known =
     all_agree-push routes _ agree (each_agrees routes domain hop absent (goes_to routes hop.name hop.at agree known))
 
--- the place of a name, where one route more stands behind
+-- the place of a name, where one route more stands after
 place-push : (routes : List Route) (route : Route) (name : List ℕ) → place_of (routes ++ route ∷ []) name ≡ first_there (place_of routes name) (cond (bytes_eq name route.hop.name) (Some route.hop.at) None)
 place-push [] route name = by (bytes_eq name route.hop.name)
   where

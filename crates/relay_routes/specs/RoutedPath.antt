@@ -1,6 +1,7 @@
 -- Routed paths: those that name a further host, to which their domain's own host may hand the mail on. A source route
 -- does (RFC 5321, sections 3.6.1 and 4.1.2, and appendix F.2). A local part is its own host's to read (section 2.3.11):
--- no standard says what `%` and `!` mean in one, but by custom they part a user from a further host, as `@` in quotes does.
+-- no standard says what `%` and `!` mean in one, but by custom they part a user from a further host, as `@` in quotes
+-- does.
 use Rattle.std.specs.Prelude.{◌≡◌, ◌⊎◌, ◌↔◌, ℕ, Bool, true, false, ◌==◌, ◌||◌, List}
 use Rattle.std.specs.List.{list_any}
 use Rattle.relay_envelope.specs.Mailbox.{IsMailbox, IsSourceRoute}

@@ -17,7 +17,7 @@ pub(crate) fn read_address(text: &str) -> Option<SocketAddrV4>
     }
 }
 
-/// Whether no `0` stands behind the first `:`: a port from 1 without leading zeros begins with another digit.
+/// Whether no `0` stands after the first `:`: a port from 1 without leading zeros begins with another digit.
 fn has_plain_port(text: &[u8]) -> bool
     ensures { result ≡ not (begins_with_zero (after_first is_colon text.now)) }
 {

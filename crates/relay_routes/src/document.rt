@@ -183,8 +183,9 @@ pub(crate) fn read_trusted_clients(
     }
 }
 
-/// The networks that the values write, where each writes one.
-fn read_networks(alloc: Global, values: &[Value]) -> Result<Option<Vec<Network>>, AllocError>
+/// Reads the networks that the values write: `None` if one of them writes none, such as `"192.0.2.0/33"`. Fails where
+/// memory runs out.
+pub fn read_networks(alloc: Global, values: &[Value]) -> Result<Option<Vec<Network>>, AllocError>
     ensures { IfOk result (λ found. MatchOption found
         ((networks : List Network) → ¬ AreNetworks (items_view values.now) networks)
         (λ networks. AreNetworks (items_view values.now) networks.items)) }

@@ -19,6 +19,7 @@ mod trusted_clients;
 
 pub use bare_newlines::BareNewlines;
 pub use config::Config;
+pub use document::read_networks;
 pub use fault::{ConfigFault, RouteFault};
 pub use hop::Hop;
 pub use host_name::HostName;

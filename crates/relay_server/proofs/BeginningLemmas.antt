@@ -21,7 +21,7 @@ use Rattle.relay_server.proofs.UnitLemmas.{no_unit_begins_another}
 begins_none : {A : Type 0} (front whole : List A) → front ≡ [] → Begins front whole
 begins_none front whole e = (whole, ap (λ l. l ++ whole) (sym e))
 
--- behind equal parts
+-- after equal parts
 begins_behind : {A : Type 0} (front same rest whole : List A) → front ≡ same → Begins rest whole → Begins (front ++ rest) (same ++ whole)
 begins_behind front same rest whole e begins = (
   begins.0,
@@ -70,7 +70,7 @@ turn_is_one setup old new next turn other unread left behind more one two h e w 
     let written = append_cancel_left (reply_text other.reply) behind more (ap (λ (t : Turn). reply_text t.reply ++ behind) (sym row.0) ∙ w) in
     (row.0, row.1, read.1, written)
 
--- the offer that is unanswered behind some input is that of any longer input
+-- the offer that is unanswered after some input is that of any longer input
 left_begins : (setup : Setup) (state : State) (rest left unread : List ℕ) (unanswered other : List Offered) → IsLeft setup state rest unanswered → IsLeft setup state left other → left ≡ rest ++ unread → Begins unanswered other
 left_begins setup state rest left unread unanswered other (inl a) b e = begins_none unanswered other a.1
 left_begins setup state rest left unread unanswered other (inr a) (inl b) e =

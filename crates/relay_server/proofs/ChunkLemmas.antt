@@ -72,7 +72,7 @@ chunk_comes setup state old octets part argument course state_is begins whole co
     } in
     subst (λ (s : State). Comes setup s octets (unless_refused setup.bare_newlines course)) (sym state_is) here
 
--- chunks, with one more behind them
+-- chunks, with one more after them
 content_more : (chunks : List ChunkText) (chunk : ChunkText) → content_of_chunks (chunks ++ chunk ∷ []) ≡ content_of_chunks chunks ++ chunk.octets
 content_more chunks chunk =
     flat_map-append octets_of chunks (chunk ∷ []) ∙ ap (λ l. content_of_chunks chunks ++ l) (append-nil chunk.octets)
@@ -150,7 +150,7 @@ next_chunk limit client envelope reader content large last goes_on small large_i
     cond-true (nat_le (length content) limit) _ _ fits ∙ cond-false last _ _ goes_on
     ∙ ap (λ (c : List ℕ). Replies ChunkOk (Command (Gathering client envelope c))) (sym kept)
 
--- where nothing is missing behind the octets of a chunk that is refused, it has ended
+-- where nothing is missing after the octets of a chunk that is refused, it has ended
 pub refused_ends : (setup : Setup) (row : Row) (behind : Held) (missing used : ℕ) (state : State) (octets rest : List ℕ) → RefusesChunk setup.max_content row behind missing state octets → used ≡ min (length rest) missing → missing - used ≡ 0 → Comes setup state (octets ++ take used rest) (Replies row (Command (command_state_of behind)))
 refused_ends setup row behind missing used state octets rest kept used_is none =
     let many = length-take used rest in

@@ -50,7 +50,7 @@ line_is_reply code text low high none short = record {
   each = (record { line = no_crlf_without_cr text none; short = short }, tt);
 }
 
--- a host name, and what stands behind it
+-- a host name, and what stands after it
 name_is_reply : (code : ℕ) (host more : List ℕ) → 200 ≤ code → code < 600 → IsHostName host → stands_in 13 more ≡ false → length more ≤ 1000 → IsReply (one_line code (host ++ more))
 name_is_reply code host more low high name none short =
     let lacks = lacks_by_test is_host_octet 13 host refl name.octets in

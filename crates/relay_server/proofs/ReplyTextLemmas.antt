@@ -119,7 +119,7 @@ answer_is_one host given other behind more h e =
     }) in
     line_is_one given other h same.0
 
--- the lines of the reply to EHLO, written one behind another
+-- the lines of the reply to EHLO, written one after another
 pub extensions_text : (host start one two three : List ℕ) → one ≡ start ++ middle_line 250 host → two ≡ one ++ middle_line 250 (codes "PIPELINING") → three ≡ two ++ middle_line 250 (codes "CHUNKING") → three ++ reply_text (one_line 250 (codes "DSN")) ≡ start ++ reply_text (reply_of host Extensions)
 unfolding reply_of
 extensions_text host start one two three first second third =

@@ -1,4 +1,4 @@
--- What a session tells its caller, and what may be said of it behind each call.
+-- What a session tells its caller, and what may be said of it after each call.
 use Rattle.std.proofs.Common.{◌≡◌, ◌≢◌, ◌+◌, ◌-◌, ◌≤◌, ℕ, List, [], ◌∷◌, ◌++◌, length, take, inl, append_assoc, Option, Some, None, true, nat_eq, refl, sym, ap, ◌∙◌, subst, arith, length-append}
 use Rattle.std.specs.List.{AllByRecursion, slice_range}
 use Rattle.std.specs.Option.{ForSome, option_map_or}
@@ -48,7 +48,7 @@ none_else Over not_told = refl
 pub none_else_is_open : NoneElseIsOpen
 none_else_is_open session not_told = none_else (shown_at session.stage) not_told
 
--- behind no open offer the new ones are those that are open
+-- after no open offer the new ones are those that are open
 pub open_is_new : OpenIsNew
 open_is_new old new none = ap (λ l. new_offers l (open_offers new)) none
 
@@ -97,7 +97,7 @@ stands_live setup session said s failed =
 pub close_is_closed : CloseIsClosed
 close_is_closed setup session said s told = close_at session.stage told (stands_live setup session said s)
 
--- behind a close any octets belong to the rest of the dialogue
+-- after a close any octets belong to the rest of the dialogue
 pub closed_is_a_dialogue : ClosedIsADialogue
 closed_is_a_dialogue setup session said octets s closed =
     let kept = subst (λ (x : Stage). Keeps setup session.line x s.state s.rest) closed s.keeps in (
@@ -174,7 +174,7 @@ pub offer_is_within : OfferIsWithin
 offer_is_within session offer is =
     offer_held session.server.max_content session.stage offer (content_is_within session) is
 
--- what was said behind more is more
+-- what was said after more is more
 pub more_is_more : MoreIsMore
 more_is_more said mid later octets further all before between after one two joins = record {
   input = two.input ∙ ap (λ l. l ++ further) one.input ∙ append_assoc said.input octets further ∙ ap (λ l. said.input ++ l) (sym joins);
@@ -183,7 +183,7 @@ more_is_more said mid later octets further all before between after one two join
   out = two.out ∙ ap (λ l. l ++ two.written) one.out ∙ append_assoc before one.written two.written;
 }
 
--- octets and those behind them are more octets
+-- octets and those after them are more octets
 taken_behind : (piece : List ℕ) (used further : ℕ) → used ≤ further → take further piece ≡ take used piece ++ slice_range piece used further
 taken_behind piece used further within =
     let sum : further ≡ used + (further - used) = omega (arith, within) in

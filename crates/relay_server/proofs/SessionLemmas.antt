@@ -107,7 +107,7 @@ refuses_line setup state text row behind size is_line short (inr is) = record {
   course_is = is.2.2;
 }
 
--- nothing is behind the line yet
+-- nothing is after the line yet
 pub nothing_behind : (setup : Setup) (old : State) (new : Stage) (unit before after : List ℕ) (used : ℕ) → Moves setup old new (unit ++ take used []) before after → Moves setup old new unit before after
 nothing_behind setup old new unit before after used moves =
     subst (λ (o : List ℕ). Moves setup old new o before after) (ap (λ l. unit ++ l) (take-nil used) ∙ append-nil unit) moves
@@ -117,7 +117,7 @@ pub long_asks : (line : List ℕ) → asked_of_long (take 2048 line) ≡ asked_o
 unfolding begins_with_bdat
 long_asks line = ap (λ front. cond (is_word front (codes "BDAT ")) (Faulty BadChunkSize) LongLine) (take-take 5 2048 line (omega arith))
 
--- so is what stands behind a judged line
+-- so is what stands after a judged line
 pub judged_held : (setup : Setup) (state : CommandState) (text : List ℕ) (row : Row) (next : Next) → IsJudged setup (reading_of text) state (judged.Replied row next) → IsNextHeld setup.max_content next
 judged_held setup state text row next (inl is) = is.held
 judged_held setup state text row next (inr is) = absurd is.2
@@ -127,7 +127,7 @@ pub gathers_limit : (setup : Setup) (state : CommandState) (text : List ℕ) (tr
 gathers_limit setup state text transaction reader is_last (inl is) = absurd is.replied
 gathers_limit setup state text transaction reader is_last (inr is) = is.2.1.chunk_is.gathers.limit_is
 
--- so is what stands behind a chunk that is refused
+-- so is what stands after a chunk that is refused
 pub refuses_held : (setup : Setup) (state : CommandState) (text : List ℕ) (row : Row) (behind : Held) (size : ℕ) → IsJudged setup (reading_of text) state (judged.Refuses row behind size) → IsHeld setup.max_content behind
 refuses_held setup state text row behind size (inl is) = absurd is.replied
 refuses_held setup state text row behind size (inr is) = is.2.1

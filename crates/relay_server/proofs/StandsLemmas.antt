@@ -1,4 +1,4 @@
--- How a session stands behind what was said, and behind more.
+-- How a session stands after what was said, and after more.
 use Rattle.std.proofs.Common.{◌≡◌, ◌≤◌, ◌<◌, ℕ, zero, suc, Bool, true, false, nat_lt, List, [], ◌∷◌, ◌++◌, ◌+◌, ◌-◌, length-append, length, take, drop, Some, refl, sym, ap, ◌∙◌, subst, inl, inr, append_assoc, arith}
 use Rattle.std.proofs.lemmas.List.{append-nil, length-take, take_all}
 use Rattle.std.proofs.lemmas.Grind.{flat_map-append}
@@ -38,13 +38,13 @@ added f turns turn = flat_map-append f turns (turn ∷ []) ∙ ap (λ l. flat_ma
 gathers : {X : Type 0} (f : Turn → List X) (turns : List Turn) (turn : Turn) (said more : List X) → said ≡ flat_map f turns → more ≡ f turn → said ++ more ≡ flat_map f (turns ++ turn ∷ [])
 gathers f turns turn said more before now = ap (λ l. l ++ more) before ∙ ap (λ l. flat_map f turns ++ l) now ∙ sym (added f turns turn)
 
--- the same behind and before further things
+-- the same after and before further things
 between : {X : Type 0} (f : Turn → List X) (turns : List Turn) (turn : Turn) (first said more last next : List X) → said ≡ first ++ flat_map f turns ++ last → last ++ more ≡ f turn ++ next → said ++ more ≡ first ++ flat_map f (turns ++ turn ∷ []) ++ next
 between f turns turn first said more last next before now =
     ap (λ l. l ++ more) before ∙ append_assoc (first ++ flat_map f turns) last more ∙ ap (λ l. first ++ flat_map f turns ++ l) now
     ∙ sym (append_assoc (first ++ flat_map f turns) (f turn) next) ∙ ap (λ l. l ++ next) (append_assoc first (flat_map f turns) (f turn) ∙ ap (λ l. first ++ l) (sym (added f turns turn)))
 
--- Behind one more turn, which ends the unit that was begun, a session stands.
+-- After one more turn, which ends the unit that was begun, a session stands.
 pub stands_turn : (setup : Setup) (old new : Session) (said : Said) (more : List ℕ) (answers : List Answer) (written : List ℕ) (offers : List Offered) (turn : Turn) (next : State) → (s : Stands setup old said) → new.server ≡ old.server → Answers setup s.state turn next → turn.asked ≡ s.rest ++ more → written ≡ reply_text turn.reply → answers ≡ answers_in turn.offer → offers_at old.stage ++ offers ≡ offers_in turn.offer ++ offers_at new.stage → Keeps setup new.line new.stage next [] → Stands setup new (more_said said more answers written offers)
 stands_turn setup old new said more answers written offers turn next s same row asked reply given unanswered keeps = record {
   setup_is = s.setup_is ∙ ap (λ (server : Server). setup_of server setup.routes) (sym same);
@@ -212,7 +212,7 @@ hears_nothing setup session said out s = record {
   offers = sym (ap (λ l. said.offers ++ l) (none_new (open_offers session)) ∙ append-nil said.offers);
 }
 
--- one call behind others
+-- one call after others
 pub hears_further : (setup : Setup) (first old new : Session) (routes : RouteTable) (said : Said) (piece : List ℕ) (used count : ℕ) (start_out before after : List ℕ) → setup.routes ≡ routes → is_reading first.stage ≡ true → is_reading old.stage ≡ true → Hears setup said first old (take used piece) start_out before → Advances old new routes (take count (drop used piece)) before after → Hears setup said first new (take (used + count) piece) start_out after
 hears_further setup first old new routes said piece used count start_out before after same began reads h advances =
     let further = take count (drop used piece) in
@@ -232,7 +232,7 @@ hears_further setup first old new routes said piece used count start_out before 
       offers = ap (λ l. l ++ offers_at new.stage) settled ∙ sym (ap (λ l. said.offers ++ new_offers l (open_offers new)) none);
     }
 
--- what was heard of the octets behind those used
+-- what was heard of the octets after those used
 pub heard_behind : (setup : Setup) (said : Said) (old new : Session) (piece : List ℕ) (used count : ℕ) (before after : List ℕ) → Hears setup said old new (take count (drop used piece)) before after → Hears setup said old new (slice_range piece used (used + count)) before after
 heard_behind setup said old new piece used count before after h =
     let same : count ≡ (used + count) - used = omega arith in

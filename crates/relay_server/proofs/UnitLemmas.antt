@@ -8,14 +8,14 @@ use Rattle.relay_server.specs.DialogueLaws.{NoUnitIsEmpty, NoUnitBeginsAnother}
 use Rattle.relay_server.specs.State.{Command, Receiving, Closed}
 use Rattle.relay_server.specs.Unit.{IsCommandUnit, announced_of}
 
--- behind parts of one length lists go on alike
+-- after parts of one length lists go on alike
 pub same_parts : {A : Type 0} (front other rest more : List A) → length front ≡ length other → front ++ rest ≡ other ++ more → (front ≡ other) × (rest ≡ more)
 same_parts front other rest more n e = (
   sym (take-append_seam front rest) ∙ ap (λ l. take (length front) l) e ∙ ap (λ k. take k (other ++ more)) n ∙ take-append_seam other more,
   sym (drop-append_seam front rest) ∙ ap (λ l. drop (length front) l) e ∙ ap (λ k. drop k (other ++ more)) n ∙ drop-append_seam other more,
 )
 
--- a line, CR LF, the octets of its chunk, and what stands behind these
+-- a line, CR LF, the octets of its chunk, and what stands after these
 behind_line : (text octets behind : List ℕ) → ((text ++ crlf) ++ octets) ++ behind ≡ (text ++ crlf) ++ (octets ++ behind)
 behind_line text octets behind = append_assoc (text ++ crlf) octets behind
 

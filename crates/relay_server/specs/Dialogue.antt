@@ -61,7 +61,7 @@ Comes setup Closed unit course = ⊥
 abbrev pub offered_of : Client → Envelope → List ℕ → Offered
 offered_of client envelope content = record { client = client; envelope = envelope; content = content }
 
--- the turn has the reply of its course, and leads to the state behind it; an offer is replied to by
+-- the turn has the reply of its course, and leads to the state after it; an offer is replied to by
 -- its answer
 abbrev pub Takes : List ℕ → Course → Turn → State → Type 0
 Takes host (Replies row next) turn new = (turn.reply ≡ reply_of host row) × (turn.offer ≡ None) × (new ≡ next)
@@ -123,11 +123,11 @@ more_said said input answers output offers = record {
   offers = said.offers ++ offers;
 }
 
--- what was said, and octets behind it that nobody reads
+-- what was said, and octets after it that nobody reads
 abbrev pub unread_behind : Said → List ℕ → Said
 unread_behind said octets = record said { input = said.input ++ octets }
 
--- what is left of the input is a unit whose offer is unanswered, and stands behind the others
+-- what is left of the input is a unit whose offer is unanswered, and stands after the others
 pub record IsUnanswered (setup : Setup) (state : State) (rest : List ℕ)
     (unanswered : List Offered) : Type 0 where
   pub client : Client

@@ -33,7 +33,7 @@ AreNumbered answers = AllByRecursion IsNumbered answers
 abbrev pub NoUnitIsEmpty : Type 0
 NoUnitIsEmpty = (state : State) (unit : List ℕ) → IsUnit state unit → unit ≢ []
 
--- of the units of a state none begins another, and what stands behind one is fixed
+-- of the units of a state none begins another, and what stands after one is fixed
 abbrev pub NoUnitBeginsAnother : Type 0
 NoUnitBeginsAnother =
     (state : State) (unit other behind rest : List ℕ) → IsUnit state unit → IsUnit state other
@@ -51,7 +51,7 @@ abbrev pub WhatStandsIsADialogue : Type 0
 WhatStandsIsADialogue =
     (setup : Setup) (session : Session) (said : Said) → Stands setup session said → IsDialogue setup said
 
--- state, unit and answer fix the turn, and the state behind it
+-- state, unit and answer fix the turn, and the state after it
 abbrev pub RowIsFixed : Type 0
 RowIsFixed =
     (setup : Setup) (old new next : State) (turn other : Turn) → Answers setup old turn new

@@ -121,7 +121,7 @@ abbrev pub IsGiven : List ℕ → List ℕ → Bool → Type 0
 IsGiven line text true = (2046 < length line) × (text ≡ take 2048 line)
 IsGiven line text false = (length line ≤ 2046) × (text ≡ line)
 
--- from the old state one unit, with its reply, leads to this stage, which has used nothing behind it
+-- from the old state one unit, with its reply, leads to this stage, which has used nothing after it
 pub record TakesTurn (setup : Setup) (old : State) (new : Stage) (asked before after : List ℕ) : Type 0 where
   pub turn : Turn
   pub next : State
@@ -132,7 +132,7 @@ pub record TakesTurn (setup : Setup) (old : State) (new : Stage) (asked before a
   pub nothing_kept : KeepsText setup new next []
   pub none_unanswered : offers_at new ≡ []
 
--- behind the reply of a row the session enters this state, and has used nothing behind it
+-- after the reply of a row the session enters this state, and has used nothing after it
 pub record EntersBy (setup : Setup) (row : Row) (next : State) (new : Stage)
     (before after : List ℕ) : Type 0 where
   pub written : after ≡ before ++ reply_text (reply_of setup.host row)

@@ -1,4 +1,4 @@
--- The reply table: to each unit and state the row that answers it, and the state behind it, or an
+-- The reply table: to each unit and state the row that answers it, and the state after it, or an
 -- offer (RFC 5321, section 4.3.2; RFC 3030, section 2).
 use Rattle.std.specs.Prelude.{ℕ, Bool, List, [], ◌∷◌, ◌++◌, length, nat_le, Option, Some, None, is_some, Result, Ok, Err}
 use Rattle.std.specs.Prelude.{if◌then◌else◌}
@@ -27,7 +27,7 @@ use Rattle.relay_server.specs.State.{Closed}
 use Rattle.relay_server.specs.Unit.{Asked, LongLine, Faulty, Hello, Mail, Rcpt, Data, Bdat, Rset, Noop, Vrfy, Help}
 use Rattle.relay_server.specs.Unit.{Quit}
 
--- what comes of a unit: a reply, and the state behind it, or an offer, which its answer replies to
+-- what comes of a unit: a reply, and the state after it, or an offer, which its answer replies to
 pub data Course : Type 0 where
   Replies : Row → State → Course
   Offers : Client → Envelope → List ℕ → Course
@@ -119,7 +119,7 @@ course_of_chunks limit client envelope content last =
     else Replies row.ChunkOk (Command (Gathering client envelope content)))
     else Replies row.ContentTooLarge (Command (Spent client))
 
--- BDAT adds a chunk where a recipient was accepted; behind a refusal the transaction takes nothing more
+-- BDAT adds a chunk where a recipient was accepted; after a refusal the transaction takes nothing more
 abbrev pub course_of_bdat : ℕ → List ℕ → Bool → CommandState → Course
 course_of_bdat limit octets last Fresh = Replies row.BadSequence (Command Fresh)
 course_of_bdat limit octets last (Greeted client) = Replies row.BadSequence (Command (Greeted client))
@@ -130,8 +130,8 @@ course_of_bdat limit octets last (Gathering client envelope content) =
     course_of_chunks limit client envelope (content ++ octets) last
 course_of_bdat limit octets last (Spent client) = Replies row.BadSequence (Command (Spent client))
 
--- the row by which this rule refuses a content: a CR or an LF stands alone in it (RFC 5321, section 2.3.8), or NUL is in
--- it, which a hop may drop, so that what stands around it comes together
+-- the row by which this rule refuses a content: a CR or an LF stands alone in it (RFC 5321, section 2.3.8), or NUL is
+-- in it, which a hop may drop, so that what stands around it comes together
 abbrev pub refusal_by : BareNewlines → List ℕ → Option Row
 refusal_by Pass content = None
 refusal_by Refuse content =

@@ -14,7 +14,7 @@ use Rattle.relay_server.specs.Reply.{reply_of}
 use Rattle.relay_server.specs.Setup.{Setup, setup_of}
 use Rattle.relay_server.specs.State.{State, start}
 
--- the session stands behind these turns of what was said, and keeps what was read since
+-- the session stands after these turns of what was said, and keeps what was read since
 pub record Stands (setup : Setup) (session : Session) (said : Said) : Type 0 where
   pub setup_is : setup ≡ setup_of session.server setup.routes
   pub turns : List Turn
@@ -61,7 +61,7 @@ HasFailed session = session.stage ≡ stage.Failed
 abbrev pub open_offers : Session → List Offered
 open_offers session = offers_at session.stage
 
--- of the offers that are open behind a call those that are new: where one was open before it, it is the same
+-- of the offers that are open after a call those that are new: where one was open before it, it is the same
 abbrev pub new_offers : List Offered → List Offered → List Offered
 new_offers [] now = now
 new_offers (offer ∷ offers) now = []
@@ -77,14 +77,14 @@ pub record UsesPiece (old : Session) (told : Next) (len from to : ℕ) : Type 0 
   pub whole : told ≡ next.More → to ≡ len
   pub some : told ≡ next.Offer → from < to + length (open_offers old)
 
--- Behind what was said these octets were read, and what was written stands behind what was written before.
+-- After what was said these octets were read, and what was written stands after what was written before.
 pub record SaysMore (said later : Said) (octets before after : List ℕ) : Type 0 where
   pub input : later.input ≡ said.input ++ octets
   pub written : List ℕ
   pub output : later.output ≡ said.output ++ written
   pub out : after ≡ before ++ written
 
--- behind what was said the session has used these octets, and has written its replies behind those before
+-- after what was said the session has used these octets, and has written its replies after those before
 pub record Hears (setup : Setup) (said : Said) (old new : Session)
     (octets before after : List ℕ) : Type 0 where
   pub later : Said
@@ -93,7 +93,7 @@ pub record Hears (setup : Setup) (said : Said) (old new : Session)
   pub answers : later.answers ≡ said.answers
   pub offers : later.offers ≡ said.offers ++ offers_since old new
 
--- behind what was said the open offer has this answer, and its reply is written behind those before
+-- after what was said the open offer has this answer, and its reply is written after those before
 pub record Answered (setup : Setup) (said : Said) (new : Session) (given : Answer)
     (before after : List ℕ) : Type 0 where
   pub later : Said

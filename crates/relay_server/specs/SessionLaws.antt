@@ -1,4 +1,4 @@
--- What a session tells its caller, and what may be said of it behind each call, whatever it has held.
+-- What a session tells its caller, and what may be said of it after each call, whatever it has held.
 use Rattle.std.specs.Prelude.{◌≡◌, ◌≢◌, ◌↔◌, ℕ, ◌+◌, ◌≤◌, List, [], ◌∷◌, ◌++◌, length, take, slice_range}
 use Rattle.relay_server.specs.declared.session.Next.TheVariants as next
 use Rattle.relay_server.specs.declared.session.Session.{Session}
@@ -19,7 +19,7 @@ OfferIsTold =
 abbrev pub NoneElseIsOpen : Type 0
 NoneElseIsOpen = (session : Session) → next_of session ≢ next.Offer → open_offers session ≡ []
 
--- behind no open offer the new ones are those that are open
+-- after no open offer the new ones are those that are open
 abbrev pub OpenIsNew : Type 0
 OpenIsNew = (old new : Session) → open_offers old ≡ [] → offers_since old new ≡ open_offers new
 
@@ -41,7 +41,7 @@ CloseIsClosed =
     (setup : Setup) (session : Session) (said : Said) → Stands setup session said
     → next_of session ≡ next.Close → IsClosed session
 
--- behind a close what was said is a dialogue that is closed, and octets that nobody reads belong to its rest
+-- after a close what was said is a dialogue that is closed, and octets that nobody reads belong to its rest
 abbrev pub ClosedIsADialogue : Type 0
 ClosedIsADialogue =
     (setup : Setup) (session : Session) (said : Said) (octets : List ℕ)
@@ -64,7 +64,7 @@ OfferIsWithin =
     (session : Session) (offer : Offered) → open_offers session ≡ offer ∷ []
     → length offer.content ≤ session.server.max_content
 
--- what was said behind more is more, in one
+-- what was said after more is more, in one
 abbrev pub MoreIsMore : Type 0
 MoreIsMore =
     (said mid later : Said) (octets further all before between after : List ℕ)

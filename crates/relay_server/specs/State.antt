@@ -17,7 +17,7 @@ pub data CommandState : Type 0 where
   Gathering : Client → Envelope → List ℕ → CommandState
   Spent : Client → CommandState
 
--- a command is awaited; mail data is, for a client and an envelope; nothing is, behind a close
+-- a command is awaited; mail data is, for a client and an envelope; nothing is, after a close
 pub data State : Type 0 where
   Command : CommandState → State
   Receiving : Client → Envelope → State

@@ -37,7 +37,7 @@ AskedIsAUnit =
     (setup : Setup) (old new : State) (turn : Turn) → Answers setup old turn new → IsUnit old turn.asked
 
 -- the turn reads just this unit, and has the reply, the offer and the next state of this course;
--- behind both the same octets follow
+-- after both the same octets follow
 pub record IsTurnOf (host unit : List ℕ) (course : Course) (turn : Turn) (new : State)
     (rest more : List ℕ) : Type 0 where
   pub asked : turn.asked ≡ unit

@@ -23,13 +23,13 @@ announced_by _ = 0
 abbrev pub announced_of : List ℕ → ℕ
 announced_of text = if nat_le (length text) 2046 then announced_by (reading_of text) else 0
 
--- a command line with its CR LF, and the octets of its chunk behind it
+-- a command line with its CR LF, and the octets of its chunk after it
 pub record IsCommandUnit (unit text octets : List ℕ) : Type 0 where
   pub unit_is : unit ≡ text ++ crlf ++ octets
   pub line : HasNoCrlf text
   pub counted : length octets ≡ announced_of text
 
--- a line where a command is awaited, and a dot text behind DATA that was answered 354
+-- a line where a command is awaited, and a dot text after DATA that was answered 354
 abbrev pub IsUnit : State → List ℕ → Type 0
 IsUnit (Command state) unit = (text : List ℕ) × (octets : List ℕ) × IsCommandUnit unit text octets
 IsUnit (Receiving client envelope) unit = (content : List ℕ) × ReadsDotText unit content
@@ -39,7 +39,7 @@ IsUnit Closed unit = ⊥
 abbrev pub HasNoUnit : State → List ℕ → Type 0
 HasNoUnit state octets = (unit rest : List ℕ) → IsUnit state unit → octets ≢ unit ++ rest
 
--- what a command line asks of the server; what stands behind a colon is read before the command's
+-- what a command line asks of the server; what stands after a colon is read before the command's
 -- place in the order of commands is looked at
 pub data Asked : Type 0 where
   LongLine : Asked
@@ -55,7 +55,7 @@ pub data Asked : Type 0 where
   Help : Asked
   Quit : Asked
 
--- the reading of a line, with the octets behind it, asks this
+-- the reading of a line, with the octets after it, asks this
 abbrev pub AsksBy : Result line.Command LineFault → List ℕ → Asked → Type 0
 AsksBy (Err fault) octets asked = asked ≡ Faulty fault
 AsksBy (Ok (line.Helo word)) octets asked = asked ≡ Hello (client_of word Smtp)
@@ -77,7 +77,7 @@ AsksBy (Ok line.Quit) octets asked = asked ≡ Quit
 abbrev pub asked_of_long : List ℕ → Asked
 asked_of_long text = if begins_with_bdat text then Faulty BadChunkSize else LongLine
 
--- the line, with the octets behind it, asks this; a line of more than 2,048 octets with its CR LF is too long
+-- the line, with the octets after it, asks this; a line of more than 2,048 octets with its CR LF is too long
 abbrev pub Asks : List ℕ → List ℕ → Asked → Type 0
 Asks text octets asked =
     ((2046 < length text) × (asked ≡ asked_of_long text))

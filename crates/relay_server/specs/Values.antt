@@ -47,13 +47,13 @@ IsNextHeld limit (next.Command state) = IsHeld limit state
 IsNextHeld limit (next.Receiving transaction) = Unit {0}
 IsNextHeld limit next.Closed = Unit {0}
 
--- the course is this reply, and the state behind it
+-- the course is this reply, and the state after it
 abbrev pub IsReplied : Course → Judged → Type 0
 IsReplied course (judged.Replied row next) = course ≡ Replies row (state_of next)
 IsReplied course (judged.Gathers transaction reader is_last) = ⊥
 IsReplied course (judged.Refuses row state size) = ⊥
 
--- the state behind a reply gathers chunks up to this limit
+-- the state after a reply gathers chunks up to this limit
 abbrev pub IsReplyHeld : ℕ → Judged → Type 0
 IsReplyHeld limit (judged.Replied row next) = IsNextHeld limit next
 IsReplyHeld limit (judged.Gathers transaction reader is_last) = Unit {0}

@@ -28,11 +28,11 @@ const RECIPIENT_LIMIT: usize = 100;
 
 /// What a command line leads to.
 pub(crate) enum Judged {
-    /// The row that answers it, and the state behind it.
+    /// The row that answers it, and the state after it.
     Replied(Row, State),
     /// A chunk, which the reader awaits, and whether it ends the content.
     Gathers(Transaction, ChunkReader, bool),
-    /// A chunk of so many octets that is refused: the row that answers it, and the state behind it.
+    /// A chunk of so many octets that is refused: the row that answers it, and the state after it.
     Refuses(Row, CommandState, u32),
 }
 
@@ -80,7 +80,7 @@ fn judge_command(
     }
 }
 
-/// A fault of a line is answered. Behind a bad chunk size nobody knows what follows, and the
+/// A fault of a line is answered. After a bad chunk size nobody knows what follows, and the
 /// connection closes.
 fn judge_fault(fault: LineFault, state: CommandState) -> Judged
     ensures course { IsReplied (Replies (row_of_fault fault) (state_behind_fault fault
@@ -270,7 +270,7 @@ fn reset(state: CommandState) -> CommandState
     }
 }
 
-/// The row of a fault behind a colon.
+/// The row of a fault after a colon.
 fn row_of_envelope_fault(fault: EnvelopeFault) -> Row
     ensures { result ≡ row_of_envelope_fault fault }
 {

@@ -112,7 +112,7 @@ impl Server {
         }
     }
 
-    /// Writes a reply, and gives the stage of the state behind it.
+    /// Writes a reply, and gives the stage of the state after it.
     fn reply(&self, row: Row, next: State, out: &mut Vec<u8>) -> Result<Stage, AllocError>
         requires { IsNextHeld self.now.max_content next }
         ensures enters { IfOk result (λ stage. (routes : RouteTable)

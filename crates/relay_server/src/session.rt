@@ -116,8 +116,8 @@ impl Session {
         Ok(Fed { used, out, next })
     }
 
-    /// Feeds what is left of a piece behind the octets that are used, counts those that it uses,
-    /// and puts the replies behind `out`: for a loop over a whole piece, which answers each offer
+    /// Feeds what is left of a piece after the octets that are used, counts those that it uses,
+    /// and puts the replies after `out`: for a loop over a whole piece, which answers each offer
     /// on its way. It answers what the caller does next. Where memory runs out, `out` may have lost
     /// its end.
     pub fn hear(
@@ -180,7 +180,7 @@ impl Session {
         Ok(out)
     }
 
-    /// Answers the offer that is open, and puts what goes to the client behind `out`. Where memory
+    /// Answers the offer that is open, and puts what goes to the client after `out`. Where memory
     /// runs out, `out` may have lost its end.
     pub fn reply(&mut self, answer: Answer, out: &mut Vec<u8>) -> Result<(), AllocError>
         requires { HasOffer self.old }

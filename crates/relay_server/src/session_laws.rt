@@ -1,4 +1,4 @@
-//! What a session tells its caller, and what may be said of it behind each call.
+//! What a session tells its caller, and what may be said of it after each call.
 ghost use Rattle.relay_server.specs.SessionLaws.{AnsweredIsSettled, ClosedIsADialogue, CloseIsClosed, ContentIsWithin};
 ghost use Rattle.relay_server.specs.SessionLaws.{MoreIsMore, NoneElseIsOpen, OfferIsTold, OfferIsWithin, OffersAreAnswered};
 ghost use Rattle.relay_server.specs.SessionLaws.{OpenIsNew, OpenMayBeStored, PieceGoesOn};
@@ -13,7 +13,7 @@ pub fn none_else_is_open()
     ensures { NoneElseIsOpen }
 {}
 
-/// Behind no open offer the new ones are those that are open.
+/// After no open offer the new ones are those that are open.
 pub fn open_is_new()
     ensures { OpenIsNew }
 {}
@@ -33,7 +33,7 @@ pub fn close_is_closed()
     ensures { CloseIsClosed }
 {}
 
-/// Behind a close what was said is a dialogue that is closed, and octets that nobody reads belong
+/// After a close what was said is a dialogue that is closed, and octets that nobody reads belong
 /// to its rest.
 pub fn closed_is_a_dialogue()
     ensures { ClosedIsADialogue }
@@ -54,12 +54,12 @@ pub fn offer_is_within()
     ensures { OfferIsWithin }
 {}
 
-/// What was said behind more is more, in one.
+/// What was said after more is more, in one.
 pub fn more_is_more()
     ensures { MoreIsMore }
 {}
 
-/// What was said of a piece, and then of the octets behind, was said of both.
+/// What was said of a piece, and then of the octets after, was said of both.
 pub fn piece_goes_on()
     ensures { PieceGoesOn }
 {}

@@ -75,7 +75,7 @@ impl Chunk {
 pub(crate) struct Skipped {
     /// The row that answers it.
     pub(crate) row: Row,
-    /// The state behind it.
+    /// The state after it.
     pub(crate) state: CommandState,
     /// How many octets of it are to come.
     pub(crate) missing: u32,
@@ -94,7 +94,7 @@ impl Drop for Skipped {
 }
 
 impl Skipped {
-    /// The row that answers it, the state behind it, and how many octets are to come.
+    /// The row that answers it, the state after it, and how many octets are to come.
     pub(crate) fn into_parts(self) -> (Row, CommandState, u32)
         ensures { (result.0 ≡ self.row) × (result.1 ≡ self.state) × (result.2 ≡ self.missing) }
     {

@@ -98,6 +98,6 @@ pub(crate) enum State {
     Command(CommandState),
     /// Mail data follows.
     Receiving(Transaction),
-    /// The connection closes behind the reply.
+    /// The connection closes after the reply.
     Closed,
 }

@@ -2,7 +2,7 @@
 use Rattle.std.specs.Prelude.{◌≡◌, ◌≢◌, ◌<◌, ℕ, List, [], ◌∷◌, length, Option, None, Some, slice_index_or}
 use Rattle.relay_slots.specs.declared.slots.TheConstants.{SLOT_COUNT}
 
--- what stands in the slot of this number; there is nothing behind the last
+-- what stands in the slot of this number; there is nothing after the last
 abbrev pub slot_at : {A : Type 0} → List (Option A) → ℕ → Option A
 slot_at slots number = slice_index_or slots number None
 

@@ -81,11 +81,11 @@ module _ {D : Type 0} (words : DiskWords D) where
       → CountsOfBoth words old new (Ok value)
   both_none old new value same = record { ok = same; fault = tt }
 
-  -- a failure, behind calls that haven't failed
+  -- a failure, after calls that haven't failed
   fails_on : (old mid new : D) → FailsNot words old mid → Fails words mid new → Fails words old new
   fails_on old mid new before fails = subst (λ (n : ℕ). Rises n (words.failed new)) before fails
 
-  -- a run of both that has failed, behind one that hasn't
+  -- a run of both that has failed, after one that hasn't
   pub both_fault : {T : Type 0} (result : Result T DiskFault) (old mid new : Disks D) → IsErr result
       → FailsNotOfBoth words old mid → FailsOfBoth words mid new → CountsOfBoth words old new result
   both_fault (Ok value) old mid new is before fails = absurd cc

@@ -1,4 +1,4 @@
--- What calls of a reader keep, one behind another, and what a fault that is passed on answers.
+-- What calls of a reader keep, one after another, and what a fault that is passed on answers.
 use Rattle.std.proofs.Common.{◌≡◌, Result, Ok, Err, MatchResult, IfErr, refl, sym, subst, ap, ◌∙◌, ◌↔◌, ℕ, List}
 use Rattle.std.specs.Result.{IsErrAnd}
 use Rattle.relay_disk.specs.Device.{DiskWords, FailsNot, Rises}
@@ -64,7 +64,7 @@ module _ {D : Type 0} (honest : Type 0) (words : DiskWords D) where
     failures = goes.failures;
   }
 
-  -- a call behind which the disk is found damaged
+  -- a call after which the disk is found damaged
   pub goes_damaged : {T U : Type 0} (result : Result T ReadFault) (call : Result U ReadFault) (other : U) (gate : ℕ)
       (disk now : D) (old new : Reader) → result ≡ Err (Damaged gate) → call ≡ Ok other
       → GoesOn honest words disk now old new call → GoesOn honest words disk now old new result
@@ -85,7 +85,7 @@ module _ {D : Type 0} (honest : Type 0) (words : DiskWords D) where
   failures_on (Err NoMemory) disk mid now before behind = behind ∙ before
   failures_on (Err (Damaged gate)) disk mid now before behind = behind ∙ before
 
-  -- one call behind another
+  -- one call after another
   pub goes_then : {T U : Type 0} (call : Result T ReadFault) (value : T) (result : Result U ReadFault) (disk mid now : D)
       (old between new : Reader) → call ≡ Ok value → GoesOn honest words disk mid old between call
       → GoesOn honest words mid now between new result → GoesOn honest words disk now old new result

@@ -1,4 +1,4 @@
--- What a stop leaves while links are added: their octets are written behind the closed gate, and then that gate is opened.
+-- What a stop leaves while links are added: their octets are written after the closed gate, and then that gate is opened.
 use Rattle.std.proofs.Common.{◌≡◌, ◌≢◌, ℕ, suc, ◌+◌, ◌<◌, ◌≤◌, min, List, [], ◌∷◌, ◌++◌, length, take, drop, slice_index, refl, sym, ap, ◌∙◌, inl, inr, ⊎_elim, arith, append_assoc, length-append, length-take, get_or-take}
 use Rattle.std.proofs.lemmas.List.{take_at, drop_at, take-take, get_or_at}
 use Rattle.std.proofs.lemmas.Bool.{cases_eq}
@@ -48,7 +48,7 @@ same_gate image other bodies place gate within same =
     with_front gate.front bodies other place gate.is_front within (take_less place other image same ∙ gate.same)
     (λ e. gate.closed (sym (index_less place other image same) ∙ e))
 
--- Written behind the closed gate: whatever a stop leaves of it, the bodies are the same.
+-- Written after the closed gate: whatever a stop leaves of it, the bodies are the same.
 pub behind_the_gate : WritesLeaveTheRest → (image other : List ℕ) (bodies : List (List ℕ)) (place count : ℕ) → Gate image bodies place
     → Writes (place + 1) count image other → IsImageOf other bodies
 behind_the_gate law image other bodies place count gate writes =
@@ -58,7 +58,7 @@ behind_the_gate law image other bodies place count gate writes =
     let least : min (place + 1) (length image) ≡ place + 1 = omega arith in
     same_gate image other bodies place gate (omega (arith, within, longer)) (ap (λ (n : ℕ). take n other) (sym least) ∙ front)
 
--- an image with a tail behind its closed gate
+-- an image with a tail after its closed gate
 pub record Ready (image : List ℕ) (bodies : List (List ℕ)) (place : ℕ) (tail : List ℕ) : Type 0 where
   pub gate : Gate image bodies place
   pub rest : List ℕ
@@ -160,13 +160,13 @@ module _ {D : Type 0} (words : DiskWords D) where
       weakened words old new (Writes place 1 image) (HasBodies (IsBeforeOrWithAll bodies more))
       (λ other writes. at_the_gate law image other bodies more place tail ready are writes)
 
-  -- a write behind the head keeps it
+  -- a write after the head keeps it
   pub head_run : WritesLeaveTheRest → (old new : D) (image : List ℕ) (place count : ℕ) → 17 ≤ place → 17 ≤ length image
       → AtEachMoment words old new (Writes place count image) → AtEachMoment words old new (KeepsHead image)
   head_run law old new image place count low long =
       weakened words old new (Writes place count image) (KeepsHead image) (λ other writes. writes_keep_head law image other place count low long writes)
 
-  -- and so does another one behind it
+  -- and so does another one after it
   pub head_runs : WritesLeaveTheRest → (old mid new : D) (place count : ℕ) → 17 ≤ place → place < length (words.seen old) → words.may_leave mid (words.seen mid)
       → AtEachMoment words old mid (Writes (place + 1) count (words.seen old)) → AtEachMoment words mid new (Writes place 1 (words.seen mid))
       → AtEachMoment words old new (KeepsHead (words.seen old))

@@ -45,14 +45,14 @@ pub record HasClosedGate (image : List ℕ) : Type 0 where
 pub not_open : (image : List ℕ) → HasClosedGate image → IsNotOpen image
 not_open image has = λ is. has.closed is.gate
 
--- a cut behind it opens none
+-- a cut after it opens none
 pub cutting : (size : ℕ) → 9 ≤ size → (image other : List ℕ) → HasClosedGate image → Cuts size image other → HasClosedGate other
 cutting size behind image other has cuts =
     let long = has.long in
     let least = cuts.no_shorter in
     record { long = omega (arith, behind, long, least); closed = λ e. has.closed (sym (cuts.stays 8 (omega (arith, behind, long, least))) ∙ e) }
 
--- nor does a write behind it
+-- nor does a write after it
 pub filling : (image other : List ℕ) (count : ℕ) → HasClosedGate image → Writes 9 count image other → HasClosedGate other
 filling image other count has writes =
     let long = has.long in
@@ -150,7 +150,7 @@ module _ {D : Type 0} (words : DiskWords D) where
   pub still : (old mid new : D) (P : List ℕ → Type 0) → AtEachMoment words old mid P → AddsNoImage words mid new → AtEachMoment words old new P
   still old mid new P run stays = goes_on words old mid new P run stays.time (λ image left. run.now image (stays.images image left))
 
-  -- a disk that is cut behind its closed gate, and filled
+  -- a disk that is cut after its closed gate, and filled
   cut_run : (old mid : D) → OnlyNow words old → IsSettled words old → HasClosedGate (words.seen old) → Steps words (Cuts 9) old mid
       → AtEachMoment words old mid HasClosedGate
   cut_run old mid now only has steps =
@@ -170,7 +170,7 @@ module _ {D : Type 0} (words : DiskWords D) where
   pub sync_run : (old mid new : D) → AtEachMoment words old mid IsNotOpen → AddsNoImage words mid new → AtEachMoment words old new IsNotOpen
   sync_run old mid new run stays = still old mid new IsNotOpen run stays
 
-  -- the gate behind it
+  -- the gate after it
   pub open_run : WritesLeaveTheRest → (old mid new : D) (octets : List ℕ) → IsFilled (words.seen mid) octets → AtEachMoment words old mid IsNotOpen
       → AtEachMoment words mid new (Writes 8 1 (words.seen mid)) → AtEachMoment words old new (IsClosedOr (renewed octets))
   open_run law old mid new octets is run gate =

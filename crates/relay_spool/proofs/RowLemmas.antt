@@ -11,7 +11,7 @@ unfolding bodies_of_chain
 bodies_of_chain-is chain bodies is =
     bodies_in-chain (length chain) chain (0 ∷ []) bodies is (many_fit chain bodies is) (omega arith) (closed_gate 0 [] (λ e. zero_is_not_one e))
 
--- a link behind a chain
+-- a link after a chain
 pub record Pushed (old new body : List ℕ) : Type 0 where
   pub link : List ℕ
   pub is_link : IsLink link body

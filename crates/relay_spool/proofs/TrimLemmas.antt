@@ -24,7 +24,7 @@ cut_to size most image is =
     ∙ take_min (max (length image - most) 9) image
     ∙ ap (λ (n : ℕ). take n image) (omega arith)
 
--- a cut behind the head gate keeps it
+-- a cut after the head gate keeps it
 pub gate_stays : (n : ℕ) (image : List ℕ) → 9 ≤ n → IsGateOf image (Some Closed) → IsGateOf (take n image) (Some Closed)
 gate_stays n image enough is =
     let long = is.0.long in

@@ -27,7 +27,7 @@ pub record Unmoved {D : Type 0} (words : DiskWords D) (old new : D) : Type 0 whe
   pub now : (image : List ℕ) → words.may_leave new image → image ≡ words.seen old
 
 module _ {D : Type 0} (honest : Type 0) (words : DiskWords D) where
-  -- two fuses, one behind the other
+  -- two fuses, one after the other
   pub fuses_on : (old mid new : D) → OnlyFuseChanges honest words old mid → OnlyFuseChanges honest words mid new → OnlyFuseChanges honest words old new
   fuses_on old mid new one two = record {
     failures = two.failures ∙ one.failures;
@@ -46,7 +46,7 @@ module _ {D : Type 0} (honest : Type 0) (words : DiskWords D) where
   pub settled_on : honest → (old new : D) → OnlyFuseChanges honest words old new → IsSettled words old → IsSettled words new
   settled_on h old new fuse only image left = only image ((fuse.images h image).0 left) ∙ sym (fuse.seen h)
 
-  -- a run between two turns is a run from before the first to behind the second
+  -- a run between two turns is a run from before the first to after the second
   pub run_on : honest → (old mid left new : D) (P : List ℕ → Type 0) → OnlyFuseChanges honest words old mid → AtEachDiskMoment words mid left P → OnlyFuseChanges honest words left new
       → AtEachDiskMoment words old new P
   run_on h old mid left new P one run two =
@@ -70,7 +70,7 @@ module _ {D : Type 0} (honest : Type 0) (words : DiskWords D) where
     now = λ image was. only image ((fuse.images h image).0 was);
   }
 
-  -- a disk at rest, before a turn and behind it
+  -- a disk at rest, before a turn and after it
   pub rests_there : honest → (old new : D) (bodies : List (List ℕ)) → OnlyFuseChanges honest words old new → IsImageOf (words.seen old) bodies → IsSettled words old → Rests words new bodies
   rests_there h old new bodies fuse is only = record {
     image = subst (λ (xs : List ℕ). IsImageOf xs bodies) (sym (fuse.seen h)) is;

@@ -52,7 +52,7 @@ pub record AreAdded (octets : List ℕ) (bodies : List (List ℕ)) : Type 0 wher
   pub is_chain : IsChain chain bodies
   pub text : octets ≡ chain ++ 0 ∷ []
 
--- what is written behind a closed head gate: the generation, and what is written for the one body
+-- what is written after a closed head gate: the generation, and what is written for the one body
 pub record IsRenewal (octets : List ℕ) (generation : ℕ) (body : List ℕ) : Type 0 where
   pub number : List ℕ
   pub width : length number ≡ 8
@@ -61,7 +61,7 @@ pub record IsRenewal (octets : List ℕ) (generation : ℕ) (body : List ℕ) : 
   pub is_addition : IsAddition link body
   pub text : octets ≡ number ++ link
 
--- the image that has these octets behind an open head gate
+-- the image that has these octets after an open head gate
 abbrev pub renewed : List ℕ → List ℕ
 renewed octets = signature ++ 1 ∷ octets
 

@@ -9,7 +9,7 @@ use Rattle.relay_spool.specs.declared.taken.HeadGate.TheVariants.{Closed, Open}
 use Rattle.relay_spool.specs.declared.taken.Taken.{Taken}
 use Rattle.relay_spool.specs.Spool.{EveryImageHas, Stored}
 
--- the image that a turn leaves of that disk: an open head gate is closed; behind a closed one so many octets at most
+-- the image that a turn leaves of that disk: an open head gate is closed; after a closed one so many octets at most
 -- are dropped from the end, and the first 9 stay
 abbrev pub trimmed : ℕ → HeadGate → List ℕ → List ℕ
 trimmed most Open image = written image 8 (0 ∷ [])
@@ -31,7 +31,7 @@ abbrev pub TrimsIfGate : ℕ → Option HeadGate → List ℕ → List ℕ → B
 TrimsIfGate most None old new more = (new ≡ old) × (more ≡ false)
 TrimsIfGate most (Some gate) old new more = Trims most gate old new more
 
--- the head gate behind a turn
+-- the head gate after a turn
 abbrev pub trimmed_gate : Option HeadGate → Option HeadGate
 trimmed_gate None = None
 trimmed_gate (Some gate) = Some Closed

@@ -68,7 +68,7 @@ fn read_chosen<D: Disk>(
     })
 }
 
-/// Reads the head of the second disk, behind a sync.
+/// Reads the head of the second disk, after a sync.
 fn read_second_head<D: Disk>(disks: &mut Disks<D>) -> Result<Head, DiskFault>
     ensures head { D.honest → IfOk result (IsHeadOf (D.words.seen disks.old.second)) }
     ensures settled { D.honest → OnOk result (IsDiskSettled D.words disks.new.second) }

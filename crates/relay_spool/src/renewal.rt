@@ -22,7 +22,7 @@ const FRONT: usize = 13;
 /// How many octets `Spool::compact` puts around the body that it is given, in the memory of that body.
 pub const RENEWAL_OVERHEAD: usize = FRONT + 1;
 
-/// What stands behind the head gate of a spool of this generation with this body alone. It is made in the
+/// What stands after the head gate of a spool of this generation with this body alone. It is made in the
 /// memory of the body, and fails only where that has no room for these octets and can't be given any.
 pub(crate) fn renewal_of(generation: u64, body: Vec<u8>) -> Result<Vec<u8>, AllocError>
     requires { length body.items < 2 ^ 32 }
@@ -101,7 +101,7 @@ pub(crate) fn close_head<D: Disk>(disk: &mut D) -> Result<(), DiskFault>
     write_through(disk, HEAD_GATE, &[CLOSED])
 }
 
-/// Writes a spool behind a closed head gate, and then opens that, by five calls.
+/// Writes a spool after a closed head gate, and then opens that, by five calls.
 fn write_closed<D: Disk>(disk: &mut D, octets: &[u8]) -> Result<(), DiskFault>
     requires { D.honest → HasHeadGate (D.words.seen disk.old)
         × (slice_index (D.words.seen disk.old) 8 ≢ 1) }
@@ -117,7 +117,7 @@ fn write_closed<D: Disk>(disk: &mut D, octets: &[u8]) -> Result<(), DiskFault>
     open_gate(disk, HEAD_GATE)
 }
 
-/// Writes all but the gate, behind a closed one, by three calls.
+/// Writes all but the gate, after a closed one, by three calls.
 fn fill<D: Disk>(disk: &mut D, octets: &[u8]) -> Result<(), DiskFault>
     requires { D.honest → HasHeadGate (D.words.seen disk.old)
         × (slice_index (D.words.seen disk.old) 8 ≢ 1) }

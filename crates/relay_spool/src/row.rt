@@ -9,7 +9,7 @@ use std::marker::Model;
 /// A row of bodies, which `Spool::append_all` adds together: whenever a stop comes, all of them or none.
 #[derive(Drop)]
 pub struct BodyRow {
-    /// A link for each body, with room behind them for the gate that closes the chain.
+    /// A link for each body, with room after them for the gate that closes the chain.
     links: Vec<u8>,
 }
 
@@ -39,7 +39,7 @@ impl BodyRow {
         }
     }
 
-    /// Puts a body of at most 4,294,967,295 octets behind the others. Where memory runs out, the row stays
+    /// Puts a body of at most 4,294,967,295 octets after the others. Where memory runs out, the row stays
     /// as it was.
     pub fn push(&mut self, body: &[u8]) -> Result<(), AllocError>
         requires { length body.now < 2 ^ 32 }

@@ -91,7 +91,7 @@ fn shorten<D: Disk>(disk: &mut D, gate: HeadGate, most: usize) -> Result<bool, D
     }
 }
 
-/// Cuts so many octets at most behind a closed head gate, and returns whether there are more.
+/// Cuts so many octets at most after a closed head gate, and returns whether there are more.
 fn cut_back<D: Disk>(disk: &mut D, most: usize) -> Result<bool, DiskFault>
     requires { D.honest → HasHeadGate (D.words.seen disk.old) × (slice_index (D.words.seen disk.old) 8 ≢ 1) }
     ensures trimmed { D.honest → IfOk result (Trims most Closed (D.words.seen disk.old) (D.words.seen disk.new)) }

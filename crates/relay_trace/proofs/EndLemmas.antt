@@ -1,4 +1,4 @@
--- The end of the header section, found by a search for an empty line behind a line.
+-- The end of the header section, found by a search for an empty line after a line.
 use Rattle.std.proofs.Common.{◌≡◌, ◌≢◌, ℕ, eqb, true, false, ◌&&◌, ◌==◌, ◌+◌, ◌≤◌, List, [], ◌∷◌, ◌++◌, length, take, drop, refl, sym, ap, ◌∙◌, subst, arith, append_assoc, length-append}
 use Rattle.std.proofs.lemmas.List.{drop_at, length-take, take-append-drop}
 use Rattle.std.proofs.lemmas.Bool.{and_parts, eqb-true, false≢true}
@@ -37,7 +37,7 @@ all_filled ((octet ∷ line) ∷ lines) each none =
       }),
     )
 
--- where no empty line stands behind a line, the header section is as long as the text
+-- where no empty line stands after a line, the header section is as long as the text
 joined_length : (line : List ℕ) (lines : List (List ℕ)) → AreLines (line ∷ lines)
     → NoBlank (joined line lines) → length (joined line lines) ≤ lines_length (line ∷ lines)
 unfolding joined
@@ -59,7 +59,7 @@ joined_length (octet ∷ line) (next ∷ lines) each none =
     let size = length-append first (crlf ++ joined next lines) in
     omega arith
 
--- an empty line behind some octets stands at their number
+-- an empty line after some octets stands at their number
 occurs_behind : (text before after : List ℕ) → text ≡ before ++ (blank ++ after)
     → OccursAt text blank (length before) × (length text ≡ length before + 4 + length after)
 occurs_behind text before after e =

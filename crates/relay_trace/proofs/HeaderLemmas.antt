@@ -43,7 +43,7 @@ lines_of-line (octet ∷ next ∷ line) rest none =
     (not_here _ _ (no_crlf_test (octet ∷ next ∷ line) none))
     ∙ ap (before_lines octet) (lines_of-line (next ∷ line) rest (no_crlf_tail octet (next ∷ line) none))
 
--- what stands behind the last CR LF is the last line
+-- what stands after the last CR LF is the last line
 pub lines_of-last : (last : List ℕ) → HasNoCrlf last → lines_of last ≡ last ∷ []
 lines_of-last [] none = lines_of-nil
 lines_of-last (octet ∷ []) none = lines_of-one octet
@@ -51,7 +51,7 @@ lines_of-last (octet ∷ next ∷ last) none =
     lines_of-octet octet next last (not_here _ _ (no_crlf_test (octet ∷ next ∷ last) none))
     ∙ ap (before_lines octet) (lines_of-last (next ∷ last) (no_crlf_tail octet (next ∷ last) none))
 
--- a text that begins with a line has the lines of the rest behind it
+-- a text that begins with a line has the lines of the rest after it
 lines_of-read : (text line rest : List ℕ) → ReadsLine text line rest
     → lines_of text ≡ line ∷ lines_of rest
 lines_of-read text line rest reads =
@@ -117,7 +117,7 @@ pub header_end_of-parts : (text : List ℕ)
 unfolding header_end_of lines_length
 header_end_of-parts text = refl
 
--- the end of the header section behind a line that isn't empty
+-- the end of the header section after a line that isn't empty
 pub header_end_of-line : (text line rest : List ℕ) → 0 < length line → ReadsLine text line rest
     → header_end_of text ≡ length line + 2 + header_end_of rest
 header_end_of-line text line rest some reads =

@@ -35,7 +35,7 @@ counts_empty text rest count place so_far none reads =
     let step = received_count_of-empty rest (take place rest) (drop (place + 2) rest) no_octet reads in
     omega (arith, so_far.counted)
 
--- and the line behind the last CR LF is the last
+-- and the line after the last CR LF is the last
 pub counts_last : (text rest : List ℕ) (count : ℕ) (test : Bool) → CountsSoFar text rest count
     → HasNoCrlf rest → test ≡ is_received rest → count + cond test 1 0 ≡ received_count_of text
 counts_last text rest count test so_far none tested =

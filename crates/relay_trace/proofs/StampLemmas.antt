@@ -237,7 +237,7 @@ line_is : (stamp : Stamp) (line : List ℕ) (is : IsTimeStamp stamp line)
 unfolding stamp_lines
 line_is stamp line is = is.line_is
 
--- a text behind a time stamp line
+-- a text after a time stamp line
 behind : (stamp : Stamp) (line content : List ℕ) → IsStamp stamp → IsTimeStamp stamp line
     → (received_count_of (line ++ content) ≡ 1 + received_count_of content) ×
     (header_end_of (line ++ content) ≡ length line + header_end_of content)

@@ -18,7 +18,7 @@ month_names =
     codes "Jan" ∷ codes "Feb" ∷ codes "Mar" ∷ codes "Apr" ∷ codes "May" ∷ codes "Jun"
     ∷ codes "Jul" ∷ codes "Aug" ∷ codes "Sep" ∷ codes "Oct" ∷ codes "Nov" ∷ codes "Dec" ∷ []
 
--- the name of a day that is so many days behind a Monday
+-- the name of a day that is so many days after a Monday
 abbrev pub day_name : ℕ → List ℕ
 day_name weekday = slice_index_or day_names weekday []
 
@@ -52,7 +52,7 @@ date_time_text shown =
     day_name (weekday_of shown.date) ++ codes ", " ++ date_part shown.date ++ codes " "
     ++ time_part shown.time ++ codes " +0000"
 
--- Calendar and clock show this in UTC, that many seconds behind 1 January 1970, 00:00:00.
+-- Calendar and clock show this in UTC, that many seconds after 1 January 1970, 00:00:00.
 pub record IsShown (seconds : ℕ) (shown : DateTime) : Type 0 where
   pub since_epoch : civil_seconds shown ≡ pos seconds
 

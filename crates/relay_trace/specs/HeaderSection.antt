@@ -6,7 +6,7 @@ use Rattle.std.specs.Str.{str_eq_ignore_ascii_case}
 use Rattle.relay_octets.specs.LetterCase.{IsSameWord}
 use Rattle.relay_octets.specs.Line.{crlf, HasNoCrlf, AreLines, lines_text}
 
--- The lines of a text. What stands behind its last CR LF is a line too.
+-- The lines of a text. What stands after its last CR LF is a line too.
 pub record HasLines (text : List ℕ) (lines : List (List ℕ)) : Type 0 where
   pub text_is : text ++ crlf ≡ lines_text lines
   pub each : AreLines lines
@@ -37,7 +37,7 @@ is_received line = str_eq_ignore_ascii_case (take 9 line) (codes "Received:")
 unfoldable pub received_count_of : List ℕ → ℕ
 received_count_of text = count_by is_received (before_empty (lines_of text))
 
--- the place of the first empty line, behind the lines before it, or the text's length where it has
+-- the place of the first empty line, after the lines before it, or the text's length where it has
 -- none
 unfoldable pub header_end_of : List ℕ → ℕ
 header_end_of text = min (length (lines_text (before_empty (lines_of text)))) (length text)
@@ -68,7 +68,7 @@ LinesAreOne = (text : List ℕ) (lines : List (List ℕ)) → HasLines text line
 abbrev pub ReceivedIsTested : Type 0
 ReceivedIsTested = (line : List ℕ) → IsTrue (is_received line) ↔ BeginsWithReceived line
 
--- Lines that aren't empty belong to the header section, and it goes on behind them.
+-- Lines that aren't empty belong to the header section, and it goes on after them.
 abbrev pub HeaderGoesOn : Type 0
 HeaderGoesOn =
     (lines : List (List ℕ)) (rest : List ℕ) → AllByRecursion IsFilledLine lines
@@ -80,7 +80,7 @@ abbrev pub HeaderEndsAtEmptyLine : Type 0
 HeaderEndsAtEmptyLine =
     (rest : List ℕ) → (received_count_of (crlf ++ rest) ≡ 0) × (header_end_of (crlf ++ rest) ≡ 0)
 
--- What stands behind the last CR LF is a line of the header section too.
+-- What stands after the last CR LF is a line of the header section too.
 abbrev pub HeaderEndsWithText : Type 0
 HeaderEndsWithText =
     (last : List ℕ) → HasNoCrlf last

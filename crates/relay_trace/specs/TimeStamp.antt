@@ -60,7 +60,7 @@ pub record IsStamp (stamp : Stamp) : Type 0 where
   pub host : HasNoCrlf stamp.host
   pub number : stamp.number < 2 ^ 64
 
--- the text is the content behind one time stamp line
+-- the text is the content after one time stamp line
 pub record IsPassed (stamp : Stamp) (content text : List ℕ) : Type 0 where
   pub line : List ℕ
   pub line_is : IsTimeStamp stamp line

@@ -8,7 +8,7 @@ use relay_octets::find_crlf;
 const RECEIVED: &[u8; 9] = b"Received:";
 
 /// How many lines of the header section begin with `Received:`, in any letter case. The header
-/// section is the lines before the first empty one, and what stands behind the last CR LF is a line
+/// section is the lines before the first empty one, and what stands after the last CR LF is a line
 /// too. It takes no memory.
 pub fn received_count(text: &[u8]) -> usize
     ensures { result ≡ received_count_of text.now }

@@ -52,7 +52,7 @@ pub fn header_ends_at_empty_line()
     ensures { HeaderEndsAtEmptyLine }
 {}
 
-/// What stands behind the last CR LF is a line too.
+/// What stands after the last CR LF is a line too.
 pub fn header_ends_with_text()
     ensures { HeaderEndsWithText }
 {}

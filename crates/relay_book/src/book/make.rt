@@ -88,7 +88,7 @@ pub(super) fn made_of(
     Ok(Made::Reported(outcome, report))
 }
 
-/// The places of a message behind an outcome.
+/// The places of a message after an outcome.
 pub(super) fn places_behind(
     alloc: Global,
     message: &Message,

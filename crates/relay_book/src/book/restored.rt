@@ -24,7 +24,7 @@ impl Book {
         self.next = number;
     }
 
-    /// Puts a message behind the others, with its own number and places. Where memory runs out, none is put there.
+    /// Puts a message after the others, with its own number and places. Where memory runs out, none is put there.
     pub(super) fn restore(&mut self, message: Message) -> Result<(), AllocError>
         requires rise { self.old.queue.next ≤ message.number }
         requires few { message.number ≤ last_number }

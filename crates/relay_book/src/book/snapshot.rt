@@ -30,7 +30,7 @@ const HEAD_LENGTH: usize = 13;
 
 impl Book {
     /// The snapshot of the queue by the second version, from which `decode_snapshot` makes the same queue, with room
-    /// for so many octets more behind it. It fails where memory runs out, and counts 2^32 messages and more as that.
+    /// for so many octets more after it. It fails where memory runs out, and counts 2^32 messages and more as that.
     pub fn encode_snapshot(&self, alloc: Global, more: usize) -> Result<Vec<u8>, AllocError>
         requires { IsQueue self.now.queue }
         ensures { IfOk result (λ octets. octets.items ≡ snapshot self.now.queue) }
@@ -49,7 +49,7 @@ impl Book {
 
     /// The book of the queue of which these octets are the snapshot, with one copy of each text; their pieces are
     /// freed as they are read. It fails with `BadRecord` exactly where they are no snapshot of a queue, and where
-    /// memory runs out; where what stands before the messages can be read at once, memory is wanted only behind it.
+    /// memory runs out; where what stands before the messages can be read at once, memory is wanted only after it.
     #[tactic(auto, using(crate::proofs::SnapshotReadLemmas::refused_snapshots))]
     pub fn decode_snapshot(alloc: Global, mut octets: Pieces) -> Result<Self, BookFault>
         ensures snapshot { IfOk result (λ book. IsSnapshotOf (text_of octets) book.queue) }

@@ -162,7 +162,7 @@ fn read_row(
     Ok((recipients, places, rest))
 }
 
-/// 1 to 100 recipients and their places behind their count, and what follows them.
+/// 1 to 100 recipients and their places after their count, and what follows them.
 #[tactic(auto, using(crate::proofs::RowLemmas::refused_rows, crate::proofs::PlacedLemmas::placed_rows))]
 pub(super) fn read_placed(
     alloc: Global,

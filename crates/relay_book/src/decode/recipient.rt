@@ -76,7 +76,7 @@ fn orcpt_of(text: &[u8]) -> Option<Option<&[u8]>>
     }
 }
 
-/// A text behind its length, an octet, a text behind its length, and what follows them: what MAIL says, or a
+/// A text after its length, an octet, a text after its length, and what follows them: what MAIL says, or a
 /// recipient.
 #[tactic(auto, using(crate::proofs::FieldLemmas::recipient_fields))]
 pub(crate) fn read_fields(text: &[u8]) -> Option<(&[u8], u8, &[u8], &[u8])>
@@ -141,7 +141,7 @@ fn read_row(alloc: Global, count: u8, text: &[u8]) -> Result<(Recipients, &[u8])
     Ok((recipients, rest))
 }
 
-/// 1 to 100 recipients behind their count, and what follows them.
+/// 1 to 100 recipients after their count, and what follows them.
 #[tactic(auto, using(crate::proofs::RowLemmas::counted_rows, crate::proofs::BeginLemmas::has_count))]
 pub(crate) fn read_recipients(alloc: Global, text: &[u8]) -> Result<(Recipients, &[u8]), BookFault>
     ensures counted { IfOk result (λ parts. AreSome IsRecipient parts.0

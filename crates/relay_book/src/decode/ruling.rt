@@ -110,7 +110,7 @@ fn read_row(alloc: Global, count: u8, text: &[u8]) -> Result<(Rulings, &[u8]), B
     Ok((rulings, rest))
 }
 
-/// 1 to 100 verdicts behind their count, and what follows them.
+/// 1 to 100 verdicts after their count, and what follows them.
 #[tactic(auto, using(crate::proofs::RowLemmas::counted_rows, crate::proofs::BeginLemmas::has_count))]
 pub(crate) fn read_rulings(alloc: Global, text: &[u8]) -> Result<(Rulings, &[u8]), BookFault>
     ensures counted { IfOk result (λ parts. AreSome IsRuling parts.0

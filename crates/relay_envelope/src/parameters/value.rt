@@ -30,7 +30,7 @@ pub fn is_orcpt(value: &[u8]) -> bool
     value.len() <= ORCPT_LIMIT && is_address_type(address_type) && is_original_address(address)
 }
 
-/// What stands before the first `;` of ORCPT, and behind it; nothing stands behind it where there is none.
+/// What stands before the first `;` of ORCPT, and after it; nothing stands after it where there is none.
 pub(crate) fn type_and_address(value: &[u8]) -> (&[u8], &[u8])
     ensures address_type { result.0.now ≡ address_type_of value.now }
     ensures address { result.1.now ≡ address_of value.now }

@@ -63,7 +63,7 @@ impl<'a> Mailbox<'a> {
     }
 }
 
-/// The source route of a body that begins with one, and the address behind it.
+/// The source route of a body that begins with one, and the address after it.
 fn split_route(body: &[u8]) -> Option<(&[u8], &[u8])>
     ensures { MatchOption result
         ((route : List ℕ) (address : List ℕ) → ¬ SplitsRoute body.now route address)
@@ -78,7 +78,7 @@ fn split_route(body: &[u8]) -> Option<(&[u8], &[u8])>
     }
 }
 
-/// What stands before the last `@`, and behind it.
+/// What stands before the last `@`, and after it.
 fn split_at_last_at(body: &[u8]) -> Option<(&[u8], &[u8])>
     ensures { MatchOption result
         (stands_in 64 body.now ≡ false)
@@ -88,7 +88,7 @@ fn split_at_last_at(body: &[u8]) -> Option<(&[u8], &[u8])>
     Some((&body[..place], &body[place + 1..]))
 }
 
-/// What stands behind the last `@`.
+/// What stands after the last `@`.
 pub(super) fn behind_last_at(text: &[u8]) -> Option<&[u8]>
     ensures { MatchOption result
         (list_any is_at text.now ≡ false)
@@ -106,7 +106,7 @@ fn is_local_part(local: &[u8]) -> bool
     !local.is_empty() && is_row(local)
 }
 
-/// Whether the text is what may stand behind the `@` of a mailbox (RFC 5321, section 4.1.2): a domain, or an address
+/// Whether the text is what may stand after the `@` of a mailbox (RFC 5321, section 4.1.2): a domain, or an address
 /// literal. It takes no memory.
 pub fn is_domain(domain: &[u8]) -> bool
     ensures { IsTrue result ↔ IsDomain domain.now }

@@ -1,4 +1,4 @@
--- the places so far, and those behind them by what is left of the texts
+-- the places so far, and those after them by what is left of the texts
 use Rattle.std.proofs.Common.{◌≡◌, ◌++◌, drop}
 use Rattle.relay_client.specs.Conversation.{verdicts_from}
 use Rattle.relay_client.specs.Settled.{settled_of}

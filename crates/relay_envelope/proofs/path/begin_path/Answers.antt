@@ -1,4 +1,4 @@
--- Behind its spaces a text splits at its first plain `>`, and what stands before is the only path that it may begin with.
+-- After its spaces a text splits at its first plain `>`, and what stands before is the only path that it may begin with.
 use Rattle.std.proofs.Common.{sym, ap, ◌∙◌}
 use Rattle.std.proofs.lemmas.Bool.{false≢true}
 use Rattle.relay_envelope.specs.Path.{value_of, stands_apart}

@@ -1,4 +1,4 @@
--- The blanks behind the end so far, and those before it.
+-- The blanks after the end so far, and those before it.
 use Rattle.std.proofs.Common.{◌≡◌, ◌+◌, ◌≤◌, length, take}
 use Rattle.std.specs.List.{suffix_len}
 use Rattle.relay_lines.specs.Word.{is_blank}

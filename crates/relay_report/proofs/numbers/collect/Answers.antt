@@ -1,4 +1,4 @@
--- each step leaves what stands behind the stem's first place
+-- each step leaves what stands after the stem's first place
 use Rattle.std.proofs.Common.{◌++◌, ◌+◌, drop, length, subst, ap, ◌∙◌}
 use Rattle.relay_report.specs.Numbers.{all_begun, NextIsBehind}
 use Rattle.relay_report.proofs.BegunLemmas.{started}

@@ -1,4 +1,4 @@
--- no place is nearer behind another one
+-- no place is nearer after another one
 use Rattle.relay_report.specs.Numbers.{NextIsBehind}
 use Rattle.relay_report.proofs.numbers.least_step.Given as goal
 

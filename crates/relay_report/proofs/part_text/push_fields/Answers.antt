@@ -1,4 +1,4 @@
--- each verdict's text stands behind those before it
+-- each verdict's text stands after those before it
 use Rattle.std.specs.Option.{option_copied}
 use Rattle.relay_report.specs.Multipart.{fields_of}
 use Rattle.relay_report.proofs.JoinLemmas.{all_written, written_more}

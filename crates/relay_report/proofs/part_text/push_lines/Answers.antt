@@ -1,4 +1,4 @@
--- each verdict's text stands behind those before it
+-- each verdict's text stands after those before it
 use Rattle.relay_report.specs.Multipart.{line_of}
 use Rattle.relay_report.proofs.JoinLemmas.{all_written, written_more}
 use Rattle.relay_report.proofs.part_text.push_lines.Goals as goal

@@ -1,4 +1,4 @@
--- A search for the colon finds what stands behind it.
+-- A search for the colon finds what stands after it.
 use Rattle.std.proofs.Common.{not, ap, sym}
 use Rattle.std.proofs.lemmas.List.{take_rest}
 use Rattle.relay_routes.specs.Value.{begins_with_zero}

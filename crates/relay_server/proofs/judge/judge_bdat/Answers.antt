@@ -1,4 +1,4 @@
--- A chunk begins behind those before.
+-- A chunk begins after those before.
 use Rattle.std.proofs.Common.{nat_le, [], length, refl}
 use Rattle.std.proofs.lemmas.Bool.{cond-true}
 use Rattle.relay_server.specs.declared.state.CommandState.TheVariants as code

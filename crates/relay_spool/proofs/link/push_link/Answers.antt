@@ -14,7 +14,7 @@ link body short = record {
   text = refl;
 }
 
--- the parts behind other octets
+-- the parts after other octets
 pushed : (old size body new : List ℕ) → new ≡ ((old ++ 1 ∷ []) ++ size) ++ body → new ≡ old ++ 1 ∷ (size ++ body)
 pushed old size body new is = is ∙ ap (λ (xs : List ℕ). xs ++ body) (append_assoc old (1 ∷ []) size) ∙ append_assoc old (1 ∷ size) body
 

@@ -23,7 +23,7 @@ renewal body generation fits short = record {
   text = refl;
 }
 
--- the parts pushed behind the body, and those in front of it brought there
+-- the parts pushed after the body, and those in front of it brought there
 turned : (body front all new : List ℕ) → length front ≡ 13 → all ≡ (body ++ 0 ∷ []) ++ front
     → new ≡ drop (length all - 13) all ++ take (length all - 13) all → new ≡ front ++ (body ++ 0 ∷ [])
 turned body front all new width is new_is =

@@ -1,4 +1,4 @@
--- An attempt that has ended leaves its outcome behind.
+-- An attempt that has ended leaves its outcome after.
 use Rattle.std.proofs.Common.{◌∙◌, ℕ, refl, subst, arith, rules}
 use Rattle.relay_book.specs.declared.change.Outcome.{Outcome}
 use Rattle.relay_records.specs.declared.fault.NodeFault.TheVariants.{Full, Stopped}

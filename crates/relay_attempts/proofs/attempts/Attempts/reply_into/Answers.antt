@@ -1,4 +1,4 @@
--- An attempt that has ended leaves its outcome behind a row.
+-- An attempt that has ended leaves its outcome after a row.
 use Rattle.std.proofs.Common.{◌∙◌, refl, subst, arith}
 use Rattle.relay_book.specs.declared.change.Outcome.{Outcome}
 use Rattle.relay_records.specs.declared.fault.NodeFault.TheVariants.{Full}

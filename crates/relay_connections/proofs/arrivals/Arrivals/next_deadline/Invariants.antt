@@ -1,4 +1,4 @@
--- so far it is not behind the given tick
+-- so far it is not after the given tick
 use Rattle.std.proofs.Common.{◌≤◌}
 use Rattle.relay_connections.proofs.arrivals.Arrivals.next_deadline.Given as goal
 

@@ -1,4 +1,4 @@
--- What a split at the last `@` leaves stands behind it.
+-- What a split at the last `@` leaves stands after it.
 use Rattle.relay_envelope.proofs.StoredPathLemmas.{behind_found}
 use Rattle.relay_envelope.proofs.path.mailbox.behind_last_at.Goals as goal
 

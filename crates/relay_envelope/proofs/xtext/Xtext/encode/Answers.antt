@@ -1,4 +1,4 @@
--- each octet is encoded behind those before it
+-- each octet is encoded after those before it
 use Rattle.std.proofs.Common.{ap, ◌∙◌}
 use Rattle.std.proofs.lemmas.List.{take_all}
 use Rattle.relay_envelope.specs.Xtext.{encoded}

@@ -1,4 +1,4 @@
--- A change that is staged comes into the queue, and its record behind those of the row.
+-- A change that is staged comes into the queue, and its record after those of the row.
 use Rattle.std.proofs.Common.{◌≡◌, ◌+◌, ◌≤◌, ◌^◌, ◌∷◌, [], ◌++◌, ◌∙◌, ℕ, List, length, ap, arith, rules, sym, subst}
 use Rattle.relay_spool.specs.Image.{room_of}
 use Rattle.relay_book.specs.Record.{encode}

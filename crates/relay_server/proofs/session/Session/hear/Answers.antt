@@ -1,4 +1,4 @@
--- What was used of the octets behind is heard.
+-- What was used of the octets after is heard.
 use Rattle.std.proofs.Common.{◌≡◌, ◌+◌, ◌≤◌, length, rules, sym, ◌∙◌, arith}
 use Rattle.std.proofs.lemmas.List.{length-drop, take_rest}
 use Rattle.relay_server.specs.Session.{next_of, open_offers}

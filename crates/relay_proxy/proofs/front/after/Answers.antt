@@ -1,7 +1,7 @@
 use Rattle.std.specs.Cmp.{unsigned_Decides}
 use Rattle.std.proofs.lemmas.Slice.Eq.{strip_prefix_is}
 use Rattle.relay_proxy.proofs.FrontLemmas.{begun_by}
-use Rattle.relay_proxy.proofs.front.behind.Goals as goal
+use Rattle.relay_proxy.proofs.front.after.Goals as goal
 
 pub returns : goal.returns
 returns c =
