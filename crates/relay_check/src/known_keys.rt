@@ -6,7 +6,7 @@ use strsim::levenshtein;
 use toml::Table;
 
 /// The keys of a configuration.
-const KEYS: [&str; 14] = [
+const KEYS: [&str; 15] = [
     "host",
     "listen",
     "spool",
