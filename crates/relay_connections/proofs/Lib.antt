@@ -12,4 +12,6 @@ mod ShareLemmas
 mod LeftLemmas
 mod TableLemmas
 mod RefusalLemmas
+mod HeaderFrontLemmas
+mod ArrivalLemmas
 pub mod Theorems

@@ -11,3 +11,5 @@ pub mod Leaving
 pub mod Share
 pub mod Hearing
 pub mod Refusals
+pub mod HeaderFront
+pub mod Arrivals

@@ -2,6 +2,7 @@
 //! those of its clients, whose sessions hear what was read of their own, and those that are leaving.
 #![tactic(auto)]
 
+mod arrival;
 mod arrivals;
 mod block;
 mod channel;
@@ -9,6 +10,7 @@ mod client;
 mod clients;
 mod clocks;
 mod ending;
+mod header_octets;
 mod hearing;
 mod held;
 pub mod laws;
@@ -20,7 +22,8 @@ mod share;
 mod stream;
 mod table;
 
-pub use arrivals::{Arrivals, Arrived};
+pub use arrival::Arrived;
+pub use arrivals::Arrivals;
 pub use channel::{Channel, End, Readiness};
 pub use client::Intake;
 pub use clients::Clients;

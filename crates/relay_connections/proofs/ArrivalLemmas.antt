@@ -1,0 +1,91 @@
+-- What is known of a balancer's connection, as more of its header comes.
+use Rattle.std.proofs.Common.{◌≡◌, ◌≢◌, ◌⊎◌, inl, inr, ◌<◌, ◌≤◌, ℕ, List, Option, None, Some, Box, refl, sym, ◌∙◌, subst, arith}
+use Rattle.std.specs.Global.{Global}
+use Rattle.relay_connections.specs.Arrivals.{HasArrived, HasLeft, IsFault, MayReadOn, OneLeaves, ReadsOn, WaitsOn}
+use Rattle.relay_connections.specs.HeaderFront.{IsPeer}
+use Rattle.relay_connections.specs.declared.arrival.Arrival.{Arrival}
+use Rattle.relay_connections.specs.declared.arrival.Arrived.{Arrived}
+use Rattle.relay_connections.specs.declared.arrival.Arrived.TheVariants.{Client, Refused}
+use Rattle.relay_slots.specs.Slots.{OthersStay, slot_at}
+use Rattle.relay_log.specs.declared.client_line.HeaderFault.{HeaderFault}
+use Rattle.relay_connections.proofs.HeaderFrontLemmas.{comes_on, comes_still}
+use Rattle.relay_connections.proofs.LeftLemmas.{below_or_behind}
+
+module _ {S : Type 0} (remaining contents : S → Option (List ℕ)) where
+  pub reads_on_still : (arrival : Arrival S) → ReadsOn remaining contents arrival arrival
+  reads_on_still arrival = record {
+    comes = comes_still (remaining arrival.stream) (remaining arrival.stream) arrival.header arrival.header refl refl;
+    output = refl;
+    balancer = refl;
+    deadline = refl;
+  }
+
+  pub reads_on_on : (old mid new : Arrival S) → ReadsOn remaining contents old mid → ReadsOn remaining contents mid new → ReadsOn remaining contents old new
+  reads_on_on old mid new first second = record {
+    comes = comes_on (remaining old.stream) (remaining mid.stream) (remaining new.stream) old.header mid.header new.header first.comes second.comes;
+    output = second.output ∙ first.output;
+    balancer = second.balancer ∙ first.balancer;
+    deadline = second.deadline ∙ first.deadline;
+  }
+
+  -- what comes of a connection later comes of it now
+  pub arrived_on : (tick : ℕ) (old new : Arrival S) (arrived : Arrived S) → ReadsOn remaining contents old new → HasArrived remaining contents tick new arrived → HasArrived remaining contents tick old arrived
+  arrived_on tick old new (Client stream peer) goes is = record {
+    header = is.header;
+    source = is.source;
+    comes = comes_on (remaining old.stream) (remaining new.stream) (remaining stream) old.header new.header is.header goes.comes is.comes;
+    is_header = is.is_header;
+    peer_is = subst (λ balancer. IsPeer is.source balancer peer) goes.balancer is.peer_is;
+    output = is.output ∙ goes.output;
+  }
+  arrived_on tick old new (Refused balancer fault) goes is = record {
+    octets = is.octets;
+    left = is.left;
+    comes = comes_on (remaining old.stream) (remaining new.stream) is.left old.header new.header is.octets goes.comes is.comes;
+    fault_is = subst (λ (deadline : ℕ). IsFault tick deadline is.octets fault) goes.deadline is.fault_is;
+    balancer_is = is.balancer_is ∙ goes.balancer;
+  }
+
+  -- a connection fails by what was read of it
+  pub fails : (tick : ℕ) (arrival : Arrival S) (fault : HeaderFault) → IsFault tick arrival.deadline arrival.header fault → HasArrived remaining contents tick arrival (Refused arrival.balancer fault)
+  fails tick arrival fault is = record {
+    octets = arrival.header;
+    left = remaining arrival.stream;
+    comes = comes_still (remaining arrival.stream) (remaining arrival.stream) arrival.header arrival.header refl refl;
+    fault_is = is;
+    balancer_is = refl;
+  }
+
+  -- a slot may stay as it is, or wait on
+  pub may_stay : (slot : Option (Box (Arrival S) Global)) → MayReadOn remaining contents slot slot
+  may_stay None = refl
+  may_stay (Some arrival) = reads_on_still arrival.value
+
+  pub may_wait : (tick : ℕ) (old new : Option (Box (Arrival S) Global)) → WaitsOn remaining contents tick old new → MayReadOn remaining contents old new
+  may_wait tick None new waits = waits
+  may_wait tick (Some arrival) None waits = waits
+  may_wait tick (Some arrival) (Some later) waits = waits.0
+
+  -- Of those before a connection that has left its slot each waits on, and those after it are as they were.
+  pub one_leaves : (tick number : ℕ) (first old new : List (Option (Box (Arrival S) Global))) (arrived : Arrived S)
+      → ((other : ℕ) → other < number → WaitsOn remaining contents tick (slot_at first other) (slot_at old other))
+      → ((other : ℕ) → number ≤ other → slot_at old other ≡ slot_at first other)
+      → OthersStay old new number → HasLeft remaining contents tick number old new arrived
+      → OneLeaves remaining contents tick first new arrived
+  one_leaves tick number first old new arrived done left others has = record {
+    number = number;
+    left = record {
+      arrival = has.arrival;
+      there = sym (left number (omega arith)) ∙ has.there;
+      gone = has.gone;
+      has = has.has;
+    };
+    others = λ other apart. by other apart (below_or_behind other number);
+  } where
+    by : (other : ℕ) → other ≢ number → (other < number) ⊎ (number ≤ other) → MayReadOn remaining contents (slot_at first other) (slot_at new other)
+    by other apart (inl below) =
+        subst (λ (slot : Option (Box (Arrival S) Global)). MayReadOn remaining contents (slot_at first other) slot) (sym (others other apart))
+        (may_wait tick (slot_at first other) (slot_at old other) (done other below))
+    by other apart (inr behind) =
+        subst (λ (slot : Option (Box (Arrival S) Global)). MayReadOn remaining contents (slot_at first other) slot) (sym (others other apart ∙ left other behind))
+        (may_stay (slot_at first other))

@@ -1,0 +1,156 @@
+//! A connection of a balancer whose header of the PROXY protocol isn't whole yet.
+ghost use Rattle.std.specs.Prelude.{◌≡◌, ℕ, false};
+ghost use Rattle.relay_proxy.specs.Header.{IsBegun, IsHeader};
+ghost use Rattle.relay_connections.specs.Arrivals.{ReadsOn, HasArrived, HasProgressed, IsNew};
+
+use crate::clocks::Now;
+use crate::header_octets::HeaderOctets;
+use crate::stream::Stream;
+use relay_log::HeaderFault;
+use relay_proxy::{Reading, Source};
+use std::io::ErrorKind;
+use std::net::SocketAddrV4;
+
+/// How many seconds a header is waited for.
+const HEADER_SECONDS: u64 = 5;
+
+/// The most reads of a header at a turn: each takes an octet at least, and a header has 536 at most.
+const READ_LIMIT: usize = 540;
+
+/// What has come of a balancer's connection.
+#[derive(Drop)]
+pub enum Arrived<S> {
+    /// A client's connection, of which the octets after its header come next, and the client's address and port.
+    Client(S, SocketAddrV4),
+    /// Nothing: the connection of this balancer is closed.
+    Refused(SocketAddrV4, HeaderFault),
+}
+
+/// A connection whose header is waited for.
+pub(crate) struct Arrival<S> {
+    stream: S,
+    /// The balancer's own address and port.
+    pub(crate) balancer: SocketAddrV4,
+    /// What was read of the header.
+    header: HeaderOctets,
+    /// A read may give octets, the end or a fault.
+    pub(crate) reads: bool,
+    /// The tick at which the connection is closed.
+    pub(crate) deadline: u64,
+}
+
+// Written out, so that what drops it calls this, and doesn't look into its connection.
+impl<S: Drop> Drop for Arrival<S> {
+    fn drop(self) {
+        let Arrival {
+            stream: _stream,
+            balancer: _,
+            header: _header,
+            reads: _,
+            deadline: _,
+        } = self;
+    }
+}
+
+/// How far a header is read.
+#[derive(Drop)]
+pub(crate) enum Progress {
+    /// More octets are waited for.
+    Waits,
+    /// It is whole, nothing after it was read, and it says this of the client.
+    Whole(Source),
+    /// There will be none.
+    Fails(HeaderFault),
+}
+
+impl<S: Stream + Drop> Arrival<S> {
+    /// A connection of which nothing was read.
+    pub(crate) fn new(stream: S, balancer: SocketAddrV4, now: &Now) -> Self
+        ensures { IsNew S.remaining S.contents stream balancer now.now.tick result }
+    {
+        Arrival {
+            stream,
+            balancer,
+            header: HeaderOctets::new(),
+            reads: true,
+            deadline: now.behind(HEADER_SECONDS),
+        }
+    }
+
+    /// Reads of the header what has come of it, and nothing after it.
+    pub(crate) fn read(&mut self, now: &Now) -> Progress
+        ensures reads_on { ReadsOn S.remaining S.contents self.old self.new }
+        ensures progress { HasProgressed now.now.tick self.new.deadline self.new.header result }
+    {
+        for _ in 0..READ_LIMIT {
+            if !self.reads {
+                break;
+            }
+            let Reading::Unfinished(count) = self.header.reading() else {
+                break;
+            };
+            if !self.read_some(count) {
+                return Progress::Fails(HeaderFault::Missing);
+            }
+        }
+        self.progress(now)
+    }
+
+    /// How far its header is read.
+    fn progress(&self, now: &Now) -> Progress
+        ensures { HasProgressed now.now.tick self.now.deadline self.now.header result }
+    {
+        match self.header.reading() {
+            Reading::Found(header) => Progress::Whole(header.source),
+            Reading::Missing => Progress::Fails(HeaderFault::Missing),
+            Reading::Unfinished(_) if self.deadline <= now.tick => {
+                Progress::Fails(HeaderFault::Late)
+            }
+            Reading::Unfinished(_) => Progress::Waits,
+        }
+    }
+
+    /// Reads as many octets of its header as are missing at least, or fewer. Returns whether the connection stands: not
+    /// where it has come to its end, or is broken.
+    fn read_some(&mut self, count: usize) -> bool
+        requires { IsBegun self.old.header count }
+        ensures reads_on { ReadsOn S.remaining S.contents self.old self.new }
+        ensures none { result ≡ false → self.new.header ≡ self.old.header }
+    {
+        match self.header.fill(&mut self.stream, count) {
+            Ok(came) => 0 < came,
+            Err(error) => match error.kind() {
+                ErrorKind::WouldBlock => {
+                    self.reads = false;
+                    true
+                }
+                ErrorKind::Interrupted => true,
+                _ => false,
+            },
+        }
+    }
+
+    /// What has come of it by its header. The system tells of the connection no more.
+    pub(crate) fn arrived(self, registry: &S::Registry, source: Source) -> Arrived<S>
+        requires { IsHeader self.header source }
+        ensures { (tick : ℕ) → HasArrived S.remaining S.contents tick self result }
+    {
+        let Arrival {
+            stream,
+            balancer,
+            header: _header,
+            reads: _,
+            deadline: _,
+        } = self;
+        let mut stream = stream;
+        let client = match source {
+            Source::Own => balancer,
+            Source::Client(client) => client,
+            Source::Other => return Arrived::Refused(balancer, HeaderFault::OtherProtocol),
+        };
+        match stream.deregister(registry) {
+            Ok(()) => Arrived::Client(stream, client),
+            Err(_) => Arrived::Refused(balancer, HeaderFault::NoMemory),
+        }
+    }
+}
