@@ -195,8 +195,8 @@ def silent_connections_of_the_balancer_hold_up_nobody(field):
             client.begin()
             client.hand_in()
         same("the client in the trace header", client_in_trace(field), "127.0.0.1")
-    # After five seconds there is room for headers again.
-    with relay.running():
+        # After five seconds there is room for headers again.
+        time.sleep(LONGEST + 1)
         handed_in(field, relay, "192.0.2.77", tcp4("192.0.2.77"))
 
 

@@ -1,8 +1,10 @@
 -- What is known of a balancer's connection, as more of its header comes.
-use Rattle.std.proofs.Common.{◌≡◌, ◌≢◌, ◌⊎◌, inl, inr, ◌<◌, ◌≤◌, ℕ, List, Option, None, Some, Box, refl, sym, ◌∙◌, subst, arith}
+use Rattle.std.proofs.Common.{◌≡◌, ◌≢◌, ◌⊎◌, inl, inr, ◌<◌, ◌≤◌, ℕ, List, ◌++◌, Option, None, Some, Box, refl, sym, ap, ◌∙◌, subst, arith}
 use Rattle.std.specs.Global.{Global}
-use Rattle.relay_connections.specs.Arrivals.{HasArrived, HasLeft, IsFault, MayReadOn, OneLeaves, ReadsOn, WaitsOn}
-use Rattle.relay_connections.specs.HeaderFront.{IsPeer}
+use Rattle.std.specs.Io.KnownBytes.{Consumes}
+use Rattle.std.specs.declared.net.socket_addr.SocketAddrV4.{SocketAddrV4}
+use Rattle.relay_connections.specs.Arrivals.{ClientsFollowHeaders, HasArrived, HasLeft, IsFault, MayReadOn, OneLeaves, ReadsAreOne, ReadsOn, WaitsOn}
+use Rattle.relay_connections.specs.HeaderFront.{Comes, IsPeer}
 use Rattle.relay_connections.specs.declared.arrival.Arrival.{Arrival}
 use Rattle.relay_connections.specs.declared.arrival.Arrived.{Arrived}
 use Rattle.relay_connections.specs.declared.arrival.Arrived.TheVariants.{Client, Refused}
@@ -89,3 +91,29 @@ module _ {S : Type 0} (remaining contents : S → Option (List ℕ)) where
     by other apart (inr behind) =
         subst (λ (slot : Option (Box (Arrival S) Global)). MayReadOn remaining contents (slot_at first other) slot) (sym (others other apart ∙ left other behind))
         (may_stay (slot_at first other))
+
+  pub reads_are_one : ReadsAreOne remaining contents
+  reads_are_one = record {
+    again = reads_on_on;
+    noted = λ reads one two noted. record {
+      comes = comes_still (remaining one.stream) (remaining two.stream) one.header two.header (ap remaining noted.stream) noted.header;
+      output = ap contents noted.stream;
+      balancer = noted.balancer;
+      deadline = noted.deadline;
+    };
+  }
+
+  -- of what a connection gave from its beginning the header is all
+  pub clients_follow_headers : ClientsFollowHeaders remaining contents
+  clients_follow_headers = λ begun stream balancer peer tick first last new reads client.
+      let whole : Comes (remaining first.stream) (remaining stream) first.header client.header =
+      comes_on (remaining first.stream) (remaining last.stream) (remaining stream) first.header last.header client.header reads.comes client.comes in
+      let all : client.header ≡ whole.came = whole.octets ∙ ap (λ (front : List ℕ). front ++ whole.came) new.header in
+      record {
+        header = client.header;
+        source = client.source;
+        is_header = client.is_header;
+        input = subst (λ (input : Option (List ℕ)). Consumes input (remaining stream) client.header) new.input (subst (λ (octets : List ℕ). Consumes (remaining first.stream) (remaining stream) octets) (sym all) whole.stream);
+        output = client.output ∙ reads.output ∙ new.output;
+        peer_is = subst (λ (own : SocketAddrV4). IsPeer client.source own peer) (reads.balancer ∙ new.balancer_is) client.peer_is;
+      }

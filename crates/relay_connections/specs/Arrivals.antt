@@ -3,6 +3,7 @@
 use Rattle.std.specs.Prelude.{◌≡◌, ◌≢◌, ◌≤◌, ◌+◌, ◌-◌, ◌*◌, ◌^◌, ◌||◌, ℕ, min, Bool, false, true, List, [], Option, None, Some}
 use Rattle.std.specs.Prelude.{Box}
 use Rattle.std.specs.Global.{Global}
+use Rattle.std.specs.Io.KnownBytes.{Consumes}
 use Rattle.std.specs.declared.net.socket_addr.SocketAddrV4.{SocketAddrV4}
 use Rattle.relay_log.specs.declared.client_line.HeaderFault.{HeaderFault}
 use Rattle.relay_log.specs.declared.client_line.HeaderFault.TheVariants.{Missing, Late, OtherProtocol, NoMemory}
@@ -166,3 +167,24 @@ module _ {S : Type 0} (remaining contents : S → Option (List ℕ)) where
       → List (Option (Box (Arrival S) Global)) → Bool → Type 0
   Takes stream balancer tick old new true = IsTaken stream balancer tick old new
   Takes stream balancer tick old new false = new ≡ old
+
+  -- A client has come by a connection of this balancer that began with this stream: a header stood first in it, and
+  -- what follows the header comes next. The header says whose the client is, and nothing was written.
+  pub record FollowsHeader (begun : S) (balancer : SocketAddrV4) (stream : S) (peer : SocketAddrV4) : Type 0 where
+    pub header : List ℕ
+    pub source : Source
+    pub is_header : IsHeader header source
+    pub input : Consumes (remaining begun) (remaining stream) header
+    pub output : contents stream ≡ contents begun
+    pub peer_is : IsPeer source balancer peer
+
+  -- So it is of each client, from the beginning of its connection on, however often something was read of that.
+  abbrev pub ClientsFollowHeaders : Type 0
+  ClientsFollowHeaders =
+      (begun stream : S) (balancer peer : SocketAddrV4) (tick : ℕ) (first last : Arrival S) → IsNew begun balancer tick first
+      → ReadsOn first last → IsClientOf last stream peer → FollowsHeader begun balancer stream peer
+
+  -- What was read once, and then once more, was read; and to hear of a connection reads nothing.
+  pub record ReadsAreOne : Type 0 where
+    pub again : (one two three : Arrival S) → ReadsOn one two → ReadsOn two three → ReadsOn one three
+    pub noted : (reads : Bool) (one two : Arrival S) → IsNotedArrival reads one two → ReadsOn one two

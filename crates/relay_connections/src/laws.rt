@@ -1,4 +1,5 @@
 //! What is true of the clients of a relay, whatever calls are made.
+ghost use Rattle.relay_connections.specs.Arrivals.{ClientsFollowHeaders, ReadsAreOne};
 ghost use Rattle.relay_connections.specs.Served.{FreeAreServed, NotedAreServed, ServedAreMatched};
 
 use crate::stream::Stream;
@@ -17,4 +18,14 @@ pub fn free_are_served<S: Stream, D: Disk>()
 /// Clients are served as before where the system tells what the connection of one may be ready for.
 pub fn noted_are_served<S: Stream, D: Disk>()
     ensures { NotedAreServed D.honest D.words S.remaining S.contents }
+{}
+
+/// A client of a balancer comes after the header with which its connection began, and the header says whose it is.
+pub fn clients_follow_headers<S: Stream>()
+    ensures { ClientsFollowHeaders S.remaining S.contents }
+{}
+
+/// Several reads of a header are one, and to hear what a connection is ready for reads nothing.
+pub fn reads_are_one<S: Stream>()
+    ensures { ReadsAreOne S.remaining S.contents }
 {}
