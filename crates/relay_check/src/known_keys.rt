@@ -5,8 +5,11 @@ use std::alloc::{AllocError, Global};
 use strsim::levenshtein;
 use toml::Table;
 
+/// How many keys a configuration may have.
+pub(crate) const KEY_COUNT: usize = 15;
+
 /// The keys of a configuration.
-const KEYS: [&str; 15] = [
+const KEYS: [&str; KEY_COUNT] = [
     "host",
     "listen",
     "spool",

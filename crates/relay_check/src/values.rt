@@ -1,6 +1,7 @@
 //! The values of the keys. A configuration's reader tells the first fault alone: each bad value is replaced by a good
 //! one, and the document is read again, until no fault is left.
 use crate::findings::Findings;
+use crate::known_keys::KEY_COUNT;
 use crate::networks::{BALANCERS, TRUSTED_CLIENTS};
 use crate::position::Place;
 use relay_limits::{Balancers, Limit, Limits};
@@ -8,9 +9,6 @@ use relay_routes::{Config, ConfigFault, Key};
 use std::alloc::{AllocError, Global};
 use std::fmt;
 use toml::{Table, Value};
-
-/// How many values there may be to replace: one for each key.
-const KEYS: usize = 14;
 
 /// A value that a key may have.
 #[derive(Clone, Copy, Drop)]
@@ -70,7 +68,7 @@ pub(crate) fn check_values(
     set_routes_aside(alloc, &mut document)?;
     set_networks_aside(alloc, &mut document, TRUSTED_CLIENTS)?;
     set_networks_aside(alloc, &mut document, BALANCERS)?;
-    for _ in 0..KEYS {
+    for _ in 0..KEY_COUNT {
         let Some(rule) = broken_rule(alloc, &document)? else {
             break;
         };
