@@ -5,9 +5,8 @@ SHELL := bash
 .PHONY: test demo interop hostile bench load instructions relayd relay_node_tests
 
 # The whole gate: the sample configuration and a play beside their tested copies; then every proof from nothing, the
-# edits that must fail and the tests, so many side by side as tools/lanes.sh says (RT_JOBS, where it is given); then the
-# programs that these have built, over two pipes, streams that fail and sockets, short of memory, and on a device that
-# fails. The gate's own last line is the last.
+# edits that must fail and the tests, as many side by side as tools/lanes.sh says (RT_JOBS, where it is given); then the
+# scripts of tests/run_all.py, over the programs that these have built. The gate's own last line is the last.
 test:
 	cmp relayd.toml crates/relay_rows_tests/data/relayd.toml
 	cmp docs/plays/lost_reply.play crates/relay_pair_tests/data/lost_reply.play
@@ -15,44 +14,7 @@ test:
 	rm -rf build/lanes
 	RT_JOBS=$$(tools/lanes.sh) rt ci | tee build/gate.log
 	cp crates/relayd/out/relayd build/relayd
-	tests/one_line_at_a_time.sh build/relayd
-	tools/tour.py build/relayd > build/tour.log
-	tools/demo.py > build/demo.log
-	tests/standard_streams.py build/relayd
-	tests/closed_streams.py build/relayd
-	tests/want_of_descriptors.py build/relayd
-	tests/fault_lines.sh build/relayd
-	tests/check.py build/relayd
-	tests/two_relays.py build/relayd
-	TIMES=10 tests/run.py build/relayd
-	TIMES=10 tests/run_log.py build/relayd
-	TIMES=10 tests/status_page.py build/relayd
-	TIMES=10 tests/run_hops.py build/relayd
-	TIMES=10 tests/run_proxy.py build/relayd
-	TIMES=10 tests/run_mail.py build/relayd
-	TIMES=10 tests/run_faults.py build/relayd
-	TIMES=10 tests/run_load.py build/relayd
-	TIMES=10 tests/run_without_memory.py build/relayd
-	tests/unit_file.sh build/relayd
-	tests/workers.py build/relayd
-	bench/crashes.py build/relayd 64
-	tests/compaction.py build/relayd
-	tests/looks_at_the_queue.py build/relayd
-	tests/plays.py build/relayd
-	tests/plays_without_memory.py build/relayd
-	tests/random_plays.py build/relayd
-	tests/stops_in_plays.py build/relayd
-	tests/hostile_octets.py build/relayd
-	tests/each_allocation_refused.sh build/relayd
-	tests/records_of_a_generator.py crates/relay_rows_tests/out/relay_rows_tests
-	tests/book_without_memory.sh crates/relay_rows_tests/out/relay_rows_tests
-	tests/dialogues_of_a_node.sh crates/relay_node_tests/out/relay_node_tests
-	tests/attempts_of_a_node.py crates/relay_node_tests/out/relay_node_tests
-	tests/node_without_memory.sh crates/relay_node_tests/out/relay_node_tests
-	tests/hub_without_memory.sh crates/relay_node_tests/out/relay_node_tests
-	tests/groups_without_memory.sh crates/relay_node_tests/out/relay_node_tests
-	tests/spool_on_a_file.sh crates/relay_rows_tests/out/relay_rows_tests
-	tests/reports_read_by_python.py crates/relay_rows_tests/out/relay_rows_tests
+	tests/run_all.py --junit build/tests.xml
 	tail -n 1 build/gate.log
 
 # Compiles the relay without its proofs, and shows a message's way through it, over sockets of this machine. It leaves

@@ -14,7 +14,6 @@ import pathlib
 import random
 import re
 import smtplib
-import subprocess
 import sys
 import tempfile
 import threading
@@ -23,7 +22,7 @@ HERE = pathlib.Path(__file__).resolve().parent
 sys.path.insert(0, str(HERE.parent / "tests"))
 sys.dont_write_bytecode = True
 
-from relay_program import Difference, PATIENCE, Relay, same
+from relay_program import Difference, PATIENCE, Relay, preload, same
 from smtp_sink import Sink
 
 MOMENTS = 30
@@ -85,10 +84,7 @@ def look(relay, sink, answered, moment):
 
 def push_rest(relay, sink, folder):
     """Pushes with the clock a day further on, since what was tried once is due later."""
-    shim = folder / "later_clock.so"
-    source = HERE.parent / "tests/later_clock.c"
-    subprocess.run(["cc", "-shared", "-fPIC", "-O1", "-o", shim, source], check=True)
-    relay.environment.update(LD_PRELOAD=str(shim), LATER="86400")
+    preload(relay, folder, "later_clock", LATER="86400")
     same("the end of the push", relay.ended(900, "push").returncode, 0)
     same("list at last", relay.held(), [])
 

@@ -193,17 +193,15 @@ class Bench:
         """Seconds of so many messages at each of so many connections, which are served side by side, to the last reply
         of them all; and how much longer the slowest of them took than the median. The relay is killed then."""
         relay = self.new_relay(9)
-        process = relay.start("--workers", str(workers))
-        _, seconds, spread = hand_in_side_by_side(self.folder, relay.port, workers, count, size)
-        process.kill()
-        process.communicate()
-        same("messages in the spool", len(relay.held()), workers * count)
-        return seconds, spread
+        return self.handed_in(relay, relay.start("--workers", str(workers)), workers, count, size)
 
     def run_side_by_side(self, sessions, count, size):
         """What `side_by_side` measures, of `run`, which holds what it takes: nobody listens at its next hop."""
         relay = self.new_relay(9, sessions_per_client=64)
-        process = relay.begin("--quiet")
+        return self.handed_in(relay, relay.begin("--quiet"), sessions, count, size)
+
+    def handed_in(self, relay, process, sessions, count, size):
+        """The seconds and the spread of `side_by_side`, of a process of a relay, which is killed then."""
         _, seconds, spread = hand_in_side_by_side(self.folder, relay.port, sessions, count, size)
         process.kill()
         process.communicate()

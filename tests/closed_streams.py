@@ -8,20 +8,16 @@ first difference.
 import itertools
 import os
 import pathlib
-import shutil
-import socket
 import subprocess
 import sys
 import tempfile
-import threading
 
 sys.dont_write_bytecode = True
 
 from mail_checks import hand_in
-from relay_program import Difference, PATIENCE, Relay, is_listening, same
+from relay_program import HERE, Difference, PATIENCE, Relay, is_listening, preload, same
 from smtp_sink import Sink
 
-HERE = pathlib.Path(__file__).resolve().parent
 STORED = HERE.parent / "crates" / "relayd"
 SETS = [set(closed) for count in range(4) for closed in itertools.combinations(range(3), count)]
 
@@ -35,9 +31,7 @@ class Field:
     def __init__(self, program, folder):
         self.folder, self.sink = folder, Sink()
         self.relay = Relay(program, folder / "relay", {"example.org": ("next.example", self.sink.port)})
-        shim = folder / "later_clock.so"
-        subprocess.run(["cc", "-shared", "-fPIC", "-O1", "-o", shim, HERE / "later_clock.c"], check=True)
-        self.relay.environment.update(LD_PRELOAD=str(shim), HELD=str(MOMENT))
+        preload(self.relay, folder, "later_clock", HELD=str(MOMENT))
 
     def waiting(self):
         """A spool with a message of two recipients, one of which is due, since its hop comes back, and one of which
@@ -119,7 +113,8 @@ def push(field, closed):
     return field.relay.spool.read_bytes()
 
 
-def serve(field, closed):
+def served(field, closed, *words):
+    """What `serve` ends with, to which a client hands in a message."""
     field.waiting()
 
     def client(process):
@@ -128,7 +123,11 @@ def serve(field, closed):
                 raise Difference(f"serve has ended with {process.returncode}")
         hand_in(field.relay)
 
-    found = ended(field, closed, field.relay.words("serve"), beside=client)
+    return ended(field, closed, field.relay.words("serve", *words), beside=client)
+
+
+def serve(field, closed):
+    found = served(field, closed)
     lines = b"1 next.example ended\n3 next.example ended\n"
     same("the run", found, wanted(closed, 1, b"", "output") if 1 in closed else wanted(closed, 0, lines))
     return field.relay.spool.read_bytes()
@@ -136,15 +135,7 @@ def serve(field, closed):
 
 def logged(field, closed):
     """`serve --log`: a line that can't be written is lost, and nothing else."""
-    field.waiting()
-
-    def client(process):
-        while not is_listening(field.relay.port):
-            if process.poll() is not None:
-                raise Difference(f"serve has ended with {process.returncode}")
-        hand_in(field.relay)
-
-    status, _, _ = ended(field, closed, field.relay.words("serve", "--log"), beside=client)
+    status, _, _ = served(field, closed, "--log")
     same("the status", status, 1 if 1 in closed else 0)
     return field.relay.spool.read_bytes()
 

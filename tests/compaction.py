@@ -21,12 +21,12 @@ import time
 sys.dont_write_bytecode = True
 
 from mail_checks import hand_in, one_message
+from refusals import runs_without
 from relay_program import Difference, LOCKED, PATIENCE, Relay, same, until
 from running_relay import clients_of, lines_of, number_of, shim
 from smtp_sink import Manners, Sink
 from spool_files import bodies_of, file_of, head_of, snapshot_of, taken_of
 
-HERE = pathlib.Path(__file__).resolve().parent
 EMPTY = file_of(1)
 NO_HEAD = (1, "relayd: spool NotASpool")
 KILLS = 30
@@ -205,23 +205,18 @@ def a_file_that_takes_no_more_loses_nothing(field):
 def each_allocation_that_is_refused_loses_nothing(field):
     """`compact` without memory leaves the files as they are, and says so."""
     field.hold("l@example.org")
-    held, refuse, mark = field.relay.held(), field.folder / "refuse.so", field.folder / "refused"
-    subprocess.run(["cc", "-shared", "-fPIC", "-O1", "-o", refuse, HERE / "refuse_memory.c"], check=True)
-    for number in range(1, 10000):
-        mark.unlink(missing_ok=True)
+    held, before = field.relay.held(), field.files()
+    for run in runs_without(field.relay.words("compact"), field.folder):
+        if not run.was_refused:
+            same("compact with all its memory", run.status, 0)
+        elif run.status != 0:
+            same(f"compact without allocation {run.number}", (run.status, run.out, run.errors),
+                 (1, "", "relayd: no memory\n"))
+            same(f"the files without allocation {run.number}", field.files(), before)
+        same(f"list without allocation {run.number}", field.relay.held(), held)
         before = field.files()
-        environment = {**os.environ, "REFUSE": str(number), "REFUSED": str(mark), "LD_PRELOAD": str(refuse)}
-        ended = subprocess.run(field.relay.words("compact"), capture_output=True, env=environment)
-        if not mark.exists():
-            same("compact with all its memory", ended.returncode, 0)
-            break
-        if ended.returncode != 0:
-            same(f"compact without allocation {number}", (ended.returncode, ended.stdout, ended.stderr),
-                 (1, b"", b"relayd: no memory\n"))
-            same(f"the files without allocation {number}", field.files(), before)
-        same(f"list without allocation {number}", field.relay.held(), held)
-    if number < 20:
-        raise Difference(f"only {number - 1} allocations")
+    if run.number < 20:
+        raise Difference(f"only {run.number - 1} allocations")
 
 
 def list_beside_a_serve_that_compacts(field):

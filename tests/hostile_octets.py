@@ -18,7 +18,7 @@ import time
 
 sys.dont_write_bytecode = True
 
-from relay_program import PATIENCE, Difference, Relay, same
+from relay_program import PATIENCE, Difference, Relay, run_main, same
 
 # What a session may take of memory above one that reads a NOOP.
 MOST_MEMORY = 4 << 20
@@ -141,7 +141,4 @@ def main(program):
 
 
 if __name__ == "__main__":
-    try:
-        main(*sys.argv[1:])
-    except Difference as difference:
-        sys.exit(f"hostile_octets: {difference}")
+    run_main("hostile_octets", main)

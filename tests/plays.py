@@ -14,7 +14,7 @@ import time
 
 sys.dont_write_bytecode = True
 
-from relay_program import Difference, PATIENCE, same
+from relay_program import PATIENCE, Play, run_main, same
 
 HERE = pathlib.Path(__file__).resolve().parent
 PLAYS = HERE.parent / "docs" / "plays"
@@ -44,38 +44,14 @@ def played(program, rows):
     same("the end", (status, errors), (0, b""))
 
 
-class Play:
-    """A play that goes on: each line is answered before the next is written."""
-
-    def __init__(self, program):
-        self.process = subprocess.Popen(
-            [program, "play"], stdin=subprocess.PIPE, stdout=subprocess.PIPE, text=True, bufsize=1)
-
-    def __enter__(self):
-        return self
-
-    def __exit__(self, *_):
-        self.process.stdin.close()
-        self.process.wait(PATIENCE)
-        self.process.stdout.close()
-
-    def tell(self, line):
-        """Writes a line of which nothing is seen."""
-        self.process.stdin.write(line + "\n")
-
-    def say(self, line):
-        self.process.stdin.write(line + "\n")
-        self.process.stdin.flush()
-        return self.process.stdout.readline().rstrip("\n")
-
-    def lines(self, question):
-        """The lines that answer a question, up to that of a tick after it."""
-        self.process.stdin.write(f"{question}\ntick 0\n")
-        self.process.stdin.flush()
-        found = []
-        while (line := self.process.stdout.readline().rstrip("\n")) != "now 0":
-            found.append(line)
-        return found
+def lines_of(play, question):
+    """The lines that answer a question, up to that of a tick after it."""
+    play.tell(question)
+    play.tell("tick 0")
+    found = []
+    while (line := play.answer().rstrip("\n")) != "now 0":
+        found.append(line)
+    return found
 
 
 def scripts(program):
@@ -323,14 +299,14 @@ def circle(program, nodes):
         while refused is None:
             refused, taken = attempt(play, LETTERS[at], LETTERS[(at + 1) % nodes])
             at, carries = (at + 1) % nodes, carries + taken
-        ledger = play.lines("ledger")
+        ledger = lines_of(play, "ledger")
         accepts = [line.split()[1] for line in ledger if line.startswith("accept")]
         same("accepts", accepts, [LETTERS[turn % nodes] for turn in range(100)])
         last = LETTERS[99 % nodes]
         same("who refused", refused, LETTERS[100 % nodes])
         same("the last line", ledger[-1].split()[:2] + ledger[-1].split()[3:5], ["end", last, "0", "failed"])
         report = ledger[-1].split()[-1]
-        same("marks", play.lines("marks"), [f"{last} {report} 0"])
+        same("marks", lines_of(play, "marks"), [f"{last} {report} 0"])
     return carries, time.monotonic() - began
 
 
@@ -347,7 +323,7 @@ def crowd(program):
         for at, node in enumerate(LETTERS):
             for _ in range(63):
                 attempt(play, node, LETTERS[(at + 1) % 16])
-        ledger = [line.split()[0] for line in play.lines("ledger")]
+        ledger = [line.split()[0] for line in lines_of(play, "ledger")]
         same("accepts and transfers", (ledger.count("accept"), ledger.count("transfer")), (2016, 1008))
     return time.monotonic() - began
 
@@ -379,7 +355,4 @@ def main(program):
 
 
 if __name__ == "__main__":
-    try:
-        main(*sys.argv[1:])
-    except Difference as difference:
-        sys.exit(f"plays: {difference}")
+    run_main("plays", main)

@@ -8,10 +8,8 @@ link breaks, and what the node recorded stands in the ledger. It ends at the fir
 
     tests/plays_without_memory.py build/relayd
 """
-import os
 import pathlib
 import re
-import subprocess
 import sys
 import tempfile
 
@@ -19,9 +17,9 @@ sys.dont_write_bytecode = True
 
 from plays import GREETED, MAIL, QUEUED
 from random_plays import nodes_of
-from relay_program import Difference, PATIENCE, same
+from refusals import runs_without
+from relay_program import HERE, Difference, run_main, same
 
-HERE = pathlib.Path(__file__).resolve().parent
 PLAYS = HERE.parent / "docs" / "plays"
 ACCEPTED = re.compile(r"^node ([a-p]) link \d+ used \d+ out .*250 queued as (\d+)\\r\\n", re.MULTILINE)
 # What stands before node a stops, while it is down, and behind its next stop: each line with what is to be seen of it.
@@ -66,48 +64,43 @@ def ending(script):
     return f"{stops}marks\nledger\n".encode() * 2
 
 
-def play(program, script, number, shim, mark):
-    environment = dict(os.environ, LD_PRELOAD=str(shim), REFUSE=str(number), REFUSED=str(mark))
-    done = subprocess.run([program, "play"], input=script, capture_output=True, timeout=PATIENCE, env=environment)
-    return done.returncode, done.stdout.decode(), done.stderr.decode()
+def plays_of(program, folder, script):
+    """The plays of a script with each allocation refused in turn."""
+    return runs_without([program, "play"], folder, given=script)
 
 
-def look(what, status, out, errors):
-    """What one play with a refused allocation may come to."""
-    if status != 0:
-        same(what, (status, errors), (1, "relayd: no memory\n"))
+def look(what, run):
+    """Checks what one play with a refused allocation printed."""
+    if run.status != 0:
+        same(what, (run.status, run.errors), (1, "relayd: no memory\n"))
         return
-    same(what, errors, "")
+    same(what, run.errors, "")
     # What both endings show, and not what the script asked for before.
-    end = "".join(out.rsplit("stopped a\n", 2)[1:])
-    for node, number in ACCEPTED.findall(out):
+    end = "".join(run.out.rsplit("stopped a\n", 2)[1:])
+    for node, number in ACCEPTED.findall(run.out):
         gone = re.search(rf"^(transfer|end) {node} {number} 0 ", end, re.MULTILINE)
         if not gone and f"\n{node} {number} 0\n" not in end:
-            raise Difference(f"{what}: message {number} of {node} is neither held nor gone:\n{out}")
+            raise Difference(f"{what}: message {number} of {node} is neither held nor gone:\n{run.out}")
 
 
 def seen(rows):
     return "".join(f"{line}\n" for _, line in rows)
 
 
-def a_node_that_is_down(program, shim, mark):
-    """Refuses each allocation in turn, and holds those plays to the rows in which node a stays down behind its stop."""
+def a_node_that_is_down(program, folder):
+    """Refuses each allocation in turn, and holds those plays to the rows in which node a stays down after its stop."""
     script = "".join(f"{line}\n" for line, _ in BEFORE + STOP + DOWN + AGAIN).encode()
     down, found = seen(BEFORE + STOP + DOWN[:1]), 0
-    for number in range(1, 100_000):
-        mark.unlink(missing_ok=True)
-        status, out, errors = play(program, script, number, shim, mark)
-        if not mark.exists():
-            break
-        if out.startswith(down):
-            same(f"a node that is down, by allocation {number}", (status, out, errors),
+    for run in plays_of(program, folder, script):
+        if run.was_refused and run.out.startswith(down):
+            same(f"a node that is down, by allocation {run.number}", (run.status, run.out, run.errors),
                  (0, seen(BEFORE + STOP + DOWN + AGAIN), ""))
             found += 1
     same("whether a node was down", found > 0, True)
-    print(f"ok: a node that is down, by {found} allocations of {number - 1}")
+    print(f"ok: a node that is down, by {found} allocations of {run.number - 1}")
 
 
-def a_carry_without_memory(program, shim, mark):
+def a_carry_without_memory(program, folder):
     """Refuses each allocation in turn, and holds the plays in which a carry of a whole message met it to what may
     come."""
     lines = [*(line for line, _ in BEFORE[:2]), "carry 1 b 1000", "marks", "ledger", "carry 1 b 1000", "connect b"]
@@ -119,16 +112,12 @@ def a_carry_without_memory(program, shim, mark):
         "after the call": f"b 1 0\naccept b 1 1 link 1\n{none}\n{greeted}\n",
     }
     found = dict.fromkeys(ways, 0)
-    for number in range(1, 100_000):
-        mark.unlink(missing_ok=True)
-        status, out, errors = play(program, script, number, shim, mark)
-        if not mark.exists():
-            break
-        refused = f"{opened}refused NoMemory\n"
-        if out.startswith(refused):
-            way = [it for it, behind in ways.items() if out == refused + behind]
-            if (status, errors, len(way)) != (0, "", 1):
-                raise Difference(f"a carry without allocation {number}: {out}")
+    refused = f"{opened}refused NoMemory\n"
+    for run in plays_of(program, folder, script):
+        if run.was_refused and run.out.startswith(refused):
+            way = [it for it, after in ways.items() if run.out == refused + after]
+            if (run.status, run.errors, len(way)) != (0, "", 1):
+                raise Difference(f"a carry without allocation {run.number}: {run.out}")
             found[way[0]] += 1
     same("the ways that were met", [it for it in ways if found[it] == 0], [])
     print(f"ok: a carry without memory: {', '.join(f'{count} {way}' for way, count in found.items())}")
@@ -137,26 +126,15 @@ def a_carry_without_memory(program, shim, mark):
 def main(program):
     program = str(pathlib.Path(program).resolve())
     with tempfile.TemporaryDirectory() as folder:
-        shim, mark = pathlib.Path(folder) / "refuse.so", pathlib.Path(folder) / "refused"
-        subprocess.run(["cc", "-shared", "-fPIC", "-O1", "-o", shim, HERE / "refuse_memory.c"], check=True)
         for script in sorted(PLAYS.glob("*.play")):
-            number = 0
-            while True:
-                number += 1
-                mark.unlink(missing_ok=True)
-                text = script.read_bytes()
-                found = play(program, text + ending(text), number, shim, mark)
-                look(f"{script.name}, allocation {number}", *found)
-                if not mark.exists():
-                    break
-            same(f"{script.name}: whether allocations were refused", number > 100, True)
-            print(f"ok: {script.name} without memory: {number - 1} allocations refused in turn")
-        a_node_that_is_down(program, shim, mark)
-        a_carry_without_memory(program, shim, mark)
+            text = script.read_bytes()
+            for run in plays_of(program, folder, text + ending(text)):
+                look(f"{script.name}, allocation {run.number}", run)
+            same(f"{script.name}: whether allocations were refused", run.number > 100, True)
+            print(f"ok: {script.name} without memory: {run.number - 1} allocations refused in turn")
+        a_node_that_is_down(program, folder)
+        a_carry_without_memory(program, folder)
 
 
 if __name__ == "__main__":
-    try:
-        main(*sys.argv[1:])
-    except Difference as difference:
-        sys.exit(f"plays_without_memory: {difference}")
+    run_main("plays_without_memory", main)

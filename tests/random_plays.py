@@ -8,6 +8,7 @@ take.
 
 COUNT plays (50) of 60 events are made from the seeds FIRST (1) and on.
 """
+import functools
 import pathlib
 import random
 import re
@@ -16,7 +17,7 @@ import sys
 
 sys.dont_write_bytecode = True
 
-from relay_program import Difference, PATIENCE
+from relay_program import Difference, PATIENCE, Play, run_main
 
 EVENTS = 60
 # Says 0 and nothing else, whatever was played: it ends the lines of the event before it.
@@ -48,33 +49,18 @@ def escaped(octets):
     return "".join(named.get(octet, chr(octet) if 32 <= octet < 127 else f"\\x{octet:02X}") for octet in octets)
 
 
-class Play:
-    """A play that goes on: each event is answered before the next is chosen."""
-
-    def __init__(self, program):
-        self.process = subprocess.Popen(
-            [program, "play"], stdin=subprocess.PIPE, stdout=subprocess.PIPE, text=True, bufsize=1)
-
-    def __enter__(self):
-        return self
-
-    def __exit__(self, *_):
-        self.process.stdin.close()
-        self.process.wait(PATIENCE)
-        self.process.stdout.close()
-
-    def say(self, line):
-        """The lines that an event or a question prints."""
-        self.process.stdin.write(f"{line}\n{END_OF_LINES}\n")
-        self.process.stdin.flush()
-        lines = []
-        while True:
-            found = self.process.stdout.readline()
-            if not found:
-                raise Difference("the play has ended")
-            if found == "0\n" and (lines or not line.startswith(("copies ", "lost "))):
-                return lines
-            lines.append(found.rstrip("\n"))
+def lines_after(play, line):
+    """The lines that an event or a question prints."""
+    play.tell(line)
+    play.tell(END_OF_LINES)
+    lines = []
+    while True:
+        found = play.answer()
+        if not found:
+            raise Difference("the play has ended")
+        if found == "0\n" and (lines or not line.startswith(("copies ", "lost "))):
+            return lines
+        lines.append(found.rstrip("\n"))
 
 
 def told_at_once(program, events, messages, places):
@@ -347,13 +333,13 @@ def made(program, seed):
         try:
             for number in range(EVENTS):
                 events.append(driver.choose(judge.links))
-                judge.event(events[-1], play.say(events[-1]))
+                judge.event(events[-1], lines_after(play, events[-1]))
                 if number % 20 == 19:
-                    judge.settle(play.say)
+                    judge.settle(functools.partial(lines_after, play))
             for node in "ab":
                 events.append(f"stop {node} 0 0")
-                judge.event(events[-1], play.say(events[-1]))
-            judge.settle(play.say)
+                judge.event(events[-1], lines_after(play, events[-1]))
+            judge.settle(functools.partial(lines_after, play))
         except Difference as difference:
             return events, str(difference), judge
     return events, None, judge
@@ -408,7 +394,4 @@ def main(program, count="50", first="1"):
 
 
 if __name__ == "__main__":
-    try:
-        main(*sys.argv[1:])
-    except Difference as difference:
-        sys.exit(f"random_plays: {difference}")
+    run_main("random_plays", main)

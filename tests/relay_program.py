@@ -1,4 +1,5 @@
-"""A relayd in a folder of its own, for tests: its configuration, its subcommands, and `serve` or `run` beside them."""
+"""A relayd in a folder of its own, for tests: its configuration, its subcommands, and `serve` or `run` beside them; a
+`relayd play` that goes on; shims of the C library's calls."""
 import contextlib
 import os
 import pathlib
@@ -7,7 +8,10 @@ import select
 import signal
 import socket
 import subprocess
+import sys
 import time
+
+HERE = pathlib.Path(__file__).resolve().parent
 
 # How long anything may take that ought to be over at once, in seconds.
 PATIENCE = 20
@@ -40,6 +44,27 @@ def until(what, holds, seconds=PATIENCE):
         time.sleep(0.01)
 
 
+def run_main(name, main):
+    """Calls a test's main function with the words of the command line. A difference ends it, by the test's name."""
+    try:
+        main(*sys.argv[1:])
+    except Difference as difference:
+        sys.exit(f"{name}: {difference}")
+
+
+def built(name, folder):
+    """Builds a shim of the C library's calls from its source beside this file, once in a folder: its library."""
+    library = pathlib.Path(folder) / f"{name}.so"
+    if not library.exists():
+        subprocess.run(["cc", "-shared", "-fPIC", "-O1", "-o", library, HERE / f"{name}.c"], check=True)
+    return library
+
+
+def preload(relay, folder, name, **environment):
+    """Runs a relay's programs with a shim before the C library from now on, which is built in this folder."""
+    relay.environment.update(LD_PRELOAD=str(built(name, folder)), **environment)
+
+
 def free_port():
     """A port of 127.0.0.1 that nobody listened on a moment ago, of those that the system doesn't choose by itself: so
     neither a connection nor a listener of another test has it a moment later."""
@@ -55,6 +80,36 @@ def is_listening(port):
     wanted = f"0100007F:{port:04X}"
     lines = pathlib.Path("/proc/net/tcp").read_text().splitlines()[1:]
     return any(line.split()[1] == wanted and line.split()[3] == "0A" for line in lines)
+
+
+class Play:
+    """A `relayd play` that goes on: each line is answered before the next is written."""
+
+    def __init__(self, program):
+        self.process = subprocess.Popen(
+            [program, "play"], stdin=subprocess.PIPE, stdout=subprocess.PIPE, text=True, bufsize=1)
+
+    def __enter__(self):
+        return self
+
+    def __exit__(self, *_):
+        self.process.stdin.close()
+        self.process.wait(PATIENCE)
+        self.process.stdout.close()
+
+    def tell(self, line):
+        """Writes a line, which stays in the buffer until an answer is read."""
+        self.process.stdin.write(line + "\n")
+
+    def answer(self):
+        """The next line that it prints, with its end; nothing if it has ended."""
+        self.process.stdin.flush()
+        return self.process.stdout.readline()
+
+    def say(self, line):
+        """Writes a line that is answered by one: the answer."""
+        self.tell(line)
+        return self.answer().rstrip("\n")
 
 
 class Relay:

@@ -13,8 +13,8 @@ import time
 
 sys.dont_write_bytecode = True
 
-from relay_program import PATIENCE, same, until
-from running_relay import HERE, Client, lines_of, number_of, play_rows, tokens_at
+from relay_program import PATIENCE, built, same, until
+from running_relay import Client, lines_of, number_of, play_rows, tokens_at
 
 # Once it gets ready, the numbers of the allocations that are refused are ever farther apart, by a part of them.
 PART = 50
@@ -75,9 +75,8 @@ def lost_of(relay, sink, answered):
 
 def an_allocation_that_is_refused_ends_one_connection_at_most(field):
     """Once it is ready, it goes on, and the next client is answered 250."""
-    mark, refuse = field.folder / "refused", field.folder / "refuse.so"
+    mark, refuse = field.folder / "refused", built("refuse_memory", field.folder)
     relay = field.relay(more={"relay.example": ("next.example", field.sink.port)})
-    subprocess.run(["cc", "-shared", "-fPIC", "-O1", "-o", refuse, HERE / "refuse_memory.c"], check=True)
     environment = {**os.environ, "REFUSED": str(mark), "LD_PRELOAD": str(refuse)}
     answered, tokens, number, met = {}, itertools.count(), 1, collections.Counter()
 

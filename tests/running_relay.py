@@ -13,10 +13,9 @@ import tempfile
 import threading
 import time
 
-from relay_program import Difference, PATIENCE, Relay, same
+from relay_program import Difference, PATIENCE, Relay, preload, same
 from smtp_sink import Listener, Sink
 
-HERE = pathlib.Path(__file__).resolve().parent
 # What has to be prompt may take so many times as long, since others may be at work on the machine.
 TIMES = float(os.environ.get("TIMES", "2"))
 # How much longer a reply may take beside others' work, and a message to a hop that is there, in seconds.
@@ -52,10 +51,8 @@ class Field:
 
 
 def shim(field, name, relay, **environment):
-    """Builds a shim of the C library's calls, under which the relay's programs run from now on."""
-    built = field.folder / f"{name}.so"
-    subprocess.run(["cc", "-shared", "-fPIC", "-O1", "-o", built, HERE / f"{name}.c"], check=True)
-    relay.environment.update(LD_PRELOAD=str(built), **environment)
+    """Runs the relay's programs with a shim before the C library from now on."""
+    preload(relay, field.folder, name, **environment)
 
 
 class Clocks:

@@ -13,9 +13,7 @@ import tempfile
 
 sys.dont_write_bytecode = True
 
-from relay_program import Difference, PATIENCE, same
-
-HERE = pathlib.Path(__file__).resolve().parent
+from relay_program import HERE, Difference, PATIENCE, built, same
 
 # A client's first dialogue, and the relay's lines in it.
 STORED = HERE.parent / "crates" / "relayd"
@@ -26,9 +24,7 @@ class Program:
     """The program, whose standard streams are narrow where that is asked for."""
 
     def __init__(self, relayd, folder):
-        self.relayd, self.shim, self.input = relayd, folder / "narrow_streams.so", folder / "input"
-        source = HERE / "narrow_streams.c"
-        subprocess.run(["cc", "-shared", "-fPIC", "-O1", "-o", self.shim, source], check=True)
+        self.relayd, self.shim, self.input = relayd, built("narrow_streams", folder), folder / "input"
 
     def run(self, words, octets, **environment):
         """The status, what was written to either stream, and what of the input was left."""

@@ -20,7 +20,7 @@ import sys
 sys.dont_write_bytecode = True
 
 from random_plays import judged, nodes_of
-from relay_program import Difference, same
+from relay_program import Difference, run_main, same
 
 PLAYS = pathlib.Path(__file__).resolve().parent.parent / "docs" / "plays"
 FEW_PICKS = [0, 1]
@@ -81,7 +81,4 @@ def main(program, which=""):
 
 
 if __name__ == "__main__":
-    try:
-        main(*sys.argv[1:])
-    except Difference as difference:
-        sys.exit(f"stops_in_plays: {difference}")
+    run_main("stops_in_plays", main)

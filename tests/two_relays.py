@@ -23,7 +23,7 @@ sys.dont_write_bytecode = True
 
 from mail_checks import CONTENT, CONTENTS, FAILED, behind_mark, connected, converse, fields, hand_in, one_message
 from mail_checks import read_report, talk
-from relay_program import Difference, LOCKED, PATIENCE, Relay, free_port, same
+from relay_program import Difference, LOCKED, Relay, free_port, preload, same
 from smtp_sink import Manners, Sink
 
 HERE = pathlib.Path(__file__).resolve().parent
@@ -41,16 +41,9 @@ class Field:
     def new_relay(self, name, routes, **more):
         return Relay(self.program, self.folder / name, routes, **more)
 
-    def preload(self, relay, shim, **environment):
-        """Lets the relay run with a shim of this folder before the C library."""
-        built = self.folder / f"{shim}.so"
-        if not built.exists():
-            subprocess.run(["cc", "-shared", "-fPIC", "-O1", "-o", built, HERE / f"{shim}.c"], check=True)
-        relay.environment.update(LD_PRELOAD=str(built), **environment)
-
     def later(self, relay, seconds):
         """Sets the relay's clock forward; not for `list`, which knows no clock."""
-        self.preload(relay, "later_clock", LATER=str(seconds))
+        preload(relay, self.folder, "later_clock", LATER=str(seconds))
 
     def close(self):
         self.sink.close()
@@ -442,7 +435,7 @@ def a_sender_who_asked_hears_once_that_mail_is_late(field):
 
 def a_silent_peer_is_given_up(field):
     waits = field.folder / "waits"
-    field.preload(field.relay, "shorter_waits", WAITS=str(waits))
+    preload(field.relay, field.folder, "shorter_waits", WAITS=str(waits))
     with field.relay.serving() as lines, connected(field.relay) as link:
         begun = time.monotonic()
         while link.recv(1000):
@@ -462,7 +455,7 @@ def a_silent_peer_is_given_up(field):
 
 
 def a_hop_that_is_silent_is_tried_once_a_push(field):
-    field.preload(field.relay, "shorter_waits")
+    preload(field.relay, field.folder, "shorter_waits")
     port, log = field.sink.port, []
     field.sink.close()
     with field.relay.serving("--rounds", "2", log=log) as lines:
@@ -473,7 +466,7 @@ def a_hop_that_is_silent_is_tried_once_a_push(field):
          [recipient(field, number, "b", "deferred", 'reason="connection refused"', port) for number in (1, 3)])
     # A next hop that takes connections and doesn't greet is waited for once, and the other message isn't tried.
     with socket.create_server(("127.0.0.1", port)) as silent:
-        field.preload(field.relay, "shorter_waits", LATER="1900")
+        preload(field.relay, field.folder, "shorter_waits", LATER="1900")
         same("push", field.relay.logged("push"), (
             ["1 next.example lost", "3 next.example lost"],
             [recipient(field, number, "b", "deferred", "reason=timeout", port) for number in (1, 3)]))

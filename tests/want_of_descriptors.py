@@ -14,10 +14,8 @@ import time
 sys.dont_write_bytecode = True
 
 from mail_checks import connected, hand_in, one_message
-from relay_program import Difference, PATIENCE, Relay, same
+from relay_program import Difference, PATIENCE, Relay, preload, same
 from smtp_sink import Sink
-
-HERE = pathlib.Path(__file__).resolve().parent
 
 # The standard streams, the spool's two files and the listener.
 HELD_BY_SERVE = 6
@@ -29,14 +27,12 @@ WAITS = [100, 200, 400, 800] + [1000] * 59
 class Field:
     def __init__(self, program, folder):
         self.program, self.folder, self.sink = program, folder, Sink()
-        self.shim, self.sleeps = folder / "fewer_descriptors.so", folder / "sleeps"
-        source = HERE / "fewer_descriptors.c"
-        subprocess.run(["cc", "-shared", "-fPIC", "-O1", "-o", self.shim, source], check=True)
+        self.sleeps = folder / "sleeps"
 
     def relay(self, name, **environment):
         relay = Relay(self.program, self.folder / name, {"example.org": ("next.example", self.sink.port)})
         relay.run("init")
-        relay.environment.update(LD_PRELOAD=str(self.shim), SLEEPS=str(self.sleeps), **environment)
+        preload(relay, self.folder, "fewer_descriptors", SLEEPS=str(self.sleeps), **environment)
         return relay
 
     def slept(self):

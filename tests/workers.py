@@ -8,27 +8,17 @@ import contextlib
 import pathlib
 import select
 import socket
-import subprocess
 import sys
 import tempfile
 
 sys.dont_write_bytecode = True
 
 from mail_checks import connected, talk
-from relay_program import Difference, Relay, same
+from relay_program import Difference, Relay, preload, same
 from smtp_sink import Sink
 
-HERE = pathlib.Path(__file__).resolve().parent
 GROUP = [b"EHLO x\r\n", b"MAIL FROM:<a@example.org>\r\n", b"RCPT TO:<b@example.org>\r\n", b"DATA\r\n"]
 TEXT = b"Subject: side by side\r\n\r\ntext\r\n.\r\n"
-
-
-def preload(relay, folder, shim, **environment):
-    """Lets the relay run with a shim of this folder before the C library."""
-    built = folder / f"{shim}.so"
-    if not built.exists():
-        subprocess.run(["cc", "-shared", "-fPIC", "-O1", "-o", built, HERE / f"{shim}.c"], check=True)
-    relay.environment.update(LD_PRELOAD=str(built), **environment)
 
 
 def new_relay(program, folder, sink, **limits):
