@@ -1,9 +1,10 @@
 -- What is known of a balancer's connection, as more of its header comes.
-use Rattle.std.proofs.Common.{◌≡◌, ◌≢◌, ◌⊎◌, inl, inr, ◌<◌, ◌≤◌, ℕ, List, ◌++◌, Option, None, Some, Box, refl, sym, ap, ◌∙◌, subst, arith}
+use Rattle.std.proofs.Common.{◌≡◌, ◌≢◌, ◌⊎◌, inl, inr, ◌+◌, ◌<◌, ◌≤◌, ℕ, min, List, ◌++◌, Option, None, Some, Box, refl, sym, ap, ◌∙◌, subst, arith}
+use Rattle.std.proofs.Math.Nat.{eq-or-lt_of_le}
 use Rattle.std.specs.Global.{Global}
 use Rattle.std.specs.Io.KnownBytes.{Consumes}
 use Rattle.std.specs.declared.net.socket_addr.SocketAddrV4.{SocketAddrV4}
-use Rattle.relay_connections.specs.Arrivals.{ClientsFollowHeaders, HasArrived, HasLeft, IsFault, MayReadOn, OneLeaves, ReadsAreOne, ReadsOn, WaitsOn}
+use Rattle.relay_connections.specs.Arrivals.{ClientsFollowHeaders, HasArrived, HasLeft, IsDueAt, IsFault, MayReadOn, OneLeaves, ReadsAreOne, ReadsOn, WaitsOn, Within}
 use Rattle.relay_connections.specs.HeaderFront.{Comes, IsPeer}
 use Rattle.relay_connections.specs.declared.arrival.Arrival.{Arrival}
 use Rattle.relay_connections.specs.declared.arrival.Arrived.{Arrived}
@@ -12,6 +13,31 @@ use Rattle.relay_slots.specs.Slots.{OthersStay, slot_at}
 use Rattle.relay_log.specs.declared.client_line.HeaderFault.{HeaderFault}
 use Rattle.relay_connections.proofs.HeaderFrontLemmas.{comes_on, comes_still}
 use Rattle.relay_connections.proofs.LeftLemmas.{below_or_behind}
+
+-- a slot in which nothing stands has no deadline
+pub within_none : {S : Type 0} (tick : ℕ) (slot : Option (Box (Arrival S) Global)) → ((arrival : Box (Arrival S) Global) → slot ≡ Some arrival → ⊥) → Within tick slot
+within_none tick None not = tt
+within_none tick (Some arrival) not = absurd (not arrival refl)
+
+-- The next deadline of connections, one slot after another.
+module _ {S : Type 0} (arrivals : List (Option (Box (Arrival S) Global))) where
+  within_sooner : (tick sooner : ℕ) (slot : Option (Box (Arrival S) Global)) → sooner ≤ tick → Within tick slot → Within sooner slot
+  within_sooner tick sooner None below within = tt
+  within_sooner tick sooner (Some arrival) below within = omega (arith, below, within)
+
+  pub within_more : (tick sooner number : ℕ) → sooner ≤ tick → ((other : ℕ) → other < number → Within tick (slot_at arrivals other)) → Within sooner (slot_at arrivals number)
+      → (other : ℕ) → other < number + 1 → Within sooner (slot_at arrivals other)
+  within_more tick sooner number below before here other low = by (eq-or-lt_of_le (omega (arith, low))) where
+    by : (other ≡ number) ⊎ (other < number) → Within sooner (slot_at arrivals other)
+    by (inl same) = subst (λ (at : ℕ). Within sooner (slot_at arrivals at)) (sym same) here
+    by (inr less) = within_sooner tick sooner (slot_at arrivals other) below (before other less)
+
+  pub due_more : (otherwise tick sooner number : ℕ) (arrival : Box (Arrival S) Global) → slot_at arrivals number ≡ Some arrival → sooner ≡ min tick arrival.value.deadline
+      → (tick ≡ otherwise) ⊎ IsDueAt tick arrivals → (sooner ≡ otherwise) ⊎ IsDueAt sooner arrivals
+  due_more otherwise tick sooner number arrival there is before = by (below_or_behind tick arrival.value.deadline) where
+    by : (tick < arrival.value.deadline) ⊎ (arrival.value.deadline ≤ tick) → (sooner ≡ otherwise) ⊎ IsDueAt sooner arrivals
+    by (inl less) = subst (λ (at : ℕ). (at ≡ otherwise) ⊎ IsDueAt at arrivals) (omega (arith, is, less)) before
+    by (inr past) = inr (record { number = number; arrival = arrival; there = there; due = omega (arith, is, past) })
 
 module _ {S : Type 0} (remaining contents : S → Option (List ℕ)) where
   pub reads_on_still : (arrival : Arrival S) → ReadsOn remaining contents arrival arrival

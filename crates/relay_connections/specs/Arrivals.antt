@@ -61,6 +61,13 @@ abbrev pub Within : {S : Type 0} → ℕ → Option (Box (Arrival S) Global) →
 Within tick None = Unit {0}
 Within tick (Some arrival) = tick ≤ arrival.value.deadline
 
+-- one of them is closed at this tick, if its header isn't whole before
+pub record IsDueAt {S : Type 0} (tick : ℕ) (arrivals : List (Option (Box (Arrival S) Global))) : Type 0 where
+  pub number : ℕ
+  pub arrival : Box (Arrival S) Global
+  pub there : slot_at arrivals number ≡ Some arrival
+  pub due : arrival.value.deadline ≡ tick
+
 -- a connection of which octets may be read at once
 pub record IsReadable {S : Type 0} (arrivals : List (Option (Box (Arrival S) Global))) (number : ℕ) : Type 0 where
   pub arrival : Box (Arrival S) Global

@@ -1,8 +1,8 @@
 //! Connections of balancers, which begin with a header of the PROXY protocol: those whose header isn't whole yet.
-ghost use Rattle.std.specs.Prelude.{◌≡◌, ◌≤◌, ◌<◌, ◌↔◌, ℕ, None, IfOk, IsTrue};
+ghost use Rattle.std.specs.Prelude.{◌≡◌, ◌≤◌, ◌<◌, ◌↔◌, ◌⊎◌, ℕ, None, IfOk, IsTrue};
 ghost use Rattle.relay_slots.specs.Slots.{AreFree, OthersStay, slot_at};
 ghost use Rattle.relay_slots.specs.declared.slots.TheConstants.{SLOT_COUNT};
-ghost use Rattle.relay_connections.specs.Arrivals.{GivesNext, IsNotedSlot, IsOneReadable, IsReadOne, Takes, Within};
+ghost use Rattle.relay_connections.specs.Arrivals.{GivesNext, IsDueAt, IsNotedSlot, IsOneReadable, IsReadOne, Takes, Within};
 ghost use Rattle.relay_connections.specs.Arrivals.{arrivals_of};
 
 use crate::arrival::{Arrival, Arrived, Progress};
@@ -155,6 +155,7 @@ impl<S: Stream + Drop> Arrivals<S> {
     pub fn next_deadline(&self, otherwise: u64) -> u64
         ensures within { result ≤ otherwise }
         ensures each { (number : ℕ) → Within result (slot_at (arrivals_of self.now) number) }
+        ensures one { (result ≡ otherwise) ⊎ IsDueAt result (arrivals_of self.now) }
     {
         let mut next = otherwise;
         for slot in self.arrivals.standing() {
