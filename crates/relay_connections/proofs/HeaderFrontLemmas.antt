@@ -8,7 +8,6 @@ use Rattle.relay_proxy.specs.Header.{IsBegun, IsFound, IsHeader, IsNone, IsUnfin
 use Rattle.relay_proxy.specs.declared.header.Header.{Header}
 use Rattle.relay_proxy.specs.declared.header.Reading.{Reading}
 use Rattle.relay_proxy.specs.declared.header.Reading.TheVariants.{Found, Unfinished, Missing}
-use Rattle.relay_proxy.specs.declared.source.Source.{Source}
 use Rattle.relay_proxy.proofs.Theorems.{header_is_all, header_is_finished}
 use Rattle.relay_connections.specs.HeaderFront.{Comes, HasNothingAfter, IsNoHeader, ReadsWhole}
 use Rattle.relay_connections.proofs.KnownLemmas.{consumes_none, keeps_same}
