@@ -8,6 +8,7 @@ ghost use Rattle.relay_limits.specs.declared.limit.Limit.{Limit};
 ghost use Rattle.relay_routes.specs.Network.{is_in};
 
 use crate::limit::Limit;
+use crate::limits::member;
 use relay_routes::{Network, read_networks};
 use std::alloc::{AllocError, Global};
 use std::marker::Model;
@@ -54,7 +55,7 @@ impl Balancers {
     pub fn of_document(alloc: Global, document: &toml::Table) -> Result<Option<Self>, AllocError>
         ensures { IfOk result (ReadsBalancers (value_of Limit.Balancers (table_view document.now))) }
     {
-        let Some(value) = document.get(Limit::Balancers.text()) else {
+        let Some(value) = member(document, Limit::Balancers) else {
             return Ok(Some(Balancers::none(alloc)));
         };
         let Value::Array(values) = value else {

@@ -102,7 +102,7 @@ fn read_log_form(document: &toml::Table) -> Result<LogForm, Limit>
 }
 
 /// The value of a limit's key.
-fn member(document: &toml::Table, limit: Limit) -> Option<&Value>
+pub(crate) fn member(document: &toml::Table, limit: Limit) -> Option<&Value>
     ensures { value_of limit (table_view document.now) ≡ option_map (λ value. view value.now) result }
 {
     document.get(limit.text())

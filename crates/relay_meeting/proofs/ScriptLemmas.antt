@@ -239,11 +239,11 @@ last_script setup client errand envelope true is e =
     content_script setup client errand envelope (ends_in_line_end errand.text) is e refl
 last_script setup client errand envelope false is e = quits setup (Open client envelope)
 
-with_tried-length : (envelope : Envelope) (recipient : Recipient) (goes : Bool)
-    → length (with_tried envelope (record { recipient = recipient; goes = goes })).recipients ≤ length envelope.recipients
-    + 1
-with_tried-length envelope recipient true = omega (arith, length-append envelope.recipients (recipient ∷ []))
-with_tried-length envelope recipient false = omega arith
+with_tried-length : (envelope : Envelope) (recipient : Recipient) (routed goes : Bool)
+    → length (with_tried envelope (record { recipient = recipient; routed = routed; goes = goes })).recipients
+    ≤ length envelope.recipients + 1
+with_tried-length envelope recipient routed true = omega (arith, length-append envelope.recipients (recipient ∷ []))
+with_tried-length envelope recipient routed false = omega arith
 
 rcpt_script : (setup : Setup) (client : Client) (errand : Errand) (recipients : List Recipient) (places : List ℕ)
     (tried : List Tried) (envelope : Envelope) → IsErrand errand → AreTried setup recipients places tried
@@ -256,7 +256,7 @@ rcpt_script setup client errand recipients (place ∷ places) [] envelope is all
 rcpt_script setup client errand recipients (place ∷ places) (tried ∷ more) envelope is all few = (
   rcpt_comes setup client envelope tried all.1 (omega arith),
   rcpt_script setup client errand recipients places more (with_tried envelope tried) is all.2
-      (let n = with_tried-length envelope tried.recipient tried.goes in omega arith),
+      (let n = with_tried-length envelope tried.recipient tried.routed tried.goes in omega arith),
 )
 
 pub script_is_servers : ScriptIsServers

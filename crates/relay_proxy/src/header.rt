@@ -5,7 +5,7 @@ ghost use Rattle.relay_proxy.specs.Header.{Reads, least_left};
 ghost use Rattle.relay_proxy.specs.HeaderLine.{line_word};
 
 use crate::block::{SIGNATURE, read_block};
-use crate::front::{begins, after};
+use crate::front::{after, begins};
 use crate::line::{WORD, read_line};
 use crate::source::Source;
 

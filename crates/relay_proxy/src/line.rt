@@ -4,7 +4,7 @@ ghost use Rattle.relay_octets.specs.Beginning.{Begins};
 ghost use Rattle.relay_proxy.specs.Header.{Reads};
 ghost use Rattle.relay_proxy.specs.HeaderLine.{HasNoClient, HasNoSource, SaysOfLine, WritesClient, line_word};
 
-use crate::front::{begins, after};
+use crate::front::{after, begins};
 use crate::header::{Header, Reading, least_left};
 use crate::source::Source;
 use crate::word::{read_address, read_port, read_port_word};
