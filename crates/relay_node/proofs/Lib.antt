@@ -9,6 +9,7 @@ mod SeatLemmas
 mod StageLemmas
 mod AttemptLemmas
 mod CompactionLemmas
+mod EmptyLemmas
 mod ReplyLemmas
 mod ReplyIntoLemmas
 mod AdmitLemmas
