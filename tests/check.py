@@ -29,6 +29,9 @@ NO_ROUTES = "warning: no routes: each recipient is refused; add a line for each 
 NO_POSTMASTER = ("warning: no route for the relay's own name: mail to its postmaster is refused (RFC 5321, 4.5.1); "
                 "add a route for host")
 
+ROUTED = ("warning: user%b.example@a.example is taken for a.example: a hop that trusts this relay may send it on to "
+          'b.example; write routed_paths = "refuse"')
+
 
 def run(program, *words):
     return subprocess.run([program, *words], capture_output=True, text=True, timeout=60)
@@ -193,6 +196,10 @@ def what_is_risky_is_a_warning(program):
     passed(program, far + f'trusted_clients = ["0.0.0.0/0"]\n[routes]\n"*" = {HOP}\n', [
         *UNREAD, "6:1: warning: route * takes mail for every domain from everybody who can reach 0.0.0.0:2525: name "
         "your hosts in trusted_clients"])
+    passed(program, far + ROUTES, [*UNREAD, f"4:1: {ROUTED}"])
+    passed(program, far + 'routed_paths = "pass"\n' + ROUTES, [*UNREAD, f"4:1: {ROUTED}"])
+    passed(program, far + 'routed_paths = "refuse"\n' + ROUTES, UNREAD)
+    passed(program, far + f'trusted_clients = ["192.0.2.0/24"]\n{ROUTES}"*" = {HOP}\n', [*UNREAD, f"5:1: {ROUTED}"])
     passed(program, HEAD + ROUTES + f'".example.net" = {HOP}\n', [
         *UNREAD, "7:1: warning: route .example.net begins with a period: a route is for one domain and for none below "
         "it; write each of them"])
@@ -201,8 +208,9 @@ def what_is_risky_is_a_warning(program):
 def a_route_to_the_relay_itself_is_a_warning(program):
     for listen, at in (("127.0.0.1:2525", "127.0.0.1:2525"), ("0.0.0.0:2525", "127.0.0.2:2525")):
         route = f'"a.example" = {{ name = "a", at = "{at}" }}\n'
-        passed(program, HEAD.replace("127.0.0.1:2525", listen) + ROUTES + route,
-              [*UNREAD, f"7:1: warning: route a.example leads to this relay's own address {at}: its mail goes round; "
+        guard = 'routed_paths = "refuse"\n'
+        passed(program, HEAD.replace("127.0.0.1:2525", listen) + guard + ROUTES + route,
+              [*UNREAD, f"8:1: warning: route a.example leads to this relay's own address {at}: its mail goes round; "
                "write another host's address"])
     passed(program, HEAD.replace("127.0.0.1:2525", "127.0.0.1:2524") + ROUTES
           + '"a.example" = { name = "a", at = "127.0.0.1:2525" }\n', UNREAD)

@@ -4,7 +4,7 @@ use crate::findings::Findings;
 use crate::networks::{TRUSTED_CLIENTS, are_everybody, networks_of};
 use crate::position::Place;
 use relay_disk::FileDisk;
-use relay_routes::Config;
+use relay_routes::{Config, RoutedPaths};
 use std::alloc::{AllocError, Global};
 use std::fs::File;
 use std::net::SocketAddrV4;
@@ -22,6 +22,7 @@ pub(crate) fn check_risks<F: Files<File = File>>(
     check_sizes(alloc, config, findings)?;
     if let Some(routes) = routes_of(document) {
         check_reach(alloc, config, document, routes, findings)?;
+        check_routed_paths(alloc, config, document, routes, findings)?;
         check_loops(alloc, config, routes, findings)?;
     }
     let second = format!(in alloc; "{}.2", config.spool.as_str())?;
@@ -79,19 +80,57 @@ fn check_openness(
     document: &Table,
     findings: &mut Findings<'_>,
 ) -> Result<(), AllocError> {
-    if config.listen.ip().is_loopback() {
+    if config.listen.ip().is_loopback() || !trusts_everybody(document) {
         return Ok(());
-    }
-    if let Some(networks) = networks_of(document, TRUSTED_CLIENTS) {
-        if !are_everybody(networks) {
-            return Ok(());
-        }
     }
     let message = format!(in alloc;
         "route * takes mail for every domain from everybody who can reach {}: name your hosts in trusted_clients",
         config.listen
     )?;
     findings.warning(Place::Route("*"), message)
+}
+
+/// Finds a relay that takes mail for named domains alone, but may have it sent on to any other by a routed address.
+fn check_routed_paths(
+    alloc: Global,
+    config: &Config,
+    document: &Table,
+    routes: &Table,
+    findings: &mut Findings<'_>,
+) -> Result<(), AllocError> {
+    if config.routed_paths == RoutedPaths::Refuse
+        || config.listen.ip().is_loopback()
+        || !is_guarded(document, routes)
+    {
+        return Ok(());
+    }
+    let place = if document.contains_key("routed_paths") {
+        "routed_paths"
+    } else {
+        "routes"
+    };
+    let message = format!(in alloc;
+        "user%b.example@a.example is taken for a.example: a hop that trusts this relay may send it on to b.example; \
+        write routed_paths = \"refuse\""
+    )?;
+    findings.warning(Place::Key(place), message)
+}
+
+/// Whether some clients may send to named domains, and to no other.
+fn is_guarded(document: &Table, routes: &Table) -> bool {
+    if routes.contains_key("*") {
+        routes.len() > 1 && !trusts_everybody(document)
+    } else {
+        !routes.is_empty()
+    }
+}
+
+/// Whether every client may send to every route.
+fn trusts_everybody(document: &Table) -> bool {
+    match networks_of(document, TRUSTED_CLIENTS) {
+        Some(networks) => are_everybody(networks),
+        None => true,
+    }
 }
 
 /// Finds routes that lead to the relay itself.
