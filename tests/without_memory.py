@@ -4,7 +4,7 @@ names, and each of these comes. It ends at the first difference.
 
     tests/without_memory.py sessions build/relayd
     tests/without_memory.py books crates/relay_rows_tests/out/relay_rows_tests
-    tests/without_memory.py nodes|rounds|groups crates/relay_node_tests/out/relay_node_tests
+    tests/without_memory.py nodes crates/relay_node_tests/out/relay_node_tests
 
 - sessions: three dialogues. All goes well all the same; or the program says so, ends with status 1, and has written a
   prefix of the replies. A disk in memory that can't grow is a device that failed.
@@ -15,15 +15,7 @@ names, and each of these comes. It ends at the first difference.
   status 1; or the call that met the refusal is answered so, its session or attempt is gone, no change was made for it,
   and what is done after it comes as if nothing had been; or the disk couldn't grow, which counts as a device that
   failed, and the node is stopped.
-- rounds: a small round of two links, each with two messages; each thread is refused too. Memory ran out where no round
-  ran; or the round didn't begin, and its links are there; or it ended, and the program has seen that the receipts
-  agree with the node, that each link has a receipt for each message that it answered as queued, and for one more at
-  most where it ended by a fault, and that a link without a thread has written nothing.
-- groups: a relay with three messages at once. Memory ran out before or after that; or there was none for the answers;
-  or the disk couldn't grow, and the node is stopped; or each message was queued, and its client told so, or its
-  connection is gone, and as many changes were made as were queued, each with its note: the program has looked at that.
 """
-import collections
 import pathlib
 import re
 import subprocess
@@ -91,38 +83,6 @@ def books(program, folder):
         refused += run.was_refused
     same("whether a change was applied again", answered > 0, True)
     yield f"{refused} allocations refused in turn, and after {answered} of them all rows came out"
-
-
-def line_of(run, told):
-    """The line that a run printed; `none` for one that memory ended before, of which it may tell nothing."""
-    if run.status == 0:
-        return run.out.rstrip("\n")
-    same(f"without allocation {run.number}", (run.status, run.out, [word for word in told if word in run.errors]),
-         (1, "", []))
-    return "none"
-
-
-def groups(program, folder):
-    same("with all its memory", printed(program, "three"), "3 of 3 queued\n")
-    met = outcomes_without([program, "three"], folder, lambda run: line_of(run, ["otherwise"]))
-    for outcome in ("none", "not begun", "stopped", "2 of 3 queued"):
-        same(f"whether one was refused with: {outcome}", met[outcome] > 0, True)
-    yield f"three messages at once: {counted(met)}"
-
-
-def rounds(program, folder):
-    same("with all its memory", printed(program, "small"), "2 links ended well, 0 had no thread\n")
-
-    def line(run):
-        return line_of(run, ["otherwise", "gone"])
-
-    met = outcomes_without([program, "small"], folder, line)
-    for outcome in ("none", "not begun", "1 links ended well, 0 had no thread", "0 links ended well, 0 had no thread"):
-        same(f"whether one was refused with: {outcome}", met[outcome] > 0, True)
-    yield f"a round, by allocations: {counted(met)}"
-    met = outcomes_without([program, "small"], folder, line, "refuse_threads")
-    same("by threads", met, collections.Counter({"1 links ended well, 1 had no thread": 2}))
-    yield f"a round, by threads: {counted(met)}"
 
 
 # What the program of a node prints, line by line.
@@ -264,7 +224,7 @@ def nodes(program, folder):
         yield f"{word}: {sum(met.values())} allocations refused in turn: {counted(met)}"
 
 
-CASES = {case.__name__: case for case in (sessions, books, nodes, rounds, groups)}
+CASES = {case.__name__: case for case in (sessions, books, nodes)}
 
 
 def main(name, program):

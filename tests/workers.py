@@ -6,6 +6,7 @@ threads that aren't given. It ends at the first difference.
 """
 import contextlib
 import pathlib
+import re
 import select
 import socket
 import sys
@@ -14,7 +15,7 @@ import tempfile
 sys.dont_write_bytecode = True
 
 from mail_checks import connected, talk
-from relay_program import Difference, Relay, preload, same
+from relay_program import PATIENCE, Difference, Relay, preload, same
 from smtp_sink import Sink
 
 GROUP = [b"EHLO x\r\n", b"MAIL FROM:<a@example.org>\r\n", b"RCPT TO:<b@example.org>\r\n", b"DATA\r\n"]
@@ -39,6 +40,12 @@ def is_silent(link, seconds=0):
     return not select.select([link], [], [], seconds)[0]
 
 
+def said_last(link, part):
+    """The reply to a part that is sent on a connection whose other replies were read."""
+    link.sendall(part)
+    return link.makefile("rb").readline().decode().rstrip("\r\n")
+
+
 def number_of(reply):
     if not reply.startswith("250 queued as "):
         raise Difference(f"a message is answered {reply}")
@@ -56,6 +63,16 @@ def log_line(link_name, octets, messages, reason="closed"):
     return f"relayd: client-end client={link_name} messages={messages} rejected=0 octets={octets} reason={reason}"
 
 
+def mail_of(count):
+    """What a client says without waiting that gives so many messages."""
+    return b"HELO x\r\n" + b"".join([*GROUP[1:], TEXT]) * count + b"QUIT\r\n"
+
+
+def numbers_in(replies):
+    """The numbers that these replies to a client say, in order."""
+    return [int(it) for it in re.findall(rb"(?m)^250 queued as (\d+)\r$", replies)]
+
+
 # The rows. Each says in its name what holds.
 
 
@@ -69,6 +86,70 @@ def nobody_is_greeted_before_all_have_come(program, folder, sink):
             same("the first", number_of(talk(first, *GROUP, TEXT)), 2)
     same("the lines of serve", lines, ["1 next.example ended", "2 next.example ended"])
     sink.take_all()
+
+
+def two_that_wait_for_each_other_are_answered(program, folder, sink):
+    relay = new_relay(program, folder, sink)
+    with relay.serving("--workers", "2") as lines, clients_of(relay, 2) as links:
+        for link in links:
+            same("what the text is asked for by", talk(link, *GROUP), "354 end with a line of one period")
+        same("the replies", [said_last(link, TEXT) for link in links], ["250 queued as 1", "250 queued as 2"])
+    same("the lines of serve", lines, ["1 next.example ended", "2 next.example ended"])
+    sink.take_all()
+
+
+# How many rounds, workers, and messages of each; the limits, and how many messages are queued, and how many are not for
+# want of room. It doesn't depend on the order of the threads.
+ROUNDS = [
+    (1, 1, 1, {}, 1, 0),
+    (25, 4, 1, {}, 100, 0),
+    (1, 4, 25, {}, 100, 0),
+    (1, 64, 2, {}, 128, 0),
+    (1, 2, 1, {"max_content": 1024, "spool_limit": 300}, 1, 1),
+    (1, 8, 3, {"max_content": 1024, "spool_limit": 300}, 1, 23),
+]
+
+
+def rounds_take_what_there_is_room_for(program, folder, sink):
+    """Each message has a number of its own, from 1 on; those of each client rise. After its round each is handed on,
+    which takes a number too."""
+    for place, (rounds, workers, messages, limits, queued, full) in enumerate(ROUNDS):
+        relay = new_relay(program, folder / str(place), sink, **limits)
+        replies = []
+        with relay.serving("--workers", str(workers), "--rounds", str(rounds)) as lines:
+            for _ in range(rounds):
+                with clients_of(relay, workers) as links:
+                    for link in links:
+                        link.sendall(mail_of(messages))
+                    replies += [ended_as(link) for link in links]
+        numbers = [numbers_in(it) for it in replies]
+        same(f"round {place}: numbers of each client rise", numbers, [sorted(it) for it in numbers])
+        each = queued // rounds
+        wanted = [2 * each * turn + number for turn in range(rounds) for number in range(1, each + 1)]
+        same(f"round {place}: numbers", sorted(sum(numbers, [])), wanted)
+        same(f"round {place}: refused", sum(it.count(b"\r\n452 spool full\r\n") for it in replies), full)
+        same(f"round {place}: ended well", [it[-15:] for it in replies], [b"ample closing\r\n"] * rounds * workers)
+        same(f"round {place}: lines", lines, [f"{it} next.example ended" for it in wanted])
+        same(f"round {place}: list", relay.held(), [])
+        same(f"round {place}: at the sink", len(sink.take_all()), queued)
+
+
+def a_device_that_fails_ends_the_service(program, folder, sink):
+    """The first write of an append fails, and in another run its last, which opens its gate: nothing is queued."""
+    for number in ("1", "2"):
+        relay = new_relay(program, folder / number, sink)
+        plain = dict(relay.environment)
+        preload(relay, folder, "device_calls", CALLS=str(folder / "calls"), FULL_WRITE=number)
+        process = relay.start("--workers", "2")
+        with clients_of(relay, 2) as links:
+            for link in links:
+                link.sendall(mail_of(1))
+            replies = [ended_as(link) for link in links]
+        same("the numbers", [numbers_in(it) for it in replies], [[], []])
+        out, errors = process.communicate(timeout=PATIENCE)
+        same("what serve prints", (process.returncode, out, errors.splitlines()[:1]), (1, b"", [b"relayd: device"]))
+        relay.environment = plain
+        same("list", relay.held(), [])
 
 
 def each_of_64_has_its_reply_whatever_the_others_do(program, folder, sink):
@@ -136,6 +217,9 @@ def numbers_of_workers_are_looked_at(program, folder, sink):
 
 ROWS = [
     nobody_is_greeted_before_all_have_come,
+    two_that_wait_for_each_other_are_answered,
+    rounds_take_what_there_is_room_for,
+    a_device_that_fails_ends_the_service,
     each_of_64_has_its_reply_whatever_the_others_do,
     a_full_spool_takes_one_of_two,
     a_client_without_a_thread_hears_nothing,

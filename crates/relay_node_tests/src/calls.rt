@@ -21,6 +21,9 @@ pub type Refused = NotOpened<MemoryDisk>;
 /// The limit of a spool, in octets, where no other one is set.
 pub const SPOOL_LIMIT: u64 = 67_108_864;
 
+/// The line of keys that sets it.
+pub const KEYS: &str = "spool_limit = 67108864";
+
 /// A table of routes: a domain, and the name of its hop.
 pub const TABLE: &str = "example.org next.example";
 
@@ -84,14 +87,6 @@ pub fn config_with(alloc: Global, limit: u64) -> Result<Config, Fail> {
     config_of(alloc, limit.as_str(), TABLE)
 }
 
-/// A node without changes, of this configuration.
-pub fn node_of(alloc: Global, config: Config) -> Result<MemoryNode, Fail> {
-    match create(alloc, config) {
-        Ok(node) => Ok(node),
-        Err(_) => Err(Fail::new("not created")),
-    }
-}
-
 /// A node without changes, of the usual configuration.
 pub fn empty_node(alloc: Global) -> Result<MemoryNode, Fail> {
     empty_node_with(alloc, SPOOL_LIMIT, None)
@@ -99,7 +94,9 @@ pub fn empty_node(alloc: Global) -> Result<MemoryNode, Fail> {
 
 /// A node without changes, with this limit of its spool, whose device takes so many calls and no more, if that is said.
 pub fn empty_node_with(alloc: Global, limit: u64, calls: Option<u64>) -> Result<MemoryNode, Fail> {
-    let mut node = node_of(alloc, config_with(alloc, limit)?)?;
+    let Ok(mut node) = create(alloc, config_with(alloc, limit)?) else {
+        return Err(Fail::new("not created"));
+    };
     if let Some(calls) = calls {
         node.fuse(calls);
     }

@@ -1,8 +1,7 @@
-//! Other clients, which are there beside those of a scenario or a dialogue and change nothing of what comes of it.
+//! Other clients, which are there beside those of a scenario and change nothing of what comes of it.
 use crate::calls::{MemoryNode, connect, end, receive};
 use crate::scene::Scene;
 use relay_node::NodeFault;
-use relay_trace::Moment;
 
 /// What each of them says: a transaction, and some of its mail data.
 const WORDS: &[u8] =
@@ -10,18 +9,6 @@ const WORDS: &[u8] =
 
 /// The most sessions of a node.
 const SESSION_LIMIT: usize = 64;
-
-/// Lets other clients take all places that are left, and say something.
-pub fn fill(node: &mut MemoryNode, now: Moment) -> Result<(), NodeFault> {
-    for _ in 0..SESSION_LIMIT {
-        match connect(node) {
-            Ok(connected) => drop(receive(node, connected.session, WORDS, now)?),
-            Err(NodeFault::TooMany) => return Ok(()),
-            Err(fault) => return Err(fault),
-        }
-    }
-    Ok(())
-}
 
 impl Scene {
     /// Lets the other clients go, so that a client of the scenario has the place that it would have without them.

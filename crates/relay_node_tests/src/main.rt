@@ -1,13 +1,12 @@
 //! Plays each scenario of data/ on a node over memory: in one piece, with what the other sides say cut in
 //! two at each octet, octet by octet, and in one piece among so many other clients that 64 are there; or, where
 //! a device fails, for each call and each stop. What comes of each event is compared with what is written down. Then
-//! it shows the scenes of a relay without a socket, rounds and links over the node, and calls of nodes of which one
-//! call of the disks fails, and runs each measurement of bench/ on a few octets.
+//! it shows the scenes of a relay without a socket, links over the node, and calls of nodes of which one call of the
+//! disks fails, and runs each measurement of bench/ on a few octets.
 //!
-//! By the word `sessions`, `chunks`, `report` or `compactions` it plays what tests/node_without_memory.sh refuses each
-//! allocation of in turn, by `three` what tests/groups_without_memory.sh does, and by `small` a round of links, as
-//! tests/hub_without_memory.sh does; by `file` and a path the scenarios of that file alone, by `dialogues`, a folder
-//! and names the dialogues of that folder, and by `bench` the measurement that the next words name.
+//! By the word `sessions`, `chunks`, `report` or `compactions` it plays what tests/without_memory.py refuses each
+//! allocation of in turn, by `scenes` and a path the steps of that file, as tests/groups_without_memory.py does, by
+//! `file` and a path the scenarios of that file alone, and by `bench` the measurement that the next words name.
 #![tactic(auto)]
 
 mod answers;
@@ -15,7 +14,6 @@ mod bench;
 mod calls;
 mod course;
 mod crowd;
-mod dialogues;
 mod escape;
 mod hub;
 mod once;
@@ -32,12 +30,11 @@ mod trial;
 mod words;
 
 use bench::{measure_each, measure_named};
-use dialogues::dialogues;
-use hub::{play_rounds, play_small, show_links};
+use hub::play_links;
 use once::show_once;
 use refused::{chunks, compactions, report, sessions};
 use scenario::Scenario;
-use scenes::{show_scenes, show_three};
+use scenes::show_scenes;
 use std::test::Fail;
 use std::{env, fs};
 use trial::difference_of;
@@ -55,22 +52,16 @@ fn main(rt: HostRuntime) -> Result<(), Fail> {
         "" => {
             play_node(&rt)?;
             // The runtime has its threads in this function alone.
-            let rounds = fs::read_to_string(&rt, "rounds.in")?;
-            play_rounds(&rt, rt.alloc(), rounds.as_str())?;
+            let links = fs::read_to_string(&rt, "links.in")?;
+            play_links(&rt, rt.alloc(), links.as_str())?;
             show_rest(&rt)
         }
         "sessions" => sessions(&rt),
         "chunks" => chunks(&rt),
         "report" => report(&rt),
         "compactions" => compactions(&rt),
-        "three" => show_three(&rt),
-        "small" => play_small(&rt, rt.alloc()),
+        "scenes" => show_scenes(&rt, word_of(words.as_slice(), 2)),
         "file" => play_named(&rt, word_of(words.as_slice(), 2)),
-        "dialogues" => dialogues(
-            &rt,
-            word_of(words.as_slice(), 2),
-            words.get(3..).unwrap_or(&[]),
-        ),
         "bench" if words.len() == 2 => measure_each(&rt),
         "bench" => measure_named(&rt, words.get(2..).unwrap_or(&[])),
         folder => play_files(&rt, folder),
@@ -80,12 +71,11 @@ fn main(rt: HostRuntime) -> Result<(), Fail> {
 /// Plays the scenarios of a node, and the scenes of a relay.
 fn play_node(rt: &HostRuntime) -> Result<(), Fail> {
     play_files(rt, ".")?;
-    show_scenes(rt)
+    show_scenes(rt, "scenes.in")
 }
 
-/// Shows the links without a thread, the disks of which a call fails once, and each measurement.
+/// Shows the disks of which a call fails once, and each measurement.
 fn show_rest(rt: &HostRuntime) -> Result<(), Fail> {
-    show_links(rt)?;
     show_once(rt)?;
     measure_each(rt)
 }

@@ -1,4 +1,4 @@
-//! What tests/node_without_memory.sh refuses each allocation of in turn. From the first line that is told on, nothing
+//! What tests/without_memory.py refuses each allocation of in turn. From the first line that is told on, nothing
 //! here takes memory but the node: the lines have room from the start. They are printed in the end, and where it gives
 //! up.
 use crate::calls::{

@@ -45,13 +45,15 @@ impl Scene {
     /// `at 1000` sets the clock, `fuse` the disks' fuse as the course of the scenario says, `fuse 5` to five
     /// calls, `compact` writes the spool anew, and `connect 2` opens two sessions. `give client 0`
     /// gives a session what `>` lines say, in pieces, and `give hop 0` an attempt; `once client 0` does it
-    /// in one call, and `turns hop 0 hop 1` gives two peers each octet. Further events are `end 0` of a
-    /// session, `start 1 next.example` and `lose 0` of an attempt, and `give_up 1` of a message.
+    /// in one call, `hold client 0` in as many as that takes, and `turns hop 0 hop 1` gives two peers each
+    /// octet. Further events are `end 0` of a session, `start 1 next.example` and `lose 0` of an attempt,
+    /// `give_up 1` of a message, and `crowd`, by which other clients take all places that are left.
     pub fn perform(&mut self, node: &mut MemoryNode, step: &Step<'_>, word: &str, rest: Words<'_>) {
         let mut words = rest;
         match word {
             "give" => self.give(node, step, words.peer()),
             "once" => self.give_once(node, step, words.peer()),
+            "hold" => self.hold(node, step, words.peer()),
             "turns" => self.take_turns(node, step, words.peer(), words.peer()),
             "start" => self.start(node, words),
             "has" => self.tell_has(step.said.as_slice()),
@@ -70,6 +72,7 @@ impl Scene {
             "fuse" => self.fuse(node, rest),
             "compact" => self.compact(node),
             "connect" => self.connect(node, number),
+            "crowd" => self.crowd(node),
             "end" => self.end(node, number),
             "lose" => self.lose(node, number),
             "give_up" => self.give_up(node, number),

@@ -5,7 +5,6 @@
 mod setup;
 mod step;
 mod talk;
-mod want;
 
 use crate::told::{Told, print_told};
 use crate::words::Words;
@@ -13,24 +12,13 @@ use setup::{MemoryRelay, WIDE, relay_with};
 use std::fs;
 use std::test::Fail;
 use step::take_step;
-use want::{Came, three_at_once};
 
-/// Takes each step of the scenes.
-pub fn show_scenes(rt: &HostRuntime) -> Result<(), Fail> {
-    let scenes = fs::read_to_string(rt, "scenes.in")?;
+/// Takes each step of the scenes in the file at this path.
+pub fn show_scenes(rt: &HostRuntime, path: &str) -> Result<(), Fail> {
+    let scenes = fs::read_to_string(rt, path)?;
     let mut relay = relay_with(rt.alloc(), WIDE, None)?;
     for line in scenes.as_str().lines() {
         play_line(rt, &mut relay, line)?;
-    }
-    Ok(())
-}
-
-/// Prints what came of three messages at once.
-pub fn show_three(rt: &HostRuntime) -> Result<(), Fail> {
-    match three_at_once(rt.alloc())? {
-        Came::NotBegun => println!(rt; "not begun")?,
-        Came::Stopped => println!(rt; "stopped")?,
-        Came::Queued(count) => println!(rt; "{count} of 3 queued")?,
     }
     Ok(())
 }

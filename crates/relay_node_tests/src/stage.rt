@@ -1,6 +1,6 @@
 use crate::calls::{
-    MemoryDisks, MemoryNode, Refused, SPOOL_LIMIT, TABLE, after_stop, configuration, create,
-    into_disk, open,
+    KEYS, MemoryDisks, MemoryNode, Refused, TABLE, after_stop, configuration, create, into_disk,
+    open,
 };
 use crate::course::Course;
 use crate::scene::Scene;
@@ -10,13 +10,14 @@ use relay_disk::{Disks, MemoryDisk};
 use relay_node::NodeFault;
 use relay_routes::Config;
 use relay_trace::Moment;
-use std::alloc::{AllocError, Global};
+use std::alloc::Global;
 
 /// What scenarios happen to: a node or its disks, what it is made with, and what comes.
 pub struct Stage<'a> {
     node: Option<MemoryNode>,
     disks: Option<MemoryDisks>,
-    spool_limit: u64,
+    /// A line of keys that it is made with.
+    keys: &'a str,
     /// A domain and a hop for each two words.
     table: &'a str,
     pub scene: Scene,
@@ -27,7 +28,7 @@ impl Drop for Stage<'_> {
         let Stage {
             node: _node,
             disks: _disks,
-            spool_limit: _,
+            keys: _,
             table: _,
             scene: _scene,
         } = self;
@@ -40,7 +41,7 @@ impl<'a> Stage<'a> {
         Stage {
             node: None,
             disks: None,
-            spool_limit: SPOOL_LIMIT,
+            keys: KEYS,
             table: TABLE,
             scene: Scene {
                 alloc,
@@ -57,7 +58,7 @@ impl<'a> Stage<'a> {
 
     /// Performs an event. What comes of it stands in the scene.
     ///
-    /// `table example.org next.example` and `limit 178` say what a node is made with from then on, `disk`
+    /// `table example.org next.example` and `keys spool_limit = 178` say what a node is made with from then on, `disk`
     /// puts a disk there of which `>` lines are the image, and an empty one after it, `disk second` puts one
     /// in the place of that, `create` makes a node on empty disks, and `open` opens the disks, or what the
     /// node had. `stop` stops the node and leaves its disks as the course of the scenario picks, `stop 0` by
@@ -66,7 +67,7 @@ impl<'a> Stage<'a> {
         let mut words = Words { rest: step.event };
         match words.word() {
             "table" => self.table = words.rest,
-            "limit" => self.spool_limit = words.number(),
+            "keys" => self.keys = words.rest,
             "disk" => self.insert(words.word(), step.said.as_slice()),
             "create" => self.start(None),
             "open" => self.open(),
@@ -119,17 +120,11 @@ impl<'a> Stage<'a> {
 
     /// Starts a node on these disks, and on empty ones where there are none.
     fn start(&mut self, disks: Option<MemoryDisks>) {
-        match self.configuration() {
+        match configuration(self.scene.alloc, self.keys, self.table) {
             Ok(Some(config)) => self.start_with(config, disks),
             Ok(None) => self.scene.tell("no configuration"),
             Err(_) => self.scene.is_short = true,
         }
-    }
-
-    /// What a node is made with now, if that is a configuration.
-    fn configuration(&self) -> Result<Option<Config>, AllocError> {
-        let limit = format!(in self.scene.alloc; "spool_limit = {}", self.spool_limit)?;
-        configuration(self.scene.alloc, limit.as_str(), self.table)
     }
 
     /// Starts a node with this configuration. Where its disks are refused, they come back, and the reason is

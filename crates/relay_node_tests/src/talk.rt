@@ -100,6 +100,29 @@ impl Scene {
         }
     }
 
+    /// Gives a node all that this peer says, in as many calls as it takes, up to the end of the session, and
+    /// tells what is written to the peer.
+    pub fn hold(&mut self, node: &mut MemoryNode, step: &Step<'_>, peer: Peer) {
+        let said = step.said.as_slice();
+        let mut given: usize = 0;
+        for _ in 0..said.len() {
+            let rest = said.get(given..).unwrap_or(&[]);
+            if rest.is_empty() {
+                return;
+            }
+            match hand(node, peer, rest, self.now) {
+                Ok(handed) => {
+                    self.tell_octets(handed.out.as_slice());
+                    given = given.saturating_add(handed.used);
+                    if handed.is_closed {
+                        return;
+                    }
+                }
+                Err(fault) => return self.tell_fault(fault),
+            }
+        }
+    }
+
     /// Gives a node what two peers say at the same time, octet by octet and in turns, and tells what is
     /// written to each after its octet.
     pub fn take_turns(

@@ -2,6 +2,7 @@
 use crate::escape::push_escaped;
 use std::alloc::{AllocError, Global};
 use std::fmt::Display;
+use std::io::Print;
 use std::test::Fail;
 
 /// A line, and whether something of it is missing for want of memory.
@@ -70,7 +71,7 @@ impl Told {
 }
 
 /// Prints a row, and what is told of it after these words. It fails where something is missing.
-pub fn print_told(rt: &HostRuntime, row: &str, between: &str, told: &Told) -> Result<(), Fail> {
+pub fn print_told(rt: &impl Print, row: &str, between: &str, told: &Told) -> Result<(), Fail> {
     if told.is_short {
         return Err(Fail::new(AllocError));
     }

@@ -1,57 +1,97 @@
-use crate::calls::SPOOL_LIMIT;
 use crate::words::Words;
 
-/// So many rounds of one node, one after another, each of so many threads, each of which gives so many messages, over
-/// a spool of this limit, whose device fails after so many calls, if it does.
+/// A row of links.in: which link is tried, and where it ends or fails, the first and the last number of that, and
+/// what is to come of each.
+///
+/// The link is `serve` or `push`, or `hub`, a client's under a hub, whose client says line by line; `full` is the same
+/// over a node that has no number for a change any more. After `size` the peer gives so many octets at a call, and
+/// after `input` it ends after so many; after `read` a read fails once where so many are read, after `write` a write
+/// where so many are written, and after `flush` the flush of that number, counted from 1, where the peer says line by
+/// line.
 #[derive(Clone, Copy)]
-pub struct Trial {
-    pub rounds: u64,
-    pub threads: u64,
-    pub messages: u64,
-    pub limit: u64,
-    pub calls: Option<u64>,
+pub(crate) struct Row<'a> {
+    pub(crate) link: Link,
+    what: &'a str,
+    pub(crate) first: usize,
+    pub(crate) last: usize,
+    /// How the link ends: `ended`, `input`, `output` or `fault` where a client is served, and `ended`, `lost` or
+    /// `unwritten` where mail is handed on.
+    pub(crate) end: &'a str,
+    /// How many octets it writes: as many as the number says, where none stands here.
+    pub(crate) written: Option<usize>,
+    /// How many places are held then.
+    pub(crate) held: usize,
+    /// How many changes the node has then; under a hub, how many receipts the link has.
+    pub(crate) changes: u64,
 }
 
-/// What the rounds come to, whatever the order of their threads.
-#[derive(Clone, Copy, PartialEq, Eq)]
-pub struct Came {
-    /// How many messages were queued, by the replies and by the receipts; none where these differ.
-    pub queued: Option<u64>,
-    /// How many were refused for want of room.
-    pub full: u64,
-    /// How many links ended well.
-    pub ended: u64,
-    /// Whether the receipts have the numbers from 1 on, each once, and agree with the node.
-    pub agrees: bool,
-    /// How many places the disk opens to.
-    pub held: Option<u64>,
-}
-
-/// A row of rounds.in.
+/// Which end of a link the node is.
 #[derive(Clone, Copy)]
-pub struct Row {
-    pub trial: Trial,
-    pub came: Came,
+pub(crate) enum Link {
+    /// It serves a client.
+    Serve,
+    /// It hands mail on.
+    Push,
+    /// It serves a client under a hub.
+    Hub,
+    /// It does so, and has no number for a change any more.
+    Full,
 }
 
-impl Row {
-    /// Reads a row: its words in this order, with a space between each two, `-` for what is missing.
-    pub fn read(line: &str) -> Self {
+/// Where a peer ends or fails.
+#[derive(Clone, Copy)]
+pub(crate) struct Trial {
+    /// How many octets a read gives at most.
+    pub(crate) most: usize,
+    /// No read gives octets of two lines.
+    pub(crate) by_lines: bool,
+    /// How many octets there are at most.
+    pub(crate) end: usize,
+    pub(crate) bad_read: Option<usize>,
+    pub(crate) bad_write: Option<usize>,
+    /// The number of the flush that fails, which is never come to where none does.
+    pub(crate) bad_flush: usize,
+}
+
+impl<'a> Row<'a> {
+    /// Reads a row: its words in this order, with a space between each two.
+    pub(crate) fn read(line: &'a str) -> Self {
         let mut words = Words { rest: line };
-        let trial = Trial {
-            rounds: words.number_or(0),
-            threads: words.number_or(0),
-            messages: words.number_or(0),
-            limit: words.number_or(SPOOL_LIMIT),
-            calls: words.word().parse::<u64>().ok(),
+        Row {
+            link: match words.word() {
+                "serve" => Link::Serve,
+                "push" => Link::Push,
+                "hub" => Link::Hub,
+                _ => Link::Full,
+            },
+            what: words.word(),
+            first: words.number() as usize,
+            last: words.number() as usize,
+            end: words.word(),
+            written: words.word().parse::<usize>().ok(),
+            held: words.number() as usize,
+            changes: words.number(),
+        }
+    }
+
+    /// What is tried by this number.
+    pub(crate) fn trial(self, number: usize) -> Trial {
+        let by_lines = self.what == "flush" || matches!(self.link, Link::Hub | Link::Full);
+        let mut trial = Trial {
+            most: if by_lines { usize::MAX } else { 1 },
+            by_lines,
+            end: usize::MAX,
+            bad_read: None,
+            bad_write: None,
+            bad_flush: usize::MAX,
         };
-        let came = Came {
-            queued: words.word().parse::<u64>().ok(),
-            full: words.number(),
-            ended: words.number(),
-            agrees: words.word() == "agrees",
-            held: words.word().parse::<u64>().ok(),
-        };
-        Row { trial, came }
+        match self.what {
+            "size" => trial.most = number,
+            "input" => trial.end = number,
+            "read" => trial.bad_read = Some(number),
+            "flush" => trial.bad_flush = number,
+            _ => trial.bad_write = Some(number),
+        }
+        trial
     }
 }

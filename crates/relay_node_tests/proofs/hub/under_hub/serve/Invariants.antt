@@ -1,5 +1,5 @@
 -- The ledger of a hub is the blank one; of what its node kept before, and of what is answered, nothing is asked.
-use Rattle.relay_node_tests.proofs.hub.link_rows.serve.Given as goal
+use Rattle.relay_node_tests.proofs.hub.under_hub.serve.Given as goal
 
 abbrev pub ghosts-serve_by-J-Ledger : goal.ghosts-serve_by-J-Ledger
 ghosts-serve_by-J-Ledger g a = record { name = a.blank.name; parts = a.blank.parts }
