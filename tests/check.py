@@ -136,8 +136,9 @@ def each_network_is_judged_on_its_own(program):
                f'4:1: error: trusted_clients: "10.0.0.0/33" {no_network}',
                f'4:1: error: trusted_clients: "10.0.0.0/08" {no_network}',
                '4:1: error: trusted_clients: (integer) is no network: write a text such as "192.0.2.0/24"'])
+    # A key of `run` alone: the rest is a configuration, so what is risky in it is told too.
     check(program, HEAD + 'balancers = ["192.0.2.5", "192.0.2.5/24"]\n' + ROUTES, [
-        f'4:1: error: balancers: "192.0.2.5/24" {no_network}'], 1)
+        *UNREAD, f'4:1: error: balancers: "192.0.2.5/24" {no_network}'], 1)
     passed(program, HEAD + 'balancers = ["192.0.2.5", "192.0.2.64/26"]\n' + ROUTES, UNREAD)
 
 
