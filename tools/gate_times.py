@@ -1,5 +1,6 @@
 #!/usr/bin/env python3
-"""Measures what a gate costs while it runs, and prints the table of docs/GATE.md when it has ended.
+"""Measures what a gate costs while it runs. When it has ended, prints the minutes and units of each crate, for the table
+of docs/GATE.md.
 
     RT_JOBS=4 rt ci > build/gate.log & tools/gate_times.py $!
 
