@@ -159,6 +159,23 @@ def through_a_hop(field, server):
         same(f"{what}: list", field.relay.held(), [])
 
 
+def a_stranger(field, server):
+    """A client that isn't trusted may send to a domain with a line of its own, and neither by a routed address nor by
+    the line of every other domain. The configuration of later rows has neither key."""
+    rules = {"trusted_clients": '["192.0.2.0/24"]', "routed_paths": '"refuse"'}
+    wanted = {"b@elsewhere.example": 550, "b%elsewhere.example@in.example": 553, "elsewhere.example!b@in.example": 553,
+              '"b@elsewhere.example"@in.example': 553}
+    field.relay.limits.update(rules)
+    field.relay.route({"in.example": ("next.example", server.port), "*": ("sink.example", field.sink.port)})
+    with field.serving_one("next.example ended"):
+        with smtplib.SMTP("127.0.0.1", field.relay.port, local_hostname="client.example", timeout=PATIENCE) as client:
+            refused = client.sendmail("a@out.example", ["b@in.example", *wanted], SMALL)
+    same("refused", {path: code for path, (code, _text) in refused.items()}, wanted)
+    all_taken(field.sink, ["b@in.example"], SMALL)
+    for key in rules:
+        del field.relay.limits[key]
+
+
 def a_recipient_refused_by_a_hop(field, server):
     with field.serving_one("next.example ended"):
         hand_in(field.relay.port, ["b@in.example", "refused@in.example"], SMALL)
@@ -240,12 +257,12 @@ def python(field, packages):
 
 SERVERS = {
     "postfix": (Postfix, [
-        through_a_client, through_a_hop, a_recipient_refused_by_a_hop, parameters_through_a_hop]),
+        through_a_client, a_stranger, through_a_hop, a_recipient_refused_by_a_hop, parameters_through_a_hop]),
     "exim4-daemon-light": (Exim, [
-        through_a_client, chunks_of_exim, through_a_hop, a_recipient_refused_by_a_hop, parameters_through_a_hop,
-        a_chunk_through_exim]),
+        through_a_client, chunks_of_exim, a_stranger, through_a_hop, a_recipient_refused_by_a_hop,
+        parameters_through_a_hop, a_chunk_through_exim]),
     "opensmtpd": (OpenSmtpd, [
-        through_a_client, through_a_hop, a_recipient_refused_by_a_hop]),
+        through_a_client, a_stranger, through_a_hop, a_recipient_refused_by_a_hop]),
 }
 
 
