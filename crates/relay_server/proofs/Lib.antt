@@ -8,6 +8,7 @@ mod ReplyTextLemmas
 mod BeginningLemmas
 mod ReplyLemmas
 mod StoredLemmas
+mod TakenLemmas
 mod ChunkLemmas
 mod JudgeLemmas
 mod SessionLawLemmas

@@ -7,6 +7,7 @@ pub use Rattle.relay_server.proofs.DialogueLemmas.{output_is_fixed, runs_compose
 pub use Rattle.relay_server.proofs.BeginningLemmas.{beginnings_have_beginnings}
 pub use Rattle.relay_server.proofs.ReplyLemmas.{only_content_is_offered, only_queued_is_positive, replies_are_well_formed}
 pub use Rattle.relay_server.proofs.StoredLemmas.{offers_may_be_stored}
+pub use Rattle.relay_server.proofs.TakenLemmas.{recipients_are_taken}
 -- Of turns.
 pub use Rattle.relay_server.proofs.TurnLawLemmas.{asked_is_a_unit, chunk_is_answered, course_is_fixed, course_is_of_a_unit, line_is_answered, no_unit_lacks_a_course, text_is_answered, turn_is_of_its_unit}
 -- Of sessions.

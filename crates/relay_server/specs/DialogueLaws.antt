@@ -1,11 +1,15 @@
 -- What is true of units, turns and dialogues, whatever the pieces that the input comes in.
-use Rattle.std.specs.Prelude.{◌≡◌, ◌≢◌, ℕ, ◌^◌, ◌<◌, ◌≤◌, List, [], ◌∷◌, ◌++◌, true, false, length, Some, Ok}
+use Rattle.std.specs.Prelude.{◌≡◌, ◌≢◌, ℕ, ◌^◌, ◌<◌, ◌≤◌, List, [], ◌∷◌, ◌++◌, true, false, length, Some, IsSome, Ok}
 use Rattle.std.specs.List.{AllByRecursion}
 use Rattle.relay_octets.specs.Beginning.{Begins}
 use Rattle.relay_lines.specs.Command.{Bdat, reading_of}
 use Rattle.relay_lines.specs.Reply.{IsReply}
 use Rattle.relay_lines.specs.Word.{IsHostWord}
 use Rattle.relay_envelope.specs.Envelope.{IsEnvelope}
+use Rattle.relay_envelope.specs.Path.{Path, IsPath, path_text}
+use Rattle.relay_envelope.specs.declared.envelope.Recipient.{Recipient}
+use Rattle.relay_routes.specs.RoutedPath.{refuses_path}
+use Rattle.relay_routes.specs.Routes.{hop_of}
 use Rattle.relay_server.specs.declared.offer.Answer.{Answer}
 use Rattle.relay_server.specs.declared.offer.Answer.TheVariants.{Queued, Full}
 use Rattle.relay_server.specs.declared.reply_table.Row.TheVariants.{Greeting}
@@ -117,3 +121,17 @@ pub record MayBeStored (setup : Setup) (offer : Offered) : Type 0 where
 abbrev pub OffersMayBeStored : Type 0
 OffersMayBeStored =
     (setup : Setup) (said : Said) → IsDialogue setup said → AllByRecursion (MayBeStored setup) said.offers
+
+-- a recipient that the server takes: its path, which is one, isn't refused, and has a next hop
+pub record IsTaken (setup : Setup) (recipient : Recipient) : Type 0 where
+  pub path : Path
+  pub valid : IsPath path
+  pub text_is : recipient.path ≡ path_text path
+  pub kept : refuses_path setup.routed_paths path ≡ false
+  pub goes : IsSome (hop_of setup.routes path)
+
+-- each recipient of each offer of a dialogue is one that the server takes
+abbrev pub RecipientsAreTaken : Type 0
+RecipientsAreTaken =
+    (setup : Setup) (said : Said) → IsDialogue setup said
+    → AllByRecursion (λ offer. AllByRecursion (IsTaken setup) offer.envelope.recipients) said.offers

@@ -2,7 +2,7 @@
 ghost use Rattle.relay_server.specs.DialogueLaws.{NoUnitIsEmpty, NoUnitBeginsAnother, RunsCompose};
 ghost use Rattle.relay_server.specs.DialogueLaws.{WhatStandsIsADialogue, RowIsFixed, OutputIsFixed};
 ghost use Rattle.relay_server.specs.DialogueLaws.{BeginningsHaveBeginnings, OnlyContentIsOffered, OnlyQueuedIsPositive};
-ghost use Rattle.relay_server.specs.DialogueLaws.{RepliesAreWellFormed, OffersMayBeStored};
+ghost use Rattle.relay_server.specs.DialogueLaws.{RepliesAreWellFormed, OffersMayBeStored, RecipientsAreTaken};
 
 /// No unit is empty.
 pub fn no_unit_is_empty()
@@ -58,4 +58,9 @@ pub fn replies_are_well_formed()
 /// content within the limit with at most 99 `Received:` fields.
 pub fn offers_may_be_stored()
     ensures { OffersMayBeStored }
+{}
+
+/// Whoever is a recipient of an offer has a next hop, and a path that isn't refused.
+pub fn recipients_are_taken()
+    ensures { RecipientsAreTaken }
 {}
