@@ -1,5 +1,5 @@
 -- The places of a message that pass a test: they rise, and what the test says holds of each.
-use Rattle.std.proofs.Common.{◌≡◌, ℕ, suc, ◌+◌, ◌≤◌, Bool, true, false, List, [], ◌∷◌, ◌++◌, slice_get, Option, Some, refl, ap, ◌∙◌, subst, arith, if◌then◌else◌}
+use Rattle.std.proofs.Common.{◌≡◌, ℕ, suc, ◌+◌, ◌≤◌, Bool, true, false, List, [], ◌∷◌, ◌++◌, slice_get, take, zero, Option, None, Some, refl, ap, ◌∙◌, subst, arith, if◌then◌else◌}
 use Rattle.std.specs.List.{AllByRecursion}
 use Rattle.std.specs.Option.{option_map_or}
 use Rattle.std.proofs.lemmas.Bool.{and_parts}
@@ -7,7 +7,7 @@ use Rattle.relay_routes.specs.Routes.{RouteTable}
 use Rattle.relay_book.specs.declared.message.Message.{Message}
 use Rattle.relay_book.specs.declared.message.Place.{Place}
 use Rattle.relay_book.specs.Queue.{is_due_at, is_held}
-use Rattle.relay_attempts.specs.Hops.{due_places_in, goes_to, is_due_for, is_stranded, places_where, stranded_places}
+use Rattle.relay_attempts.specs.Hops.{at_most, due_places_in, goes_to, is_due_for, is_stranded, places_where, stranded_places}
 use Rattle.relay_attempts.specs.Runs.{AllGoTo, AreHeld}
 
 lower : (all : List Place) (less least : ℕ) (numbers : List ℕ) → less ≤ least → AreHeld all least numbers → AreHeld all less numbers
@@ -55,6 +55,25 @@ pub due_go_there : (table : RouteTable) (hop : List ℕ) (now : ℕ) (message : 
 due_go_there table hop now message =
     each_passes (λ n. goes_to table message.accept.envelope.recipients hop n ≡ true) (is_due_for table message.accept.envelope.recipients hop now)
     (λ n place is. (and_parts (is_due_at now place) (goes_to table message.accept.envelope.recipients hop n) is).1) 0 message.places
+
+-- the first of some places are held as all are, and go where all go
+held_first : (all : List Place) (least most : ℕ) (numbers : List ℕ) → AreHeld all least numbers → AreHeld all least (take most numbers)
+held_first all least zero numbers held = tt
+held_first all least (suc most) [] held = tt
+held_first all least (suc most) (number ∷ numbers) held = (held.0, held.1, held_first all (number + 1) most numbers held.2)
+
+pub held_at_most : (all : List Place) (least : ℕ) (most : Option ℕ) (numbers : List ℕ) → AreHeld all least numbers → AreHeld all least (at_most most numbers)
+held_at_most all least None numbers held = held
+held_at_most all least (Some most) numbers held = held_first all least most numbers held
+
+each_first : (P : ℕ → Type 0) (most : ℕ) (numbers : List ℕ) → AllByRecursion P numbers → AllByRecursion P (take most numbers)
+each_first P zero numbers each = tt
+each_first P (suc most) [] each = tt
+each_first P (suc most) (number ∷ numbers) each = (each.0, each_first P most numbers each.1)
+
+pub each_at_most : (P : ℕ → Type 0) (most : Option ℕ) (numbers : List ℕ) → AllByRecursion P numbers → AllByRecursion P (at_most most numbers)
+each_at_most P None numbers each = each
+each_at_most P (Some most) numbers each = each_first P most numbers each
 
 -- the held places without a hop are held
 pub stranded_are_held : (table : RouteTable) (message : Message) → AreHeld message.places 0 (stranded_places table message)

@@ -10,10 +10,10 @@ use Rattle.relay_book.specs.Queue.{Queue, message_of}
 use Rattle.relay_client.specs.Attempt.{Follows}
 use Rattle.relay_attempts.specs.declared.runs.Run.{Run}
 use Rattle.relay_attempts.specs.declared.start.Started.{Started}
-use Rattle.relay_attempts.specs.Attempts.{Serves, AttemptTable, Starts}
-use Rattle.relay_attempts.specs.Hops.{due_places_in}
+use Rattle.relay_attempts.specs.Attempts.{Serves, AttemptTable, StartsAtMost}
+use Rattle.relay_attempts.specs.Hops.{at_most, due_places_in, goes_to}
 use Rattle.relay_attempts.specs.Runs.{AllGoTo, AreHeld, EachRuns, NoneTwice, RunsFor, is_run_for, is_running}
-use Rattle.relay_attempts.proofs.PlaceLemmas.{due_are_held, due_go_there}
+use Rattle.relay_attempts.proofs.PlaceLemmas.{due_are_held, due_go_there, each_at_most, held_at_most}
 
 no_slot : {A : Type 0} (x : A) → None ≡ Some x → ⊥
 no_slot x e = cc
@@ -49,21 +49,23 @@ none_runs message hop (first ∷ runs) free (suc number) run is same its = by (i
 some_run : (run other : Run) → Some run ≡ Some other → run ≡ other
 some_run run other e = cc
 
-module _ (host : List ℕ) (table : RouteTable) (number : ℕ) (hop : List ℕ) (now : ℕ) (queue : Queue) (old new : List (Option Run)) (started : Started)
-    (starts : Starts host table number hop now queue old new started) where
+module _ (host : List ℕ) (table : RouteTable) (number : ℕ) (hop : List ℕ) (most : Option ℕ) (now : ℕ) (queue : Queue) (old new : List (Option Run)) (started : Started)
+    (starts : StartsAtMost host table number hop most now queue old new started) where
   -- the attempt that starts hands on what is queued
   begun_runs : RunsFor host table queue starts.run
   begun_runs =
       let message = starts.message in
-      let places : starts.run.places.items ≡ due_places_in table hop now message = starts.begun.its_places ∙ starts.places in
+      let places : starts.run.places.items ≡ at_most most (due_places_in table hop now message) = starts.begun.its_places ∙ starts.places in
       record {
         message = message;
         found = ap (message_of queue.messages) starts.begun.its_message ∙ starts.found;
-        held = subst (λ (l : List ℕ). AreHeld message.places 0 l) (sym places) (due_are_held table hop now message);
+        held = subst (λ (l : List ℕ). AreHeld message.places 0 l) (sym places)
+            (held_at_most message.places 0 most (due_places_in table hop now message) (due_are_held table hop now message));
         some = λ none. starts.some (sym starts.begun.its_places ∙ none);
         its_hop =
             subst (λ (h : List ℕ). AllGoTo table h message starts.run.places.items) (sym starts.begun.its_hop)
-            (subst (λ (l : List ℕ). AllGoTo table hop message l) (sym places) (due_go_there table hop now message));
+            (subst (λ (l : List ℕ). AllGoTo table hop message l) (sym places)
+            (each_at_most (λ n. goes_to table message.accept.envelope.recipients hop n ≡ true) most (due_places_in table hop now message) (due_go_there table hop now message)));
         input = [];
         output = [];
         follows =

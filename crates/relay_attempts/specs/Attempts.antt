@@ -11,7 +11,7 @@ use Rattle.relay_records.specs.Records.{Kept}
 use Rattle.relay_client.specs.Attempt.{Follows}
 use Rattle.relay_attempts.specs.declared.runs.Run.{Run}
 use Rattle.relay_attempts.specs.declared.start.Started.{Started}
-use Rattle.relay_attempts.specs.Hops.{due_places_in, stranded_of}
+use Rattle.relay_attempts.specs.Hops.{at_most, due_places_in, stranded_of}
 use Rattle.relay_attempts.specs.Runs.{EachRuns, NoneTwice, is_running}
 
 -- the running attempts by number; the numbers of the messages with a held place that has no hop, and how many more can
@@ -38,16 +38,16 @@ pub record Begun (host : List ℕ) (number : ℕ) (hop places : List ℕ) (run :
   pub its_places : run.places.items ≡ places
   pub follows : (envelope : Envelope) (text : List ℕ) → Follows run.client host envelope text places [] []
 
--- The words below are of an attempt for a message and a hop that is to start at a moment.
-module _ (host : List ℕ) (table : RouteTable) (number : ℕ) (hop : List ℕ) (now : ℕ) where
+-- The words below are of an attempt for a message and a hop that is to start at a moment, for at most so many places.
+module _ (host : List ℕ) (table : RouteTable) (number : ℕ) (hop : List ℕ) (most : Option ℕ) (now : ℕ) where
   -- an attempt for these places, which are due, has begun under the least free number, and none was running for message
   -- and hop
-  pub record Starts (queue : Queue) (old new : List (Option Run)) (started : Started) : Type 0 where
+  pub record StartsAtMost (queue : Queue) (old new : List (Option Run)) (started : Started) : Type 0 where
     pub least : IsLeastFree old started.attempt
     pub message : Message
     pub found : message_of queue.messages number ≡ Some message
     pub free : is_running old number hop ≡ false
-    pub places : started.places.items ≡ due_places_in table hop now message
+    pub places : started.places.items ≡ at_most most (due_places_in table hop now message)
     pub some : started.places.items ≢ []
     pub run : Run
     pub put : new ≡ slice_set old started.attempt (Some run)
@@ -62,18 +62,28 @@ module _ (host : List ℕ) (table : RouteTable) (number : ℕ) (hop : List ℕ) 
     pub free : IsLeastFree runs least
 
   -- why none starts: the first of these, and want of memory after them all
-  abbrev pub RefusesToStart : {D : Type 0} → Kept D → List (Option Run) → NodeFault → Type 0
-  RefusesToStart records runs Stopped = records.spool.live ≡ false
-  RefusesToStart records runs Unknown =
+  abbrev pub RefusesToStartAtMost : {D : Type 0} → Kept D → List (Option Run) → NodeFault → Type 0
+  RefusesToStartAtMost records runs Stopped = records.spool.live ≡ false
+  RefusesToStartAtMost records runs Unknown =
       (records.spool.live ≡ true) × (message_of records.queue.messages number ≡ None)
-  RefusesToStart records runs TooMany =
+  RefusesToStartAtMost records runs TooMany =
       (records.spool.live ≡ true) × (message_of records.queue.messages number ≢ None) × IsFull runs
-  RefusesToStart records runs Busy =
+  RefusesToStartAtMost records runs Busy =
       (records.spool.live ≡ true) × MayBegin records.queue runs × (is_running runs number hop ≡ true)
-  RefusesToStart records runs NotDue =
+  RefusesToStartAtMost records runs NotDue =
       (records.spool.live ≡ true) × (begin : MayBegin records.queue runs) × (is_running runs number hop ≡ false)
-      × (due_places_in table hop now begin.message ≡ [])
-  RefusesToStart records runs NoMemory =
+      × (at_most most (due_places_in table hop now begin.message) ≡ [])
+  RefusesToStartAtMost records runs NoMemory =
       (records.spool.live ≡ true) × (begin : MayBegin records.queue runs) × (is_running runs number hop ≡ false)
-      × (due_places_in table hop now begin.message ≢ [])
-  RefusesToStart records runs other = ⊥
+      × (at_most most (due_places_in table hop now begin.message) ≢ [])
+  RefusesToStartAtMost records runs other = ⊥
+
+-- an attempt has begun for all places of the message that are due and go to the hop
+abbrev pub Starts :
+    List ℕ → RouteTable → ℕ → List ℕ → ℕ → Queue → List (Option Run) → List (Option Run) → Started → Type 0
+Starts host table number hop = StartsAtMost host table number hop None
+
+-- why none starts for all of them
+abbrev pub RefusesToStart :
+    {D : Type 0} → List ℕ → RouteTable → ℕ → List ℕ → ℕ → Kept D → List (Option Run) → NodeFault → Type 0
+RefusesToStart host table number hop = RefusesToStartAtMost host table number hop None

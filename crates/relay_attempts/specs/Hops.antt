@@ -1,7 +1,7 @@
 -- Where the places of a message go (RFC 5321, section 5.1): the hop of a place is that of its recipient's path as it is
 -- stored.
 use Rattle.std.specs.Prelude.{ℕ, suc, ◌==◌, Bool, true, false, not, ◌&&◌, List, [], ◌∷◌, ◌++◌, map, slice_get, bytes_eq}
-use Rattle.std.specs.Prelude.{Option, None, is_some, if◌then◌else◌}
+use Rattle.std.specs.Prelude.{Option, None, Some, is_some, take, if◌then◌else◌}
 use Rattle.std.specs.List.{filter, filter_map}
 use Rattle.std.specs.Option.{option_and_then, option_map, option_map_or}
 use Rattle.relay_envelope.specs.declared.envelope.Recipient.{Recipient}
@@ -45,6 +45,11 @@ stranded_places table message = places_where (is_stranded table message.accept.e
 abbrev pub due_places_in : RouteTable → List ℕ → ℕ → Message → List ℕ
 due_places_in table hop now message =
     places_where (is_due_for table message.accept.envelope.recipients hop now) 0 message.places
+
+-- the first of these places, as many as there may be at most; all of them where no most is said
+abbrev pub at_most : Option ℕ → List ℕ → List ℕ
+at_most None places = places
+at_most (Some most) places = take most places
 
 -- the hop of a place that is due
 abbrev pub due_hop : RouteTable → ℕ → List Recipient → ℕ → Place → Option (List ℕ)

@@ -1,7 +1,7 @@
 //! Attempts that begin.
-ghost use Rattle.std.specs.Prelude.{◌≡◌, ◌≢◌, [], true, false, IfErr, IfOk, MatchOption};
-ghost use Rattle.relay_attempts.specs.Attempts.{Begun, RefusesToStart, Serves, Starts};
-ghost use Rattle.relay_attempts.specs.Hops.{due_places_in};
+ghost use Rattle.std.specs.Prelude.{◌≡◌, ◌≢◌, [], true, false, IfErr, IfOk, MatchOption, Some};
+ghost use Rattle.relay_attempts.specs.Attempts.{Begun, RefusesToStart, RefusesToStartAtMost, Serves, Starts, StartsAtMost};
+ghost use Rattle.relay_attempts.specs.Hops.{at_most, due_places_in, is_any};
 
 use crate::attempts::Attempts;
 use crate::hops::{due_places, has_due};
@@ -47,6 +47,56 @@ impl Attempts {
             → Serves config.now.host config.now.routes self.new records.now.queue }
         ensures rest { (self.new.stranded ≡ self.old.stranded) × (self.new.room ≡ self.old.room) }
     {
+        self.start_at_most(alloc, config, records, message, hop, None, now)
+    }
+
+    /// Begins an attempt as [`Attempts::start`], for the first `most` of those places: so one attempt of a message
+    /// with many recipients can't meet a next hop's limit of refused commands. Where `most` is 0, it is `NotDue`.
+    #[allow(too_many_arguments)]
+    pub fn start_some<D: Disk>(
+        &mut self,
+        alloc: Global,
+        config: &Config,
+        records: &Records<D>,
+        message: u64,
+        hop: &HostName,
+        most: usize,
+        now: Moment,
+    ) -> Result<Started, NodeFault>
+        ensures starts { IfOk result (StartsAtMost config.now.host config.now.routes message hop.now (Some most) now
+            records.now.queue self.old.runs self.new.runs) }
+        ensures live { IfOk result (λ _. records.now.spool.live ≡ true) }
+        ensures refused { IfErr result (RefusesToStartAtMost config.now.host config.now.routes message hop.now
+            (Some most) now records.now self.old.runs) }
+        ensures unchanged { IfErr result (λ _. self.new ≡ self.old) }
+        ensures serves { Serves config.now.host config.now.routes self.old records.now.queue
+            → Serves config.now.host config.now.routes self.new records.now.queue }
+        ensures rest { (self.new.stranded ≡ self.old.stranded) × (self.new.room ≡ self.old.room) }
+    {
+        self.start_at_most(alloc, config, records, message, hop, Some(most), now)
+    }
+
+    /// Begins an attempt for the first of the places that are due and go to this hop, all where no most is said.
+    fn start_at_most<D: Disk>(
+        &mut self,
+        alloc: Global,
+        config: &Config,
+        records: &Records<D>,
+        message: u64,
+        hop: &HostName,
+        most: Option<usize>,
+        now: Moment,
+    ) -> Result<Started, NodeFault>
+        ensures starts { IfOk result (StartsAtMost config.now.host config.now.routes message hop.now most now
+            records.now.queue self.old.runs self.new.runs) }
+        ensures live { IfOk result (λ _. records.now.spool.live ≡ true) }
+        ensures refused { IfErr result (RefusesToStartAtMost config.now.host config.now.routes message hop.now most
+            now records.now self.old.runs) }
+        ensures unchanged { IfErr result (λ _. self.new ≡ self.old) }
+        ensures serves { Serves config.now.host config.now.routes self.old records.now.queue
+            → Serves config.now.host config.now.routes self.new records.now.queue }
+        ensures rest { (self.new.stranded ≡ self.old.stranded) × (self.new.room ≡ self.old.room) }
+    {
         if !records.is_live() {
             return Err(NodeFault::Stopped);
         }
@@ -59,10 +109,10 @@ impl Attempts {
         if is_running(&self.runs, message, hop) {
             return Err(NodeFault::Busy);
         }
-        if !has_due(&config.routes, queued, hop, now) {
+        if !has_first_due(&config.routes, queued, hop, most, now) {
             return Err(NodeFault::NotDue);
         }
-        let Ok(places) = due_places(alloc, &config.routes, queued, hop, now) else {
+        let Ok(places) = first_due_places(alloc, &config.routes, queued, hop, most, now) else {
             return Err(NodeFault::NoMemory);
         };
         let Ok(begun) = begun(alloc, &config.host, message, hop, places.as_slice()) else {
@@ -71,6 +121,42 @@ impl Attempts {
         self.runs.put(attempt, begun);
         Ok(Started { attempt, places })
     }
+}
+
+/// Whether such a place is due for which an attempt may begin.
+fn has_first_due(
+    table: &Table,
+    message: &Message,
+    hop: &HostName,
+    most: Option<usize>,
+    now: Moment,
+) -> bool
+    ensures { result ≡ is_any (at_most most (due_places_in table.now hop.now now message.now)) }
+{
+    match most {
+        Some(0) => false,
+        _ => has_due(table, message, hop, now),
+    }
+}
+
+/// The first of the places of a message that are due and go to this hop, in order; all where no most is said. It fails
+/// where memory runs out.
+fn first_due_places(
+    alloc: Global,
+    table: &Table,
+    message: &Message,
+    hop: &HostName,
+    most: Option<usize>,
+    now: Moment,
+) -> Result<Vec<u8>, AllocError>
+    ensures { IfOk result (λ places. places.items
+        ≡ at_most most (due_places_in table.now hop.now now message.now)) }
+{
+    let mut places = due_places(alloc, table, message, hop, now)?;
+    if let Some(most) = most {
+        places.truncate(most);
+    }
+    Ok(places)
 }
 
 /// An attempt of this host that begins. It fails where memory runs out.
