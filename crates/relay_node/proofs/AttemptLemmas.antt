@@ -12,9 +12,9 @@ use Rattle.relay_records.specs.declared.fault.NodeFault.{NodeFault}
 use Rattle.relay_records.specs.declared.fault.NodeFault.TheVariants.{NoMemory, Stopped, Unknown, TooMany, NotDue, Busy, Open, Full, NoSecond}
 use Rattle.relay_attempts.specs.declared.runs.Run.{Run}
 use Rattle.relay_attempts.specs.declared.start.Started.{Started}
-use Rattle.relay_attempts.specs.Attempts.{Serves, AttemptTable, Starts}
+use Rattle.relay_attempts.specs.Attempts.{Serves, AttemptTable, StartsAtMost}
 use Rattle.relay_attempts.specs.Runs.{EachRuns, NoneTwice}
-use Rattle.relay_node.specs.Attempts.{Begins, ToldStays}
+use Rattle.relay_node.specs.Attempts.{BeginsAtMost, ToldStays}
 use Rattle.relay_node.specs.Node.{RefusesToHear}
 
 -- attempts serve a queue as long as these parts stay
@@ -39,9 +39,9 @@ refused_queue words old new (Open cause) refused = absurd refused
 refused_queue {D = D} words old new Full refused = ap (λ (k : Kept D). k.queue) refused.0
 
 -- what has begun by the queue has begun by the list
-begins : (config : Config) (changes : List Change) (number : ℕ) (hop : List ℕ) (now : ℕ) (queue : Queue) (old new : List (Option Run)) (started : Started) → Fitting changes → queue ≡ queue_of changes
-    → Starts config.host config.routes number hop now queue old new started → Begins config changes number hop now old new started
-begins config changes number hop now queue old new started fitting queue_is s =
+begins : (config : Config) (changes : List Change) (number : ℕ) (hop : List ℕ) (most : Option ℕ) (now : ℕ) (queue : Queue) (old new : List (Option Run)) (started : Started) → Fitting changes → queue ≡ queue_of changes
+    → StartsAtMost config.host config.routes number hop most now queue old new started → BeginsAtMost config changes number hop most now old new started
+begins config changes number hop most now queue old new started fitting queue_is s =
     let found : message_of (queue_of changes).messages number ≡ Some s.message = subst (λ (q : Queue). message_of q.messages number ≡ Some s.message) queue_is s.found in
     record {
       least = s.least;
@@ -65,10 +65,10 @@ begins config changes number hop now queue old new started fitting queue_is s =
       others = others_of_set old new started.attempt (Some s.run) s.put;
     }
 
-pub begins_if : (config : Config) (changes : List Change) (number : ℕ) (hop : List ℕ) (now : ℕ) (queue : Queue) (old new : List (Option Run)) (result : Result Started NodeFault) → Fitting changes → queue ≡ queue_of changes
-    → IfOk result (Starts config.host config.routes number hop now queue old new) → IfOk result (Begins config changes number hop now old new)
-begins_if config changes number hop now queue old new (Ok started) fitting queue_is s = begins config changes number hop now queue old new started fitting queue_is s
-begins_if config changes number hop now queue old new (Err fault) fitting queue_is s = tt
+pub begins_if : (config : Config) (changes : List Change) (number : ℕ) (hop : List ℕ) (most : Option ℕ) (now : ℕ) (queue : Queue) (old new : List (Option Run)) (result : Result Started NodeFault) → Fitting changes → queue ≡ queue_of changes
+    → IfOk result (StartsAtMost config.host config.routes number hop most now queue old new) → IfOk result (BeginsAtMost config changes number hop most now old new)
+begins_if config changes number hop most now queue old new (Ok started) fitting queue_is s = begins config changes number hop most now queue old new started fitting queue_is s
+begins_if config changes number hop most now queue old new (Err fault) fitting queue_is s = tt
 
 pub told_stays : ToldStays
 told_stays host changes change old new number told fitting same t = record {

@@ -16,7 +16,7 @@ use Rattle.relay_client.specs.Attempt.{Follows}
 use Rattle.relay_attempts.specs.declared.reply.Replied.{Replied}
 use Rattle.relay_attempts.specs.declared.runs.Run.{Run}
 use Rattle.relay_attempts.specs.declared.start.Started.{Started}
-use Rattle.relay_attempts.specs.Hops.{due_places_in}
+use Rattle.relay_attempts.specs.Hops.{at_most, due_places_in}
 use Rattle.relay_attempts.specs.Reply.{AttemptHasEnded, Makes, Told, told_more}
 use Rattle.relay_attempts.specs.Runs.{is_running}
 use Rattle.relay_node.specs.Node.{NodeState}
@@ -55,19 +55,24 @@ begun_with number hop places message = record {
   output = [];
 }
 
--- by the list of changes: an attempt has begun for those places of a message that are due and go to this hop, under the
--- least free number, and none was running for message and hop
-pub record Begins (config : Config) (changes : List Change) (number : ℕ) (hop : List ℕ) (now : ℕ)
-    (old new : List (Option Run))
+-- by the list of changes: an attempt has begun for the first of those places of a message that are due and go to this
+-- hop, at most so many, under the least free number, and none was running for message and hop
+pub record BeginsAtMost (config : Config) (changes : List Change) (number : ℕ) (hop : List ℕ) (most : Option ℕ)
+    (now : ℕ) (old new : List (Option Run))
     (started : Started) : Type 0 where
   pub least : IsLeastFree old started.attempt
   pub free : is_running old number hop ≡ false
   pub message : Message
   pub found : message_of (queue_of changes).messages number ≡ Some message
-  pub places : started.places.items ≡ due_places_in config.routes hop now message
+  pub places : started.places.items ≡ at_most most (due_places_in config.routes hop now message)
   pub some : started.places.items ≢ []
   pub tells : Tells config.host changes new started.attempt (begun_with number hop started.places.items message)
   pub others : OthersStay old new started.attempt
+
+-- an attempt has begun for all of them
+abbrev pub Begins :
+    Config → List Change → ℕ → List ℕ → ℕ → List (Option Run) → List (Option Run) → Started → Type 0
+Begins config changes number hop = BeginsAtMost config changes number hop None
 
 -- The words below are of a call at a moment, for an attempt of which this is told, of a node that keeps these changes.
 module _ {D : Type 0} (honest : Type 0) (words : DiskWords D) (host : List ℕ) (now : ℕ) (changes : List Change)

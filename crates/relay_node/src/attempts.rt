@@ -1,13 +1,13 @@
 //! Mail that is passed on.
-ghost use Rattle.std.specs.Prelude.{◌≡◌, ◌<◌, ◌↔◌, ◌⊎◌, ℕ, false, List, Err, IfErr, IfOk, IsTrue};
-ghost use Rattle.relay_attempts.specs.Attempts.{RefusesToStart, Serves, Starts};
+ghost use Rattle.std.specs.Prelude.{◌≡◌, ◌<◌, ◌↔◌, ◌⊎◌, ℕ, false, List, Some, Err, IfErr, IfOk, IsTrue};
+ghost use Rattle.relay_attempts.specs.Attempts.{RefusesToStart, RefusesToStartAtMost, Serves, Starts, StartsAtMost};
 ghost use Rattle.relay_attempts.specs.Outcomes.{AddsUnroutable, CutsUnroutable, EndsUnroutable, RefusesToGiveUp};
 ghost use Rattle.relay_attempts.specs.Next.{IsNextDue};
 ghost use Rattle.relay_attempts.specs.Work.{works_of};
 ghost use Rattle.relay_book.specs.declared.change.Change.{Change};
 ghost use Rattle.relay_book.specs.Book.{Rise};
 ghost use Rattle.relay_book.specs.Queue.{Queue, queue_of};
-ghost use Rattle.relay_node.specs.Attempts.{Begins};
+ghost use Rattle.relay_node.specs.Attempts.{Begins, BeginsAtMost};
 ghost use Rattle.relay_node.specs.Node.{TakesIn};
 ghost use Rattle.relay_records.specs.Records.{Keeps};
 ghost use Rattle.relay_slots.specs.Slots.{IsFull};
@@ -89,6 +89,38 @@ impl<D: Disk> Node<D> {
     {
         self.attempts
             .start(self.alloc, &self.config, &self.records, message, hop, now)
+    }
+
+    /// Begins an attempt as [`Node::start`], for at most `most` of those places, the first in order. The others stay
+    /// due: what was tried is put off, so the next attempt takes them. Where `most` is 0, it is `NotDue`.
+    pub fn start_some(
+        &mut self,
+        message: u64,
+        hop: &HostName,
+        most: usize,
+        now: Moment,
+    ) -> Result<Started, NodeFault>
+        ensures starts { IfOk result (StartsAtMost self.old.config.host self.old.config.routes message hop.now
+            (Some most) now self.old.records.queue self.old.attempts self.new.attempts) }
+        ensures begins { (changes : List Change) → Keeps D.honest D.words self.old.records changes
+            → IfOk result (BeginsAtMost self.old.config changes message hop.now (Some most) now
+            self.old.attempts self.new.attempts) }
+        ensures rest { (self.new.records ≡ self.old.records) × (self.new.config ≡ self.old.config)
+            × (self.new.seats ≡ self.old.seats) }
+        ensures refused { IfErr result (RefusesToStartAtMost self.old.config.host self.old.config.routes message
+            hop.now (Some most) now self.old.records self.old.attempts) }
+        ensures unchanged { IfErr result (λ _. self.new ≡ self.old) }
+        ensures stopped { (result ≡ Err NodeFault.Stopped) ↔ (self.old.records.spool.live ≡ false) }
+    {
+        self.attempts.start_some(
+            self.alloc,
+            &self.config,
+            &self.records,
+            message,
+            hop,
+            most,
+            now,
+        )
     }
 
     /// Ends the held places of a message that have no hop (RFC 5321, section 6.1), all in one change with the
