@@ -8,10 +8,10 @@ use Rattle.relay_attempts.specs.AddedOutcome.{AddsOutcome}
 use Rattle.relay_attempts.specs.Reply.{IsItsCourse, Told, outcome_at, told_more}
 use Rattle.relay_attempts.specs.declared.reply.Replied.{Replied}
 use Rattle.relay_attempts.specs.declared.start.Started.{Started}
-use Rattle.relay_node.specs.Attempts.{Begins, Replies as NodeReplies, RepliesBy as NodeRepliesBy, Tells, begun_with}
+use Rattle.relay_node.specs.Attempts.{BeginsAtMost, Replies as NodeReplies, RepliesBy as NodeRepliesBy, Tells, begun_with}
 use Rattle.relay_node.specs.Node.{NodeState}
 use Rattle.relay_loop.specs.declared.hops.Answered.{Answered}
-use Rattle.relay_loop.specs.Hops.{HandsTo, IsAnsweredBy, IsSetTo, Replies, RepliesBy, StartsTo}
+use Rattle.relay_loop.specs.Hops.{HandsTo, IsAnsweredBy, IsSetTo, Replies, RepliesBy, StartsToAtMost}
 use Rattle.relay_loop.specs.Outboxes.{unwritten_at}
 use Rattle.relay_loop.specs.Relay.{RelayState}
 use Rattle.relay_loop.proofs.ClientLemmas.{waits_there, written_more}
@@ -29,9 +29,9 @@ hands_wrote {D = D} changes old new attempt told written count same left t = rec
 }
 
 -- an attempt has begun, and nothing waits
-pub starts_to : {D : Type 0} (changes : List Change) (message : ℕ) (hop : List ℕ) (now : ℕ) (old new : RelayState D) (started : Started) → new.node.config ≡ old.node.config → slot_at new.hops started.attempt ≡ Some [] → Begins old.node.config changes message hop now old.node.attempts new.node.attempts started
-    → StartsTo changes message hop now old new started
-starts_to changes message hop now old new started same there b = record {
+pub starts_to : {D : Type 0} (changes : List Change) (message : ℕ) (hop : List ℕ) (most : Option ℕ) (now : ℕ) (old new : RelayState D) (started : Started) → new.node.config ≡ old.node.config → slot_at new.hops started.attempt ≡ Some [] → BeginsAtMost old.node.config changes message hop most now old.node.attempts new.node.attempts started
+    → StartsToAtMost changes message hop most now old new started
+starts_to changes message hop most now old new started same there b = record {
   begins = b;
   hands = record {
     tells = subst (λ host. Tells host changes new.node.attempts started.attempt (begun_with message hop started.places.items b.message)) (sym (ap (λ config. config.host) same)) b.tells;

@@ -12,7 +12,7 @@ use Rattle.relay_attempts.specs.AddedOutcome.{AddsOutcome}
 use Rattle.relay_attempts.specs.Reply.{IsItsCourse, Makes, Told, outcome_at, told_more}
 use Rattle.relay_attempts.specs.declared.reply.Replied.{Replied}
 use Rattle.relay_attempts.specs.declared.start.Started.{Started}
-use Rattle.relay_node.specs.Attempts.{Begins, RefusesToReply, Tells, begun_with}
+use Rattle.relay_node.specs.Attempts.{BeginsAtMost, RefusesToReply, Tells, begun_with}
 use Rattle.relay_loop.specs.declared.hops.Answered.{Answered}
 use Rattle.relay_loop.specs.Outboxes.{unwritten_at}
 use Rattle.relay_loop.specs.Relay.{RelayState}
@@ -27,12 +27,17 @@ pub record HandsTo {D : Type 0} (changes : List Change) (relay : RelayState D) (
   pub connection : slot_at relay.hops attempt ≡ Some waiting
   pub output : told.output ≡ written ++ waiting
 
--- an attempt has begun for a message and a hop at a moment, and nothing is written to its connection, and nothing waits
-pub record StartsTo {D : Type 0} (changes : List Change) (message : ℕ) (hop : List ℕ) (now : ℕ)
+-- an attempt has begun for a message and a hop at a moment, for at most so many places, and nothing is written to its
+-- connection, and nothing waits
+pub record StartsToAtMost {D : Type 0} (changes : List Change) (message : ℕ) (hop : List ℕ) (most : Option ℕ) (now : ℕ)
     (old new : RelayState D) (started : Started)
     : Type 0 where
-  pub begins : Begins old.node.config changes message hop now old.node.attempts new.node.attempts started
+  pub begins : BeginsAtMost old.node.config changes message hop most now old.node.attempts new.node.attempts started
   pub hands : HandsTo changes new started.attempt (begun_with message hop started.places.items begins.message) []
+
+-- an attempt has begun for all places that are due and go to the hop
+abbrev pub StartsTo : {D : Type 0} → List Change → ℕ → List ℕ → ℕ → RelayState D → RelayState D → Started → Type 0
+StartsTo changes message hop = StartsToAtMost changes message hop None
 
 -- The words below are of a reply at a moment, to an attempt of which this is told and written, where nothing waited.
 module _ {D : Type 0} (honest : Type 0) (words : DiskWords D) (changes : List Change) (attempt now : ℕ) (told : Told)

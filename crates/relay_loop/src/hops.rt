@@ -2,11 +2,12 @@
 ghost use Rattle.std.specs.Prelude.{◌≡◌, ◌≢◌, ◌↔◌, ◌≤◌, ◌<◌, ◌++◌, ℕ, [], None, Some, List, false};
 ghost use Rattle.std.specs.Prelude.{Err, IfErr, IfOk, Ok, drop, length, take};
 ghost use Rattle.std.specs.Option.{option_map};
-ghost use Rattle.relay_attempts.specs.Attempts.{RefusesToStart, Starts};
+ghost use Rattle.relay_attempts.specs.Attempts.{RefusesToStart, RefusesToStartAtMost, Starts, StartsAtMost};
 ghost use Rattle.relay_attempts.specs.Reply.{CutsLoss, CutsReply, EndsBy, HasNoRoomAtEnd, HasNoRoomAtLoss};
 ghost use Rattle.relay_attempts.specs.Reply.{IsLost, Told};
 ghost use Rattle.relay_book.specs.declared.change.Change.{Change};
-ghost use Rattle.relay_loop.specs.Hops.{HandsTo, IsAnsweredBy, IsSetTo, RefusesHop, Replies, StartsTo, UsesReply};
+ghost use Rattle.relay_loop.specs.Hops.{HandsTo, IsAnsweredBy, IsSetTo, RefusesHop, Replies, StartsTo, StartsToAtMost};
+ghost use Rattle.relay_loop.specs.Hops.{UsesReply};
 ghost use Rattle.relay_loop.specs.Outboxes.{unwritten_at};
 ghost use Rattle.relay_loop.specs.Relay.{OnlyHop};
 ghost use Rattle.relay_records.specs.Records.{Keeps};
@@ -63,6 +64,34 @@ impl<D: Disk> Relay<D> {
         ensures stopped { (result ≡ Err NodeFault.Stopped) ↔ (self.old.node.records.spool.live ≡ false) }
     {
         let started = self.node.start(message, hop, now)?;
+        self.hops
+            .put(started.attempt, Outbox::new(Vec::new(self.alloc)));
+        Ok(started)
+    }
+
+    /// Begins an attempt as [`Relay::start`], for at most `most` of those places, as
+    /// [`Node::start_some`](relay_node::Node::start_some).
+    pub fn start_some(
+        &mut self,
+        message: u64,
+        hop: &HostName,
+        most: usize,
+        now: Moment,
+    ) -> Result<Started, NodeFault>
+        ensures starts { (changes : List Change) → Keeps D.honest D.words self.old.node.records changes
+            → IfOk result (StartsToAtMost changes message hop.now (Some most) now self.old self.new) }
+        ensures begins { IfOk result (StartsAtMost self.old.node.config.host self.old.node.config.routes message
+            hop.now (Some most) now self.old.node.records.queue self.old.node.attempts self.new.node.attempts) }
+        ensures connection { IfOk result (λ started. slot_at self.new.hops started.attempt ≡ Some []) }
+        ensures only { IfOk result (λ started. OnlyHop self.old self.new started.attempt) }
+        ensures records { self.new.node.records ≡ self.old.node.records }
+        ensures refused { IfErr result (RefusesToStartAtMost self.old.node.config.host
+            self.old.node.config.routes message hop.now (Some most) now self.old.node.records
+            self.old.node.attempts) }
+        ensures unchanged { IfErr result (λ _. self.new ≡ self.old) }
+        ensures stopped { (result ≡ Err NodeFault.Stopped) ↔ (self.old.node.records.spool.live ≡ false) }
+    {
+        let started = self.node.start_some(message, hop, most, now)?;
         self.hops
             .put(started.attempt, Outbox::new(Vec::new(self.alloc)));
         Ok(started)

@@ -1,5 +1,5 @@
 -- Nothing waits to be written for an attempt that has begun.
-use Rattle.std.proofs.Common.{◌≡◌, rules, [], Some}
+use Rattle.std.proofs.Common.{◌≡◌, rules, [], None, Some}
 use Rattle.std.proofs.lemmas.Result.{err_from_is_err_and}
 use Rattle.relay_slots.specs.Slots.{slot_at}
 use Rattle.relay_loop.proofs.HopLemmas.{starts_to}
@@ -13,4 +13,4 @@ returns-in_err-started-clause-refused g c =
 pub returns-clause-starts : goal.returns-clause-starts
 returns-clause-starts g c = rw (← c.self.view_is) (λ changes keeps.
     let there : slot_at c.put.new.self c.in_ok-started.started.attempt ≡ Some [] = search rules in
-    starts_to changes c.args.message c.args.hop.now c.args.now _ _ c.in_ok-started.started c.in_ok-started.ensures.rest.1 there (c.in_ok-started.ensures.begins changes keeps))
+    starts_to changes c.args.message c.args.hop.now None c.args.now _ _ c.in_ok-started.started c.in_ok-started.ensures.rest.1 there (c.in_ok-started.ensures.begins changes keeps))
