@@ -7,18 +7,20 @@ use Rattle.relay_routes.specs.declared.bare_newlines.BareNewlines.{BareNewlines 
 use Rattle.relay_routes.specs.declared.bare_newlines.BareNewlines.TheVariants.{Pass, Refuse}
 use Rattle.relay_routes.specs.declared.routed_paths.RoutedPaths.{RoutedPaths as PathRule}
 use Rattle.relay_routes.specs.declared.routed_paths.RoutedPaths.TheVariants as routed
+use Rattle.relay_routes.specs.declared.report_form.ReportForm.{ReportForm}
+use Rattle.relay_routes.specs.declared.report_form.ReportForm.TheVariants.{Plain, Rich}
 use Rattle.toml.specs.Data.{Data, Members, no_members, member, string, integer, table}
 use Rattle.toml.specs.Parse.{parse_document}
 use Rattle.relay_routes.specs.declared.config.Config.{Config}
 use Rattle.relay_routes.specs.declared.fault.ConfigFault.{ConfigFault}
 use Rattle.relay_routes.specs.declared.key.Key.{Key}
-use Rattle.relay_routes.specs.declared.key.Key.TheVariants.{Host, Listen, Spool, MaxContent, SpoolLimit, BareNewlines, RoutedPaths, Routes, TrustedClients}
-use Rattle.relay_routes.specs.Value.{GivesAddress, GivesBareNewlines, GivesHost, GivesPath, GivesRoutedPaths, GivesSize, address_text, bare_newlines_text, routed_paths_text}
+use Rattle.relay_routes.specs.declared.key.Key.TheVariants.{Host, Listen, Spool, MaxContent, SpoolLimit, BareNewlines, Reports, RoutedPaths, Routes, TrustedClients}
+use Rattle.relay_routes.specs.Value.{GivesAddress, GivesBareNewlines, GivesHost, GivesPath, GivesReportForm, GivesRoutedPaths, GivesSize, address_text, bare_newlines_text, report_form_text, routed_paths_text}
 use Rattle.relay_routes.specs.Trusted.{IsTrusting, Trusted}
 use Rattle.relay_routes.specs.Routes.{Route, RouteTable, without_wildcard}
 use Rattle.relay_routes.specs.Settings.{IsConfig}
 use Rattle.relay_routes.specs.Document.{AreRoutes, GivesRoutes, value_of}
-use Rattle.relay_routes.specs.Config.{FirstFault, GivesTrusted, IsGood, ReadsBareNewlines, ReadsDocument, ReadsHost, ReadsListen, ReadsMaxContent, ReadsOptional, ReadsParsed, ReadsRequired, ReadsRoutedPaths, ReadsRoutes, ReadsSpool, ReadsSpoolLimit, ReadsTrustedClients, ReadsValue, Says, at_bare_newlines, at_host, at_listen, at_max_content, at_routed_paths, at_routes, at_spool, at_spool_limit, at_trusted_clients}
+use Rattle.relay_routes.specs.Config.{FirstFault, GivesTrusted, IsGood, ReadsBareNewlines, ReadsDocument, ReadsHost, ReadsListen, ReadsMaxContent, ReadsOptional, ReadsParsed, ReadsReports, ReadsRequired, ReadsRoutedPaths, ReadsRoutes, ReadsSpool, ReadsSpoolLimit, ReadsTrustedClients, ReadsValue, Says, at_bare_newlines, at_host, at_listen, at_max_content, at_reports, at_routed_paths, at_routes, at_spool, at_spool_limit, at_trusted_clients}
 use Rattle.relay_routes.specs.ConfigLaws.{OneReading}
 use Rattle.relay_routes.proofs.AddressLemmas.{address_is_one}
 use Rattle.relay_routes.proofs.MemberLemmas.{route_is_one}
@@ -90,6 +92,18 @@ routed_paths_are_one value one two a b =
     let same : string (routed_paths_text one) ≡ string (routed_paths_text two) = sym a ∙ b in
     rule_is_one one two (cc same)
 
+-- and one form of reports
+form_is_one : (one two : ReportForm) → report_form_text one ≡ report_form_text two → one ≡ two
+form_is_one Plain Plain same = refl
+form_is_one Plain Rich same = let longer = ap length same in absurd (omega (arith, longer))
+form_is_one Rich Plain same = let longer = ap length same in absurd (omega (arith, longer))
+form_is_one Rich Rich same = refl
+
+report_forms_are_one : GivesOne GivesReportForm
+report_forms_are_one value one two a b =
+    let same : string (report_form_text one) ≡ string (report_form_text two) = sym a ∙ b in
+    form_is_one one two (cc same)
+
 -- members say one list of routes
 routes_are_one : (members : Members) (one two : List Route) → AreRoutes members one → AreRoutes members two → one ≡ two
 routes_are_one no_members [] [] a b = refl
@@ -141,6 +155,9 @@ one_trusted_clients document = optional_is_one TrustedClients None GivesTrusted 
 one_routed_paths : (document : Members) → ReadsOne (ReadsRoutedPaths document)
 one_routed_paths document = optional_is_one RoutedPaths routed.Pass GivesRoutedPaths (value_of RoutedPaths document) routed_paths_are_one
 
+one_reports : (document : Members) → ReadsOne (ReadsReports document)
+one_reports document = optional_is_one Reports Plain GivesReportForm (value_of Reports document) report_forms_are_one
+
 -- a value that was read is one
 same_value : {A : Type 0} (Reads : Result A ConfigFault → Type 0) (one two : A) → ReadsOne Reads → Reads (Ok one) → Reads (Ok two) → one ≡ two
 same_value Reads one two unique a b =
@@ -176,8 +193,8 @@ trusted_by routes other (Some one) (Some two) same a b networks =
     λ j. Some (record { networks = its j; named = named j })
 
 -- a configuration is its values
-config_by : (one two : Config) → one.host ≡ two.host → one.listen ≡ two.listen → one.spool ≡ two.spool → one.max_content ≡ two.max_content → one.spool_limit ≡ two.spool_limit → one.bare_newlines ≡ two.bare_newlines → one.routes ≡ two.routes → one.trusted_clients ≡ two.trusted_clients → one.routed_paths ≡ two.routed_paths → one ≡ two
-config_by one two host listen spool max_content spool_limit bare_newlines routes trusted_clients routed_paths =
+config_by : (one two : Config) → one.host ≡ two.host → one.listen ≡ two.listen → one.spool ≡ two.spool → one.max_content ≡ two.max_content → one.spool_limit ≡ two.spool_limit → one.bare_newlines ≡ two.bare_newlines → one.routes ≡ two.routes → one.trusted_clients ≡ two.trusted_clients → one.routed_paths ≡ two.routed_paths → one.reports ≡ two.reports → one ≡ two
+config_by one two host listen spool max_content spool_limit bare_newlines routes trusted_clients routed_paths reports =
     let valid : PathP (λ j. IsConfig (host j) (max_content j) (spool_limit j) (routes j)) one.valid two.valid =
     to_path_p (λ j. IsConfig (host j) (max_content j) (spool_limit j) (routes j)) (config_prop two.host two.max_content two.spool_limit two.routes _ two.valid) in
     let trusting : PathP (λ j. IsTrusting (routes j) (trusted_clients j)) one.trusting two.trusting =
@@ -192,6 +209,7 @@ config_by one two host listen spool max_content spool_limit bare_newlines routes
       routes = routes j;
       trusted_clients = trusted_clients j;
       routed_paths = routed_paths j;
+      reports = reports j;
       valid = valid j;
       trusting = trusting j;
     }
@@ -211,7 +229,8 @@ says_one document one two a b =
     let networks = same_value (ReadsTrustedClients document) (option_map (λ trusted. trusted.networks) one.trusted_clients) (option_map (λ trusted. trusted.networks) two.trusted_clients)
     (one_trusted_clients document) a.trusted_clients b.trusted_clients in
     let routed_paths = same_value (ReadsRoutedPaths document) one.routed_paths two.routed_paths (one_routed_paths document) a.routed_paths b.routed_paths in
-    config_by one two host listen spool max_content spool_limit bare_newlines table (trusted_by one.routes two.routes one.trusted_clients two.trusted_clients table a.trusting b.trusting networks) routed_paths
+    let reports = same_value (ReadsReports document) one.reports two.reports (one_reports document) a.reports b.reports in
+    config_by one two host listen spool max_content spool_limit bare_newlines table (trusted_by one.routes two.routes one.trusted_clients two.trusted_clients table a.trusting b.trusting networks) routed_paths reports
 
 -- a fault is that of this key, or the key is good and the fault a later one
 abbrev FaultFrom : {A : Type 0} → (Result A ConfigFault → Type 0) → (ConfigFault → Type 0) → ConfigFault → Type 0
@@ -227,8 +246,11 @@ from_is_one Reads Later unique later one two (inr a) (inl b) = absurd (no_fault 
 from_is_one Reads Later unique later one two (inr a) (inr b) = later one two a.1 b.1
 
 -- the faults from each key on
+abbrev FromReports : Members → ConfigFault → Type 0
+FromReports document fault = ReadsReports document (Err fault)
+
 abbrev FromRoutedPaths : Members → ConfigFault → Type 0
-FromRoutedPaths document fault = ReadsRoutedPaths document (Err fault)
+FromRoutedPaths document = FaultFrom (ReadsRoutedPaths document) (FromReports document)
 
 abbrev FromTrustedClients : Members → ConfigFault → Type 0
 FromTrustedClients document = FaultFrom (ReadsTrustedClients document) (FromRoutedPaths document)
@@ -267,7 +289,9 @@ from_host document fault (at_bare_newlines host listen spool max_content spool_l
 from_host document fault (at_trusted_clients host listen spool max_content spool_limit routes bare_newlines bad) =
     inr (host, inr (listen, inr (spool, inr (max_content, inr (spool_limit, inr (routes, inr (bare_newlines, inl bad)))))))
 from_host document fault (at_routed_paths host listen spool max_content spool_limit routes bare_newlines trusted_clients bad) =
-    inr (host, inr (listen, inr (spool, inr (max_content, inr (spool_limit, inr (routes, inr (bare_newlines, inr (trusted_clients, bad))))))))
+    inr (host, inr (listen, inr (spool, inr (max_content, inr (spool_limit, inr (routes, inr (bare_newlines, inr (trusted_clients, inl bad))))))))
+from_host document fault (at_reports host listen spool max_content spool_limit routes bare_newlines trusted_clients routed_paths bad) =
+    inr (host, inr (listen, inr (spool, inr (max_content, inr (spool_limit, inr (routes, inr (bare_newlines, inr (trusted_clients, inr (routed_paths, bad)))))))))
 
 one_from_host : (document : Members) → IsOneFault (FromHost document)
 one_from_host document =
@@ -279,7 +303,8 @@ one_from_host document =
     (from_is_one (ReadsRoutes document) (FromBareNewlines document) (one_routes document)
     (from_is_one (ReadsBareNewlines document) (FromTrustedClients document) (one_bare_newlines document)
     (from_is_one (ReadsTrustedClients document) (FromRoutedPaths document) (one_trusted_clients document)
-    (λ one two a b. same_fault (ReadsRoutedPaths document) one two (one_routed_paths document) a b))))))))
+    (from_is_one (ReadsRoutedPaths document) (FromReports document) (one_routed_paths document)
+    (λ one two a b. same_fault (ReadsReports document) one two (one_reports document) a b)))))))))
 
 -- a document that says a configuration has no fault
 says_no_fault : (document : Members) (config : Config) (fault : ConfigFault) → Says document config → ¬ FirstFault document fault
@@ -298,6 +323,8 @@ says_no_fault document config fault says (at_trusted_clients host listen spool m
     no_fault (ReadsTrustedClients document) (option_map (λ trusted. trusted.networks) config.trusted_clients) fault (one_trusted_clients document) says.trusted_clients bad
 says_no_fault document config fault says (at_routed_paths host listen spool max_content spool_limit routes bare_newlines trusted_clients bad) =
     no_fault (ReadsRoutedPaths document) config.routed_paths fault (one_routed_paths document) says.routed_paths bad
+says_no_fault document config fault says (at_reports host listen spool max_content spool_limit routes bare_newlines trusted_clients routed_paths bad) =
+    no_fault (ReadsReports document) config.reports fault (one_reports document) says.reports bad
 
 document_is_one : (document : Members) → ReadsOne (ReadsDocument document)
 document_is_one document (Ok one) (Ok two) a b = ap Ok (says_one document one two a b)

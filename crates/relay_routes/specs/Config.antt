@@ -6,7 +6,10 @@ use Rattle.relay_routes.specs.declared.bare_newlines.BareNewlines.{BareNewlines 
 use Rattle.relay_routes.specs.declared.bare_newlines.BareNewlines.TheVariants.{Pass}
 use Rattle.relay_routes.specs.declared.routed_paths.RoutedPaths.{RoutedPaths as PathRule}
 use Rattle.relay_routes.specs.declared.routed_paths.RoutedPaths.TheVariants as routed
-use Rattle.relay_routes.specs.Value.{GivesAddress, GivesBareNewlines, GivesHost, GivesPath, GivesRoutedPaths, GivesSize}
+use Rattle.relay_routes.specs.declared.report_form.ReportForm.{ReportForm}
+use Rattle.relay_routes.specs.declared.report_form.ReportForm.TheVariants.{Plain}
+use Rattle.relay_routes.specs.Value.{GivesAddress, GivesBareNewlines, GivesHost, GivesPath, GivesReportForm}
+use Rattle.relay_routes.specs.Value.{GivesRoutedPaths, GivesSize}
 use Rattle.relay_routes.specs.Routes.{Route}
 use Rattle.relay_routes.specs.Network.{GivesNetworks}
 use Rattle.relay_routes.specs.Trusted.{IsTrusting}
@@ -15,7 +18,7 @@ use Rattle.std.specs.declared.net.socket_addr.SocketAddrV4.{SocketAddrV4}
 use Rattle.relay_routes.specs.declared.network.Network.{Network}
 use Rattle.relay_routes.specs.declared.key.Key.{Key}
 use Rattle.relay_routes.specs.declared.key.Key.TheVariants.{Host, Listen, Spool, MaxContent, SpoolLimit, Routes}
-use Rattle.relay_routes.specs.declared.key.Key.TheVariants.{BareNewlines, TrustedClients, RoutedPaths}
+use Rattle.relay_routes.specs.declared.key.Key.TheVariants.{BareNewlines, TrustedClients, RoutedPaths, Reports}
 use Rattle.relay_routes.specs.declared.fault.ConfigFault.{ConfigFault}
 use Rattle.relay_routes.specs.declared.fault.ConfigFault.TheVariants.{NotToml, Missing, BadValue}
 use Rattle.relay_routes.specs.declared.config.Config.{Config}
@@ -76,6 +79,10 @@ ReadsTrustedClients document = ReadsOptional TrustedClients None GivesTrusted (v
 abbrev pub ReadsRoutedPaths : Members → Result PathRule ConfigFault → Type 0
 ReadsRoutedPaths document = ReadsOptional RoutedPaths routed.Pass GivesRoutedPaths (value_of RoutedPaths document)
 
+-- how a delivery status notification is written: plainly where nothing is said
+abbrev pub ReadsReports : Members → Result ReportForm ConfigFault → Type 0
+ReadsReports document = ReadsOptional Reports Plain GivesReportForm (value_of Reports document)
+
 -- the document says this configuration
 pub record Says (document : Members) (config : Config) : Type 0 where
   pub host : ReadsHost document (Ok config.host)
@@ -89,6 +96,7 @@ pub record Says (document : Members) (config : Config) : Type 0 where
   pub trusted_clients : ReadsTrustedClients document
       (Ok (option_map (λ trusted. trusted.networks) config.trusted_clients))
   pub routed_paths : ReadsRoutedPaths document (Ok config.routed_paths)
+  pub reports : ReadsReports document (Ok config.reports)
   pub trusting : IsTrusting config.routes config.trusted_clients
 
 -- there is a value where each key before was read
@@ -119,6 +127,10 @@ pub data FirstFault (document : Members) (fault : ConfigFault) : Type 0 where
       → IsGood (ReadsMaxContent document) → IsGood (ReadsSpoolLimit document) → IsGood (ReadsRoutes document)
       → IsGood (ReadsBareNewlines document) → IsGood (ReadsTrustedClients document)
       → ReadsRoutedPaths document (Err fault) → FirstFault document fault
+  at_reports : IsGood (ReadsHost document) → IsGood (ReadsListen document) → IsGood (ReadsSpool document)
+      → IsGood (ReadsMaxContent document) → IsGood (ReadsSpoolLimit document) → IsGood (ReadsRoutes document)
+      → IsGood (ReadsBareNewlines document) → IsGood (ReadsTrustedClients document)
+      → IsGood (ReadsRoutedPaths document) → ReadsReports document (Err fault) → FirstFault document fault
 
 -- what a document says
 abbrev pub ReadsDocument : Members → Result Config ConfigFault → Type 0

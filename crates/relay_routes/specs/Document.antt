@@ -11,7 +11,7 @@ use Rattle.relay_routes.specs.declared.fault.RouteFault.TheVariants.{BadDomain, 
 use Rattle.relay_routes.specs.declared.fault.RouteFault.TheVariants.{NoMemory as OutOfMemory}
 use Rattle.relay_routes.specs.declared.key.Key.{Key}
 use Rattle.relay_routes.specs.declared.key.Key.TheVariants.{Host, Listen, Spool, MaxContent, SpoolLimit, Routes}
-use Rattle.relay_routes.specs.declared.key.Key.TheVariants.{BareNewlines, TrustedClients, RoutedPaths}
+use Rattle.relay_routes.specs.declared.key.Key.TheVariants.{BareNewlines, TrustedClients, RoutedPaths, Reports}
 
 -- each key as a document has it
 abbrev pub key_text : Key → List ℕ
@@ -24,6 +24,7 @@ key_text Routes = codes "routes"
 key_text BareNewlines = codes "bare_newlines"
 key_text TrustedClients = codes "trusted_clients"
 key_text RoutedPaths = codes "routed_paths"
+key_text Reports = codes "reports"
 
 -- what a route that isn't added means for a configuration
 abbrev pub fault_of_routes : RouteFault → ConfigFault

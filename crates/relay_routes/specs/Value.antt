@@ -11,6 +11,8 @@ use Rattle.relay_routes.specs.declared.bare_newlines.BareNewlines.{BareNewlines}
 use Rattle.relay_routes.specs.declared.bare_newlines.BareNewlines.TheVariants.{Pass, Refuse}
 use Rattle.relay_routes.specs.declared.routed_paths.RoutedPaths.{RoutedPaths}
 use Rattle.relay_routes.specs.declared.routed_paths.RoutedPaths.TheVariants as routed
+use Rattle.relay_routes.specs.declared.report_form.ReportForm.{ReportForm}
+use Rattle.relay_routes.specs.declared.report_form.ReportForm.TheVariants.{Plain, Rich}
 pub use Rattle.relay_envelope.specs.HostName.{IsHostName, is_host_octet}
 
 -- four numbers with "." between them, ":" and a port, each written without leading zeros
@@ -62,6 +64,15 @@ routed_paths_text routed.Refuse = codes "refuse"
 -- the value is a text that says this of them
 abbrev pub GivesRoutedPaths : Data → RoutedPaths → Type 0
 GivesRoutedPaths value routed_paths = value ≡ string (routed_paths_text routed_paths)
+
+-- how a document says how a delivery status notification is written
+abbrev pub report_form_text : ReportForm → List ℕ
+report_form_text Plain = codes "plain"
+report_form_text Rich = codes "rich"
+
+-- the value is a text that says this of it
+abbrev pub GivesReportForm : Data → ReportForm → Type 0
+GivesReportForm value form = value ≡ string (report_form_text form)
 
 -- the octet is ":"
 abbrev pub is_colon : ℕ → Bool

@@ -5,10 +5,12 @@ ghost use Rattle.relay_routes.specs.Trusted.{IsTrusting};
 use crate::bare_newlines::BareNewlines;
 use crate::document::{
     CONTENT_LIMIT, SPOOL_LIMIT, read_bare_newlines, read_host, read_listen, read_max_content,
-    read_routed_paths, read_routes, read_spool, read_spool_limit, read_trusted_clients,
+    read_reports, read_routed_paths, read_routes, read_spool, read_spool_limit,
+    read_trusted_clients,
 };
 use crate::fault::ConfigFault;
 use crate::host_name::HostName;
+use crate::report_form::ReportForm;
 use crate::routed_paths::RoutedPaths;
 use crate::spool_path::SpoolPath;
 use crate::table::Table;
@@ -37,6 +39,8 @@ pub struct Config {
     pub trusted_clients: Option<TrustedClients>,
     /// What is done with a recipient whose path is routed, but of a client that `trusted_clients` names.
     pub routed_paths: RoutedPaths,
+    /// How a delivery status notification is written.
+    pub reports: ReportForm,
     pub ghost valid: { IsConfig host max_content spool_limit routes },
     pub ghost trusting: { IsTrusting routes trusted_clients },
 }
@@ -54,6 +58,7 @@ impl Drop for Config {
             routes: _routes,
             trusted_clients: _trusted_clients,
             routed_paths: _,
+            reports: _,
         } = self;
     }
 }
@@ -79,7 +84,8 @@ impl Config {
             (config.host ≡ host) × (config.listen ≡ listen) × (config.spool ≡ spool)
             × (config.max_content ≡ max_content) × (config.spool_limit ≡ spool_limit)
             × (config.bare_newlines ≡ bare_newlines) × (config.routes ≡ routes)
-            × (config.trusted_clients ≡ None) × (config.routed_paths ≡ RoutedPaths.Pass)) }
+            × (config.trusted_clients ≡ None) × (config.routed_paths ≡ RoutedPaths.Pass)
+            × (config.reports ≡ ReportForm.Plain)) }
     {
         if is_config(&host, max_content, spool_limit, &routes) {
             Some(Config {
@@ -92,6 +98,7 @@ impl Config {
                 routes,
                 trusted_clients: None,
                 routed_paths: RoutedPaths::Pass,
+                reports: ReportForm::Plain,
             })
         } else {
             None
@@ -101,7 +108,8 @@ impl Config {
     /// The configuration that a text in TOML says. Keys are looked at in the order of [`Key`](crate::Key), and the
     /// first fault is answered; other keys are ignored. Where they are missing, `max_content` is 1,048,576,
     /// `spool_limit` 67,108,864, `bare_newlines` says that content is taken as it came, `trusted_clients` that every
-    /// client may send to every route, and `routed_paths` that a routed path is taken as any other.
+    /// client may send to every route, `routed_paths` that a routed path is taken as any other, and `reports` that a
+    /// report is plain.
     pub fn read(alloc: Global, text: &str) -> Result<Self, ConfigFault>
         ensures ok { IfOk result (λ config. ReadsConfig text.now (Ok config)) }
         ensures err { IfErr result (λ fault. (fault ≡ ConfigFault.NoMemory)
@@ -129,6 +137,7 @@ impl Config {
         let bare_newlines = read_bare_newlines(document)?;
         let trusted_clients = read_trusted_clients(alloc, document, &routes)?;
         let routed_paths = read_routed_paths(document)?;
+        let reports = read_reports(document)?;
         Ok(Config {
             host,
             listen,
@@ -139,6 +148,7 @@ impl Config {
             routes,
             trusted_clients,
             routed_paths,
+            reports,
         })
     }
 

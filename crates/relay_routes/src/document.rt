@@ -7,7 +7,7 @@ ghost use Rattle.relay_routes.specs.Value.{GivesSize};
 ghost use Rattle.relay_routes.specs.Document.{AreRoutes, GivesHop, fault_of_routes, value_of};
 ghost use Rattle.relay_routes.specs.Routes.{AllAgree, Route};
 ghost use Rattle.relay_routes.specs.Config.{ReadsBareNewlines, ReadsHost, ReadsListen, ReadsMaxContent, ReadsOptional};
-ghost use Rattle.relay_routes.specs.Config.{ReadsRoutedPaths, ReadsRoutes, ReadsSpool, ReadsSpoolLimit};
+ghost use Rattle.relay_routes.specs.Config.{ReadsReports, ReadsRoutedPaths, ReadsRoutes, ReadsSpool, ReadsSpoolLimit};
 ghost use Rattle.relay_routes.specs.Config.{ReadsTrustedClients};
 ghost use Rattle.relay_routes.specs.Network.{AreNetworks, GivesNetwork};
 ghost use Rattle.relay_routes.specs.Trusted.{IsTrusting};
@@ -21,6 +21,7 @@ use crate::hop::Hop;
 use crate::host_name::HostName;
 use crate::key::Key;
 use crate::network::Network;
+use crate::report_form::ReportForm;
 use crate::routed_paths::RoutedPaths;
 use crate::spool_path::SpoolPath;
 use crate::table::Table;
@@ -126,6 +127,22 @@ pub(crate) fn read_routed_paths(document: &toml::Table) -> Result<RoutedPaths, C
     match RoutedPaths::read(text) {
         Some(found) => Ok(found),
         None => Err(ConfigFault::BadValue(Key::RoutedPaths)),
+    }
+}
+
+/// `reports`: how a delivery status notification is written.
+pub(crate) fn read_reports(document: &toml::Table) -> Result<ReportForm, ConfigFault>
+    ensures { ReadsReports (table_view document.now) result }
+{
+    let Some(value) = member(document, Key::Reports) else {
+        return Ok(ReportForm::Plain);
+    };
+    let Some(text) = value.as_str() else {
+        return Err(ConfigFault::BadValue(Key::Reports));
+    };
+    match ReportForm::read(text) {
+        Some(found) => Ok(found),
+        None => Err(ConfigFault::BadValue(Key::Reports)),
     }
 }
 

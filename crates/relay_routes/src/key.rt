@@ -24,6 +24,8 @@ pub enum Key {
     TrustedClients,
     /// What is done with a recipient whose path is routed.
     RoutedPaths,
+    /// How a delivery status notification is written.
+    Reports,
 }
 
 impl Key {
@@ -41,6 +43,7 @@ impl Key {
             Key::BareNewlines => "bare_newlines",
             Key::TrustedClients => "trusted_clients",
             Key::RoutedPaths => "routed_paths",
+            Key::Reports => "reports",
         }
     }
 }
