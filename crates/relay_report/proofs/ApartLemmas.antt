@@ -3,14 +3,16 @@ use Rattle.std.proofs.Common.{◌≡◌, inl, inr, ℕ, zero, suc, ◌+◌, ◌<
 use Rattle.std.proofs.lemmas.Bool.{and_parts, eqb-true, false≢true, leb-true, cases_Bool}
 use Rattle.std.proofs.lemmas.List.{drop_at}
 use Rattle.std.specs.Prelude.{slice_index}
-use Rattle.std.specs.List.{list_all}
+use Rattle.std.specs.List.{AllByRecursion, list_all, list_any}
 use Rattle.relay_octets.specs.Line.{begins_with_lf, crlf, has_crlf, lines_text}
 use Rattle.relay_octets.proofs.Theorems.{no_crlf_by_test, no_crlf_nil}
 use Rattle.relay_trace.specs.HeaderSection.{IsFilledLine, header_end_of}
 use Rattle.relay_trace.proofs.Theorems.{header_ends_at_empty_line, header_goes_on}
 use Rattle.relay_report.specs.Boundary.{StandsNowhere}
 use Rattle.relay_report.specs.StatusFields.{field}
-use Rattle.relay_report.specs.Multipart.{body_part, closing_line, dash_boundary, multipart_text, part_head, returned_type}
+use Rattle.relay_routes.specs.declared.report_form.ReportForm.{ReportForm}
+use Rattle.relay_routes.specs.declared.report_form.ReportForm.TheVariants.{Plain, Rich}
+use Rattle.relay_report.specs.Multipart.{body_part, closing_line, dash_boundary, encoding_field, encoding_of, is_eight_bit, multipart_text, part_fields, part_head, returned_type}
 use Rattle.relay_report.specs.Parts.{BeginsOnce, IsThreeOf}
 use Rattle.relay_report.specs.Split.{OpensWith, part_of}
 use Rattle.relay_report.proofs.CutLemmas.{nowhere_behind_line}
@@ -72,27 +74,68 @@ no_dashes boundary text none = record {
   nowhere = λ before after e. false≢true (sym none ∙ ap has_dashes e ∙ dashes_between before (boundary ++ after));
 }
 
--- a type that may stand in a part's head
-pub record IsKind (kind : List ℕ) : Type 0 where
-  pub line : has_crlf (codes "Content-Type: " ++ kind) ≡ false
-  pub dashes : has_dashes ((crlf ++ field (codes "Content-Type") kind) ++ (13 ∷ [])) ≡ false
+-- fields that may stand in a part's head
+pub record IsHead (fields : List ℕ) : Type 0 where
+  pub lines : List (List ℕ)
+  pub text_is : fields ≡ lines_text lines
+  pub filled : AllByRecursion IsFilledLine lines
+  pub dashes : has_dashes ((crlf ++ fields) ++ (13 ∷ [])) ≡ false
 
-pub text_kind : IsKind (codes "text/plain; charset=us-ascii")
-unfolding field
-text_kind = record { line = refl; dashes = refl }
+filled_line : (octet : ℕ) (octets : List ℕ) → has_crlf (octet ∷ octets) ≡ false → IsFilledLine (octet ∷ octets)
+filled_line octet octets plain = record { no_crlf = no_crlf_by_test (octet ∷ octets) plain; not_empty = λ e. cc }
 
-pub status_kind : IsKind (codes "message/delivery-status")
-unfolding field
-status_kind = record { line = refl; dashes = refl }
+pub text_head : IsHead (part_fields (codes "text/plain; charset=us-ascii") [])
+unfolding part_fields field
+text_head = record {
+  lines = codes "Content-Type: text/plain; charset=us-ascii" ∷ [];
+  text_is = refl;
+  filled = (filled_line _ _ refl, tt);
+  dashes = refl;
+}
 
-pub returned_kind : (whole : Bool) → IsKind (returned_type whole)
-unfolding field
-returned_kind true = record { line = refl; dashes = refl }
-returned_kind false = record { line = refl; dashes = refl }
+pub status_head : IsHead (part_fields (codes "message/delivery-status") [])
+unfolding part_fields field
+status_head = record {
+  lines = codes "Content-Type: message/delivery-status" ∷ [];
+  text_is = refl;
+  filled = (filled_line _ _ refl, tt);
+  dashes = refl;
+}
+
+third_head : (whole eight : Bool) → IsHead (part_fields (returned_type whole) (encoding_field eight))
+unfolding part_fields field
+third_head true true = record {
+  lines = codes "Content-Type: message/rfc822" ∷ codes "Content-Transfer-Encoding: 8bit" ∷ [];
+  text_is = refl;
+  filled = (filled_line _ _ refl, (filled_line _ _ refl, tt));
+  dashes = refl;
+}
+third_head true false = record {
+  lines = codes "Content-Type: message/rfc822" ∷ [];
+  text_is = refl;
+  filled = (filled_line _ _ refl, tt);
+  dashes = refl;
+}
+third_head false true = record {
+  lines = codes "Content-Type: text/rfc822-headers" ∷ codes "Content-Transfer-Encoding: 8bit" ∷ [];
+  text_is = refl;
+  filled = (filled_line _ _ refl, (filled_line _ _ refl, tt));
+  dashes = refl;
+}
+third_head false false = record {
+  lines = codes "Content-Type: text/rfc822-headers" ∷ [];
+  text_is = refl;
+  filled = (filled_line _ _ refl, tt);
+  dashes = refl;
+}
+
+pub returned_head : (form : ReportForm) (whole : Bool) (part : List ℕ) → IsHead (part_fields (returned_type whole) (encoding_of form part))
+returned_head Plain whole part = third_head whole false
+returned_head Rich whole part = third_head whole (list_any is_eight_bit part)
 
 -- a piece between two boundaries
 abbrev pub piece : List ℕ → List ℕ → List ℕ
-piece kind part = crlf ++ (field (codes "Content-Type") kind ++ (crlf ++ part))
+piece fields part = crlf ++ (fields ++ (crlf ++ part))
 
 mark_nowhere : (word text : List ℕ) → StandsNowhere word text → StandsNowhere (crlf ++ word) text
 mark_nowhere word text none = record {
@@ -102,26 +145,22 @@ mark_nowhere word text none = record {
 regroup : (head part : List ℕ) → (head ++ (13 ∷ [])) ++ (10 ∷ part) ≡ head ++ (13 ∷ 10 ∷ part)
 regroup head part = append_assoc head (13 ∷ []) (10 ∷ part)
 
-piece_free : (boundary kind part : List ℕ) → IsKind kind → IsAbove (dash_boundary boundary) → StandsNowhere (dash_boundary boundary) part
-    → StandsNowhere (crlf ++ dash_boundary boundary) (piece kind part)
-piece_free boundary kind part is above none =
-    mark_nowhere (dash_boundary boundary) (piece kind part)
-    (subst (StandsNowhere (dash_boundary boundary)) (regroup (crlf ++ field (codes "Content-Type") kind) part ∙ append_assoc crlf (field (codes "Content-Type") kind) (crlf ++ part))
-    (nowhere_behind_line (dash_boundary boundary) ((crlf ++ field (codes "Content-Type") kind) ++ (13 ∷ [])) part
+piece_free : (boundary fields part : List ℕ) → IsHead fields → IsAbove (dash_boundary boundary) → StandsNowhere (dash_boundary boundary) part
+    → StandsNowhere (crlf ++ dash_boundary boundary) (piece fields part)
+piece_free boundary fields part is above none =
+    mark_nowhere (dash_boundary boundary) (piece fields part)
+    (subst (StandsNowhere (dash_boundary boundary)) (regroup (crlf ++ fields) part ∙ append_assoc crlf fields (crlf ++ part))
+    (nowhere_behind_line (dash_boundary boundary) ((crlf ++ fields) ++ (13 ∷ [])) part
     (λ place within e. omega (arith, above_at (dash_boundary boundary) place above.test within, e))
     (no_dashes boundary _ is.dashes) none))
 
 -- the head of a part is a header section
-kind_end : (kind part : List ℕ) → IsKind kind
-    → header_end_of (field (codes "Content-Type") kind ++ (crlf ++ part)) ≡ length (field (codes "Content-Type") kind)
-unfolding field
-kind_end kind part is =
-    let filled : IsFilledLine (codes "Content-Type: " ++ kind) = record { no_crlf = no_crlf_by_test (codes "Content-Type: " ++ kind) is.line; not_empty = λ e. cc } in
-    let goes = (header_goes_on ((codes "Content-Type: " ++ kind) ∷ []) (crlf ++ part) (filled, tt)).1 in
+head_end : (fields part : List ℕ) → IsHead fields → header_end_of (fields ++ (crlf ++ part)) ≡ length fields
+head_end fields part is =
+    let goes = (header_goes_on is.lines (crlf ++ part) is.filled).1 in
     let stops = (header_ends_at_empty_line part).1 in
-    let same : lines_text ((codes "Content-Type: " ++ kind) ∷ []) ≡ (codes "Content-Type: " ++ kind) ++ crlf = append-nil ((codes "Content-Type: " ++ kind) ++ crlf) in
-    subst (λ l. header_end_of (l ++ (crlf ++ part)) ≡ length l) same
-    (goes ∙ ap (λ n. length (lines_text ((codes "Content-Type: " ++ kind) ∷ [])) + n) stops ∙ add-zero (length (lines_text ((codes "Content-Type: " ++ kind) ∷ []))))
+    subst (λ l. header_end_of (l ++ (crlf ++ part)) ≡ length l) (sym is.text_is)
+    (goes ∙ ap (λ n. length (lines_text is.lines) + n) stops ∙ add-zero (length (lines_text is.lines)))
 
 part_behind : (head part : List ℕ) → header_end_of (head ++ (crlf ++ part)) ≡ length head → part ≡ part_of (crlf ++ (head ++ (crlf ++ part)))
 part_behind head part end =
@@ -130,8 +169,8 @@ part_behind head part end =
     ∙ ap (drop (header_end_of (head ++ (crlf ++ part)) + 2)) (append_assoc head crlf part)
     ∙ ap (λ l. drop (header_end_of l + 2) l) (sym (drop_at crlf (head ++ (crlf ++ part)) 2 refl))
 
-piece_part : (kind part : List ℕ) → IsKind kind → part ≡ part_of (piece kind part)
-piece_part kind part is = part_behind (field (codes "Content-Type") kind) part (kind_end kind part is)
+piece_part : (fields part : List ℕ) → IsHead fields → part ≡ part_of (piece fields part)
+piece_part fields part is = part_behind fields part (head_end fields part is)
 
 -- the pieces one after another
 abbrev mark_text : List ℕ → List ℕ → List ℕ → List ℕ → List ℕ
@@ -158,16 +197,16 @@ pub record OpensParts (text one two three : List ℕ) : Type 0 where
   pub two_is : two ≡ part_of second
   pub three_is : three ≡ part_of third
 
-pub multipart_opens : (boundary one two kind three : List ℕ) → IsKind kind → IsAbove (dash_boundary boundary)
+pub multipart_opens : (boundary one two kind encoding three : List ℕ) → IsHead (part_fields kind encoding) → IsAbove (dash_boundary boundary)
     → StandsNowhere (dash_boundary boundary) one → StandsNowhere (dash_boundary boundary) two → StandsNowhere (dash_boundary boundary) three
-    → OpensParts (crlf ++ multipart_text boundary one two kind three) one two three
+    → OpensParts (crlf ++ multipart_text boundary one two kind encoding three) one two three
 unfolding multipart_text body_part part_head closing_line
-multipart_opens boundary one two kind three is above first second third = record {
+multipart_opens boundary one two kind encoding three is above first second third = record {
   line = dash_boundary boundary;
   rest = rest;
-  first = piece (codes "text/plain; charset=us-ascii") one;
-  second = piece (codes "message/delivery-status") two;
-  third = piece kind three;
+  first = piece text_fields one;
+  second = piece status_fields two;
+  third = piece (part_fields kind encoding) three;
   opens = record {
     behind = dash_boundary boundary ++ (crlf ++ rest);
     empty_line = record { text = ap (λ l. crlf ++ l) whole; first = no_crlf_nil };
@@ -180,22 +219,28 @@ multipart_opens boundary one two kind three is above first second third = record
   cuts = record {
     tail = codes "--" ++ crlf;
     cuts = record {
-      text_is = sym (append_assoc crlf (field (codes "Content-Type") (codes "text/plain; charset=us-ascii") ++ (crlf ++ one)) after);
-      one_plain = piece_free boundary (codes "text/plain; charset=us-ascii") one text_kind above first;
-      two_plain = piece_free boundary (codes "message/delivery-status") two status_kind above second;
-      three_plain = piece_free boundary kind three is above third;
+      text_is = sym (append_assoc crlf (text_fields ++ (crlf ++ one)) after);
+      one_plain = piece_free boundary text_fields one text_head above first;
+      two_plain = piece_free boundary status_fields two status_head above second;
+      three_plain = piece_free boundary (part_fields kind encoding) three is above third;
     };
   };
-  one_is = piece_part (codes "text/plain; charset=us-ascii") one text_kind;
-  two_is = piece_part (codes "message/delivery-status") two status_kind;
-  three_is = piece_part kind three is;
+  one_is = piece_part text_fields one text_head;
+  two_is = piece_part status_fields two status_head;
+  three_is = piece_part (part_fields kind encoding) three is;
 }
   where
+    text_fields : List ℕ
+    text_fields = part_fields (codes "text/plain; charset=us-ascii") []
+
+    status_fields : List ℕ
+    status_fields = part_fields (codes "message/delivery-status") []
+
     after : List ℕ
-    after = behind_first crlf (dash_boundary boundary) (field (codes "Content-Type") (codes "message/delivery-status")) (field (codes "Content-Type") kind) two three (codes "--" ++ crlf)
+    after = behind_first crlf (dash_boundary boundary) status_fields (part_fields kind encoding) two three (codes "--" ++ crlf)
 
     rest : List ℕ
-    rest = (field (codes "Content-Type") (codes "text/plain; charset=us-ascii") ++ (crlf ++ one)) ++ after
+    rest = (text_fields ++ (crlf ++ one)) ++ after
 
-    whole : multipart_text boundary one two kind three ≡ dash_boundary boundary ++ (crlf ++ rest)
-    whole = joined_pieces crlf (dash_boundary boundary) (field (codes "Content-Type") (codes "text/plain; charset=us-ascii")) (field (codes "Content-Type") (codes "message/delivery-status")) (field (codes "Content-Type") kind) one two three (codes "--")
+    whole : multipart_text boundary one two kind encoding three ≡ dash_boundary boundary ++ (crlf ++ rest)
+    whole = joined_pieces crlf (dash_boundary boundary) text_fields status_fields (part_fields kind encoding) one two three (codes "--")

@@ -12,7 +12,7 @@ use Rattle.relay_report.specs.StatusFields.{field}
 use Rattle.relay_report.specs.Multipart.{Told, header_fields, report_text}
 use Rattle.relay_report.specs.Report.{IsReport, is_due}
 use Rattle.relay_report.specs.Fits.{DueReportFits}
-use Rattle.relay_report.proofs.ShortLemmas.{report_is_short}
+use Rattle.relay_report.proofs.ReportShortLemmas.{report_is_short}
 
 -- no report is due for the null reverse path
 null_reports : (message : Message) (at : ℕ) (rulings : List Ruling) → is_null message.accept.envelope.reverse_path ≡ true → is_due message at rulings ≡ false

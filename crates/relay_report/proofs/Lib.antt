@@ -1,4 +1,5 @@
 mod FieldLemmas
+mod PartLemmas
 mod JoinLemmas
 mod NumberLemmas
 mod BegunLemmas
@@ -11,10 +12,14 @@ mod FreeLemmas
 mod CutLemmas
 mod ReportLemmas
 mod ShortLemmas
-mod FitLemmas
+mod PlainLemmas
 mod SplitLemmas
 mod ApartLemmas
+mod HeaderLemmas
+mod ShortLineLemmas
+mod SentenceLemmas
+mod ReportShortLemmas
+mod FitLemmas
 mod ReportSplitLemmas
-mod PlainLemmas
 mod LineLemmas
 pub mod Theorems

@@ -1,5 +1,5 @@
--- How many octets a report has.
-use Rattle.std.proofs.Common.{◌≡◌, ℕ, zero, suc, ◌+◌, ◌*◌, ◌-◌, ◌<◌, ◌≤◌, ◌^◌, nat_le, Bool, true, false, List, [], ◌∷◌, ◌++◌, codes, decimal, length, drop, map, slice_get, Option, None, Some, refl, sym, ap, ◌∙◌, arith, length-append}
+-- How many octets the pieces of a report have.
+use Rattle.std.proofs.Common.{◌≡◌, ℕ, zero, suc, ◌+◌, ◌*◌, ◌-◌, ◌<◌, ◌≤◌, ◌^◌, nat_le, Bool, true, false, ◌&&◌, if◌then◌else◌, List, [], ◌∷◌, ◌++◌, codes, decimal, length, drop, map, slice_get, Option, None, Some, refl, sym, ap, ◌∙◌, arith, length-append}
 use Rattle.std.proofs.lemmas.Bool.{and_parts, leb-true}
 use Rattle.std.proofs.lemmas.List.{length-map, length-take, length-drop}
 use Rattle.std.proofs.lemmas.Fmt.{length-decimal-le}
@@ -7,26 +7,23 @@ use Rattle.std.specs.List.{flat_map, AllByRecursion, position_or_len}
 use Rattle.std.specs.Option.{option_map_or}
 use Rattle.std.specs.Char.{to_ascii_lowercase}
 use Rattle.relay_octets.specs.Line.{crlf}
-use Rattle.relay_trace.specs.HeaderSection.{header_end_of}
-use Rattle.relay_trace.proofs.Theorems.{date_text_has_31_octets}
 use Rattle.relay_envelope.proofs.Theorems.{decoded_is_spelled}
 use Rattle.relay_envelope.specs.Xtext.{Part, Xchar, Hexchar, SpellsXtext, decoded, octet_of, part_text}
 use Rattle.relay_envelope.specs.Path.{Path, Null, Postmaster, Mailbox, IsPath, path_text}
 use Rattle.relay_envelope.specs.Parameters.{address_of, address_type_of, is_envid, is_octet, is_orcpt}
 use Rattle.relay_envelope.specs.Envelope.{IsRecipient, IsWrittenPath, may_be_envid, may_be_orcpt}
 use Rattle.relay_envelope.specs.declared.envelope.Recipient.{Recipient}
+use Rattle.relay_routes.specs.declared.report_form.ReportForm.{ReportForm}
+use Rattle.relay_routes.specs.declared.report_form.ReportForm.TheVariants.{Plain, Rich}
 use Rattle.relay_book.specs.declared.change.Ruling.{Ruling}
 use Rattle.relay_book.specs.declared.change.Verdict.{Verdict}
 use Rattle.relay_book.specs.declared.change.Verdict.TheVariants.{Taken, Refused, Later, CantSend, NoRoute}
 use Rattle.relay_book.specs.declared.due_report.DueReport.{DueReport}
-use Rattle.relay_book.specs.DueReport.{patience}
 use Rattle.relay_book.specs.declared.due_report.DueReport.TheVariants.{OfFailure, OfRelay, OfDelay}
 use Rattle.relay_book.specs.Record.{IsRuling, IsVerdict, MayBeHop}
-use Rattle.relay_report.specs.StatusFields.{action_of, address_in, attempt_fields, diagnostic_code, field, last_attempt_date, message_fields, octets_or, original_envelope_id, original_recipient, plain_of, recipient_fields, remote_mta, reply_words, retry_until, status_of, status_of_left, will_retry_until, typed}
-use Rattle.relay_report.specs.Multipart.{Told, body_part, closing_line, due_at, fields_of, first_part, header_fields, if_due, line_of, message_id, multipart_text, part_head, postmaster_at, recipient_line, report_text, report_type, returned, returned_type, returns_whole, second_part, third_part, title_line}
-use Rattle.relay_report.specs.Boundary.{boundary_text}
-use Rattle.relay_report.specs.Fits.{MayBeTold, ReportIsShort}
-use Rattle.relay_report.specs.Report.{IsUntil}
+use Rattle.relay_report.specs.StatusCode.{first_word, is_failure_code, refusal_status}
+use Rattle.relay_report.specs.StatusFields.{action_of, address_in, attempt_fields, diagnostic_code, field, last_attempt_date, message_fields, octets_or, original_envelope_id, original_recipient, plain_of, recipient_fields, remote_mta, reply_words, retry_until, status_of, status_of_left, status_of_refused, will_retry_until, typed}
+use Rattle.relay_report.specs.Multipart.{if_due, recipient_line}
 
 pub length-field : (name body : List ℕ) → length (field name body) ≡ length name + length body + 4
 unfolding field
@@ -96,7 +93,7 @@ envelope_id_short (Some envid) valid =
     let plain = plain_short envid in
     omega (arith, short, plain, length-field (codes "Original-Envelope-Id") (plain_of envid))
 
-message_fields_short : (host arrival : List ℕ) (envid : Option (List ℕ)) → length host ≤ 255 → length arrival ≡ 31 → may_be_envid envid ≡ true
+pub message_fields_short : (host arrival : List ℕ) (envid : Option (List ℕ)) → length host ≤ 255 → length arrival ≡ 31 → may_be_envid envid ≡ true
     → length (message_fields host arrival envid) ≤ 500
 message_fields_short host arrival envid few day valid =
     let id = envelope_id_short envid valid in
@@ -108,7 +105,7 @@ message_fields_short host arrival envid few day valid =
     omega (arith, id, mta, name, date, one, all, few, day)
 
 -- the fields of a recipient
-original_short : (orcpt : Option (List ℕ)) → may_be_orcpt orcpt ≡ true → length (original_recipient orcpt) ≤ 1024
+original_short : (orcpt : Option (List ℕ)) → may_be_orcpt orcpt ≡ true → length (original_recipient orcpt) ≤ 530
 original_short None valid = omega arith
 original_short (Some orcpt) valid =
     let short = orcpt_short orcpt valid in
@@ -124,17 +121,26 @@ action_short OfFailure = omega arith
 action_short OfRelay = omega arith
 action_short OfDelay = omega arith
 
-left_short : (verdict : Verdict) → length (status_of_left verdict) ≡ 5
-left_short (Taken dsn) = refl
-left_short (Refused code text) = refl
-left_short Later = refl
-left_short CantSend = refl
-left_short NoRoute = refl
+refusal_short : (test : Bool) (text : List ℕ) → length text ≤ 200 → length (if test then first_word text else codes "5.0.0") ≤ 200
+refusal_short true text few = let cut = length-take (position_or_len (is_octet 32) text) text in omega (arith, few, cut)
+refusal_short false text few = omega arith
 
-pub status_short : (due : DueReport) (verdict : Verdict) → length (status_of due verdict) ≡ 5
-status_short OfFailure verdict = left_short verdict
-status_short OfRelay verdict = left_short verdict
-status_short OfDelay verdict = refl
+refused_short : (form : ReportForm) (code : ℕ) (text : List ℕ) → length text ≤ 200 → length (status_of_refused form code text) ≤ 200
+unfolding refusal_status
+refused_short Plain code text few = omega arith
+refused_short Rich code text few = refusal_short (nat_le 500 code && is_failure_code (first_word text)) text few
+
+left_short : (form : ReportForm) (verdict : Verdict) → IsVerdict verdict → length (status_of_left form verdict) ≤ 200
+left_short form (Taken dsn) valid = omega arith
+left_short form (Refused code text) valid = refused_short form code text valid.text_fits
+left_short form Later valid = omega arith
+left_short form CantSend valid = omega arith
+left_short form NoRoute valid = omega arith
+
+pub status_short : (form : ReportForm) (due : DueReport) (verdict : Verdict) → IsVerdict verdict → length (status_of form due verdict) ≤ 200
+status_short form OfFailure verdict valid = left_short form verdict valid
+status_short form OfRelay verdict valid = left_short form verdict valid
+status_short form OfDelay verdict valid = omega arith
 
 mta_line_short : (hop : List ℕ) → length hop ≤ 255 → length (field (codes "Remote-MTA") (typed (codes "dns") hop)) ≤ 300
 mta_line_short hop few = let line = length-field (codes "Remote-MTA") (typed (codes "dns") hop) in let name = length-typed (codes "dns") hop in omega (arith, few, line, name)
@@ -189,22 +195,22 @@ until_short until OfFailure day = omega arith
 until_short until OfRelay day = omega arith
 until_short until OfDelay day = retry_short until day
 
-attempt_short : (hop date : List ℕ) (due : DueReport) (verdict : Verdict) → length hop ≤ 255 → length date ≡ 31 → IsVerdict verdict
-    → length (attempt_fields hop date due verdict) ≤ 700
-attempt_short hop date due verdict few day valid =
-    let status = length-field (codes "Status") (status_of due verdict) in
-    let code = status_short due verdict in
+attempt_short : (form : ReportForm) (hop date : List ℕ) (due : DueReport) (verdict : Verdict) → length hop ≤ 255 → length date ≡ 31 → IsVerdict verdict
+    → length (attempt_fields form hop date due verdict) ≤ 872
+attempt_short form hop date due verdict few day valid =
+    let status = length-field (codes "Status") (status_of form due verdict) in
+    let code = status_short form due verdict valid in
     let remote = remote_short hop verdict few in
     let diagnostic = diagnostic_short verdict valid in
     let last = last_short date verdict day in
-    let one = length-append (field (codes "Status") (status_of due verdict)) (remote_mta hop verdict) in
-    let two = length-append (field (codes "Status") (status_of due verdict) ++ remote_mta hop verdict) (diagnostic_code verdict) in
-    let all = length-append (field (codes "Status") (status_of due verdict) ++ remote_mta hop verdict ++ diagnostic_code verdict) (last_attempt_date date verdict) in
+    let one = length-append (field (codes "Status") (status_of form due verdict)) (remote_mta hop verdict) in
+    let two = length-append (field (codes "Status") (status_of form due verdict) ++ remote_mta hop verdict) (diagnostic_code verdict) in
+    let all = length-append (field (codes "Status") (status_of form due verdict) ++ remote_mta hop verdict ++ diagnostic_code verdict) (last_attempt_date date verdict) in
     omega (arith, status, code, remote, diagnostic, last, one, two, all)
 
-recipient_short : (hop date : List ℕ) (until : Option (List ℕ)) (recipient : Recipient) (due : DueReport) (verdict : Verdict) → length hop ≤ 255 → length date ≡ 31
-    → IsDay until → IsRecipient recipient → IsVerdict verdict → length (recipient_fields hop date until recipient due verdict) ≤ 2200
-recipient_short hop date until recipient due verdict few day days valid rules =
+pub recipient_short : (form : ReportForm) (hop date : List ℕ) (until : Option (List ℕ)) (recipient : Recipient) (due : DueReport) (verdict : Verdict) → length hop ≤ 255 → length date ≡ 31
+    → IsDay until → IsRecipient recipient → IsVerdict verdict → length (recipient_fields form hop date until recipient due verdict) ≤ 1770
+recipient_short form hop date until recipient due verdict few day days valid rules =
     let path = written_short _ recipient.path valid.path in
     let cut = length-take (length recipient.path - 2) (drop 1 recipient.path) in
     let original = original_short recipient.orcpt valid.orcpt in
@@ -212,16 +218,16 @@ recipient_short hop date until recipient due verdict few day days valid rules =
     let final = length-field (codes "Final-Recipient") (typed (codes "rfc822") (address_in recipient.path)) in
     let word = action_short due in
     let action = length-field (codes "Action") (action_of due) in
-    let attempt = attempt_short hop date due verdict few day rules in
+    let attempt = attempt_short form hop date due verdict few day rules in
     let retry = until_short until due days in
     let one = length-append crlf (original_recipient recipient.orcpt) in
     let two = length-append (crlf ++ original_recipient recipient.orcpt) (field (codes "Final-Recipient") (typed (codes "rfc822") (address_in recipient.path))) in
     let three = length-append (crlf ++ original_recipient recipient.orcpt ++ field (codes "Final-Recipient") (typed (codes "rfc822") (address_in recipient.path))) (field (codes "Action") (action_of due)) in
-    let four = length-append (crlf ++ original_recipient recipient.orcpt ++ field (codes "Final-Recipient") (typed (codes "rfc822") (address_in recipient.path)) ++ field (codes "Action") (action_of due)) (attempt_fields hop date due verdict) in
-    let all = length-append (crlf ++ original_recipient recipient.orcpt ++ field (codes "Final-Recipient") (typed (codes "rfc822") (address_in recipient.path)) ++ field (codes "Action") (action_of due) ++ attempt_fields hop date due verdict) (will_retry_until until due) in
+    let four = length-append (crlf ++ original_recipient recipient.orcpt ++ field (codes "Final-Recipient") (typed (codes "rfc822") (address_in recipient.path)) ++ field (codes "Action") (action_of due)) (attempt_fields form hop date due verdict) in
+    let all = length-append (crlf ++ original_recipient recipient.orcpt ++ field (codes "Final-Recipient") (typed (codes "rfc822") (address_in recipient.path)) ++ field (codes "Action") (action_of due) ++ attempt_fields form hop date due verdict) (will_retry_until until due) in
     omega (arith, path, cut, original, address, final, word, action, attempt, retry, one, two, three, four, all)
 
-line_short : (recipient : Recipient) (due : DueReport) → IsRecipient recipient → length (recipient_line recipient due) ≤ 300
+pub line_short : (recipient : Recipient) (due : DueReport) → IsRecipient recipient → length (recipient_line recipient due) ≤ 300
 line_short recipient due valid =
     let path = written_short _ recipient.path valid.path in
     let word = action_short due in
@@ -231,7 +237,7 @@ line_short recipient due valid =
     omega (arith, path, word, one, two, all)
 
 -- what is written of a place, if a report is due
-place_short : (text : Recipient → DueReport → List ℕ) (due : Option DueReport) (most : ℕ) → ((recipient : Recipient) (is : DueReport) → IsRecipient recipient → length (text recipient is) ≤ most)
+pub place_short : (text : Recipient → DueReport → List ℕ) (due : Option DueReport) (most : ℕ) → ((recipient : Recipient) (is : DueReport) → IsRecipient recipient → length (text recipient is) ≤ most)
     → (recipients : List Recipient) (place : ℕ) → AllByRecursion IsRecipient recipients
     → length (option_map_or (λ recipient. if_due text recipient due) (slice_get recipients place) []) ≤ most
 place_short text due most each recipients place valid = at_place recipients place valid
@@ -246,7 +252,7 @@ place_short text due most each recipients place valid = at_place recipients plac
     at_place (recipient ∷ rest) (suc k) all = at_place rest k all.1
 
 -- rows of short elements are short
-rows_short : (octets_of : Ruling → List ℕ) (most : ℕ) → ((ruling : Ruling) → IsRuling ruling → length (octets_of ruling) ≤ most)
+pub rows_short : (octets_of : Ruling → List ℕ) (most : ℕ) → ((ruling : Ruling) → IsRuling ruling → length (octets_of ruling) ≤ most)
     → (rulings : List Ruling) → AllByRecursion IsRuling rulings → length (flat_map octets_of rulings) ≤ most * length rulings
 rows_short octets_of most each [] valid = omega arith
 rows_short octets_of most each (ruling ∷ rulings) valid =
@@ -254,106 +260,3 @@ rows_short octets_of most each (ruling ∷ rulings) valid =
     let rest = rows_short octets_of most each rulings valid.1 in
     let parts = length-append (octets_of ruling) (flat_map octets_of rulings) in
     omega (arith, first, rest, parts)
-
-first_short : (told : Told) → MayBeTold told → length (first_part told) ≤ 30400
-unfolding first_part title_line
-first_short told may =
-    let host = may.host.few_octets in
-    let number = number_short told.message.number may.message in
-    let few = may.within in
-    let each = λ (ruling : Ruling) (is : IsRuling ruling). place_short recipient_line (due_at told.message told.at ruling) 300 line_short told.message.accept.envelope.recipients ruling.place may.accept.envelope.recipients in
-    let rows = rows_short (line_of told.message told.at) 300 each told.rulings may.rulings in
-    simp length-append (omega (arith, host, number, few, rows))
-
-second_short : (told : Told) (date arrival : List ℕ) (until : Option (List ℕ)) → MayBeTold told → length date ≡ 31 → length arrival ≡ 31 → IsDay until
-    → length (second_part told date arrival until) ≤ 220500
-unfolding second_part
-second_short told date arrival until may day came days =
-    let few = may.within in
-    let hop = hop_short told.hop may.hop in
-    let fields = message_fields_short told.host arrival told.message.accept.envelope.envid may.host.few_octets came may.accept.envelope.envid in
-    let each = λ (ruling : Ruling) (is : IsRuling ruling). place_short (λ recipient due. recipient_fields told.hop date until recipient due ruling.verdict) (due_at told.message told.at ruling) 2200
-    (λ recipient due valid. recipient_short told.hop date until recipient due ruling.verdict hop day days valid is.verdict) told.message.accept.envelope.recipients ruling.place may.accept.envelope.recipients in
-    let rows = rows_short (fields_of told.message told.hop told.at date until) 2200 each told.rulings may.rulings in
-    let all = length-append (message_fields told.host arrival told.message.accept.envelope.envid) (flat_map (fields_of told.message told.hop told.at date until) told.rulings) in
-    omega (arith, few, fields, rows, all)
-
-third_short : (whole : Bool) (text : List ℕ) → length (returned whole text) ≤ length text
-unfolding returned
-third_short true text = omega arith
-third_short false text = let cut = length-take (header_end_of text) text in omega (arith, cut)
-
-type_short : (whole : Bool) → length (returned_type whole) ≤ 19
-type_short true = omega arith
-type_short false = omega arith
-
-pub boundary_short : (number least : ℕ) → number < 2 ^ 64 → least < 2 ^ 64 → length (boundary_text number least) ≤ 49
-boundary_short number least one two =
-    let first = number_short number one in
-    let second = number_short least two in
-    simp length-append (omega (arith, first, second))
-
-head_short : (boundary kind : List ℕ) → length boundary ≤ 49 → length kind ≤ 28 → length (part_head boundary kind) ≤ 110
-unfolding part_head
-head_short boundary kind few short =
-    let line = length-field (codes "Content-Type") kind in
-    simp length-append (omega (arith, few, short, line))
-
-body_short : (boundary kind part : List ℕ) → length boundary ≤ 49 → length kind ≤ 28 → length (body_part boundary kind part) ≤ length part + 112
-unfolding body_part
-body_short boundary kind part few short =
-    let head = head_short boundary kind few short in
-    simp length-append (omega (arith, head))
-
-multipart_short : (boundary one two kind three : List ℕ) → length boundary ≤ 49 → length kind ≤ 28
-    → length (multipart_text boundary one two kind three) ≤ length one + length two + length three + 400
-unfolding multipart_text closing_line
-multipart_short boundary one two kind three few short =
-    let first = body_short boundary (codes "text/plain; charset=us-ascii") one few (omega arith) in
-    let second = body_short boundary (codes "message/delivery-status") two few (omega arith) in
-    let third = body_short boundary kind three few short in
-    simp length-append (omega (arith, first, second, third, few))
-
-header_short : (told : Told) (date : List ℕ) → MayBeTold told → length date ≡ 31 → length (header_fields told date) ≤ 1100
-unfolding header_fields postmaster_at message_id
-header_short told date may day =
-    let host = may.host.few_octets in
-    let path = written_short _ told.message.accept.envelope.reverse_path may.accept.envelope.reverse_path in
-    let number = number_short told.number may.number in
-    let from = length-field (codes "From") (postmaster_at told.host) in
-    let to = length-field (codes "To") told.message.accept.envelope.reverse_path in
-    let subject = length-field (codes "Subject") (codes "Delivery report") in
-    let dated = length-field (codes "Date") date in
-    let id = length-field (codes "Message-ID") (message_id told.number told.host) in
-    let mime = length-field (codes "MIME-Version") (codes "1.0") in
-    simp (length-append, length-field) (omega (arith, host, path, number, day))
-
-report_type_short : (boundary : List ℕ) → length boundary ≤ 49 → length (field (codes "Content-Type") (report_type boundary)) ≤ 150
-unfolding report_type
-report_type_short boundary few =
-    let line = length-field (codes "Content-Type") (report_type boundary) in
-    simp (length-append, length-field) (omega (arith, few))
-
-is_day : (accepted : ℕ) (until : Option (List ℕ)) → IsUntil accepted until → IsDay until
-is_day accepted None is = tt
-is_day accepted (Some date) is = date_text_has_31_octets (accepted + patience) date is
-
-pub report_is_short : ReportIsShort
-unfolding report_text
-report_is_short told text may is =
-    let day = date_text_has_31_octets told.at is.date is.date_is in
-    let came = date_text_has_31_octets told.message.accept.at is.arrival is.arrival_is in
-    let bound = boundary_short told.number is.boundary_is.least may.number is.boundary_is.is_least.fits in
-    let few : length is.boundary ≤ 49 = omega (arith, bound, ap length is.boundary_is.boundary_is) in
-    let kind : length (returned_type (returns_whole told)) ≤ 28 = let short = type_short (returns_whole told) in omega (arith, short) in
-    let header = header_short told is.date may day in
-    let type = report_type_short is.boundary few in
-    let one = first_short told may in
-    let two = second_short told is.date is.arrival is.until may day came (is_day told.message.accept.at is.until is.until_is) in
-    let three = third_short (returns_whole told) told.message.accept.stored_text in
-    let parts = multipart_short is.boundary (first_part told) (second_part told is.date is.arrival is.until) (returned_type (returns_whole told)) (third_part told) few kind in
-    let a = length-append (header_fields told is.date) (field (codes "Content-Type") (report_type is.boundary)) in
-    let b = length-append (header_fields told is.date ++ field (codes "Content-Type") (report_type is.boundary)) crlf in
-    let c = length-append (header_fields told is.date ++ field (codes "Content-Type") (report_type is.boundary) ++ crlf) (multipart_text is.boundary (first_part told) (second_part told is.date is.arrival is.until) (returned_type (returns_whole told)) (third_part told)) in
-    let all = ap length is.text_is in
-    omega (arith, header, type, one, two, three, parts, a, b, c, all)

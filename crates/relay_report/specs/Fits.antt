@@ -1,6 +1,7 @@
 -- A report that is due may be stored: it has text, and not too much.
 use Rattle.std.specs.Prelude.{◌≡◌, ◌↔◌, ℕ, ◌+◌, ◌≤◌, ◌<◌, ◌^◌, false, List, [], length}
 use Rattle.std.specs.List.{AllByRecursion}
+use Rattle.relay_trace.specs.declared.moment.TheConstants.{LAST_SECOND}
 use Rattle.relay_envelope.specs.HostName.{IsHostName}
 use Rattle.relay_book.specs.Record.{IsAccept, IsRuling, MayBeHop}
 use Rattle.relay_report.specs.Multipart.{Told}
@@ -13,6 +14,7 @@ pub record MayBeTold (told : Told) : Type 0 where
   pub message : told.message.number < 2 ^ 64
   pub accept : IsAccept told.message.accept
   pub hop : MayBeHop told.hop
+  pub at : told.at ≤ LAST_SECOND
   pub within : length told.rulings ≤ 100
   pub rulings : AllByRecursion IsRuling told.rulings
 

@@ -1,4 +1,6 @@
+pub mod StatusCode
 pub mod StatusFields
+pub mod Sentences
 pub mod Multipart
 pub mod Boundary
 pub mod Report

@@ -68,7 +68,7 @@ ToldBreaksNoLine = (told : Told) → MayBeTold told → BreaksNoLine told
 abbrev pub ReportHasShortLines : Type 0
 ReportHasShortLines =
     (told : Told) (text : List ℕ) → MayBeTold told → (is : IsReport told text)
-    → HasShortLines (take (header_end_of text) text) × HasShortLines (first_part told)
+    → HasShortLines (take (header_end_of text) text) × HasShortLines (first_part told is.arrival is.until)
     × HasShortLines (second_part told is.date is.arrival is.until)
 
 -- A report has no field `Received:` in its header section.

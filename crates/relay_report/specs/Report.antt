@@ -3,6 +3,8 @@ use Rattle.std.specs.Prelude.{◌≡◌, ℕ, ◌+◌, ◌<◌, Bool, true, fals
 use Rattle.std.specs.List.{list_any}
 use Rattle.relay_trace.specs.DateTime.{IsDateText}
 use Rattle.relay_trace.specs.declared.moment.TheConstants.{LAST_SECOND}
+use Rattle.relay_routes.specs.declared.config.Config.{Config}
+use Rattle.relay_routes.specs.declared.report_form.ReportForm.{ReportForm}
 use Rattle.relay_book.specs.declared.version.Version.TheVariants.{WithDelay}
 use Rattle.relay_book.specs.DueReport.{patience}
 use Rattle.relay_book.specs.declared.change.Ruling.{Ruling}
@@ -18,6 +20,7 @@ use Rattle.relay_report.specs.Multipart.{Told, first_part, second_part, third_pa
 -- what a value of the code tells of
 abbrev pub told_of : Report → Told
 told_of report = record {
+  form = report.form;
   host = report.host.now;
   number = report.number;
   message = report.message.now;
@@ -40,8 +43,8 @@ pub record IsReport (told : Told) (text : List ℕ) : Type 0 where
   pub date_is : IsDateText told.at date
   pub arrival_is : IsDateText told.message.accept.at arrival
   pub until_is : IsUntil told.message.accept.at until
-  pub boundary_is : IsBoundary told.number (first_part told) (second_part told date arrival until) (third_part told)
-      boundary
+  pub boundary_is : IsBoundary told.number (first_part told arrival until) (second_part told date arrival until)
+      (third_part told) boundary
   pub text_is : text ≡ report_text told date arrival until boundary
 
 -- a report is due of one of the places
@@ -53,10 +56,24 @@ pub record IsDueReport (told : Told) (text : List ℕ) : Type 0 where
   pub due : is_due told.message told.at told.rulings ≡ true → IsReport told text
   pub none : is_due told.message told.at told.rulings ≡ false → text ≡ []
 
--- what the report of an outcome for this message tells of, as it is made by this host under this number
-abbrev pub told_by : List ℕ → ℕ → OutcomeFields → Message → Told
-told_by host number outcome message = record {
-  host = host;
+-- who reports: a host of this name, in this form
+pub record Reporter : Type 0 where
+  pub host : List ℕ
+  pub form : ReportForm
+
+-- the one of this name and form
+abbrev pub reporter : List ℕ → ReportForm → Reporter
+reporter host form = record { host = host; form = form }
+
+-- the one that a configuration says
+abbrev pub reporter_of : Config → Reporter
+reporter_of config = reporter config.host config.reports
+
+-- what the report of an outcome for this message tells of, as it is made by this reporter under this number
+abbrev pub told_by : Reporter → ℕ → OutcomeFields → Message → Told
+told_by reporter number outcome message = record {
+  form = reporter.form;
+  host = reporter.host;
   number = number;
   message = message;
   hop = outcome.hop;
@@ -65,17 +82,17 @@ told_by host number outcome message = record {
 }
 
 -- an outcome of the second version is reported of the message that it is for
-pub record IsReportedOf (host : List ℕ) (number : ℕ) (outcome : OutcomeFields) (message : Message) : Type 0 where
+pub record IsReportedOf (reporter : Reporter) (number : ℕ) (outcome : OutcomeFields) (message : Message) : Type 0 where
   pub version : outcome.version ≡ WithDelay
-  pub report : IsDueReport (told_by host number outcome message) outcome.report
+  pub report : IsDueReport (told_by reporter number outcome message) outcome.report
 
--- A change after a queue: an outcome of it is of the second version, and has the report that is due, from this host,
--- under the number of the change, and none where none is due.
-abbrev pub ReportedFrom : List ℕ → Queue → Change → Type 0
-ReportedFrom host queue (Accept accept) = Unit {0}
-ReportedFrom host queue (Outcome outcome) =
-    MatchOption (message_of queue.messages outcome.message) ⊥ (IsReportedOf host queue.next outcome)
+-- A change after a queue: an outcome of it is of the second version, and has the report that is due, from this
+-- reporter, under the number of the change, and none where none is due.
+abbrev pub ReportedFrom : Reporter → Queue → Change → Type 0
+ReportedFrom reporter queue (Accept accept) = Unit {0}
+ReportedFrom reporter queue (Outcome outcome) =
+    MatchOption (message_of queue.messages outcome.message) ⊥ (IsReportedOf reporter queue.next outcome)
 
 -- the same after a list of changes
-abbrev pub Reported : List ℕ → List Change → Change → Type 0
-Reported host changes change = ReportedFrom host (queue_of changes) change
+abbrev pub Reported : Reporter → List Change → Change → Type 0
+Reported reporter changes change = ReportedFrom reporter (queue_of changes) change

@@ -65,4 +65,5 @@ PartsAreOne =
 abbrev pub ReportComesApart : Type 0
 ReportComesApart =
     (told : Told) (text : List ℕ) → MayBeTold told → (is : IsReport told text)
-    → HasParts text (first_part told) (second_part told is.date is.arrival is.until) (third_part told)
+    → HasParts text (first_part told is.arrival is.until) (second_part told is.date is.arrival is.until)
+    (third_part told)

@@ -4,10 +4,13 @@ use Rattle.relay_octets.specs.Line.{crlf}
 use Rattle.relay_envelope.specs.Xtext.{decoded}
 use Rattle.relay_envelope.specs.Parameters.{address_of, address_type_of}
 use Rattle.relay_envelope.specs.declared.envelope.Recipient.{Recipient}
+use Rattle.relay_routes.specs.declared.report_form.ReportForm.{ReportForm}
+use Rattle.relay_routes.specs.declared.report_form.ReportForm.TheVariants.{Plain, Rich}
 use Rattle.relay_book.specs.declared.change.Verdict.{Verdict}
 use Rattle.relay_book.specs.declared.change.Verdict.TheVariants.{Taken, Refused, Later, CantSend, NoRoute}
 use Rattle.relay_book.specs.declared.due_report.DueReport.{DueReport}
 use Rattle.relay_book.specs.declared.due_report.DueReport.TheVariants.{OfFailure, OfRelay, OfDelay}
+use Rattle.relay_report.specs.StatusCode.{refusal_status}
 
 -- field-name ":" field-body, and the line's end
 unfoldable pub field : List ℕ → List ℕ → List ℕ
@@ -61,20 +64,25 @@ action_of OfFailure = codes "failed"
 action_of OfRelay = codes "relayed"
 action_of OfDelay = codes "delayed"
 
+-- status-code of a refused place: one for all in a plain report, that of the reply in a rich one
+abbrev pub status_of_refused : ReportForm → ℕ → List ℕ → List ℕ
+status_of_refused Plain code text = codes "5.0.0"
+status_of_refused Rich code text = refusal_status code text
+
 -- status-code of a place that left (section 2.3.4; RFC 3463). One that was to be tried again has left since its time
 -- has run out.
-abbrev pub status_of_left : Verdict → List ℕ
-status_of_left (Taken dsn) = codes "2.0.0"
-status_of_left (Refused code text) = codes "5.0.0"
-status_of_left Later = codes "4.4.7"
-status_of_left CantSend = codes "5.6.3"
-status_of_left NoRoute = codes "5.1.2"
+abbrev pub status_of_left : ReportForm → Verdict → List ℕ
+status_of_left form (Taken dsn) = codes "2.0.0"
+status_of_left form (Refused code text) = status_of_refused form code text
+status_of_left form Later = codes "4.4.7"
+status_of_left form CantSend = codes "5.6.3"
+status_of_left form NoRoute = codes "5.1.2"
 
 -- status-code: the same, and that of a place that is late and stays
-abbrev pub status_of : DueReport → Verdict → List ℕ
-status_of OfFailure verdict = status_of_left verdict
-status_of OfRelay verdict = status_of_left verdict
-status_of OfDelay verdict = codes "4.0.0"
+abbrev pub status_of : ReportForm → DueReport → Verdict → List ℕ
+status_of form OfFailure verdict = status_of_left form verdict
+status_of form OfRelay verdict = status_of_left form verdict
+status_of form OfDelay verdict = codes "4.0.0"
 
 -- remote-mta-field (section 2.3.5): the hop that answered for the place
 abbrev pub remote_mta : List ℕ → Verdict → List ℕ
@@ -121,14 +129,15 @@ will_retry_until until OfRelay = []
 will_retry_until until OfDelay = retry_until until
 
 -- what the hop said of a place, and when
-abbrev pub attempt_fields : List ℕ → List ℕ → DueReport → Verdict → List ℕ
-attempt_fields hop date due verdict =
-    field (codes "Status") (status_of due verdict) ++ remote_mta hop verdict ++ diagnostic_code verdict
+abbrev pub attempt_fields : ReportForm → List ℕ → List ℕ → DueReport → Verdict → List ℕ
+attempt_fields form hop date due verdict =
+    field (codes "Status") (status_of form due verdict) ++ remote_mta hop verdict ++ diagnostic_code verdict
     ++ last_attempt_date date verdict
 
 -- per-recipient-fields (section 2.3), after an empty line
-abbrev pub recipient_fields : List ℕ → List ℕ → Option (List ℕ) → Recipient → DueReport → Verdict → List ℕ
-recipient_fields hop date until recipient due verdict =
+abbrev pub recipient_fields
+    : ReportForm → List ℕ → List ℕ → Option (List ℕ) → Recipient → DueReport → Verdict → List ℕ
+recipient_fields form hop date until recipient due verdict =
     crlf ++ original_recipient recipient.orcpt
     ++ field (codes "Final-Recipient") (typed (codes "rfc822") (address_in recipient.path))
-    ++ field (codes "Action") (action_of due) ++ attempt_fields hop date due verdict ++ will_retry_until until due
+    ++ field (codes "Action") (action_of due) ++ attempt_fields form hop date due verdict ++ will_retry_until until due

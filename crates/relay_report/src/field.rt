@@ -1,5 +1,6 @@
 //! Fields, each on a line of its own.
 ghost use Rattle.std.specs.Prelude.{◌≡◌, ◌++◌, IfOk, OnOk, decimal};
+ghost use Rattle.relay_report.specs.Sentences.{sentence};
 ghost use Rattle.relay_report.specs.StatusFields.{field, field_front, plain_of, typed, typed_front};
 
 use itoa::Buffer;
@@ -51,6 +52,21 @@ pub(crate) fn begin_typed_field(
     out.extend_from_slice(b": ")?;
     out.extend_from_slice(kind)?;
     out.extend_from_slice(b"; ")
+}
+
+/// Adds a line with a word filled in.
+pub(crate) fn push_sentence(
+    out: &mut Vec<u8>,
+    front: &[u8],
+    word: &[u8],
+    back: &[u8],
+) -> Result<(), AllocError>
+    ensures { OnOk result (out.new.items ≡ out.old.items ++ sentence front.now word.now back.now) }
+{
+    out.extend_from_slice(front)?;
+    out.extend_from_slice(word)?;
+    out.extend_from_slice(back)?;
+    out.extend_from_slice(b"\r\n")
 }
 
 /// Adds a number in decimal.

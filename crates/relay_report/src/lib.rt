@@ -4,13 +4,17 @@
 mod boundary;
 mod due;
 mod field;
+mod header;
 pub mod laws;
 mod marks;
 mod numbers;
 mod part_text;
 mod parts;
 mod report;
+mod sentences;
+mod status_code;
 mod status_fields;
+mod subject;
 
 pub use boundary::boundary_for;
 pub use due::{due_report, is_due};

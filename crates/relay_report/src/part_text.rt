@@ -2,23 +2,66 @@
 ghost use Rattle.std.specs.Prelude.{◌≡◌, ◌++◌, IfOk, OnOk};
 ghost use Rattle.std.specs.List.{flat_map, list_any};
 ghost use Rattle.std.specs.Option.{option_copied};
-ghost use Rattle.relay_report.specs.Multipart.{fails_at, fields_of, first_part, is_full, line_of, recipient_line};
-ghost use Rattle.relay_report.specs.Multipart.{returned, returns_whole, second_part, title_line};
+ghost use Rattle.relay_report.specs.Multipart.{fails_at, fields_of, first_part, is_full, line_of, plain_first_part};
+ghost use Rattle.relay_report.specs.Multipart.{recipient_line, returned, returns_whole, rich_first_part, second_part};
+ghost use Rattle.relay_report.specs.Multipart.{sentences_of, title_line};
 ghost use Rattle.relay_report.specs.Report.{told_of};
 
 use crate::due::{due_at, fails_at, recipient_at};
 use crate::field::push_decimal;
 use crate::report::Report;
+use crate::sentences::{push_greeting, push_place};
 use crate::status_fields::{Attempt, action_of, push_message_fields, push_recipient_fields};
 use relay_book::{DueReport, Message, Ruling};
 use relay_envelope::{Recipient, Ret};
+use relay_routes::ReportForm;
 use relay_trace::{Moment, header_end};
 use std::alloc::{AllocError, Global};
 
-/// The first part: a sentence, and a line for each place of which a report is due.
-#[tactic(auto, unfolding(crate::specs::Multipart::first_part))]
-pub(crate) fn first_part(alloc: Global, report: &Report<'_>) -> Result<Vec<u8>, AllocError>
-    ensures { IfOk result (λ part. part.items ≡ first_part (told_of report.now)) }
+/// The first part, for people.
+pub(crate) fn first_part(
+    alloc: Global,
+    report: &Report<'_>,
+    arrival: &[u8],
+    until: Option<&[u8]>,
+) -> Result<Vec<u8>, AllocError>
+    ensures { IfOk result (λ part.
+        part.items ≡ first_part (told_of report.now) arrival.now (option_copied until.entry)) }
+{
+    match report.form {
+        ReportForm::Plain => plain_first_part(alloc, report),
+        ReportForm::Rich => rich_first_part(alloc, report, arrival, until),
+    }
+}
+
+/// That of a rich report: who reports, and sentences about each place of which a report is due.
+#[tactic(auto, unfolding(crate::specs::Multipart::rich_first_part))]
+fn rich_first_part(
+    alloc: Global,
+    report: &Report<'_>,
+    arrival: &[u8],
+    until: Option<&[u8]>,
+) -> Result<Vec<u8>, AllocError>
+    ensures { IfOk result (λ part.
+        part.items ≡ rich_first_part (told_of report.now) arrival.now (option_copied until.entry)) }
+{
+    let mut part = Vec::new(alloc);
+    push_greeting(&mut part, report.host, report.message.number, arrival)?;
+    push_sentences(
+        &mut part,
+        report.message,
+        report.hop,
+        until,
+        report.rulings,
+        report.at,
+    )?;
+    Ok(part)
+}
+
+/// That of a plain report: a title, and a line for each place of which a report is due.
+#[tactic(auto, unfolding(crate::specs::Multipart::plain_first_part))]
+fn plain_first_part(alloc: Global, report: &Report<'_>) -> Result<Vec<u8>, AllocError>
+    ensures { IfOk result (λ part. part.items ≡ plain_first_part (told_of report.now)) }
 {
     let mut part = Vec::new(alloc);
     push_title(&mut part, report.host, report.message.number)?;
@@ -40,6 +83,7 @@ pub(crate) fn second_part(
 {
     let mut part = Vec::new(alloc);
     let attempt = Attempt {
+        form: report.form,
         hop: report.hop,
         date,
         until,
@@ -95,7 +139,7 @@ pub(crate) fn returned(whole: bool, text: &[u8]) -> &[u8]
     }
 }
 
-/// Adds the sentence of a report.
+/// Adds the title of a report.
 fn push_title(out: &mut Vec<u8>, host: &[u8], number: u64) -> Result<(), AllocError>
     ensures { OnOk result (out.new.items ≡ out.old.items ++ title_line host.now number) }
 {
@@ -152,6 +196,44 @@ fn push_recipient_line(
     out.extend_from_slice(b"\r\n")
 }
 
+/// Adds the sentences about each place of which a report is due.
+fn push_sentences(
+    out: &mut Vec<u8>,
+    message: &Message,
+    hop: &[u8],
+    until: Option<&[u8]>,
+    rulings: &[Ruling],
+    now: Moment,
+) -> Result<(), AllocError>
+    ensures { OnOk result (out.new.items ≡ out.old.items
+        ++ flat_map (sentences_of message.now hop.now now (option_copied until.entry)) rulings.now) }
+{
+    for ruling in rulings {
+        push_sentences_of(out, message, hop, until, ruling, now)?;
+    }
+    Ok(())
+}
+
+fn push_sentences_of(
+    out: &mut Vec<u8>,
+    message: &Message,
+    hop: &[u8],
+    until: Option<&[u8]>,
+    ruling: &Ruling,
+    now: Moment,
+) -> Result<(), AllocError>
+    ensures { OnOk result (out.new.items ≡ out.old.items
+        ++ sentences_of message.now hop.now now (option_copied until.entry) ruling.now) }
+{
+    match recipient_at(message, ruling.place) {
+        Some(recipient) => match due_at(message, ruling, now) {
+            Some(due) => push_place(out, hop, until, recipient, due, &ruling.verdict),
+            None => Ok(()),
+        },
+        None => Ok(()),
+    }
+}
+
 /// Adds the fields of each place of which a report is due.
 fn push_fields(
     alloc: Global,
@@ -163,8 +245,8 @@ fn push_fields(
 ) -> Result<(), AllocError>
     ensures { OnOk result (out.new.items ≡ out.old.items
         ++ flat_map
-        (fields_of message.now attempt.entry.hop.now now attempt.entry.date.now (option_copied attempt.entry.until))
-        rulings.now) }
+        (fields_of attempt.entry.form message.now attempt.entry.hop.now now attempt.entry.date.now
+        (option_copied attempt.entry.until)) rulings.now) }
 {
     for ruling in rulings {
         push_fields_of(alloc, out, message, attempt, ruling, now)?;
@@ -181,8 +263,8 @@ fn push_fields_of(
     now: Moment,
 ) -> Result<(), AllocError>
     ensures { OnOk result (out.new.items ≡ out.old.items
-        ++ fields_of message.now attempt.entry.hop.now now attempt.entry.date.now (option_copied attempt.entry.until)
-        ruling.now) }
+        ++ fields_of attempt.entry.form message.now attempt.entry.hop.now now attempt.entry.date.now
+        (option_copied attempt.entry.until) ruling.now) }
 {
     match recipient_at(message, ruling.place) {
         Some(recipient) => match due_at(message, ruling, now) {

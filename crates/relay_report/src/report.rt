@@ -4,17 +4,19 @@ ghost use Rattle.std.specs.Option.{option_copied};
 ghost use Rattle.relay_octets.specs.Line.{crlf};
 ghost use Rattle.relay_trace.specs.DateTime.{IsDateText};
 ghost use Rattle.relay_report.specs.StatusFields.{field};
-ghost use Rattle.relay_report.specs.Multipart.{body_part, closing_line, header_fields, message_id, multipart_text};
-ghost use Rattle.relay_report.specs.Multipart.{part_head, postmaster_at, report_text, report_type, returned_type};
+ghost use Rattle.relay_report.specs.Multipart.{body_part, closing_line, header_fields, multipart_text};
+ghost use Rattle.relay_report.specs.Multipart.{part_fields, part_head, report_type, returned_type};
 ghost use Rattle.relay_report.specs.Report.{IsDueReport, IsReport, IsUntil, told_of};
 
 use crate::boundary::boundary_for;
 use crate::due::is_due;
-use crate::field::{begin_field, push_decimal, push_field};
+use crate::field::push_field;
+use crate::header::{encoding_of, push_header, push_report_type};
 use crate::part_text::{first_part, returned, returns_whole, second_part};
 use crate::parts::Parts;
 use relay_book::{Message, PATIENCE, Ruling};
 use relay_octets::Octets;
+use relay_routes::ReportForm;
 use relay_trace::{Moment, date_text};
 use std::alloc::{AllocError, Global};
 
@@ -24,6 +26,8 @@ const USUAL_LEN: usize = 1024;
 /// What a report tells of.
 #[derive(Clone, Copy, Debug)]
 pub struct Report<'a> {
+    /// In which form it is written.
+    pub form: ReportForm,
     /// The name of this host.
     pub host: &'a [u8],
     /// The number of the report: that of the change which queues it.
@@ -56,8 +60,8 @@ pub fn report_content(alloc: Global, report: &Report<'_>) -> Result<Octets, Allo
 {
     let date = date_of(alloc, report.at)?;
     let arrival = date_of(alloc, report.message.accept.at)?;
-    let first = first_part(alloc, report)?;
     let until = until_of(alloc, report.message.accept.at)?;
+    let first = first_part(alloc, report, arrival.as_slice(), as_octets(&until))?;
     let second = second_part(
         alloc,
         report,
@@ -71,6 +75,7 @@ pub fn report_content(alloc: Global, report: &Report<'_>) -> Result<Octets, Allo
         second: second.as_slice(),
         third: returned(whole, report.message.accept.stored_text.as_slice()),
     };
+    let encoding = encoding_of(report.form, parts.third);
     let boundary = boundary_for(alloc, report.number, &parts)?;
     let text = joined(
         alloc,
@@ -79,6 +84,7 @@ pub fn report_content(alloc: Global, report: &Report<'_>) -> Result<Octets, Allo
         boundary.as_slice(),
         &parts,
         whole,
+        encoding,
     )?;
     Ok(Octets::new(text))
 }
@@ -123,11 +129,12 @@ fn joined(
     boundary: &[u8],
     parts: &Parts<'_>,
     whole: bool,
+    encoding: &[u8],
 ) -> Result<Vec<u8>, AllocError>
     ensures { IfOk result (λ text. text.items
-        ≡ header_fields (told_of report.now) date.now
+        ≡ header_fields (told_of report.now) date.now encoding.now
         ++ field (codes "Content-Type") (report_type boundary.now) ++ crlf
-        ++ multipart_text boundary.now parts.now.first.now parts.now.second.now (returned_type whole)
+        ++ multipart_text boundary.now parts.now.first.now parts.now.second.now (returned_type whole) encoding.now
         parts.now.third.now) }
 {
     let in_parts = parts
@@ -136,95 +143,28 @@ fn joined(
         .saturating_add(parts.second.len())
         .saturating_add(parts.third.len());
     let mut text = Vec::with_capacity(alloc, in_parts.saturating_add(USUAL_LEN))?;
-    push_header(&mut text, report, date)?;
+    push_header(&mut text, report, date, encoding)?;
     push_report_type(&mut text, boundary)?;
     text.extend_from_slice(b"\r\n")?;
-    push_multipart(&mut text, boundary, parts, whole)?;
+    push_multipart(&mut text, boundary, parts, whole, encoding)?;
     Ok(text)
 }
 
-/// Adds the header fields but for the one that names the boundary.
-fn push_header(out: &mut Vec<u8>, report: &Report<'_>, date: &[u8]) -> Result<(), AllocError>
-    ensures { OnOk result (out.new.items ≡ out.old.items ++ header_fields (told_of report.now) date.now) }
-{
-    push_from(out, report.host)?;
-    push_field(
-        out,
-        b"To",
-        report.message.accept.envelope.reverse_path.as_slice(),
-    )?;
-    push_field(out, b"Subject", b"Delivery report")?;
-    push_field(out, b"Date", date)?;
-    push_message_id(out, report.number, report.host)?;
-    push_field(out, b"MIME-Version", b"1.0")
-}
-
-fn push_from(out: &mut Vec<u8>, host: &[u8]) -> Result<(), AllocError>
-    ensures { OnOk result (out.new.items ≡ out.old.items ++ field (codes "From") (postmaster_at host.now)) }
-{
-    begin_field(out, b"From")?;
-    push_postmaster(out, host)?;
-    out.extend_from_slice(b"\r\n")
-}
-
-fn push_postmaster(out: &mut Vec<u8>, host: &[u8]) -> Result<(), AllocError>
-    ensures { OnOk result (out.new.items ≡ out.old.items ++ postmaster_at host.now) }
-{
-    out.extend_from_slice(b"<postmaster@")?;
-    out.extend_from_slice(host)?;
-    out.extend_from_slice(b">")
-}
-
-fn push_message_id(out: &mut Vec<u8>, number: u64, host: &[u8]) -> Result<(), AllocError>
-    ensures { OnOk result (out.new.items ≡ out.old.items ++ field (codes "Message-ID") (message_id number host.now)) }
-{
-    begin_field(out, b"Message-ID")?;
-    push_message_id_text(out, number, host)?;
-    out.extend_from_slice(b"\r\n")
-}
-
-fn push_message_id_text(out: &mut Vec<u8>, number: u64, host: &[u8]) -> Result<(), AllocError>
-    ensures { OnOk result (out.new.items ≡ out.old.items ++ message_id number host.now) }
-{
-    out.extend_from_slice(b"<")?;
-    push_decimal(out, number)?;
-    out.extend_from_slice(b"@")?;
-    out.extend_from_slice(host)?;
-    out.extend_from_slice(b">")
-}
-
-/// Adds the field that names the boundary.
-fn push_report_type(out: &mut Vec<u8>, boundary: &[u8]) -> Result<(), AllocError>
-    ensures { OnOk result (out.new.items ≡ out.old.items ++ field (codes "Content-Type") (report_type boundary.now)) }
-{
-    begin_field(out, b"Content-Type")?;
-    push_report_type_text(out, boundary)?;
-    out.extend_from_slice(b"\r\n")
-}
-
-fn push_report_type_text(out: &mut Vec<u8>, boundary: &[u8]) -> Result<(), AllocError>
-    ensures { OnOk result (out.new.items ≡ out.old.items ++ report_type boundary.now) }
-{
-    out.extend_from_slice(b"multipart/report; report-type=delivery-status;\r\n boundary=\"")?;
-    out.extend_from_slice(boundary)?;
-    out.extend_from_slice(b"\"")
-}
-
 /// Adds the three parts between their boundaries.
-
 fn push_multipart(
     out: &mut Vec<u8>,
     boundary: &[u8],
     parts: &Parts<'_>,
     whole: bool,
+    encoding: &[u8],
 ) -> Result<(), AllocError>
     ensures { OnOk result (out.new.items ≡ out.old.items
-        ++ multipart_text boundary.now parts.now.first.now parts.now.second.now (returned_type whole)
+        ++ multipart_text boundary.now parts.now.first.now parts.now.second.now (returned_type whole) encoding.now
         parts.now.third.now) }
 {
-    push_body_part(out, boundary, b"text/plain; charset=us-ascii", parts.first)?;
-    push_body_part(out, boundary, b"message/delivery-status", parts.second)?;
-    push_body_part(out, boundary, returned_type(whole), parts.third)?;
+    push_body_part(out, boundary, b"text/plain; charset=us-ascii", b"", parts.first)?;
+    push_body_part(out, boundary, b"message/delivery-status", b"", parts.second)?;
+    push_body_part(out, boundary, returned_type(whole), encoding, parts.third)?;
     push_closing_line(out, boundary)
 }
 
@@ -244,24 +184,39 @@ fn push_body_part(
     out: &mut Vec<u8>,
     boundary: &[u8],
     kind: &[u8],
+    encoding: &[u8],
     part: &[u8],
 ) -> Result<(), AllocError>
-    ensures { OnOk result (out.new.items ≡ out.old.items ++ body_part boundary.now kind.now part.now) }
+    ensures { OnOk result (out.new.items ≡ out.old.items
+        ++ body_part boundary.now (part_fields kind.now encoding.now) part.now) }
 {
-    push_part_head(out, boundary, kind)?;
+    push_part_head(out, boundary, kind, encoding)?;
     out.extend_from_slice(part)?;
     out.extend_from_slice(b"\r\n")
 }
 
-/// Adds the boundary's line, the type of a part, and an empty line.
-fn push_part_head(out: &mut Vec<u8>, boundary: &[u8], kind: &[u8]) -> Result<(), AllocError>
-    ensures { OnOk result (out.new.items ≡ out.old.items ++ part_head boundary.now kind.now) }
+/// Adds the boundary's line, the type of a part, the field of its encoding, and an empty line.
+fn push_part_head(
+    out: &mut Vec<u8>,
+    boundary: &[u8],
+    kind: &[u8],
+    encoding: &[u8],
+) -> Result<(), AllocError>
+    ensures { OnOk result (out.new.items
+        ≡ out.old.items ++ part_head boundary.now (part_fields kind.now encoding.now)) }
 {
     out.extend_from_slice(b"--")?;
     out.extend_from_slice(boundary)?;
     out.extend_from_slice(b"\r\n")?;
-    push_field(out, b"Content-Type", kind)?;
+    push_part_fields(out, kind, encoding)?;
     out.extend_from_slice(b"\r\n")
+}
+
+fn push_part_fields(out: &mut Vec<u8>, kind: &[u8], encoding: &[u8]) -> Result<(), AllocError>
+    ensures { OnOk result (out.new.items ≡ out.old.items ++ part_fields kind.now encoding.now) }
+{
+    push_field(out, b"Content-Type", kind)?;
+    out.extend_from_slice(encoding)
 }
 
 /// Adds the boundary's line after the last part.

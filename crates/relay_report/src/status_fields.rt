@@ -5,17 +5,21 @@ ghost use Rattle.relay_report.specs.StatusFields.{action_of, address_in, attempt
 ghost use Rattle.relay_report.specs.StatusFields.{diagnostic_of, last_attempt_date, message_fields};
 ghost use Rattle.relay_report.specs.StatusFields.{original_envelope_id, original_recipient, recipient_fields};
 ghost use Rattle.relay_report.specs.StatusFields.{remote_mta, reply_words, retry_until, status_of, status_of_left};
-ghost use Rattle.relay_report.specs.StatusFields.{will_retry_until};
+ghost use Rattle.relay_report.specs.StatusFields.{status_of_refused, will_retry_until};
 
 use crate::field::{begin_typed_field, plain_of, push_field, push_typed_field};
+use crate::status_code::refusal_status;
 use itoa::Buffer;
 use relay_book::{DueReport, Verdict};
 use relay_envelope::{Orcpt, Recipient, Xtext};
+use relay_routes::ReportForm;
 use std::alloc::{AllocError, Global};
 
-/// What the hop said, when the report is made, and until when what is late is tried.
+/// In which form is reported, what the hop said, when the report is made, and until when what is late is tried.
 #[derive(Clone, Copy)]
 pub(crate) struct Attempt<'a> {
+    /// The form of the report.
+    pub(crate) form: ReportForm,
     /// The name of the hop.
     pub(crate) hop: &'a [u8],
     /// The date of the report.
@@ -66,8 +70,8 @@ pub(crate) fn push_recipient_fields(
     verdict: &Verdict,
 ) -> Result<(), AllocError>
     ensures { OnOk result (out.new.items ≡ out.old.items
-        ++ recipient_fields attempt.entry.hop.now attempt.entry.date.now (option_copied attempt.entry.until)
-        recipient.now due verdict.now) }
+        ++ recipient_fields attempt.entry.form attempt.entry.hop.now attempt.entry.date.now
+        (option_copied attempt.entry.until) recipient.now due verdict.now) }
 {
     out.extend_from_slice(b"\r\n")?;
     push_original_recipient(alloc, out, recipient.orcpt.as_ref())?;
@@ -132,35 +136,45 @@ fn push_attempt_fields(
     verdict: &Verdict,
 ) -> Result<(), AllocError>
     ensures { OnOk result (out.new.items ≡ out.old.items
-        ++ attempt_fields attempt.entry.hop.now attempt.entry.date.now due verdict.now) }
+        ++ attempt_fields attempt.entry.form attempt.entry.hop.now attempt.entry.date.now due verdict.now) }
 {
-    push_field(out, b"Status", status_of(due, verdict))?;
+    push_field(out, b"Status", status_of(attempt.form, due, verdict))?;
     push_remote_mta(out, attempt.hop, verdict)?;
     push_diagnostic_code(out, verdict)?;
     push_last_attempt_date(out, attempt.date, verdict)
 }
 
 /// The status code of a place of which a report is due by a verdict (RFC 3463).
-fn status_of(due: DueReport, verdict: &Verdict) -> &'static [u8]
-    ensures { result.now ≡ status_of due verdict.now }
+fn status_of(form: ReportForm, due: DueReport, verdict: &Verdict) -> &[u8]
+    ensures { result.now ≡ status_of form due verdict.now }
 {
     match due {
-        DueReport::OfFailure => status_of_left(verdict),
-        DueReport::OfRelay => status_of_left(verdict),
+        DueReport::OfFailure => status_of_left(form, verdict),
+        DueReport::OfRelay => status_of_left(form, verdict),
         DueReport::OfDelay => b"4.0.0",
     }
 }
 
 /// That of a place that left.
-fn status_of_left(verdict: &Verdict) -> &'static [u8]
-    ensures { result.now ≡ status_of_left verdict.now }
+fn status_of_left(form: ReportForm, verdict: &Verdict) -> &[u8]
+    ensures { result.now ≡ status_of_left form verdict.now }
 {
     match verdict {
         Verdict::Taken { .. } => b"2.0.0",
-        Verdict::Refused { .. } => b"5.0.0",
+        Verdict::Refused { code, text } => status_of_refused(form, *code, text.as_slice()),
         Verdict::Later => b"4.4.7",
         Verdict::CantSend => b"5.6.3",
         Verdict::NoRoute => b"5.1.2",
+    }
+}
+
+/// That of a refused place: one for all in a plain report, that of the reply in a rich one.
+fn status_of_refused(form: ReportForm, code: u16, text: &[u8]) -> &[u8]
+    ensures { result.now ≡ status_of_refused form code text.now }
+{
+    match form {
+        ReportForm::Plain => b"5.0.0",
+        ReportForm::Rich => refusal_status(code, text),
     }
 }
 
@@ -197,7 +211,7 @@ fn push_diagnostic_of(out: &mut Vec<u8>, code: u16, text: &[u8]) -> Result<(), A
 }
 
 /// Adds a reply's code, and its text where there is one.
-fn push_reply_words(out: &mut Vec<u8>, code: u16, text: &[u8]) -> Result<(), AllocError>
+pub(crate) fn push_reply_words(out: &mut Vec<u8>, code: u16, text: &[u8]) -> Result<(), AllocError>
     ensures { OnOk result (out.new.items ≡ out.old.items ++ reply_words code text.now) }
 {
     out.extend_from_slice(Buffer::new().format(code).as_bytes())?;

@@ -2,7 +2,7 @@
 use Rattle.std.proofs.Common.{◌++◌, codes, refl}
 use Rattle.relay_report.specs.Multipart.{postmaster_at}
 use Rattle.relay_report.proofs.JoinLemmas.{ends_by_octets, joins_3}
-use Rattle.relay_report.proofs.report.push_postmaster.Goals as goal
+use Rattle.relay_report.proofs.header.push_postmaster.Goals as goal
 
 pub returns : goal.returns
 unfolding postmaster_at

@@ -4,7 +4,7 @@ use Rattle.relay_octets.specs.Line.{crlf}
 use Rattle.relay_report.specs.Multipart.{report_type}
 use Rattle.relay_report.proofs.FieldLemmas.{field_joins}
 use Rattle.relay_report.proofs.JoinLemmas.{ends_by_octets}
-use Rattle.relay_report.proofs.report.push_report_type.Goals as goal
+use Rattle.relay_report.proofs.header.push_report_type.Goals as goal
 
 pub returns : goal.returns
 returns c =

@@ -3,7 +3,7 @@ use Rattle.std.proofs.Common.{◌++◌, codes, refl}
 use Rattle.relay_octets.specs.Line.{crlf}
 use Rattle.relay_report.specs.Multipart.{report_type}
 use Rattle.relay_report.proofs.JoinLemmas.{ends_by_octets, joins_3}
-use Rattle.relay_report.proofs.report.push_report_type_text.Goals as goal
+use Rattle.relay_report.proofs.header.push_report_type_text.Goals as goal
 
 pub returns : goal.returns
 unfolding report_type

@@ -1,5 +1,5 @@
 -- the law
-use Rattle.relay_report.proofs.ShortLemmas.{report_is_short}
+use Rattle.relay_report.proofs.ReportShortLemmas.{report_is_short}
 use Rattle.relay_report.proofs.laws.report_is_short.Goals as goal
 
 pub returns : goal.returns

@@ -6,10 +6,10 @@ use Rattle.relay_report.proofs.part_text.push_fields.Goals as goal
 
 pub loop-ruling-preserved : goal.loop-ruling-preserved
 loop-ruling-preserved c =
-    written_more (fields_of c.args.message.now c.args.attempt.hop.now c.args.now c.args.attempt.date.now (option_copied c.args.attempt.until)) c.args.rulings.now c.loop-ruling.ruling-index c.ruling-item.result c.loop-ruling.out.items c.push_fields_of.new.out.items _
+    written_more (fields_of c.args.attempt.form c.args.message.now c.args.attempt.hop.now c.args.now c.args.attempt.date.now (option_copied c.args.attempt.until)) c.args.rulings.now c.loop-ruling.ruling-index c.ruling-item.result c.loop-ruling.out.items c.push_fields_of.new.out.items _
     c.loop-ruling-test.true c.ruling-item.is c.in_ok-push_fields_of.ensures c.loop-ruling.invariant
 
 pub returns : goal.returns
 returns c =
-    all_written (fields_of c.args.message.now c.args.attempt.hop.now c.args.now c.args.attempt.date.now (option_copied c.args.attempt.until)) c.args.rulings.now c.loop-ruling.ruling-index c.loop-ruling.out.items _
+    all_written (fields_of c.args.attempt.form c.args.message.now c.args.attempt.hop.now c.args.now c.args.attempt.date.now (option_copied c.args.attempt.until)) c.args.rulings.now c.loop-ruling.ruling-index c.loop-ruling.out.items _
     c.loop-ruling-test.false c.loop-ruling.invariant
