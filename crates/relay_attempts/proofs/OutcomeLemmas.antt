@@ -16,6 +16,7 @@ use Rattle.relay_book.specs.Record.{IsRuling}
 use Rattle.relay_records.specs.declared.fault.NodeFault.{NodeFault}
 use Rattle.relay_records.specs.declared.fault.NodeFault.TheVariants.{NoMemory, Stopped, Unknown, TooMany, NotDue, Busy, Open, Full, NoSecond}
 use Rattle.relay_records.specs.Records.{Kept}
+use Rattle.relay_report.specs.Report.{Reporter}
 use Rattle.relay_attempts.specs.AddedOutcome.{HasNoRoom, MayCome, RefusesOutcome, RulesOn}
 use Rattle.relay_attempts.specs.declared.runs.Run.{Run}
 use Rattle.relay_attempts.specs.Attempts.{Serves, AttemptTable}
@@ -208,24 +209,24 @@ not_none : (numbers : List ℕ) → is_any numbers ≡ true → numbers ≢ []
 not_none numbers some none = false≢true (sym (ap (λ (ns : List ℕ). is_any ns) none) ∙ some)
 
 -- a message with a held place that has no hop
-pub has_stranded : {D : Type 0} (words : DiskWords D) (host : List ℕ) (table : RouteTable) (number at : ℕ) (message : Message) (old : Kept D)
-    → message_of old.queue.messages number ≡ Some message → is_any (stranded_places table message) ≡ true → HasStranded words host table number at old
-has_stranded words host table number at message old found some =
+pub has_stranded : {D : Type 0} (words : DiskWords D) (reporter : Reporter) (table : RouteTable) (number at : ℕ) (message : Message) (old : Kept D)
+    → message_of old.queue.messages number ≡ Some message → is_any (stranded_places table message) ≡ true → HasStranded words reporter table number at old
+has_stranded words reporter table number at message old found some =
     record { message = message; found = found; some = not_none (stranded_places table message) some }
 
 -- why a message isn't given up
-pub refused_to_give_up : {D : Type 0} (words : DiskWords D) (host : List ℕ) (table : RouteTable) (number at : ℕ) (message : Message) (outcome : Outcome) (old new : Kept D) (fault : NodeFault)
+pub refused_to_give_up : {D : Type 0} (words : DiskWords D) (reporter : Reporter) (table : RouteTable) (number at : ℕ) (message : Message) (outcome : Outcome) (old new : Kept D) (fault : NodeFault)
     → old.spool.live ≡ true → message_of old.queue.messages number ≡ Some message → is_any (stranded_places table message) ≡ true
     → outcome ≡ unroutable table number at message
-    → RefusesOutcome words host outcome old new fault → RefusesToGiveUp words host table number at old new fault
-refused_to_give_up words host table number at message outcome old new NoMemory live found some is refused =
-    (live, has_stranded words host table number at message old found some, refused)
-refused_to_give_up words host table number at message outcome old new Stopped live found some is refused = inr refused
-refused_to_give_up words host table number at message outcome old new Unknown live found some is refused = absurd refused
-refused_to_give_up words host table number at message outcome old new TooMany live found some is refused = absurd refused
-refused_to_give_up words host table number at message outcome old new NotDue live found some is refused = absurd refused
-refused_to_give_up words host table number at message outcome old new Busy live found some is refused = absurd refused
-refused_to_give_up words host table number at message outcome old new (Open cause) live found some is refused = absurd refused
-refused_to_give_up words host table number at message outcome old new NoSecond live found some is refused = absurd refused
-refused_to_give_up words host table number at message outcome old new Full live found some is refused =
-    (live, refused.0, record { message = message; found = found; some = not_none (stranded_places table message) some; room = subst (λ (o : Outcome). HasNoRoom host o old) is refused.1 })
+    → RefusesOutcome words reporter outcome old new fault → RefusesToGiveUp words reporter table number at old new fault
+refused_to_give_up words reporter table number at message outcome old new NoMemory live found some is refused =
+    (live, has_stranded words reporter table number at message old found some, refused)
+refused_to_give_up words reporter table number at message outcome old new Stopped live found some is refused = inr refused
+refused_to_give_up words reporter table number at message outcome old new Unknown live found some is refused = absurd refused
+refused_to_give_up words reporter table number at message outcome old new TooMany live found some is refused = absurd refused
+refused_to_give_up words reporter table number at message outcome old new NotDue live found some is refused = absurd refused
+refused_to_give_up words reporter table number at message outcome old new Busy live found some is refused = absurd refused
+refused_to_give_up words reporter table number at message outcome old new (Open cause) live found some is refused = absurd refused
+refused_to_give_up words reporter table number at message outcome old new NoSecond live found some is refused = absurd refused
+refused_to_give_up words reporter table number at message outcome old new Full live found some is refused =
+    (live, refused.0, record { message = message; found = found; some = not_none (stranded_places table message) some; room = subst (λ (o : Outcome). HasNoRoom reporter o old) is refused.1 })

@@ -5,6 +5,7 @@ use Rattle.relay_book.specs.declared.change.Outcome.{Outcome}
 use Rattle.relay_records.specs.declared.fault.NodeFault.{NodeFault}
 use Rattle.relay_records.specs.declared.fault.NodeFault.TheVariants.{NoMemory, Stopped, Unknown, TooMany, NotDue, Busy, Open, Full, NoSecond}
 use Rattle.relay_records.specs.Records.{Kept}
+use Rattle.relay_report.specs.Report.{Reporter}
 use Rattle.relay_attempts.specs.AddedOutcome.{HasNoRoom, RefusesOutcome}
 use Rattle.relay_attempts.specs.declared.runs.Run.{Run}
 use Rattle.relay_attempts.specs.Attempts.{AttemptTable}
@@ -32,17 +33,17 @@ same_standing before after runs stranded room =
     ∙ ap (λ (l : List ℕ). record { runs = before.runs; stranded = l; room = after.room }) stranded
     ∙ ap (λ n. record { runs = before.runs; stranded = before.stranded; room = n }) room
 
-module _ {D : Type 0} (words : DiskWords D) (host : List ℕ) (outcome : Outcome) (old new : Kept D) where
+module _ {D : Type 0} (words : DiskWords D) (reporter : Reporter) (outcome : Outcome) (old new : Kept D) where
   -- where there is no room, it is for this outcome
-  pub full_for_outcome : (fault : NodeFault) → fault ≡ Full → RefusesOutcome words host outcome old new fault
-      → HasNoRoom host outcome old
+  pub full_for_outcome : (fault : NodeFault) → fault ≡ Full → RefusesOutcome words reporter outcome old new fault
+      → HasNoRoom reporter outcome old
   full_for_outcome fault is refused =
-      let at_full : RefusesOutcome words host outcome old new Full =
-      subst (λ (f : NodeFault). RefusesOutcome words host outcome old new f) is refused in
+      let at_full : RefusesOutcome words reporter outcome old new Full =
+      subst (λ (f : NodeFault). RefusesOutcome words reporter outcome old new f) is refused in
       at_full.1
 
   -- the queue is the same where its outcome isn't added
-  pub queue_stays : (fault : NodeFault) → RefusesOutcome words host outcome old new fault → new.queue ≡ old.queue
+  pub queue_stays : (fault : NodeFault) → RefusesOutcome words reporter outcome old new fault → new.queue ≡ old.queue
   queue_stays NoMemory refused = ap (λ (r : Kept D). r.queue) refused
   queue_stays Stopped refused = refused.queue
   queue_stays Unknown refused = absurd refused
@@ -55,7 +56,7 @@ module _ {D : Type 0} (words : DiskWords D) (host : List ℕ) (outcome : Outcome
 
   -- the attempt is gone where its outcome isn't added
   pub refused_to_hear : (number : ℕ) (before after : AttemptTable) (fault : NodeFault) → IsGone number before after old
-      → RefusesOutcome words host outcome old new fault → RefusesToHear words number before after old new fault
+      → RefusesOutcome words reporter outcome old new fault → RefusesToHear words number before after old new fault
   refused_to_hear number before after NoMemory gone refused = (gone, refused)
   refused_to_hear number before after Stopped gone refused = inr (gone, refused)
   refused_to_hear number before after Unknown gone refused = absurd refused

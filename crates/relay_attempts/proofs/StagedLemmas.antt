@@ -11,27 +11,27 @@ use Rattle.relay_records.specs.declared.fault.NodeFault.{NodeFault}
 use Rattle.relay_records.specs.declared.fault.NodeFault.TheVariants.{NoMemory, Stopped, Unknown, TooMany, NotDue, Busy, Open, Full, NoSecond}
 use Rattle.relay_records.specs.Records.{Kept}
 use Rattle.relay_records.specs.Staged.{Awaits, RefusesToStage, Row, Stages}
-use Rattle.relay_report.specs.Report.{ReportedFrom}
+use Rattle.relay_report.specs.Report.{ReportedFrom, Reporter}
 use Rattle.relay_attempts.specs.AddedOutcome.{IsReported, reported_as}
 use Rattle.relay_attempts.specs.Attempts.{AttemptTable}
 use Rattle.relay_attempts.specs.Staging.{GrowsRowBy, HasNoRoomBehind, NoNumber, RefusesToHearBehind, RefusesToStageOutcome, StagesOutcome, TooLarge}
 
-module _ {D : Type 0} (host : List ℕ) (outcome : Outcome) (change : Change) (old : Kept D)
-    (is : IsReported host old.queue outcome change) where
-  reported_from : ReportedFrom host old.queue (reported_as outcome is.report)
-  reported_from = subst (ReportedFrom host old.queue) is.change_is is.reported
+module _ {D : Type 0} (reporter : Reporter) (outcome : Outcome) (change : Change) (old : Kept D)
+    (is : IsReported reporter old.queue outcome change) where
+  reported_from : ReportedFrom reporter old.queue (reported_as outcome is.report)
+  reported_from = subst (ReportedFrom reporter old.queue) is.change_is is.reported
 
   -- it is staged after the changes that records await
   pub stages_outcome : (honest : Type 0) (words : DiskWords D) (changes pending : List Change) (row : Row)
       (used : ℕ) (new : Kept D) (left : Row) (number : ℕ) → Awaits honest words old changes pending row
       → old.queue.next ≡ length changes + length pending + 1 → Stages old new row left change used number
       → Awaits honest words new changes (pending ++ change ∷ []) left
-      → StagesOutcome honest words host changes pending row outcome used new left number
+      → StagesOutcome honest words reporter changes pending row outcome used new left number
   stages_outcome honest words changes pending row used new left number awaits next stages more = record {
     number_is = stages.number_is ∙ next;
     report = is.report;
     reported =
-        subst (λ (q : Queue). ReportedFrom host q (reported_as outcome is.report)) awaits.queue reported_from;
+        subst (λ (q : Queue). ReportedFrom reporter q (reported_as outcome is.report)) awaits.queue reported_from;
     awaits = subst (λ (c : Change). Awaits honest words new changes (pending ++ c ∷ []) left) is.change_is more;
     note = stages.note;
     noted = stages.notes;
@@ -43,14 +43,14 @@ module _ {D : Type 0} (host : List ℕ) (outcome : Outcome) (change : Change) (o
       (new : Kept D) (left : Row) (result : Result ℕ NodeFault) → Awaits honest words old changes pending row
       → old.queue.next ≡ length changes + length pending + 1 → IfOk result (Stages old new row left change used)
       → OnOk result (Awaits honest words new changes (pending ++ change ∷ []) left)
-      → IfOk result (StagesOutcome honest words host changes pending row outcome used new left)
+      → IfOk result (StagesOutcome honest words reporter changes pending row outcome used new left)
   stages_where honest words changes pending row used new left (Ok number) awaits next stages more =
       stages_outcome honest words changes pending row used new left number awaits next stages more
   stages_where honest words changes pending row used new left (Err fault) awaits next stages more = tt
 
   -- whatever the records keep
   pub grows_row : (used : ℕ) (new : Kept D) (row left : Row) (number : ℕ) → Stages old new row left change used number
-      → GrowsRowBy host outcome used old new row left number
+      → GrowsRowBy reporter outcome used old new row left number
   grows_row used new row left number stages = record {
     report = is.report;
     reported = reported_from;
@@ -61,7 +61,7 @@ module _ {D : Type 0} (host : List ℕ) (outcome : Outcome) (change : Change) (o
   -- there is no room for the outcome where there is none for its record
   no_room_behind : (octets : List ℕ) (row : Row) → octets ≡ encode change
       → (2 ^ 62 < old.queue.next) ⊎ (2 ^ 40 < old.spool.size + room_of row.bodies + 5 + length octets)
-      → HasNoRoomBehind host outcome old row
+      → HasNoRoomBehind reporter outcome old row
   no_room_behind octets row octets_are (inl many) = NoNumber many
   no_room_behind octets row octets_are (inr large) =
       TooLarge is.report reported_from
@@ -73,7 +73,7 @@ module _ {D : Type 0} (host : List ℕ) (outcome : Outcome) (change : Change) (o
       → octets ≡ encode change
       → (result ≡ Err Full)
       ↔ ((2 ^ 62 < old.queue.next) ⊎ (2 ^ 40 < old.spool.size + room_of row.bodies + 5 + length octets))
-      → IfErr result (RefusesToStage old new row left) → IfErr result (RefusesToStageOutcome host outcome old new row left)
+      → IfErr result (RefusesToStage old new row left) → IfErr result (RefusesToStageOutcome reporter outcome old new row left)
   refused_staged octets new row left (Ok number) octets_are full refused = tt
   refused_staged octets new row left (Err NoMemory) octets_are full refused = refused
   refused_staged octets new row left (Err Stopped) octets_are full refused = refused
@@ -86,17 +86,17 @@ module _ {D : Type 0} (host : List ℕ) (outcome : Outcome) (change : Change) (o
   refused_staged octets new row left (Err Full) octets_are full refused =
       (refused.0, refused.1, no_room_behind octets row octets_are (full.0 refl))
 
-module _ {D : Type 0} (host : List ℕ) (outcome : Outcome) (old new : Kept D) (row left : Row) where
+module _ {D : Type 0} (reporter : Reporter) (outcome : Outcome) (old new : Kept D) (row left : Row) where
   -- where there is no room, it is for this outcome
   pub full_for_staged : (fault : NodeFault) → fault ≡ Full
-      → RefusesToStageOutcome host outcome old new row left fault → HasNoRoomBehind host outcome old row
+      → RefusesToStageOutcome reporter outcome old new row left fault → HasNoRoomBehind reporter outcome old row
   full_for_staged fault is refused =
-      let at_full : RefusesToStageOutcome host outcome old new row left Full =
-      subst (λ (f : NodeFault). RefusesToStageOutcome host outcome old new row left f) is refused in
+      let at_full : RefusesToStageOutcome reporter outcome old new row left Full =
+      subst (λ (f : NodeFault). RefusesToStageOutcome reporter outcome old new row left f) is refused in
       at_full.2
 
   -- the queue is the same where it isn't staged
-  pub queue_unstaged : (fault : NodeFault) → RefusesToStageOutcome host outcome old new row left fault
+  pub queue_unstaged : (fault : NodeFault) → RefusesToStageOutcome reporter outcome old new row left fault
       → new.queue ≡ old.queue
   queue_unstaged NoMemory refused = ap (λ (r : Kept D). r.queue) refused.0
   queue_unstaged Stopped refused = absurd refused
@@ -111,7 +111,7 @@ module _ {D : Type 0} (host : List ℕ) (outcome : Outcome) (old new : Kept D) (
   -- the attempt is gone where it isn't staged
   pub refused_behind : (number : ℕ) (before after : AttemptTable) (fault : NodeFault)
       → slot_at before.runs number ≢ None → slot_at after.runs number ≡ None
-      → RefusesToStageOutcome host outcome old new row left fault
+      → RefusesToStageOutcome reporter outcome old new row left fault
       → RefusesToHearBehind number before after old new row left fault
   refused_behind number before after NoMemory was gone refused = (was, gone, refused.0, refused.1)
   refused_behind number before after Stopped was gone refused = absurd refused

@@ -13,7 +13,7 @@ use Rattle.relay_book.specs.Record.{IsRuling, MayBeHop, encode}
 use Rattle.relay_records.specs.Records.{Adds, Cuts, Grows, IsStopped, Kept}
 use Rattle.relay_records.specs.declared.fault.NodeFault.{NodeFault}
 use Rattle.relay_records.specs.declared.fault.NodeFault.TheVariants.{NoMemory, Stopped, Full}
-use Rattle.relay_report.specs.Report.{Reported, ReportedFrom}
+use Rattle.relay_report.specs.Report.{Reported, ReportedFrom, Reporter}
 
 -- the outcome with this report
 abbrev pub reported_as : Outcome → List ℕ → Change
@@ -36,45 +36,45 @@ pub record MayCome (queue : Queue) (outcome : Outcome) : Type 0 where
   pub rulings : AllByRecursion IsRuling outcome.rulings
 
 -- the change is the outcome with the report that is due of it, and fits the queue
-pub record IsReported (host : List ℕ) (queue : Queue) (outcome : Outcome) (change : Change) : Type 0 where
+pub record IsReported (reporter : Reporter) (queue : Queue) (outcome : Outcome) (change : Change) : Type 0 where
   pub report : List ℕ
   pub change_is : change ≡ reported_as outcome report
-  pub reported : ReportedFrom host queue change
+  pub reported : ReportedFrom reporter queue change
   pub fits : FitsQueue queue change
 
 -- what an outcome that was added, with the report that is due of it, did to the records, whatever list they keep
-pub record GrowsBy {D : Type 0} (words : DiskWords D) (host : List ℕ) (outcome : Outcome) (old new : Kept D)
+pub record GrowsBy {D : Type 0} (words : DiskWords D) (reporter : Reporter) (outcome : Outcome) (old new : Kept D)
     (number : ℕ)
     : Type 0 where
   pub report : List ℕ
-  pub reported : ReportedFrom host old.queue (reported_as outcome report)
+  pub reported : ReportedFrom reporter old.queue (reported_as outcome report)
   pub grows : Grows words old (reported_as outcome report) number new
 
-module _ {D : Type 0} (honest : Type 0) (words : DiskWords D) (host : List ℕ) (changes : List Change)
+module _ {D : Type 0} (honest : Type 0) (words : DiskWords D) (reporter : Reporter) (changes : List Change)
     (outcome : Outcome)
     (used : ℕ) where
   -- the outcome was added with the report that is due of it, and is the change of this number
   pub record AddsOutcome (new : Kept D) (number : ℕ) : Type 0 where
     pub number_is : number ≡ length changes + 1
     pub report : List ℕ
-    pub reported : Reported host changes (reported_as outcome report)
+    pub reported : Reported reporter changes (reported_as outcome report)
     pub adds : Adds honest words new changes (reported_as outcome report) used
 
   -- a stop came while the outcome was added, with that report
   pub record CutsOutcome (new : Kept D) : Type 0 where
     pub report : List ℕ
-    pub reported : Reported host changes (reported_as outcome report)
+    pub reported : Reported reporter changes (reported_as outcome report)
     pub cuts : Cuts honest words new changes (reported_as outcome report) used
 
 -- changes have no numbers any more, or the outcome, with the report that is due, would bring the spool past 2^40 octets
-pub data HasNoRoom {D : Type 0} (host : List ℕ) (outcome : Outcome) (old : Kept D) : Type 0 where
-  NoNumber : 2 ^ 62 < old.queue.next → HasNoRoom host outcome old
-  TooLarge : (report : List ℕ) → ReportedFrom host old.queue (reported_as outcome report)
-      → 2 ^ 40 < old.spool.size + 5 + length (encode (reported_as outcome report)) → HasNoRoom host outcome old
+pub data HasNoRoom {D : Type 0} (reporter : Reporter) (outcome : Outcome) (old : Kept D) : Type 0 where
+  NoNumber : 2 ^ 62 < old.queue.next → HasNoRoom reporter outcome old
+  TooLarge : (report : List ℕ) → ReportedFrom reporter old.queue (reported_as outcome report)
+      → 2 ^ 40 < old.spool.size + 5 + length (encode (reported_as outcome report)) → HasNoRoom reporter outcome old
 
 -- what is left where no outcome is added
-abbrev pub RefusesOutcome : {D : Type 0} → DiskWords D → List ℕ → Outcome → Kept D → Kept D → NodeFault → Type 0
-RefusesOutcome words host outcome old new NoMemory = new ≡ old
-RefusesOutcome words host outcome old new Stopped = IsStopped words old new
-RefusesOutcome words host outcome old new Full = (new ≡ old) × HasNoRoom host outcome old
-RefusesOutcome words host outcome old new other = ⊥
+abbrev pub RefusesOutcome : {D : Type 0} → DiskWords D → Reporter → Outcome → Kept D → Kept D → NodeFault → Type 0
+RefusesOutcome words reporter outcome old new NoMemory = new ≡ old
+RefusesOutcome words reporter outcome old new Stopped = IsStopped words old new
+RefusesOutcome words reporter outcome old new Full = (new ≡ old) × HasNoRoom reporter outcome old
+RefusesOutcome words reporter outcome old new other = ⊥

@@ -14,6 +14,7 @@ use Rattle.relay_spool.specs.Spool.{Passes}
 use Rattle.relay_records.specs.Records.{IsStopped, Kept}
 use Rattle.relay_records.specs.declared.fault.NodeFault.{NodeFault}
 use Rattle.relay_records.specs.declared.fault.NodeFault.TheVariants.{NoMemory, Stopped, Unknown, NotDue, Full}
+use Rattle.relay_report.specs.Report.{Reporter}
 use Rattle.relay_attempts.specs.AddedOutcome.{AddsOutcome, CutsOutcome, GrowsBy, HasNoRoom}
 use Rattle.relay_attempts.specs.Hops.{stranded_places}
 
@@ -44,28 +45,29 @@ abbrev pub unroutable : RouteTable → ℕ → ℕ → Message → Outcome
 unroutable table number at message = outcome_of number at [] (unrouted (stranded_places table message))
 
 -- The words below are of the message of a number, which is given up at a moment.
-module _ {D : Type 0} (honest : Type 0) (words : DiskWords D) (host : List ℕ) (table : RouteTable) (number at : ℕ) where
+module _ {D : Type 0} (honest : Type 0) (words : DiskWords D) (reporter : Reporter) (table : RouteTable)
+    (number at : ℕ) where
   -- exactly its held places without a hop have ended, in the one change that was added, with the report that is due of
   -- it, by four calls of the device
   pub record AddsUnroutable (changes : List Change) (old new : Kept D) (added : ℕ) : Type 0 where
     pub message : Message
     pub found : message_of old.queue.messages number ≡ Some message
-    pub adds : AddsOutcome honest words host changes (unroutable table number at message) 0 new added
+    pub adds : AddsOutcome honest words reporter changes (unroutable table number at message) 0 new added
     pub calls : Passes words 4 old.spool.disk new.spool.disk
 
   -- a stop came while they ended
   pub record CutsUnroutable (changes : List Change) (old new : Kept D) : Type 0 where
     pub message : Message
     pub found : message_of old.queue.messages number ≡ Some message
-    pub cuts : CutsOutcome honest words host changes (unroutable table number at message) 0 new
+    pub cuts : CutsOutcome honest words reporter changes (unroutable table number at message) 0 new
 
 -- What its end did to the records, whatever list they keep, and why none has ended.
-module _ {D : Type 0} (words : DiskWords D) (host : List ℕ) (table : RouteTable) (number at : ℕ) where
+module _ {D : Type 0} (words : DiskWords D) (reporter : Reporter) (table : RouteTable) (number at : ℕ) where
   -- exactly its held places without a hop have ended, with the report that is due of them, by the change of this number
   pub record EndsUnroutable (old new : Kept D) (added : ℕ) : Type 0 where
     pub message : Message
     pub found : message_of old.queue.messages number ≡ Some message
-    pub grows : GrowsBy words host (unroutable table number at message) old new added
+    pub grows : GrowsBy words reporter (unroutable table number at message) old new added
 
   -- the message is queued, and each of its held places has a hop
   pub record HasHops (old : Kept D) : Type 0 where
@@ -84,7 +86,7 @@ module _ {D : Type 0} (words : DiskWords D) (host : List ℕ) (table : RouteTabl
     pub message : Message
     pub found : message_of old.queue.messages number ≡ Some message
     pub some : stranded_places table message ≢ []
-    pub room : HasNoRoom host (unroutable table number at message) old
+    pub room : HasNoRoom reporter (unroutable table number at message) old
 
   -- why none has ended: the first of these, and want of memory or of room after them
   abbrev pub RefusesToGiveUp : Kept D → Kept D → NodeFault → Type 0

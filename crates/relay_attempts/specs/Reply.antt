@@ -12,6 +12,7 @@ use Rattle.relay_spool.specs.Spool.{Passes}
 use Rattle.relay_records.specs.Records.{IsStopped, Kept}
 use Rattle.relay_records.specs.declared.fault.NodeFault.{NodeFault}
 use Rattle.relay_records.specs.declared.fault.NodeFault.TheVariants.{NoMemory, Stopped, Unknown, Full}
+use Rattle.relay_report.specs.Report.{Reporter}
 use Rattle.relay_attempts.specs.AddedOutcome.{AddsOutcome, CutsOutcome, GrowsBy, HasNoRoom}
 use Rattle.relay_course.specs.Course.{IsCourse}
 use Rattle.relay_course.specs.VerdictTable.{all_later}
@@ -68,22 +69,22 @@ pub record ReadsToEnd (host : List ℕ) (told : Told) (piece : List ℕ) : Type 
 
 -- The words below are of a call at a moment, for the attempt of a number, of which this is told; the records
 -- keep these changes.
-module _ {D : Type 0} (honest : Type 0) (words : DiskWords D) (host : List ℕ) (now : ℕ) (changes : List Change)
+module _ {D : Type 0} (honest : Type 0) (words : DiskWords D) (reporter : Reporter) (now : ℕ) (changes : List Change)
     (number : ℕ) (told : Told) where
   -- it goes on after the whole piece, and nothing was added
   pub record AttemptGoesOn (piece : List ℕ) (old new : Kept D) (runs : List (Option Run)) (replied : Replied)
       : Type 0 where
     pub used : replied.used ≡ length piece
     pub same : new ≡ old
-    pub tells : TellsAt host new.queue runs number (told_more told (take replied.used piece) replied.out.items)
+    pub tells : TellsAt reporter.host new.queue runs number (told_more told (take replied.used piece) replied.out.items)
 
   -- it has ended, and its outcome was added, with the report that is due of it, as the change of this number, by four
   -- calls of the device
   pub record AttemptHasEnded (piece : List ℕ) (old new : Kept D) (runs : List (Option Run)) (replied : Replied)
       (change : ℕ) : Type 0 where
     pub verdicts : List Verdict
-    pub course : IsItsCourse host (told_more told (take replied.used piece) replied.out.items) false verdicts
-    pub adds : AddsOutcome honest words host changes (outcome_at now told verdicts) replied.used new change
+    pub course : IsItsCourse reporter.host (told_more told (take replied.used piece) replied.out.items) false verdicts
+    pub adds : AddsOutcome honest words reporter changes (outcome_at now told verdicts) replied.used new change
     pub calls : Passes words 4 old.spool.disk new.spool.disk
     pub gone : slot_at runs number ≡ None
 
@@ -93,35 +94,35 @@ module _ {D : Type 0} (honest : Type 0) (words : DiskWords D) (host : List ℕ) 
 
   -- a stop came while its outcome was added
   pub record CutsReply (piece : List ℕ) (new : Kept D) : Type 0 where
-    pub ends : ReadsToEnd host told piece
-    pub cuts : CutsOutcome honest words host changes (outcome_at now told ends.verdicts) ends.used new
+    pub ends : ReadsToEnd reporter.host told piece
+    pub cuts : CutsOutcome honest words reporter changes (outcome_at now told ends.verdicts) ends.used new
 
   -- its connection was lost, and of that its outcome was added, by four calls of the device: each place may be tried
   -- again
   pub record IsLost (old new : Kept D) (runs : List (Option Run)) (change : ℕ) : Type 0 where
-    pub course : IsItsCourse host told true (all_later told.places)
-    pub adds : AddsOutcome honest words host changes (outcome_at now told (all_later told.places)) 0 new change
+    pub course : IsItsCourse reporter.host told true (all_later told.places)
+    pub adds : AddsOutcome honest words reporter changes (outcome_at now told (all_later told.places)) 0 new change
     pub calls : Passes words 4 old.spool.disk new.spool.disk
     pub gone : slot_at runs number ≡ None
 
   -- a stop came while that outcome was added
   pub record CutsLoss (new : Kept D) : Type 0 where
-    pub course : IsItsCourse host told true (all_later told.places)
-    pub cuts : CutsOutcome honest words host changes (outcome_at now told (all_later told.places)) 0 new
+    pub course : IsItsCourse reporter.host told true (all_later told.places)
+    pub cuts : CutsOutcome honest words reporter changes (outcome_at now told (all_later told.places)) 0 new
 
 -- there is no room for the outcome with which it ends
-pub record HasNoRoomAtEnd {D : Type 0} (host : List ℕ) (now : ℕ) (told : Told) (piece : List ℕ) (old : Kept D)
+pub record HasNoRoomAtEnd {D : Type 0} (reporter : Reporter) (now : ℕ) (told : Told) (piece : List ℕ) (old : Kept D)
     : Type 0 where
-  pub ends : ReadsToEnd host told piece
-  pub room : HasNoRoom host (outcome_at now told ends.verdicts) old
+  pub ends : ReadsToEnd reporter.host told piece
+  pub room : HasNoRoom reporter (outcome_at now told ends.verdicts) old
 
 -- there is no room for the outcome of the loss of its connection
-pub record HasNoRoomAtLoss {D : Type 0} (host : List ℕ) (now : ℕ) (told : Told) (old : Kept D) : Type 0 where
-  pub course : IsItsCourse host told true (all_later told.places)
-  pub room : HasNoRoom host (outcome_at now told (all_later told.places)) old
+pub record HasNoRoomAtLoss {D : Type 0} (reporter : Reporter) (now : ℕ) (told : Told) (old : Kept D) : Type 0 where
+  pub course : IsItsCourse reporter.host told true (all_later told.places)
+  pub room : HasNoRoom reporter (outcome_at now told (all_later told.places)) old
 
 -- The words below are of the same, whatever is told of the attempt.
-module _ {D : Type 0} (words : DiskWords D) (host : List ℕ) (now number : ℕ) where
+module _ {D : Type 0} (words : DiskWords D) (reporter : Reporter) (now number : ℕ) where
   -- it has ended: of its message, hop and places an outcome was added, as the change of this number
   pub record EndsBy (before after : List (Option Run)) (old new : Kept D) (change : ℕ) : Type 0 where
     pub live : old.spool.live ≡ true
@@ -130,8 +131,8 @@ module _ {D : Type 0} (words : DiskWords D) (host : List ℕ) (now number : ℕ)
     pub gone : slot_at after number ≡ None
     pub verdicts : List Verdict
     pub each : length verdicts ≡ length run.places.items
-    pub grows : GrowsBy words host (outcome_of run.message now run.hop (rulings_of run.places.items verdicts)) old new
-        change
+    pub grows : GrowsBy words reporter (outcome_of run.message now run.hop (rulings_of run.places.items verdicts)) old
+        new change
 
   -- the change that a reply made, if it made one
   abbrev pub Makes : List (Option Run) → List (Option Run) → Kept D → Kept D → Option ℕ → Type 0

@@ -15,7 +15,7 @@ use Rattle.relay_records.specs.declared.fault.NodeFault.TheVariants.{NoMemory, U
 use Rattle.relay_records.specs.declared.noted.Noted.{Noted}
 use Rattle.relay_records.specs.Records.{Kept}
 use Rattle.relay_records.specs.Staged.{Awaits, Row, Stages}
-use Rattle.relay_report.specs.Report.{Reported, ReportedFrom}
+use Rattle.relay_report.specs.Report.{Reported, ReportedFrom, Reporter}
 use Rattle.relay_attempts.specs.declared.reply.Replied.{Replied}
 use Rattle.relay_attempts.specs.declared.runs.Run.{Run}
 use Rattle.relay_attempts.specs.AddedOutcome.{reported_as}
@@ -24,13 +24,13 @@ use Rattle.relay_attempts.specs.Outcomes.{outcome_of, rulings_of}
 use Rattle.relay_attempts.specs.Reply.{IsItsCourse, ReadsToEnd, TellsAt, Told, outcome_at, told_more}
 
 -- The words below are of a row of changes that are pending, after those that records keep.
-module _ {D : Type 0} (honest : Type 0) (words : DiskWords D) (host : List ℕ) (changes pending : List Change)
+module _ {D : Type 0} (honest : Type 0) (words : DiskWords D) (reporter : Reporter) (changes pending : List Change)
     (row : Row) where
   -- the outcome is staged after the row with the report that is due of it, as the change of this number
   pub record StagesOutcome (outcome : Outcome) (used : ℕ) (new : Kept D) (left : Row) (number : ℕ) : Type 0 where
     pub number_is : number ≡ length changes + length pending + 1
     pub report : List ℕ
-    pub reported : Reported host (changes ++ pending) (reported_as outcome report)
+    pub reported : Reported reporter (changes ++ pending) (reported_as outcome report)
     pub awaits : Awaits honest words new changes (pending ++ reported_as outcome report ∷ []) left
     pub note : Noted
     pub noted : left.notes ≡ row.notes ++ note ∷ []
@@ -44,13 +44,14 @@ module _ {D : Type 0} (honest : Type 0) (words : DiskWords D) (host : List ℕ) 
       pub used : replied.used ≡ length piece
       pub same : new ≡ old
       pub row_is : left ≡ row
-      pub tells : TellsAt host new.queue runs number (told_more told (take replied.used piece) replied.out.items)
+      pub tells : TellsAt reporter.host new.queue runs number
+          (told_more told (take replied.used piece) replied.out.items)
 
     -- it has ended, and its outcome was staged, as the change of this number
     pub record HasEndedBehind (piece : List ℕ) (new : Kept D) (left : Row) (runs : List (Option Run))
         (replied : Replied) (change : ℕ) : Type 0 where
       pub verdicts : List Verdict
-      pub course : IsItsCourse host (told_more told (take replied.used piece) replied.out.items) false verdicts
+      pub course : IsItsCourse reporter.host (told_more told (take replied.used piece) replied.out.items) false verdicts
       pub stages : StagesOutcome (outcome_at now told verdicts) replied.used new left change
       pub gone : slot_at runs number ≡ None
 
@@ -60,37 +61,38 @@ module _ {D : Type 0} (honest : Type 0) (words : DiskWords D) (host : List ℕ) 
     RepliesBehind piece old new left runs replied (Some change) = HasEndedBehind piece new left runs replied change
 
 -- what an outcome that was staged, with the report that is due of it, did to records and row, whatever they keep
-pub record GrowsRowBy {D : Type 0} (host : List ℕ) (outcome : Outcome) (used : ℕ) (old new : Kept D) (row left : Row)
-    (number : ℕ) : Type 0 where
+pub record GrowsRowBy {D : Type 0} (reporter : Reporter) (outcome : Outcome) (used : ℕ) (old new : Kept D)
+    (row left : Row) (number : ℕ) : Type 0 where
   pub report : List ℕ
-  pub reported : ReportedFrom host old.queue (reported_as outcome report)
+  pub reported : ReportedFrom reporter old.queue (reported_as outcome report)
   pub fits : FitsQueue old.queue (reported_as outcome report)
   pub stages : Stages old new row left (reported_as outcome report) used number
 
 -- changes have no numbers any more, or the outcome, with the report that is due, would bring the spool past 2^40 octets
 -- with the row before it
-pub data HasNoRoomBehind {D : Type 0} (host : List ℕ) (outcome : Outcome) (old : Kept D) (row : Row) : Type 0 where
-  NoNumber : 2 ^ 62 < old.queue.next → HasNoRoomBehind host outcome old row
-  TooLarge : (report : List ℕ) → ReportedFrom host old.queue (reported_as outcome report)
+pub data HasNoRoomBehind {D : Type 0} (reporter : Reporter) (outcome : Outcome) (old : Kept D) (row : Row)
+    : Type 0 where
+  NoNumber : 2 ^ 62 < old.queue.next → HasNoRoomBehind reporter outcome old row
+  TooLarge : (report : List ℕ) → ReportedFrom reporter old.queue (reported_as outcome report)
       → 2 ^ 40 < old.spool.size + room_of row.bodies + 5 + length (encode (reported_as outcome report))
-      → HasNoRoomBehind host outcome old row
+      → HasNoRoomBehind reporter outcome old row
 
 -- what is left where no outcome is staged
 abbrev pub RefusesToStageOutcome
-    : {D : Type 0} → List ℕ → Outcome → Kept D → Kept D → Row → Row → NodeFault → Type 0
-RefusesToStageOutcome host outcome old new row left NoMemory = (new ≡ old) × (left ≡ row)
-RefusesToStageOutcome host outcome old new row left Full =
-    (new ≡ old) × (left ≡ row) × HasNoRoomBehind host outcome old row
-RefusesToStageOutcome host outcome old new row left other = ⊥
+    : {D : Type 0} → Reporter → Outcome → Kept D → Kept D → Row → Row → NodeFault → Type 0
+RefusesToStageOutcome reporter outcome old new row left NoMemory = (new ≡ old) × (left ≡ row)
+RefusesToStageOutcome reporter outcome old new row left Full =
+    (new ≡ old) × (left ≡ row) × HasNoRoomBehind reporter outcome old row
+RefusesToStageOutcome reporter outcome old new row left other = ⊥
 
 -- there is no room for the outcome with which it ends, after a row
-pub record HasNoRoomAtEndBehind {D : Type 0} (host : List ℕ) (now : ℕ) (told : Told) (piece : List ℕ) (old : Kept D)
-    (row : Row) : Type 0 where
-  pub ends : ReadsToEnd host told piece
-  pub room : HasNoRoomBehind host (outcome_at now told ends.verdicts) old row
+pub record HasNoRoomAtEndBehind {D : Type 0} (reporter : Reporter) (now : ℕ) (told : Told) (piece : List ℕ)
+    (old : Kept D) (row : Row) : Type 0 where
+  pub ends : ReadsToEnd reporter.host told piece
+  pub room : HasNoRoomBehind reporter (outcome_at now told ends.verdicts) old row
 
 -- The words below are of the same, whatever is told of the attempt.
-module _ {D : Type 0} (host : List ℕ) (now number : ℕ) where
+module _ {D : Type 0} (reporter : Reporter) (now number : ℕ) where
   -- it has ended: of its message, hop and places an outcome was staged, as the change of this number
   pub record EndsBehind (before after : List (Option Run)) (used : ℕ) (old new : Kept D) (row left : Row)
       (change : ℕ) : Type 0 where
@@ -99,8 +101,8 @@ module _ {D : Type 0} (host : List ℕ) (now number : ℕ) where
     pub gone : slot_at after number ≡ None
     pub verdicts : List Verdict
     pub each : length verdicts ≡ length run.places.items
-    pub grows : GrowsRowBy host (outcome_of run.message now run.hop (rulings_of run.places.items verdicts)) used old new
-        row left change
+    pub grows : GrowsRowBy reporter (outcome_of run.message now run.hop (rulings_of run.places.items verdicts)) used
+        old new row left change
 
   -- the change that a reply staged, if it staged one
   abbrev pub MakesBehind

@@ -1,5 +1,6 @@
 //! Outcomes, and what they leave of the attempts.
 ghost use Rattle.std.specs.Prelude.{◌≡◌, List, Err, IfErr, IfOk, IsTrue};
+ghost use Rattle.relay_report.specs.Report.{reporter_of};
 ghost use Rattle.relay_attempts.specs.Attempts.{KnowsStranded};
 ghost use Rattle.relay_book.specs.declared.change.Change.{Change};
 ghost use Rattle.relay_attempts.specs.AddedOutcome.{AddsOutcome, CutsOutcome, GrowsBy, MayCome, RefusesOutcome};
@@ -29,13 +30,13 @@ impl Attempts {
         requires live { IsTrue records.old.spool.live }
         requires comes { MayCome records.old.queue outcome }
         ensures ok { (changes : List Change) → Keeps D.honest D.words records.old changes
-            → IfOk result (AddsOutcome D.honest D.words config.now.host changes outcome used records.new) }
+            → IfOk result (AddsOutcome D.honest D.words (reporter_of config.now) changes outcome used records.new) }
         ensures cut { (changes : List Change) → Keeps D.honest D.words records.old changes
             → result ≡ Err NodeFault.Stopped
-            → CutsOutcome D.honest D.words config.now.host changes outcome used records.new }
-        ensures grows { IfOk result (GrowsBy D.words config.now.host outcome records.old records.new) }
+            → CutsOutcome D.honest D.words (reporter_of config.now) changes outcome used records.new }
+        ensures grows { IfOk result (GrowsBy D.words (reporter_of config.now) outcome records.old records.new) }
         ensures refused { IfErr result
-            (RefusesOutcome D.words config.now.host outcome records.old records.new) }
+            (RefusesOutcome D.words (reporter_of config.now) outcome records.old records.new) }
         ensures runs { self.new.runs ≡ self.old.runs }
         ensures known { KnowsStranded self.old config.now.routes records.old.queue
             → KnowsStranded self.new config.now.routes records.new.queue }
@@ -45,7 +46,7 @@ impl Attempts {
         };
         records.numbers_rise();
         let message = outcome.message;
-        match add_outcome(alloc, config.host.as_slice(), records, outcome, used) {
+        match add_outcome(alloc, config.host.as_slice(), config.reports, records, outcome, used) {
             Ok(number) => {
                 self.forget(&config.routes, records, message);
                 self.note(&config.routes, records, number);
@@ -70,11 +71,11 @@ impl Attempts {
         requires comes { MayCome records.old.queue outcome }
         ensures stages { (changes pending : List Change)
             → Awaits D.honest D.words records.old changes pending row.old
-            → IfOk result (StagesOutcome D.honest D.words config.now.host changes pending row.old outcome used
+            → IfOk result (StagesOutcome D.honest D.words (reporter_of config.now) changes pending row.old outcome used
             records.new row.new) }
-        ensures grows { IfOk result (GrowsRowBy config.now.host outcome used records.old records.new row.old
+        ensures grows { IfOk result (GrowsRowBy (reporter_of config.now) outcome used records.old records.new row.old
             row.new) }
-        ensures refused { IfErr result (RefusesToStageOutcome config.now.host outcome records.old records.new
+        ensures refused { IfErr result (RefusesToStageOutcome (reporter_of config.now) outcome records.old records.new
             row.old row.new) }
         ensures runs { self.new.runs ≡ self.old.runs }
         ensures known { KnowsStranded self.old config.now.routes records.old.queue
@@ -85,7 +86,7 @@ impl Attempts {
         };
         records.numbers_rise();
         let message = outcome.message;
-        match stage_outcome(alloc, config.host.as_slice(), records, row, outcome, used) {
+        match stage_outcome(alloc, config.host.as_slice(), config.reports, records, row, outcome, used) {
             Ok(number) => {
                 self.forget(&config.routes, records, message);
                 self.note(&config.routes, records, number);

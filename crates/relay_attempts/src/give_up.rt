@@ -1,5 +1,6 @@
 //! Messages that have nowhere to go.
 ghost use Rattle.std.specs.Prelude.{◌≡◌, ◌≤◌, List, Err, IfErr, IfOk, length};
+ghost use Rattle.relay_report.specs.Report.{reporter_of};
 ghost use Rattle.relay_attempts.specs.Attempts.{Serves};
 ghost use Rattle.relay_attempts.specs.Outcomes.{AddsUnroutable, CutsUnroutable, EndsUnroutable, RefusesToGiveUp};
 ghost use Rattle.relay_attempts.specs.Outcomes.{unroutable, unrouted};
@@ -31,15 +32,15 @@ impl Attempts {
     ) -> Result<u64, NodeFault>
         requires serves { Serves config.now.host config.now.routes self.old records.old.queue }
         ensures ok { (changes : List Change) → Keeps D.honest D.words records.old changes
-            → IfOk result (AddsUnroutable D.honest D.words config.now.host config.now.routes number now changes
+            → IfOk result (AddsUnroutable D.honest D.words (reporter_of config.now) config.now.routes number now changes
             records.old records.new) }
         ensures cut { (changes : List Change) → Keeps D.honest D.words records.old changes
             → result ≡ Err NodeFault.Stopped
-            → CutsUnroutable D.honest D.words config.now.host config.now.routes number now changes
+            → CutsUnroutable D.honest D.words (reporter_of config.now) config.now.routes number now changes
             records.old records.new }
-        ensures ends { IfOk result (EndsUnroutable D.words config.now.host config.now.routes number now
+        ensures ends { IfOk result (EndsUnroutable D.words (reporter_of config.now) config.now.routes number now
             records.old records.new) }
-        ensures refused { IfErr result (RefusesToGiveUp D.words config.now.host config.now.routes number now
+        ensures refused { IfErr result (RefusesToGiveUp D.words (reporter_of config.now) config.now.routes number now
             records.old records.new) }
         ensures runs { self.new.runs ≡ self.old.runs }
         ensures serves { Serves config.now.host config.now.routes self.new records.new.queue }

@@ -7,6 +7,7 @@ ghost use Rattle.relay_records.specs.Records.{Keeps};
 ghost use Rattle.relay_records.specs.Staged.{Awaits};
 ghost use Rattle.relay_attempts.specs.AddedOutcome.{AddsOutcome, CutsOutcome, GrowsBy, IsReported, MayCome};
 ghost use Rattle.relay_attempts.specs.AddedOutcome.{RefusesOutcome, reported_as};
+ghost use Rattle.relay_report.specs.Report.{reporter};
 
 use relay_book::{Change, Outcome, encode_change};
 use relay_disk::Disk;
@@ -14,12 +15,13 @@ use relay_octets::Octets;
 use relay_records::list_laws::awaited_are_numbered;
 use relay_records::{NodeFault, Records, Staged};
 use relay_report::{Report, report_if_due};
+use relay_routes::ReportForm;
 use relay_trace::LAST_SECOND;
 use std::alloc::{AllocError, Global};
 
-/// Adds an outcome of a queued message, with the report that is due of it by this host, in one change; what its report
-/// says doesn't count. The answer is its number, and `used` is how many octets of its piece the call had used. All
-/// growths come before the append.
+/// Adds an outcome of a queued message, with the report that is due of it by this host in this form, in one change;
+/// what its report says doesn't count. The answer is its number, and `used` is how many octets of its piece the call
+/// had used. All growths come before the append.
 ///
 /// `NoMemory` leaves everything as it was, and so does `Full`, where changes have no numbers any more or the spool
 /// would pass 2^40 octets. At `Stopped` the device failed: a stop leaves the changes as they were or with this one, and
@@ -27,6 +29,7 @@ use std::alloc::{AllocError, Global};
 pub(crate) fn add_outcome<D: Disk>(
     alloc: Global,
     host: &[u8],
+    form: ReportForm,
     records: &mut Records<D>,
     outcome: Outcome,
     used: usize,
@@ -35,31 +38,32 @@ pub(crate) fn add_outcome<D: Disk>(
     requires host { IsHostName host.now }
     requires comes { MayCome records.old.queue outcome }
     ensures ok { (changes : List Change) → Keeps D.honest D.words records.old changes
-        → IfOk result (AddsOutcome D.honest D.words host.now changes outcome used records.new) }
+        → IfOk result (AddsOutcome D.honest D.words (reporter host.now form) changes outcome used records.new) }
     ensures cut { (changes : List Change) → Keeps D.honest D.words records.old changes
         → result ≡ Err NodeFault.Stopped
-        → CutsOutcome D.honest D.words host.now changes outcome used records.new }
-    ensures grows { IfOk result (GrowsBy D.words host.now outcome records.old records.new) }
+        → CutsOutcome D.honest D.words (reporter host.now form) changes outcome used records.new }
+    ensures grows { IfOk result (GrowsBy D.words (reporter host.now form) outcome records.old records.new) }
     ensures full { 2 ^ 62 < records.old.queue.next → result ≡ Err NodeFault.Full }
-    ensures refused { IfErr result (RefusesOutcome D.words host.now outcome records.old records.new) }
+    ensures refused { IfErr result (RefusesOutcome D.words (reporter host.now form) outcome records.old records.new) }
 {
     if !records.has_number() {
         return Err(NodeFault::Full);
     }
-    let change = reported(alloc, host, records, outcome)?;
+    let change = reported(alloc, host, form, records, outcome)?;
     let octets = Octets::new(encode_change(alloc, &change)?);
     records.add(alloc, change, octets, used)
 }
 
-/// Stages an outcome of a queued message after the changes of a row, with the report that is due of it by this host,
-/// in one change; what its report says doesn't count. The answer is its number, and `used` is how many octets of its
-/// piece the call had used. No device is called.
+/// Stages an outcome of a queued message after the changes of a row, with the report that is due of it by this host in
+/// this form, in one change; what its report says doesn't count. The answer is its number, and `used` is how many
+/// octets of its piece the call had used. No device is called.
 ///
 /// `NoMemory` leaves records and row as they were, and so does `Full`, where changes have no numbers any more or the
 /// spool would pass 2^40 octets with the row.
 pub(crate) fn stage_outcome<D: Disk>(
     alloc: Global,
     host: &[u8],
+    form: ReportForm,
     records: &mut Records<D>,
     row: &mut Staged,
     outcome: Outcome,
@@ -68,16 +72,18 @@ pub(crate) fn stage_outcome<D: Disk>(
     requires host { IsHostName host.now }
     requires comes { MayCome records.old.queue outcome }
     ensures stages { (changes pending : List Change) → Awaits D.honest D.words records.old changes pending row.old
-        → IfOk result (StagesOutcome D.honest D.words host.now changes pending row.old outcome used records.new
+        → IfOk result (StagesOutcome D.honest D.words (reporter host.now form) changes pending row.old outcome used
+        records.new row.new) }
+    ensures grows { IfOk result (GrowsRowBy (reporter host.now form) outcome used records.old records.new row.old
         row.new) }
-    ensures grows { IfOk result (GrowsRowBy host.now outcome used records.old records.new row.old row.new) }
-    ensures refused { IfErr result (RefusesToStageOutcome host.now outcome records.old records.new row.old row.new) }
+    ensures refused { IfErr result (RefusesToStageOutcome (reporter host.now form) outcome records.old records.new
+        row.old row.new) }
 {
     awaited_are_numbered::<D>();
     if !records.has_number() {
         return Err(NodeFault::Full);
     }
-    let change = reported(alloc, host, records, outcome)?;
+    let change = reported(alloc, host, form, records, outcome)?;
     let octets = Octets::new(encode_change(alloc, &change)?);
     records.stage(alloc, row, change, octets, used)
 }
@@ -86,13 +92,14 @@ pub(crate) fn stage_outcome<D: Disk>(
 fn reported<D: Disk>(
     alloc: Global,
     host: &[u8],
+    form: ReportForm,
     records: &Records<D>,
     outcome: Outcome,
 ) -> Result<Change, AllocError>
     requires number { records.now.queue.next ≤ 2 ^ 62 }
     requires host { IsHostName host.now }
     requires comes { MayCome records.now.queue outcome }
-    ensures { IfOk result (IsReported host.now records.now.queue outcome) }
+    ensures { IfOk result (IsReported (reporter host.now form) records.now.queue outcome) }
 {
     let Some(message) = records.message(outcome.message) else {
         unreachable!()
@@ -103,6 +110,7 @@ fn reported<D: Disk>(
     let report = report_if_due(
         alloc,
         &Report {
+            form,
             host,
             number: records.next_number(),
             message,

@@ -1,5 +1,6 @@
 //! Replies to attempts, and connections that are lost.
 ghost use Rattle.std.specs.Prelude.{◌≡◌, List, Err, IfErr, IfOk, length};
+ghost use Rattle.relay_report.specs.Report.{reporter_of};
 ghost use Rattle.relay_attempts.specs.Attempts.{Serves};
 ghost use Rattle.relay_attempts.specs.Reply.{CutsReply, HasHeard, HasNoRoomAtEnd, RefusesToHear, Replies, TellsAt};
 ghost use Rattle.relay_attempts.specs.Reply.{Told};
@@ -50,15 +51,15 @@ impl Attempts {
         requires serves { Serves config.now.host config.now.routes self.old records.old.queue }
         ensures replies { (changes : List Change) (told : Told) → Keeps D.honest D.words records.old changes
             → TellsAt config.now.host records.old.queue self.old.runs attempt told
-            → IfOk result (λ replied. Replies D.honest D.words config.now.host now changes attempt told
+            → IfOk result (λ replied. Replies D.honest D.words (reporter_of config.now) now changes attempt told
             piece.now records.old records.new self.new.runs replied replied.change) }
         ensures cut { (changes : List Change) (told : Told) → Keeps D.honest D.words records.old changes
             → TellsAt config.now.host records.old.queue self.old.runs attempt told
             → result ≡ Err NodeFault.Stopped
-            → CutsReply D.honest D.words config.now.host now changes attempt told piece.now records.new }
+            → CutsReply D.honest D.words (reporter_of config.now) now changes attempt told piece.now records.new }
         ensures full { (told : Told) → TellsAt config.now.host records.old.queue self.old.runs attempt told
-            → result ≡ Err NodeFault.Full → HasNoRoomAtEnd config.now.host now told piece.now records.old }
-        ensures heard { IfOk result (HasHeard D.words config.now.host now attempt (length piece.now)
+            → result ≡ Err NodeFault.Full → HasNoRoomAtEnd (reporter_of config.now) now told piece.now records.old }
+        ensures heard { IfOk result (HasHeard D.words (reporter_of config.now) now attempt (length piece.now)
             self.old.runs self.new.runs records.old records.new) }
         ensures refused { IfErr result (RefusesToHear D.words attempt self.old self.new
             records.old records.new) }
@@ -106,12 +107,12 @@ impl Attempts {
         ensures replies { (changes pending : List Change) (told : Told)
             → Awaits D.honest D.words records.old changes pending row.old
             → TellsAt config.now.host records.old.queue self.old.runs attempt told
-            → IfOk result (λ replied. RepliesBehind D.honest D.words config.now.host changes pending row.old now
-            attempt told piece.now records.old records.new row.new self.new.runs replied replied.change) }
+            → IfOk result (λ replied. RepliesBehind D.honest D.words (reporter_of config.now) changes pending row.old
+            now attempt told piece.now records.old records.new row.new self.new.runs replied replied.change) }
         ensures full { (told : Told) → TellsAt config.now.host records.old.queue self.old.runs attempt told
             → result ≡ Err NodeFault.Full
-            → HasNoRoomAtEndBehind config.now.host now told piece.now records.old row.old }
-        ensures heard { IfOk result (HasHeardBehind config.now.host now attempt (length piece.now)
+            → HasNoRoomAtEndBehind (reporter_of config.now) now told piece.now records.old row.old }
+        ensures heard { IfOk result (HasHeardBehind (reporter_of config.now) now attempt (length piece.now)
             self.old.runs self.new.runs records.old records.new row.old row.new) }
         ensures refused { IfErr result (RefusesToHearBehind attempt self.old self.new records.old records.new
             row.old row.new) }
@@ -150,15 +151,15 @@ impl Attempts {
         requires serves { Serves config.now.host config.now.routes self.old records.old.queue }
         ensures lost { (changes : List Change) (told : Told) → Keeps D.honest D.words records.old changes
             → TellsAt config.now.host records.old.queue self.old.runs attempt told
-            → IfOk result (IsLost D.honest D.words config.now.host now changes attempt told records.old
+            → IfOk result (IsLost D.honest D.words (reporter_of config.now) now changes attempt told records.old
             records.new self.new.runs) }
         ensures cut { (changes : List Change) (told : Told) → Keeps D.honest D.words records.old changes
             → TellsAt config.now.host records.old.queue self.old.runs attempt told
             → result ≡ Err NodeFault.Stopped
-            → CutsLoss D.honest D.words config.now.host now changes attempt told records.new }
+            → CutsLoss D.honest D.words (reporter_of config.now) now changes attempt told records.new }
         ensures full { (told : Told) → TellsAt config.now.host records.old.queue self.old.runs attempt told
-            → result ≡ Err NodeFault.Full → HasNoRoomAtLoss config.now.host now told records.old }
-        ensures ends { IfOk result (EndsBy D.words config.now.host now attempt self.old.runs self.new.runs
+            → result ≡ Err NodeFault.Full → HasNoRoomAtLoss (reporter_of config.now) now told records.old }
+        ensures ends { IfOk result (EndsBy D.words (reporter_of config.now) now attempt self.old.runs self.new.runs
             records.old records.new) }
         ensures refused { IfErr result (RefusesToHear D.words attempt self.old self.new
             records.old records.new) }

@@ -1,4 +1,5 @@
 use Rattle.std.proofs.Common.{List, ℕ, subst, rules}
+use Rattle.relay_report.specs.Report.{reporter}
 use Rattle.relay_attempts.specs.AddedOutcome.{RefusesOutcome}
 use Rattle.relay_attempts.proofs.StrandedLemmas.{known_behind, ruled_message}
 use Rattle.relay_attempts.proofs.attempts.Attempts.conclude.Goals as goal
@@ -14,5 +15,5 @@ returns-in-Ok-add_outcome-clause-known g c = λ known.
 
 pub returns-in-Err-clause-refused : goal.returns-in-Err-clause-refused
 returns-in-Err-clause-refused g c =
-    subst (λ (host : List ℕ). RefusesOutcome g.D.Disk.words host c.args.outcome c.args.records.now c.add_outcome.new.records c.in-Err.fault) c.as_slice.ensures.value
+    subst (λ (host : List ℕ). RefusesOutcome g.D.Disk.words (reporter host c.args.config.now.reports) c.args.outcome c.args.records.now c.add_outcome.new.records c.in-Err.fault) c.as_slice.ensures.value
     c.in-Err.ensures.refused

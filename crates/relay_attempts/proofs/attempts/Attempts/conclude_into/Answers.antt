@@ -1,4 +1,5 @@
 use Rattle.std.proofs.Common.{List, ℕ, subst, rules}
+use Rattle.relay_report.specs.Report.{reporter}
 use Rattle.relay_attempts.specs.Staging.{RefusesToStageOutcome}
 use Rattle.relay_attempts.proofs.StrandedLemmas.{known_behind, ruled_message}
 use Rattle.relay_attempts.proofs.attempts.Attempts.conclude_into.Goals as goal
@@ -14,5 +15,5 @@ returns-in-Ok-stage_outcome-clause-known g c = λ known.
 
 pub returns-in-Err-clause-refused : goal.returns-in-Err-clause-refused
 returns-in-Err-clause-refused g c =
-    subst (λ (host : List ℕ). RefusesToStageOutcome host c.args.outcome c.args.records.now c.stage_outcome.new.records c.args.row.now c.stage_outcome.new.row c.in-Err.fault) c.as_slice.ensures.value
+    subst (λ (host : List ℕ). RefusesToStageOutcome (reporter host c.args.config.now.reports) c.args.outcome c.args.records.now c.stage_outcome.new.records c.args.row.now c.stage_outcome.new.row c.in-Err.fault) c.as_slice.ensures.value
     c.in-Err.ensures.refused

@@ -1,6 +1,7 @@
 use Rattle.std.proofs.Common.{◌≡◌, Some, refl, subst, true, rules}
 use Rattle.relay_book.specs.declared.change.Outcome.{Outcome}
 use Rattle.relay_book.specs.Queue.{message_of}
+use Rattle.relay_report.specs.Report.{reporter_of}
 use Rattle.relay_attempts.specs.AddedOutcome.{GrowsBy}
 use Rattle.relay_attempts.specs.Hops.{is_any, stranded_places}
 use Rattle.relay_attempts.proofs.OutcomeLemmas.{given_up_serves, has_stranded, refused_to_give_up, unroutable_may_come}
@@ -29,7 +30,7 @@ returns-in-Ok-conclude-clause-ends g c =
       found = found;
       grows =
           subst
-          (λ (o : Outcome). GrowsBy g.D.Disk.words c.args.config.now.host o c.args.records.now c.conclude.new.records c.in-Ok-conclude.added)
+          (λ (o : Outcome). GrowsBy g.D.Disk.words (reporter_of c.args.config.now) o c.args.records.now c.conclude.new.records c.in-Ok-conclude.added)
           c.in-Ok.ensures c.in-Ok-conclude.ensures.grows;
     }
 
@@ -38,7 +39,7 @@ returns-in-Err-clause-refused g c =
     let found : message_of c.args.records.now.queue.messages c.args.number ≡ Some c.in-Some.message.now = search rules in
     let live : c.args.records.now.spool.live ≡ true = search rules in
     let some : is_any (stranded_places c.args.config.now.routes c.in-Some.message.now) ≡ true = search rules in
-    refused_to_give_up g.D.Disk.words c.args.config.now.host c.args.config.now.routes c.args.number c.args.now c.in-Some.message.now c.in-Ok.outcome c.args.records.now
+    refused_to_give_up g.D.Disk.words (reporter_of c.args.config.now) c.args.config.now.routes c.args.number c.args.now c.in-Some.message.now c.in-Ok.outcome c.args.records.now
     c.conclude.new.records c.in-Err.fault live found some c.in-Ok.ensures c.in-Err.ensures.refused
 
 pub returns-in_default-unroutable-clause-refused : goal.returns-in_default-unroutable-clause-refused
@@ -46,4 +47,4 @@ returns-in_default-unroutable-clause-refused g c =
     let found : message_of c.args.records.now.queue.messages c.args.number ≡ Some c.in-Some.message.now = search rules in
     let live : c.args.records.now.spool.live ≡ true = search rules in
     let some : is_any (stranded_places c.args.config.now.routes c.in-Some.message.now) ≡ true = search rules in
-    (live, has_stranded g.D.Disk.words c.args.config.now.host c.args.config.now.routes c.args.number c.args.now c.in-Some.message.now c.args.records.now found some, refl)
+    (live, has_stranded g.D.Disk.words (reporter_of c.args.config.now) c.args.config.now.routes c.args.number c.args.now c.in-Some.message.now c.args.records.now found some, refl)

@@ -5,6 +5,7 @@ use Rattle.relay_slots.proofs.Theorems.{taken_is_none}
 use Rattle.relay_book.specs.declared.change.Outcome.{Outcome}
 use Rattle.relay_book.specs.declared.change.Verdict.{Verdict}
 use Rattle.relay_records.specs.declared.fault.NodeFault.TheVariants.{Full}
+use Rattle.relay_report.specs.Report.{reporter_of}
 use Rattle.relay_attempts.specs.AddedOutcome.{AddsOutcome, CutsOutcome, GrowsBy, HasNoRoom}
 use Rattle.relay_course.proofs.Theorems.{verdict_for_each_place}
 use Rattle.relay_attempts.specs.Hops.{stranded_of}
@@ -61,7 +62,7 @@ returns-in-Ok-conclude-clause-lost g c = λ changes told keeps tells.
       course = loss_told c.args.config.now.host c.args.records.now.queue c.args.self.now.runs c.args.attempt told c.in-Some.run' tells its;
       adds =
           subst
-          (λ (o : Outcome). AddsOutcome g.D.Disk.honest g.D.Disk.words c.args.config.now.host changes o 0 c.conclude.new.records c.in-Ok-conclude.number)
+          (λ (o : Outcome). AddsOutcome g.D.Disk.honest g.D.Disk.words (reporter_of c.args.config.now) changes o 0 c.conclude.new.records c.in-Ok-conclude.number)
           outcome (c.in-Ok-conclude.ensures.ok changes keeps);
       calls = c.in-Ok-conclude.ensures.grows.grows.calls;
       gone = ap (λ l. slot_at l c.args.attempt) gone ∙ taken_is_none c.args.self.now.runs c.args.attempt;
@@ -86,7 +87,7 @@ returns-in-Ok-conclude-clause-ends g c =
           c.in-Some.run'.places.items runs.input true runs.output c.in-Ok.verdicts course;
       grows =
           subst
-          (λ (o : Outcome). GrowsBy g.D.Disk.words c.args.config.now.host o c.args.records.now c.conclude.new.records c.in-Ok-conclude.number)
+          (λ (o : Outcome). GrowsBy g.D.Disk.words (reporter_of c.args.config.now) o c.args.records.now c.conclude.new.records c.in-Ok-conclude.number)
           c.in-Ok-outcome.ensures.outcome c.in-Ok-conclude.ensures.grows;
     }
 
@@ -118,7 +119,7 @@ returns-in-Err-clause-cut g c = λ changes told keeps tells is.
       course = loss_told c.args.config.now.host c.args.records.now.queue c.args.self.now.runs c.args.attempt told c.in-Some.run' tells its;
       cuts =
           subst
-          (λ (o : Outcome). CutsOutcome g.D.Disk.honest g.D.Disk.words c.args.config.now.host changes o 0 c.conclude.new.records)
+          (λ (o : Outcome). CutsOutcome g.D.Disk.honest g.D.Disk.words (reporter_of c.args.config.now) changes o 0 c.conclude.new.records)
           outcome (c.in-Err.ensures.cut changes keeps is);
     }
 
@@ -138,8 +139,8 @@ returns-in-Err-clause-full g c = λ told tells is.
     record {
       course = loss_told c.args.config.now.host c.args.records.now.queue c.args.self.now.runs c.args.attempt told c.in-Some.run' tells its;
       room =
-          subst (λ (o : Outcome). HasNoRoom c.args.config.now.host o c.args.records.now) outcome
-          (full_for_outcome g.D.Disk.words c.args.config.now.host c.in-Ok-outcome.outcome c.args.records.now c.conclude.new.records
+          subst (λ (o : Outcome). HasNoRoom (reporter_of c.args.config.now) o c.args.records.now) outcome
+          (full_for_outcome g.D.Disk.words (reporter_of c.args.config.now) c.in-Ok-outcome.outcome c.args.records.now c.conclude.new.records
           c.in-Err.fault (fault_is _ c.in-Err.fault Full is) c.in-Err.ensures.refused);
     }
 
@@ -147,7 +148,7 @@ pub returns-in-Err-clause-refused : goal.returns-in-Err-clause-refused
 returns-in-Err-clause-refused g c =
     let its : slot_at c.args.self.now.runs c.args.attempt ≡ Some c.in-Some.run' = search rules in
     let gone : c.conclude.new.self.runs ≡ slice_set c.args.self.now.runs c.args.attempt None = search rules in
-    refused_to_hear g.D.Disk.words c.args.config.now.host c.in-Ok-outcome.outcome c.args.records.now c.conclude.new.records
+    refused_to_hear g.D.Disk.words (reporter_of c.args.config.now) c.in-Ok-outcome.outcome c.args.records.now c.conclude.new.records
     c.args.attempt c.args.self.now c.conclude.new.self c.in-Err.fault
     (record {
       live = search rules;
@@ -163,6 +164,6 @@ returns-in-Err-clause-serves g c =
     let before : c.self.inside.stranded.items ≡ stranded_of c.args.config.now.routes c.args.records.now.queue.messages = search rules in
     refused_serves c.args.config.now.host c.args.config.now.routes c.args.records.now.queue c.args.attempt c.in-Some.run'
     c.args.self.now c.conclude.new.self c.requires.serves its gone c.conclude.new.records.queue
-    (queue_stays g.D.Disk.words c.args.config.now.host c.in-Ok-outcome.outcome c.args.records.now c.conclude.new.records
+    (queue_stays g.D.Disk.words (reporter_of c.args.config.now) c.in-Ok-outcome.outcome c.args.records.now c.conclude.new.records
     c.in-Err.fault c.in-Err.ensures.refused)
     (c.conclude.ensures.known before)

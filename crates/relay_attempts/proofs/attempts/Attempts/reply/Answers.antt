@@ -2,6 +2,7 @@
 use Rattle.std.proofs.Common.{◌∙◌, ℕ, refl, subst, arith, rules}
 use Rattle.relay_book.specs.declared.change.Outcome.{Outcome}
 use Rattle.relay_records.specs.declared.fault.NodeFault.TheVariants.{Full, Stopped}
+use Rattle.relay_report.specs.Report.{reporter_of}
 use Rattle.relay_attempts.specs.AddedOutcome.{AddsOutcome, CutsOutcome, GrowsBy, HasNoRoom}
 use Rattle.relay_attempts.proofs.AmongLemmas.{ended_serves, refused_serves}
 use Rattle.relay_attempts.proofs.HearLemmas.{had_ended, is_gone, went_on}
@@ -43,7 +44,7 @@ returns-in-Ok-clause-replies g c = λ changes told keeps tells.
       course = ended.course told tells;
       adds =
           subst
-          (λ (o : Outcome). AddsOutcome g.D.Disk.honest g.D.Disk.words c.args.config.now.host changes o c.in_ok-used.field-0.used c.conclude.new.records c.in-Ok.number)
+          (λ (o : Outcome). AddsOutcome g.D.Disk.honest g.D.Disk.words (reporter_of c.args.config.now) changes o c.in_ok-used.field-0.used c.conclude.new.records c.in-Ok.number)
           (ended.of_told told tells) (c.in-Ok.ensures.ok changes keeps);
       calls = c.in-Ok.ensures.grows.grows.calls;
       gone = is_gone c.args.self.now.runs c.conclude.new.self.runs c.args.attempt (c.conclude.ensures.runs ∙ ended.gone);
@@ -66,7 +67,7 @@ returns-in-Ok-clause-heard g c =
         each = ended.each;
         grows =
             subst
-            (λ (o : Outcome). GrowsBy g.D.Disk.words c.args.config.now.host o c.args.records.now c.conclude.new.records c.in-Ok.number)
+            (λ (o : Outcome). GrowsBy g.D.Disk.words (reporter_of c.args.config.now) o c.args.records.now c.conclude.new.records c.in-Ok.number)
             ended.outcome_is c.in-Ok.ensures.grows;
       };
     }
@@ -97,7 +98,7 @@ returns-in-Err-clause-cut g c = λ changes told keeps tells is.
       };
       cuts =
           subst
-          (λ (o : Outcome). CutsOutcome g.D.Disk.honest g.D.Disk.words c.args.config.now.host changes o c.in_ok-used.field-0.used c.conclude.new.records)
+          (λ (o : Outcome). CutsOutcome g.D.Disk.honest g.D.Disk.words (reporter_of c.args.config.now) changes o c.in_ok-used.field-0.used c.conclude.new.records)
           (ended.of_told told tells) (c.in-Err.ensures.cut changes keeps (same_fault _ ℕ c.in-Err.fault Stopped is));
     }
 
@@ -115,8 +116,8 @@ returns-in-Err-clause-full g c = λ told tells is.
         course = ended.course told tells;
       };
       room =
-          subst (λ (o : Outcome). HasNoRoom c.args.config.now.host o c.args.records.now) (ended.of_told told tells)
-          (full_for_outcome g.D.Disk.words c.args.config.now.host c.in-Some.outcome c.args.records.now c.conclude.new.records
+          subst (λ (o : Outcome). HasNoRoom (reporter_of c.args.config.now) o c.args.records.now) (ended.of_told told tells)
+          (full_for_outcome g.D.Disk.words (reporter_of c.args.config.now) c.in-Some.outcome c.args.records.now c.conclude.new.records
           c.in-Err.fault (fault_is _ c.in-Err.fault Full is) c.in-Err.ensures.refused);
     }
 
@@ -125,7 +126,7 @@ returns-in-Err-clause-refused g c =
     let ended = had_ended c.args.config.now.host c.args.records.now.queue c.args.now c.args.attempt c.args.piece.now
     c.args.self.now c.hear.new.self c.in_ok-used.field-0 c.in_ok-used.field-0.outcome c.in-Some.outcome c.in-Some.is
     (c.in_ok-used.ensures.hears c.args.config.now.host c.args.config.now.routes c.requires.serves) in
-    refused_to_hear g.D.Disk.words c.args.config.now.host c.in-Some.outcome c.args.records.now c.conclude.new.records
+    refused_to_hear g.D.Disk.words (reporter_of c.args.config.now) c.in-Some.outcome c.args.records.now c.conclude.new.records
     c.args.attempt c.args.self.now c.conclude.new.self c.in-Err.fault
     (record {
       live = search rules;
@@ -142,6 +143,6 @@ returns-in-Err-clause-serves g c =
     refused_serves c.args.config.now.host c.args.config.now.routes c.args.records.now.queue c.args.attempt ended.run
     c.args.self.now c.conclude.new.self c.requires.serves ended.was (c.conclude.ensures.runs ∙ ended.gone)
     c.conclude.new.records.queue
-    (queue_stays g.D.Disk.words c.args.config.now.host c.in-Some.outcome c.args.records.now c.conclude.new.records
+    (queue_stays g.D.Disk.words (reporter_of c.args.config.now) c.in-Some.outcome c.args.records.now c.conclude.new.records
     c.in-Err.fault c.in-Err.ensures.refused)
     (c.conclude.ensures.known (c.hear.ensures.stranded ∙ c.requires.serves.stranded))

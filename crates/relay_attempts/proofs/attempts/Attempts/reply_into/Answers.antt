@@ -2,6 +2,7 @@
 use Rattle.std.proofs.Common.{◌∙◌, refl, subst, arith}
 use Rattle.relay_book.specs.declared.change.Outcome.{Outcome}
 use Rattle.relay_records.specs.declared.fault.NodeFault.TheVariants.{Full}
+use Rattle.relay_report.specs.Report.{reporter_of}
 use Rattle.relay_attempts.specs.Staging.{GrowsRowBy, HasNoRoomBehind, StagesOutcome}
 use Rattle.relay_attempts.proofs.AmongLemmas.{ended_serves, refused_serves}
 use Rattle.relay_attempts.proofs.HearLemmas.{had_ended, is_gone, went_on}
@@ -46,7 +47,7 @@ returns-in-Ok-clause-replies g c = λ changes pending told awaits tells.
       course = ended.course told tells;
       stages =
           subst
-          (λ (o : Outcome). StagesOutcome g.D.Disk.honest g.D.Disk.words c.args.config.now.host changes pending c.args.row.now o c.in_ok-used.field-0.used c.conclude_into.new.records c.conclude_into.new.row c.in-Ok.number)
+          (λ (o : Outcome). StagesOutcome g.D.Disk.honest g.D.Disk.words (reporter_of c.args.config.now) changes pending c.args.row.now o c.in_ok-used.field-0.used c.conclude_into.new.records c.conclude_into.new.row c.in-Ok.number)
           (ended.of_told told tells) (c.in-Ok.ensures.stages changes pending awaits);
       gone = is_gone c.args.self.now.runs c.conclude_into.new.self.runs c.args.attempt (c.conclude_into.ensures.runs ∙ ended.gone);
     }
@@ -67,7 +68,7 @@ returns-in-Ok-clause-heard g c =
         each = ended.each;
         grows =
             subst
-            (λ (o : Outcome). GrowsRowBy c.args.config.now.host o c.in_ok-used.field-0.used c.args.records.now c.conclude_into.new.records c.args.row.now c.conclude_into.new.row c.in-Ok.number)
+            (λ (o : Outcome). GrowsRowBy (reporter_of c.args.config.now) o c.in_ok-used.field-0.used c.args.records.now c.conclude_into.new.records c.args.row.now c.conclude_into.new.row c.in-Ok.number)
             ended.outcome_is c.in-Ok.ensures.grows;
       };
     }
@@ -97,8 +98,8 @@ returns-in-Err-clause-full g c = λ told tells is.
         course = ended.course told tells;
       };
       room =
-          subst (λ (o : Outcome). HasNoRoomBehind c.args.config.now.host o c.args.records.now c.args.row.now) (ended.of_told told tells)
-          (full_for_staged c.args.config.now.host c.in-Some.outcome c.args.records.now c.conclude_into.new.records
+          subst (λ (o : Outcome). HasNoRoomBehind (reporter_of c.args.config.now) o c.args.records.now c.args.row.now) (ended.of_told told tells)
+          (full_for_staged (reporter_of c.args.config.now) c.in-Some.outcome c.args.records.now c.conclude_into.new.records
           c.args.row.now c.conclude_into.new.row c.in-Err.fault (fault_is _ c.in-Err.fault Full is) c.in-Err.ensures.refused);
     }
 
@@ -107,7 +108,7 @@ returns-in-Err-clause-refused g c =
     let ended = had_ended c.args.config.now.host c.args.records.now.queue c.args.now c.args.attempt c.args.piece.now
     c.args.self.now c.hear.new.self c.in_ok-used.field-0 c.in_ok-used.field-0.outcome c.in-Some.outcome c.in-Some.is
     (c.in_ok-used.ensures.hears c.args.config.now.host c.args.config.now.routes c.requires.serves) in
-    refused_behind c.args.config.now.host c.in-Some.outcome c.args.records.now c.conclude_into.new.records c.args.row.now
+    refused_behind (reporter_of c.args.config.now) c.in-Some.outcome c.args.records.now c.conclude_into.new.records c.args.row.now
     c.conclude_into.new.row c.args.attempt c.args.self.now c.conclude_into.new.self c.in-Err.fault
     (some_there _ ended.run ended.was)
     (is_gone c.args.self.now.runs c.conclude_into.new.self.runs c.args.attempt (c.conclude_into.ensures.runs ∙ ended.gone))
@@ -121,6 +122,6 @@ returns-in-Err-clause-serves g c =
     refused_serves c.args.config.now.host c.args.config.now.routes c.args.records.now.queue c.args.attempt ended.run
     c.args.self.now c.conclude_into.new.self c.requires.serves ended.was (c.conclude_into.ensures.runs ∙ ended.gone)
     c.conclude_into.new.records.queue
-    (queue_unstaged c.args.config.now.host c.in-Some.outcome c.args.records.now c.conclude_into.new.records
+    (queue_unstaged (reporter_of c.args.config.now) c.in-Some.outcome c.args.records.now c.conclude_into.new.records
     c.args.row.now c.conclude_into.new.row c.in-Err.fault c.in-Err.ensures.refused)
     (c.conclude_into.ensures.known (c.hear.ensures.stranded ∙ c.requires.serves.stranded))
