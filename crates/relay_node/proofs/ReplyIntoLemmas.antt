@@ -19,6 +19,7 @@ use Rattle.relay_node.specs.declared.seat.Seat.{Seat}
 use Rattle.relay_node.specs.Node.{NodeState}
 use Rattle.relay_node.specs.StagedReplies.{RefusesToReplyInto, RepliesInto, UsesReplyInto}
 use Rattle.relay_node.proofs.ReplyLemmas.{told_by_list}
+use Rattle.relay_report.specs.Report.{Reporter, reporter_of}
 
 -- changes that fit after others that do
 fit_behind : (queue : Queue) (changes pending : List Change) → FitsFrom queue changes
@@ -34,19 +35,19 @@ awaited_fit honest words records changes pending row awaits =
     fit_behind empty_queue changes pending awaits.fitting awaits.fits
 
 -- what a reply has done by the queue it has done by the list
-module _ {D : Type 0} (honest : Type 0) (words : DiskWords D) (host : List ℕ) (now : ℕ) (changes pending : List Change)
+module _ {D : Type 0} (honest : Type 0) (words : DiskWords D) (reporter : Reporter) (now : ℕ) (changes pending : List Change)
     (number : ℕ) (told : Told) (row : Row) (piece : List ℕ) (old new : NodeState D) (left : Row)
     (awaits : Awaits honest words old.records changes pending row) where
   by_change : (replied : Replied) (change : Option ℕ)
-      → RepliesBehind honest words host changes pending row now number told piece old.records new.records left
+      → RepliesBehind honest words reporter changes pending row now number told piece old.records new.records left
       new.attempts replied change
-      → RepliesInto honest words host now changes pending number told row piece old new left replied change
+      → RepliesInto honest words reporter now changes pending number told row piece old new left replied change
   by_change replied None r = record {
     used = r.used;
     same = r.same;
     row_is = r.row_is;
     tells =
-        told_by_list host (changes ++ pending) new.records.queue
+        told_by_list reporter.host (changes ++ pending) new.records.queue
         (awaited_fit honest words old.records changes pending row awaits)
         (ap (λ (k : Kept D). k.queue) r.same ∙ awaits.queue) new.attempts number
         (told_more told (take replied.used piece) replied.out.items) r.tells;
@@ -54,9 +55,9 @@ module _ {D : Type 0} (honest : Type 0) (words : DiskWords D) (host : List ℕ) 
   by_change replied (Some change) r = r
 
   pub replies_into : (result : Result Replied NodeFault)
-      → IfOk result (λ replied. RepliesBehind honest words host changes pending row now number told piece old.records
+      → IfOk result (λ replied. RepliesBehind honest words reporter changes pending row now number told piece old.records
       new.records left new.attempts replied replied.change)
-      → IfOk result (λ replied. RepliesInto honest words host now changes pending number told row piece old new left
+      → IfOk result (λ replied. RepliesInto honest words reporter now changes pending number told row piece old new left
       replied replied.change)
   replies_into (Ok replied) r = by_change replied replied.change r
   replies_into (Err fault) r = tt
@@ -65,7 +66,7 @@ module _ {D : Type 0} (honest : Type 0) (words : DiskWords D) (host : List ℕ) 
 module _ {D : Type 0} (now number : ℕ) (old new : NodeState D) (row left : Row) (used : ℕ) where
   abbrev Made : Option ℕ → Type 0
   Made change =
-      MakesBehind old.config.host now number old.attempts new.attempts used old.records new.records row left change
+      MakesBehind (reporter_of old.config) now number old.attempts new.attempts used old.records new.records row left change
 
   gone_by : (change : Option ℕ) → Made change → change ≢ None → slot_at new.attempts number ≡ None
   gone_by None made some = absurd (some refl)
@@ -87,7 +88,7 @@ module _ {D : Type 0} (now number : ℕ) (old new : NodeState D) (row left : Row
 -- what was used, whatever is told
 pub uses_into : {D : Type 0} (now number len : ℕ) (old new : NodeState D) (row left : Row)
     (result : Result Replied NodeFault)
-    → IfOk result (HasHeardBehind old.config.host now number len old.attempts new.attempts old.records new.records row
+    → IfOk result (HasHeardBehind (reporter_of old.config) now number len old.attempts new.attempts old.records new.records row
     left)
     → IfOk result (UsesReplyInto now number len old new row left)
 uses_into now number len old new row left (Err fault) heard = tt
@@ -188,19 +189,19 @@ module _ {D : Type 0} (number : ℕ) (before after : AttemptTable) (old new : Ke
   into_unknown (Err fault) there r none = ap Err (none_else fault r none)
 
 -- where it was heard, it was there
-pub heard_behind_there : {D : Type 0} (host : List ℕ) (now number len : ℕ) (before after : List (Option Run))
+pub heard_behind_there : {D : Type 0} (reporter : Reporter) (now number len : ℕ) (before after : List (Option Run))
     (old new : Kept D) (row left : Row) (result : Result Replied NodeFault)
-    → IfOk result (HasHeardBehind host now number len before after old new row left)
+    → IfOk result (HasHeardBehind reporter now number len before after old new row left)
     → OnOk result (slot_at before number ≢ None)
-heard_behind_there host now number len before after old new row left (Err fault) heard = tt
-heard_behind_there {D = D} host now number len before after old new row left (Ok replied) heard =
+heard_behind_there reporter now number len before after old new row left (Err fault) heard = tt
+heard_behind_there {D = D} reporter now number len before after old new row left (Ok replied) heard =
     by replied.change heard.makes
   where
     some_there : (run : Run) → slot_at before number ≡ Some run → slot_at before number ≢ None
     some_there run is none = absurd (cc)
 
     by : (change : Option ℕ)
-        → MakesBehind host now number before after replied.used old new row left change
+        → MakesBehind reporter now number before after replied.used old new row left change
         → slot_at before number ≢ None
     by None made = made.0
     by (Some change) made = some_there made.run made.was

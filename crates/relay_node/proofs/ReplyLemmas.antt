@@ -19,6 +19,7 @@ use Rattle.relay_attempts.specs.Reply.{EndsBy, HasHeard, Makes, RefusesToHear, T
 use Rattle.relay_node.specs.Attempts.{RefusesToReply, Replies, RepliesBy, Tells, UsesReply}
 use Rattle.relay_node.specs.declared.seat.Seat.{Seat}
 use Rattle.relay_node.specs.Node.{NodeState}
+use Rattle.relay_report.specs.Report.{Reporter, reporter_of}
 
 one_some : (first second : Accept) → Some first ≡ Some second → first ≡ second
 one_some first second e = cc
@@ -62,23 +63,23 @@ module _ (host : List ℕ) (changes : List Change) (queue : Queue) (fitting : Fi
       }
 
 -- what a reply has done by the queue it has done by the list
-module _ {D : Type 0} (honest : Type 0) (words : DiskWords D) (host : List ℕ) (now : ℕ) (changes : List Change) (number : ℕ) (told : Told) (piece : List ℕ) (old new : NodeState D)
+module _ {D : Type 0} (honest : Type 0) (words : DiskWords D) (reporter : Reporter) (now : ℕ) (changes : List Change) (number : ℕ) (told : Told) (piece : List ℕ) (old new : NodeState D)
     (fitting : Fitting changes) (queue_is : old.records.queue ≡ queue_of changes) where
-  by_change : (replied : Replied) (change : Option ℕ) → RepliesOfQueue honest words host now changes number told piece old.records new.records new.attempts replied change → RepliesBy honest words host now changes number told piece old new replied change
+  by_change : (replied : Replied) (change : Option ℕ) → RepliesOfQueue honest words reporter now changes number told piece old.records new.records new.attempts replied change → RepliesBy honest words reporter now changes number told piece old new replied change
   by_change replied None r = record {
     used = r.used;
     same = r.same;
-    tells = told_by_list host changes new.records.queue fitting (ap (λ (k : Kept D). k.queue) r.same ∙ queue_is) new.attempts number (told_more told (take replied.used piece) replied.out.items) r.tells;
+    tells = told_by_list reporter.host changes new.records.queue fitting (ap (λ (k : Kept D). k.queue) r.same ∙ queue_is) new.attempts number (told_more told (take replied.used piece) replied.out.items) r.tells;
   }
   by_change replied (Some change) r = r
 
-  pub replies : (result : Result Replied NodeFault) → IfOk result (λ replied. RepliesOfQueue honest words host now changes number told piece old.records new.records new.attempts replied replied.change) → IfOk result (Replies honest words host now changes number told piece old new)
+  pub replies : (result : Result Replied NodeFault) → IfOk result (λ replied. RepliesOfQueue honest words reporter now changes number told piece old.records new.records new.attempts replied replied.change) → IfOk result (Replies honest words reporter now changes number told piece old new)
   replies (Ok replied) r = by_change replied replied.change r
   replies (Err fault) r = tt
 
 -- what was used, whatever is told
 pub uses : {D : Type 0} (words : DiskWords D) (now number len : ℕ) (old new : NodeState D) (result : Result Replied NodeFault)
-    → IfOk result (HasHeard words old.config.host now number len old.attempts new.attempts old.records new.records) → IfOk result (UsesReply words now number len old new)
+    → IfOk result (HasHeard words (reporter_of old.config) now number len old.attempts new.attempts old.records new.records) → IfOk result (UsesReply words now number len old new)
 uses {D = D} words now number len old new (Err fault) heard = tt
 uses {D = D} words now number len old new (Ok replied) heard = record {
   within = heard.within;
@@ -88,11 +89,11 @@ uses {D = D} words now number len old new (Ok replied) heard = record {
   failures = not_failed replied.change heard.makes;
 }
   where
-    gone_by : (change : Option ℕ) → Makes words old.config.host now number old.attempts new.attempts old.records new.records change → change ≢ None → slot_at new.attempts number ≡ None
+    gone_by : (change : Option ℕ) → Makes words (reporter_of old.config) now number old.attempts new.attempts old.records new.records change → change ≢ None → slot_at new.attempts number ≡ None
     gone_by None made some = absurd (some refl)
     gone_by (Some change) made some = made.gone
 
-    not_failed : (change : Option ℕ) → Makes words old.config.host now number old.attempts new.attempts old.records new.records change → FailsNot words old.records.spool.disk new.records.spool.disk
+    not_failed : (change : Option ℕ) → Makes words (reporter_of old.config) now number old.attempts new.attempts old.records new.records change → FailsNot words old.records.spool.disk new.records.spool.disk
     not_failed None made =
         (ap (λ (kept : Kept D). words.failed kept.spool.disk.first) made.2, ap (λ (kept : Kept D). words.failed kept.spool.disk.second) made.2)
     not_failed (Some change) made = made.grows.grows.failures
@@ -158,20 +159,20 @@ module _ {D : Type 0} (words : DiskWords D) (number : ℕ) (before after : Attem
   there_unknown (Err fault) there r none = ap Err (none_else fault r none)
 
 -- where it was heard, it was there
-pub heard_there : {D : Type 0} (words : DiskWords D) (host : List ℕ) (now number len : ℕ) (before after : List (Option Run)) (old new : Kept D) (result : Result Replied NodeFault) → IfOk result (HasHeard words host now number len before after old new) → OnOk result (slot_at before number ≢ None)
-heard_there words host now number len before after old new (Err fault) heard = tt
-heard_there {D = D} words host now number len before after old new (Ok replied) heard = by replied.change heard.makes
+pub heard_there : {D : Type 0} (words : DiskWords D) (reporter : Reporter) (now number len : ℕ) (before after : List (Option Run)) (old new : Kept D) (result : Result Replied NodeFault) → IfOk result (HasHeard words reporter now number len before after old new) → OnOk result (slot_at before number ≢ None)
+heard_there words reporter now number len before after old new (Err fault) heard = tt
+heard_there {D = D} words reporter now number len before after old new (Ok replied) heard = by replied.change heard.makes
   where
     some_there : (run : Run) → slot_at before number ≡ Some run → slot_at before number ≢ None
     some_there run is none = absurd (cc)
 
-    by : (change : Option ℕ) → Makes words host now number before after old new change → slot_at before number ≢ None
+    by : (change : Option ℕ) → Makes words reporter now number before after old new change → slot_at before number ≢ None
     by None made = made.1
     by (Some change) made = some_there made.run made.was
 
-pub ended_there : {D : Type 0} (words : DiskWords D) (host : List ℕ) (now number : ℕ) (before after : List (Option Run)) (old new : Kept D) (result : Result ℕ NodeFault) → IfOk result (EndsBy words host now number before after old new) → OnOk result (slot_at before number ≢ None)
-ended_there words host now number before after old new (Err fault) ends = tt
-ended_there words host now number before after old new (Ok change) ends = λ none. absurd (none_some ends.run (sym ends.was ∙ none))
+pub ended_there : {D : Type 0} (words : DiskWords D) (reporter : Reporter) (now number : ℕ) (before after : List (Option Run)) (old new : Kept D) (result : Result ℕ NodeFault) → IfOk result (EndsBy words reporter now number before after old new) → OnOk result (slot_at before number ≢ None)
+ended_there words reporter now number before after old new (Err fault) ends = tt
+ended_there words reporter now number before after old new (Ok change) ends = λ none. absurd (none_some ends.run (sym ends.was ∙ none))
   where
     none_some : (run : Run) → Some run ≡ None → ⊥
     none_some run e = cc

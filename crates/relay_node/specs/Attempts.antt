@@ -20,6 +20,7 @@ use Rattle.relay_attempts.specs.Hops.{at_most, due_places_in}
 use Rattle.relay_attempts.specs.Reply.{AttemptHasEnded, Makes, Told, told_more}
 use Rattle.relay_attempts.specs.Runs.{is_running}
 use Rattle.relay_node.specs.Node.{NodeState}
+use Rattle.relay_report.specs.Report.{Reporter, reporter_of}
 
 -- This is told of the attempt of a number: by the list of changes its message was accepted with this envelope and
 -- stored text, and its client has read and written this.
@@ -75,19 +76,20 @@ abbrev pub Begins :
 Begins config changes number hop = BeginsAtMost config changes number hop None
 
 -- The words below are of a call at a moment, for an attempt of which this is told, of a node that keeps these changes.
-module _ {D : Type 0} (honest : Type 0) (words : DiskWords D) (host : List ℕ) (now : ℕ) (changes : List Change)
+module _ {D : Type 0} (honest : Type 0) (words : DiskWords D) (reporter : Reporter) (now : ℕ) (changes : List Change)
     (number : ℕ) (told : Told) where
   -- it goes on: all of the piece was read, and the records are the same
   pub record ReadsOn (piece : List ℕ) (old new : NodeState D) (replied : Replied) : Type 0 where
     pub used : replied.used ≡ length piece
     pub same : new.records ≡ old.records
-    pub tells : Tells host changes new.attempts number (told_more told (take replied.used piece) replied.out.items)
+    pub tells : Tells reporter.host changes new.attempts number (told_more told (take replied.used piece)
+        replied.out.items)
 
   -- it goes on, or it has ended, and its outcome is the change of this number
   abbrev pub RepliesBy : List ℕ → NodeState D → NodeState D → Replied → Option ℕ → Type 0
   RepliesBy piece old new replied None = ReadsOn piece old new replied
   RepliesBy piece old new replied (Some change) =
-      AttemptHasEnded honest words host now changes number told piece old.records new.records new.attempts replied
+      AttemptHasEnded honest words reporter now changes number told piece old.records new.records new.attempts replied
       change
 
   abbrev pub Replies : List ℕ → NodeState D → NodeState D → Replied → Type 0
@@ -100,7 +102,8 @@ pub record UsesReply {D : Type 0} (words : DiskWords D) (now number len : ℕ) (
   pub within : replied.used ≤ len
   pub whole : replied.change ≡ None → replied.used ≡ len
   pub gone : replied.change ≢ None → slot_at new.attempts number ≡ None
-  pub makes : Makes words old.config.host now number old.attempts new.attempts old.records new.records replied.change
+  pub makes : Makes words (reporter_of old.config) now number old.attempts new.attempts old.records new.records
+      replied.change
   pub failures : FailsNot words old.records.spool.disk new.records.spool.disk
 
 -- the attempt is gone, and the records are unchanged

@@ -12,24 +12,26 @@ use Rattle.relay_attempts.specs.Reply.{Told, told_more}
 use Rattle.relay_attempts.specs.Staging.{HasEndedBehind, MakesBehind}
 use Rattle.relay_node.specs.Attempts.{Tells}
 use Rattle.relay_node.specs.Node.{NodeState}
+use Rattle.relay_report.specs.Report.{Reporter, reporter_of}
 
 -- The words below are of a call at a moment, for an attempt of which this is told, of a node that keeps these changes
 -- and awaits those that are pending, which the row records.
-module _ {D : Type 0} (honest : Type 0) (words : DiskWords D) (host : List ℕ) (now : ℕ) (changes pending : List Change)
-    (number : ℕ) (told : Told) (row : Row) where
+module _ {D : Type 0} (honest : Type 0) (words : DiskWords D) (reporter : Reporter) (now : ℕ) (changes pending : List
+    Change) (number : ℕ) (told : Told) (row : Row) where
   -- it goes on: all of the piece was read, and the records and the row are the same
   pub record ReadsOnBehind (piece : List ℕ) (old new : NodeState D) (left : Row) (replied : Replied) : Type 0 where
     pub used : replied.used ≡ length piece
     pub same : new.records ≡ old.records
     pub row_is : left ≡ row
-    pub tells : Tells host (changes ++ pending) new.attempts number
+    pub tells : Tells reporter.host (changes ++ pending) new.attempts number
         (told_more told (take replied.used piece) replied.out.items)
 
   -- it goes on, or it has ended, and its outcome is staged as the change of this number
   abbrev pub RepliesInto : List ℕ → NodeState D → NodeState D → Row → Replied → Option ℕ → Type 0
   RepliesInto piece old new left replied None = ReadsOnBehind piece old new left replied
   RepliesInto piece old new left replied (Some change) =
-      HasEndedBehind honest words host changes pending row now number told piece new.records left new.attempts replied
+      HasEndedBehind honest words reporter changes pending row now number told piece new.records left new.attempts
+        replied
       change
 
 -- Octets of a piece of this length were used: all, unless a change was staged, and then the attempt is gone. No call
@@ -39,8 +41,8 @@ pub record UsesReplyInto {D : Type 0} (now number len : ℕ) (old new : NodeStat
   pub within : replied.used ≤ len
   pub whole : replied.change ≡ None → replied.used ≡ len
   pub gone : replied.change ≢ None → slot_at new.attempts number ≡ None
-  pub makes : MakesBehind old.config.host now number old.attempts new.attempts replied.used old.records new.records row
-      left replied.change
+  pub makes : MakesBehind (reporter_of old.config) now number old.attempts new.attempts replied.used old.records
+      new.records row left replied.change
   pub spool : new.records.spool ≡ old.records.spool
   pub noted : new.records.noted ≡ old.records.noted
   pub room : (left ≡ row) ⊎ (new.records.spool.size + room_of left.bodies ≤ 2 ^ 40)

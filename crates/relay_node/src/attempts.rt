@@ -1,5 +1,6 @@
 //! Mail that is passed on.
 ghost use Rattle.std.specs.Prelude.{◌≡◌, ◌<◌, ◌↔◌, ◌⊎◌, ℕ, false, List, Some, Err, IfErr, IfOk, IsTrue};
+ghost use Rattle.relay_report.specs.Report.{reporter_of};
 ghost use Rattle.relay_attempts.specs.Attempts.{RefusesToStart, RefusesToStartAtMost, Serves, Starts, StartsAtMost};
 ghost use Rattle.relay_attempts.specs.Outcomes.{AddsUnroutable, CutsUnroutable, EndsUnroutable, RefusesToGiveUp};
 ghost use Rattle.relay_attempts.specs.Next.{IsNextDue};
@@ -129,17 +130,17 @@ impl<D: Disk> Node<D> {
     /// hop; then `NoMemory` and `Full`, for want of memory or of room. Nothing is changed then.
     pub fn give_up_unroutable(&mut self, message: u64, now: Moment) -> Result<u64, NodeFault>
         ensures gives_up { (changes : List Change) → Keeps D.honest D.words self.old.records changes
-            → IfOk result (AddsUnroutable D.honest D.words self.old.config.host self.old.config.routes message
+            → IfOk result (AddsUnroutable D.honest D.words (reporter_of self.old.config) self.old.config.routes message
             now changes self.old.records self.new.records) }
         ensures cut { (changes : List Change) → Keeps D.honest D.words self.old.records changes
             → result ≡ Err NodeFault.Stopped
-            → CutsUnroutable D.honest D.words self.old.config.host self.old.config.routes message now changes
+            → CutsUnroutable D.honest D.words (reporter_of self.old.config) self.old.config.routes message now changes
             self.old.records self.new.records }
-        ensures ends { IfOk result (EndsUnroutable D.words self.old.config.host self.old.config.routes
+        ensures ends { IfOk result (EndsUnroutable D.words (reporter_of self.old.config) self.old.config.routes
             message now self.old.records self.new.records) }
         ensures rest { (self.new.config ≡ self.old.config) × (self.new.seats ≡ self.old.seats)
             × (self.new.attempts ≡ self.old.attempts) }
-        ensures refused { IfErr result (RefusesToGiveUp D.words self.old.config.host self.old.config.routes
+        ensures refused { IfErr result (RefusesToGiveUp D.words (reporter_of self.old.config) self.old.config.routes
             message now self.old.records self.new.records) }
         ensures stopped { self.old.records.spool.live ≡ false
             → (result ≡ Err NodeFault.Stopped) × (self.new ≡ self.old) }

@@ -1,5 +1,6 @@
 //! What next hops answer to attempts, and connections that are lost.
 ghost use Rattle.std.specs.Prelude.{◌≡◌, None, List, length, Err, IfOk};
+ghost use Rattle.relay_report.specs.Report.{reporter_of};
 ghost use Rattle.relay_attempts.specs.Reply.{CutsLoss, CutsReply, EndsBy, HasNoRoomAtEnd, HasNoRoomAtLoss, IsLost};
 ghost use Rattle.relay_attempts.specs.Reply.{Told};
 ghost use Rattle.relay_book.specs.declared.change.Change.{Change};
@@ -24,17 +25,17 @@ impl<D: Disk> Node<D> {
         ensures replies { (changes : List Change) (told : Told)
             → Keeps D.honest D.words self.old.records changes
             → Tells self.old.config.host changes self.old.attempts attempt told
-            → IfOk result (Replies D.honest D.words self.old.config.host now changes attempt told piece.now
+            → IfOk result (Replies D.honest D.words (reporter_of self.old.config) now changes attempt told piece.now
             self.old self.new) }
         ensures cut { (changes : List Change) (told : Told) → Keeps D.honest D.words self.old.records changes
             → Tells self.old.config.host changes self.old.attempts attempt told
             → result ≡ Err NodeFault.Stopped
-            → CutsReply D.honest D.words self.old.config.host now changes attempt told piece.now
+            → CutsReply D.honest D.words (reporter_of self.old.config) now changes attempt told piece.now
             self.new.records }
         ensures full { (changes : List Change) (told : Told) → Keeps D.honest D.words self.old.records changes
             → Tells self.old.config.host changes self.old.attempts attempt told
             → result ≡ Err NodeFault.Full
-            → HasNoRoomAtEnd self.old.config.host now told piece.now self.old.records }
+            → HasNoRoomAtEnd (reporter_of self.old.config) now told piece.now self.old.records }
         ensures used { IfOk result (UsesReply D.words now attempt (length piece.now) self.old self.new) }
         ensures rest { OthersStay self.old.attempts self.new.attempts attempt
             × (self.new.config ≡ self.old.config) × (self.new.seats ≡ self.old.seats) }
@@ -60,17 +61,17 @@ impl<D: Disk> Node<D> {
     pub fn lost(&mut self, attempt: usize, now: Moment) -> Result<u64, NodeFault>
         ensures lost { (changes : List Change) (told : Told) → Keeps D.honest D.words self.old.records changes
             → Tells self.old.config.host changes self.old.attempts attempt told
-            → IfOk result (IsLost D.honest D.words self.old.config.host now changes attempt told
+            → IfOk result (IsLost D.honest D.words (reporter_of self.old.config) now changes attempt told
             self.old.records self.new.records self.new.attempts) }
         ensures cut { (changes : List Change) (told : Told) → Keeps D.honest D.words self.old.records changes
             → Tells self.old.config.host changes self.old.attempts attempt told
             → result ≡ Err NodeFault.Stopped
-            → CutsLoss D.honest D.words self.old.config.host now changes attempt told self.new.records }
+            → CutsLoss D.honest D.words (reporter_of self.old.config) now changes attempt told self.new.records }
         ensures full { (changes : List Change) (told : Told) → Keeps D.honest D.words self.old.records changes
             → Tells self.old.config.host changes self.old.attempts attempt told
             → result ≡ Err NodeFault.Full
-            → HasNoRoomAtLoss self.old.config.host now told self.old.records }
-        ensures ends { IfOk result (EndsBy D.words self.old.config.host now attempt
+            → HasNoRoomAtLoss (reporter_of self.old.config) now told self.old.records }
+        ensures ends { IfOk result (EndsBy D.words (reporter_of self.old.config) now attempt
             self.old.attempts self.new.attempts self.old.records self.new.records) }
         ensures rest { OthersStay self.old.attempts self.new.attempts attempt
             × (self.new.config ≡ self.old.config) × (self.new.seats ≡ self.old.seats) }

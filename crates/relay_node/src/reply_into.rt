@@ -1,5 +1,6 @@
 //! What next hops answer to attempts whose outcomes come into the node's records together.
 ghost use Rattle.std.specs.Prelude.{◌≡◌, ◌++◌, None, List, length, Err, IfOk, OnErr};
+ghost use Rattle.relay_report.specs.Report.{reporter_of};
 ghost use Rattle.relay_attempts.specs.Reply.{Told};
 ghost use Rattle.relay_attempts.specs.Staging.{HasNoRoomAtEndBehind};
 ghost use Rattle.relay_book.specs.declared.change.Change.{Change};
@@ -32,13 +33,14 @@ impl<D: Disk> Node<D> {
         ensures replies { (changes pending : List Change) (told : Told)
             → Awaits D.honest D.words self.old.records changes pending row.old
             → Tells self.old.config.host (changes ++ pending) self.old.attempts attempt told
-            → IfOk result (λ replied. RepliesInto D.honest D.words self.old.config.host now changes pending attempt
+            → IfOk result (λ replied. RepliesInto D.honest D.words (reporter_of self.old.config) now changes pending
+            attempt
             told row.old piece.now self.old self.new row.new replied replied.change) }
         ensures full { (changes pending : List Change) (told : Told)
             → Awaits D.honest D.words self.old.records changes pending row.old
             → Tells self.old.config.host (changes ++ pending) self.old.attempts attempt told
             → result ≡ Err NodeFault.Full
-            → HasNoRoomAtEndBehind self.old.config.host now told piece.now self.old.records row.old }
+            → HasNoRoomAtEndBehind (reporter_of self.old.config) now told piece.now self.old.records row.old }
         ensures used { IfOk result (UsesReplyInto now attempt (length piece.now) self.old self.new row.old row.new) }
         ensures rest { OthersStay self.old.attempts self.new.attempts attempt
             × (self.new.config ≡ self.old.config) × (self.new.seats ≡ self.old.seats) }

@@ -3,6 +3,7 @@ use Rattle.std.proofs.Common.{◌≡◌, ◌∙◌, true, true≢false, refl, ru
 use Rattle.relay_node.proofs.NodeLemmas.{standing_of}
 use Rattle.relay_node.proofs.ReplyLemmas.{ended_there, refuses_reply, there_unknown, told_by_queue, unknown_there}
 use Rattle.relay_node.proofs.node.Node.lost.Goals as goal
+use Rattle.relay_report.specs.Report.{reporter_of}
 
 pub returns-clause-lost : goal.returns-clause-lost
 returns-clause-lost g c = rw (← c.self.view_is) (λ changes told keeps tells.
@@ -22,7 +23,7 @@ returns-clause-full g c = rw (← c.self.view_is) (λ changes told keeps tells f
 pub returns-clause-refused : goal.returns-clause-refused
 returns-clause-refused g c = rw (← c.self.view_is) (
     let live : c.self.inside.records.spool.live ≡ true = search rules in
-    let there = ended_there g.D.Disk.words c.self.inside.config.host c.args.now c.args.attempt c.self.inside.attempts.runs c.lost.new.self.runs c.self.inside.records c.lost.new.records c.lost.result c.lost.ensures.ends in
+    let there = ended_there g.D.Disk.words (reporter_of c.self.inside.config) c.args.now c.args.attempt c.self.inside.attempts.runs c.lost.new.self.runs c.self.inside.records c.lost.new.records c.lost.result c.lost.ensures.ends in
     record {
       refused = λ is_live.
           refuses_reply g.D.Disk.words c.args.attempt c.self.inside.attempts c.lost.new.self

@@ -3,10 +3,11 @@ use Rattle.std.proofs.Common.{◌≡◌, ◌∙◌, true, true≢false, refl, ru
 use Rattle.relay_node.proofs.NodeLemmas.{standing_of}
 use Rattle.relay_node.proofs.ReplyLemmas.{heard_there, refuses_reply, replies, there_unknown, told_by_queue, unknown_there, uses}
 use Rattle.relay_node.proofs.node.Node.reply.Goals as goal
+use Rattle.relay_report.specs.Report.{reporter_of}
 
 pub returns-clause-replies : goal.returns-clause-replies
 returns-clause-replies g c = rw (← c.self.view_is) (λ changes told keeps tells.
-    replies g.D.Disk.honest g.D.Disk.words c.self.inside.config.host c.args.now changes c.args.attempt told c.args.piece.now
+    replies g.D.Disk.honest g.D.Disk.words (reporter_of c.self.inside.config) c.args.now changes c.args.attempt told c.args.piece.now
     (standing_of c.self.inside.config c.self.inside.seats c.self.inside.attempts.runs c.self.inside.records)
     (standing_of c.self.inside.config c.self.inside.seats c.reply.new.self.runs c.reply.new.records) keeps.fitting keeps.queue c.reply.result
     (c.reply.ensures.replies changes told keeps
@@ -31,7 +32,7 @@ returns-clause-used g c = rw (← c.self.view_is) (
 pub returns-clause-refused : goal.returns-clause-refused
 returns-clause-refused g c = rw (← c.self.view_is) (
     let live : c.self.inside.records.spool.live ≡ true = search rules in
-    let there = heard_there g.D.Disk.words c.self.inside.config.host c.args.now c.args.attempt _ c.self.inside.attempts.runs c.reply.new.self.runs c.self.inside.records c.reply.new.records c.reply.result c.reply.ensures.heard in
+    let there = heard_there g.D.Disk.words (reporter_of c.self.inside.config) c.args.now c.args.attempt _ c.self.inside.attempts.runs c.reply.new.self.runs c.self.inside.records c.reply.new.records c.reply.result c.reply.ensures.heard in
     record {
       refused = λ is_live.
           refuses_reply g.D.Disk.words c.args.attempt c.self.inside.attempts c.reply.new.self

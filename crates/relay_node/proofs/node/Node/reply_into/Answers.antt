@@ -4,10 +4,11 @@ use Rattle.relay_node.proofs.NodeLemmas.{standing_of}
 use Rattle.relay_node.proofs.ReplyIntoLemmas.{awaited_fit, heard_behind_there, into_unknown, refuses_reply_into, replies_into, row_stays, unknown_into, uses_into}
 use Rattle.relay_node.proofs.ReplyLemmas.{told_by_queue}
 use Rattle.relay_node.proofs.node.Node.reply_into.Goals as goal
+use Rattle.relay_report.specs.Report.{reporter_of}
 
 pub returns-clause-replies : goal.returns-clause-replies
 returns-clause-replies g c = rw (← c.self.view_is) (λ changes pending told awaits tells.
-    replies_into g.D.Disk.honest g.D.Disk.words c.self.inside.config.host c.args.now changes pending c.args.attempt told
+    replies_into g.D.Disk.honest g.D.Disk.words (reporter_of c.self.inside.config) c.args.now changes pending c.args.attempt told
     c.args.row.now c.args.piece.now
     (standing_of c.self.inside.config c.self.inside.seats c.self.inside.attempts.runs c.self.inside.records)
     (standing_of c.self.inside.config c.self.inside.seats c.reply_into.new.self.runs c.reply_into.new.records)
@@ -34,7 +35,7 @@ returns-clause-used g c = rw (← c.self.view_is) (
 pub returns-clause-refused : goal.returns-clause-refused
 returns-clause-refused g c = rw (← c.self.view_is) (
     let live : c.self.inside.records.spool.live ≡ true = search rules in
-    let there = heard_behind_there c.self.inside.config.host c.args.now c.args.attempt _ c.self.inside.attempts.runs
+    let there = heard_behind_there (reporter_of c.self.inside.config) c.args.now c.args.attempt _ c.self.inside.attempts.runs
     c.reply_into.new.self.runs c.self.inside.records c.reply_into.new.records _ _ c.reply_into.result
     c.reply_into.ensures.heard in
     record {
