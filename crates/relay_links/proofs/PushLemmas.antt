@@ -27,6 +27,8 @@ use Rattle.relay_links.specs.declared.push.Way.{Way}
 use Rattle.relay_links.specs.declared.push.Way.TheVariants as way
 use Rattle.relay_links.specs.Link.{link_fault_of}
 use Rattle.relay_links.specs.Push.{Concludes, Ends, Goes, HasDropped, PushHasEnded, HasFailed, HasFilled, HasGrown, HasLost, HasStopped, IsAt, IsCut, LeavesRecords, Moves, PushStart, push_start_at}
+use Rattle.relay_routes.specs.declared.config.Config.{Config}
+use Rattle.relay_report.specs.Report.{Reporter, reporter_of}
 
 -- octets that wait are those that are used, and those after them
 used_first : (read waiting : List ℕ) (used : ℕ) → read ++ waiting ≡ (read ++ take used waiting) ++ drop used waiting
@@ -91,14 +93,14 @@ left_by_fault {D} words number old new fault refused stopped = by_live old.recor
         (inr (e, ap (λ (node : NodeState D). node.records) (stopped e).1))
 
 -- a reply that made a change has grown the records, and any other has left them
-pub grown_by : {D : Type 0} (words : DiskWords D) (now number : ℕ) (old new : NodeState D) (made : Option ℕ) (change : ℕ) → made ≡ Some change → Makes words old.config.host now number old.attempts new.attempts old.records new.records made → HasGrown words old new
+pub grown_by : {D : Type 0} (words : DiskWords D) (now number : ℕ) (old new : NodeState D) (made : Option ℕ) (change : ℕ) → made ≡ Some change → Makes words (reporter_of old.config) now number old.attempts new.attempts old.records new.records made → HasGrown words old new
 grown_by {D} words now number old new made change is makes =
-    let ends = subst (Makes words old.config.host now number old.attempts new.attempts old.records new.records) is makes in
+    let ends = subst (Makes words (reporter_of old.config) now number old.attempts new.attempts old.records new.records) is makes in
     (_, change, ends.grows)
 
-pub same_by : {D : Type 0} (words : DiskWords D) (now number : ℕ) (old new : NodeState D) (made : Option ℕ) → made ≡ None → Makes words old.config.host now number old.attempts new.attempts old.records new.records made → new.records ≡ old.records
+pub same_by : {D : Type 0} (words : DiskWords D) (now number : ℕ) (old new : NodeState D) (made : Option ℕ) → made ≡ None → Makes words (reporter_of old.config) now number old.attempts new.attempts old.records new.records made → new.records ≡ old.records
 same_by {D} words now number old new made is makes =
-    (subst (Makes words old.config.host now number old.attempts new.attempts old.records new.records) is makes).2
+    (subst (Makes words (reporter_of old.config) now number old.attempts new.attempts old.records new.records) is makes).2
 
 -- what was done to equal records of a node of the same name
 module _ {D : Type 0} (words : DiskWords D) (old mid new : NodeState D) (config : mid.config ≡ old.config) (same : mid.records ≡ old.records) where
@@ -106,8 +108,8 @@ module _ {D : Type 0} (words : DiskWords D) (old mid new : NodeState D) (config 
   grown_since grown = (
     grown.0,
     grown.1,
-    subst (λ (records : Kept D). GrowsBy words old.config.host grown.0 records new.records grown.1) same
-        (subst (λ host. GrowsBy words host grown.0 mid.records new.records grown.1) (ap (λ config. config.host) config) grown.2),
+    subst (λ (records : Kept D). GrowsBy words (reporter_of old.config) grown.0 records new.records grown.1) same
+        (subst (λ reporter. GrowsBy words reporter grown.0 mid.records new.records grown.1) (ap (λ (c : Config). reporter_of c) config) grown.2),
   )
 
   left_since : (fault : LinkFault) → LeavesRecords words mid new fault → LeavesRecords words old new fault
@@ -143,7 +145,7 @@ module _ {D : Type 0} (honest : Type 0) (words : DiskWords D) (start : PushStart
   read_on left new_left held octets node h read = record {
     input = h.input;
     written = h.written;
-    host = h.host;
+    reporter = h.reporter;
     reads =
         subst (Consumes start.left new_left) (ap (λ l. l ++ octets) (append-nil h.input))
         (Consumes-trans start.left left new_left (h.input ++ []) octets h.reads read);
@@ -159,7 +161,7 @@ module _ {D : Type 0} (honest : Type 0) (words : DiskWords D) (start : PushStart
   -- the node's own name for its host
   pub tells_here : (left held : Option (List ℕ)) (waiting unwritten : List ℕ) (node : NodeState D) (h : IsAt honest words start at number left held waiting unwritten node) → Tells node.config.host start.changes node.attempts number (told_more start.told h.input (h.written ++ unwritten))
   tells_here left held waiting unwritten node h =
-      subst (λ host. Tells host start.changes node.attempts number (told_more start.told h.input (h.written ++ unwritten))) (sym h.host) h.tells
+      subst (λ (r : Reporter). Tells r.host start.changes node.attempts number (told_more start.told h.input (h.written ++ unwritten))) (sym h.reporter) h.tells
 
   -- What the attempt made of octets that waited. A beginning of what it wrote then was written.
   module _ (left held new_held : Option (List ℕ)) (waiting : List ℕ) (old new : NodeState D) (replied : Replied)
@@ -175,25 +177,25 @@ module _ {D : Type 0} (honest : Type 0) (words : DiskWords D) (start : PushStart
     written_on = Appends-trans start.held held new_held h.written front h.writes wrote
 
     -- it goes on
-    pub goes_on : new.config ≡ old.config → ReadsOn honest words start.host at start.changes number (told_more start.told h.input (h.written ++ [])) waiting old new replied → IsAt honest words start at number left new_held [] rest new
+    pub goes_on : new.config ≡ old.config → ReadsOn honest words start.reporter at start.changes number (told_more start.told h.input (h.written ++ [])) waiting old new replied → IsAt honest words start at number left new_held [] rest new
     goes_on same r =
         let whole : take replied.used waiting ≡ waiting = take_all replied.used waiting (omega (arith, r.used)) in
         let told = start.told in
         record {
           input = h.input ++ take replied.used waiting;
           written = h.written ++ front;
-          host = ap (λ config. config.host) same ∙ h.host;
+          reporter = ap (λ (c : Config). reporter_of c) same ∙ h.reporter;
           reads =
               subst (Consumes start.left left) (ap (λ l. h.input ++ l) (sym whole) ∙ sym (append-nil (h.input ++ take replied.used waiting))) h.reads;
           writes = written_on;
           keeps = subst (λ (records : Kept D). Keeps honest words records start.changes) (sym r.same) h.keeps;
           tells =
-              subst (λ input. Tells start.host start.changes new.attempts number (record told { input = input; output = told.output ++ ((h.written ++ front) ++ rest) })) inputs
-              (subst (λ output. Tells start.host start.changes new.attempts number (record told { input = (told.input ++ h.input) ++ take replied.used waiting; output = output })) outputs r.tells);
+              subst (λ input. Tells start.reporter.host start.changes new.attempts number (record told { input = input; output = told.output ++ ((h.written ++ front) ++ rest) })) inputs
+              (subst (λ output. Tells start.reporter.host start.changes new.attempts number (record told { input = (told.input ++ h.input) ++ take replied.used waiting; output = output })) outputs r.tells);
         }
 
     -- it has ended
-    pub has_ended : (change : ℕ) → EndsOf honest words start.host at start.changes number (told_more start.told h.input (h.written ++ [])) waiting old.records new.records new.attempts replied change → PushHasEnded honest words start at left new_held rest new.records
+    pub has_ended : (change : ℕ) → EndsOf honest words start.reporter at start.changes number (told_more start.told h.input (h.written ++ [])) waiting old.records new.records new.attempts replied change → PushHasEnded honest words start at left new_held rest new.records
     has_ended change e =
         let told = start.told in
         record {
@@ -205,8 +207,8 @@ module _ {D : Type 0} (honest : Type 0) (words : DiskWords D) (start : PushStart
             reads = subst (Consumes start.left left) (used_first h.input waiting replied.used) h.reads;
             writes = written_on;
             course =
-                subst (λ input. IsCourse start.host told.envelope told.text told.places input false (told.output ++ ((h.written ++ front) ++ rest)) (Some e.verdicts)) inputs
-                (subst (λ output. IsCourse start.host told.envelope told.text told.places ((told.input ++ h.input) ++ take replied.used waiting) false output (Some e.verdicts)) outputs e.course);
+                subst (λ input. IsCourse start.reporter.host told.envelope told.text told.places input false (told.output ++ ((h.written ++ front) ++ rest)) (Some e.verdicts)) inputs
+                (subst (λ output. IsCourse start.reporter.host told.envelope told.text told.places ((told.input ++ h.input) ++ take replied.used waiting) false output (Some e.verdicts)) outputs e.course);
           };
           concludes = record { used = replied.used; number = change; adds = e.adds };
         }
@@ -222,14 +224,14 @@ module _ {D : Type 0} (honest : Type 0) (words : DiskWords D) (start : PushStart
       reads = h.reads;
       writes = h.writes;
       course =
-          followed_is_course h.tells.run.client start.host start.told.text start.told.places (start.told.input ++ h.input)
+          followed_is_course h.tells.run.client start.reporter.host start.told.text start.told.places (start.told.input ++ h.input)
           (start.told.output ++ (h.written ++ unwritten)) start.told.envelope h.tells.follows;
     };
     keeps = subst (λ (kept : Kept D). Keeps honest words kept start.changes) (sym same) h.keeps;
   }
 
   -- the course came to its end after octets that waited
-  comes_to_end : (left held : Option (List ℕ)) (waiting : List ℕ) (old : NodeState D) (h : IsAt honest words start at number left held waiting [] old) (ends : ReadsToEnd start.host (told_more start.told h.input (h.written ++ [])) waiting) → Goes honest words start at left held ends.out false (Some ends.verdicts)
+  comes_to_end : (left held : Option (List ℕ)) (waiting : List ℕ) (old : NodeState D) (h : IsAt honest words start at number left held waiting [] old) (ends : ReadsToEnd start.reporter.host (told_more start.told h.input (h.written ++ [])) waiting) → Goes honest words start at left held ends.out false (Some ends.verdicts)
   comes_to_end left held waiting old h ends =
       let told = start.told in
       record {
@@ -239,15 +241,15 @@ module _ {D : Type 0} (honest : Type 0) (words : DiskWords D) (start : PushStart
         reads = subst (Consumes start.left left) (used_first h.input waiting ends.used) h.reads;
         writes = h.writes;
         course =
-            subst (λ input. IsCourse start.host told.envelope told.text told.places input false (told.output ++ (h.written ++ ends.out)) (Some ends.verdicts)) (append_assoc told.input h.input (take ends.used waiting))
-            (subst (λ output. IsCourse start.host told.envelope told.text told.places ((told.input ++ h.input) ++ take ends.used waiting) false output (Some ends.verdicts)) outputs ends.course);
+            subst (λ input. IsCourse start.reporter.host told.envelope told.text told.places input false (told.output ++ (h.written ++ ends.out)) (Some ends.verdicts)) (append_assoc told.input h.input (take ends.used waiting))
+            (subst (λ output. IsCourse start.reporter.host told.envelope told.text told.places ((told.input ++ h.input) ++ take ends.used waiting) false output (Some ends.verdicts)) outputs ends.course);
       }
     where
       outputs : (start.told.output ++ (h.written ++ [])) ++ ends.out ≡ start.told.output ++ (h.written ++ ends.out)
       outputs = append_assoc start.told.output (h.written ++ []) ends.out ∙ ap (λ l. start.told.output ++ (l ++ ends.out)) (append-nil h.written)
 
   -- the device failed while the outcome was added
-  halts : (left held : Option (List ℕ)) (waiting : List ℕ) (old : NodeState D) (new : Kept D) (h : IsAt honest words start at number left held waiting [] old) → CutsReply honest words start.host at start.changes number (told_more start.told h.input (h.written ++ [])) waiting new → HasStopped honest words start at left held new
+  halts : (left held : Option (List ℕ)) (waiting : List ℕ) (old : NodeState D) (new : Kept D) (h : IsAt honest words start at number left held waiting [] old) → CutsReply honest words start.reporter at start.changes number (told_more start.told h.input (h.written ++ [])) waiting new → HasStopped honest words start at left held new
   halts left held waiting old new h c = record {
     unwritten = c.ends.out;
     lost = false;
@@ -257,13 +259,13 @@ module _ {D : Type 0} (honest : Type 0) (words : DiskWords D) (start : PushStart
   }
 
   -- there was no room for the outcome
-  fills : (left held : Option (List ℕ)) (waiting : List ℕ) (old : NodeState D) (new : Kept D) (h : IsAt honest words start at number left held waiting [] old) → HasNoRoomAtEnd start.host at (told_more start.told h.input (h.written ++ [])) waiting old.records → new ≡ old.records → HasFilled honest words start at left held new
+  fills : (left held : Option (List ℕ)) (waiting : List ℕ) (old : NodeState D) (new : Kept D) (h : IsAt honest words start at number left held waiting [] old) → HasNoRoomAtEnd start.reporter at (told_more start.told h.input (h.written ++ [])) waiting old.records → new ≡ old.records → HasFilled honest words start at left held new
   fills left held waiting old new h none same = record {
     unwritten = none.ends.out;
     lost = false;
     verdicts = none.ends.verdicts;
     goes = comes_to_end left held waiting old h none.ends;
-    room = subst (λ (kept : Kept D). HasNoRoom start.host (outcome_at at start.told none.ends.verdicts) kept) (sym same) none.room;
+    room = subst (λ (kept : Kept D). HasNoRoom start.reporter (outcome_at at start.told none.ends.verdicts) kept) (sym same) none.room;
     keeps = subst (λ (kept : Kept D). Keeps honest words kept start.changes) (sym same) h.keeps;
   }
 
@@ -290,20 +292,20 @@ module _ {D : Type 0} (honest : Type 0) (words : DiskWords D) (start : PushStart
 
   -- the node has refused octets
   pub refuses_octets : (left held : Option (List ℕ)) (waiting : List ℕ) (old new : NodeState D) (fault : NodeFault) (h : IsAt honest words start at number left held waiting [] old) → RefusesToReply words number old new fault
-      → (fault ≡ node_fault.Stopped → CutsReply honest words old.config.host at start.changes number (told_more start.told h.input (h.written ++ [])) waiting new.records)
-      → (fault ≡ node_fault.Full → HasNoRoomAtEnd old.config.host at (told_more start.told h.input (h.written ++ [])) waiting old.records)
+      → (fault ≡ node_fault.Stopped → CutsReply honest words (reporter_of old.config) at start.changes number (told_more start.told h.input (h.written ++ [])) waiting new.records)
+      → (fault ≡ node_fault.Full → HasNoRoomAtEnd (reporter_of old.config) at (told_more start.told h.input (h.written ++ [])) waiting old.records)
       → (fault ≡ node_fault.Unknown → slot_at old.attempts number ≡ None) → HasFailed honest words start at left held new.records (link_fault_of fault)
   refuses_octets left held waiting old new fault h refused cut full unknown =
       refuses left held waiting [] old new fault h refused
-      (λ stopped. halts left held waiting old new.records h (subst (λ host. CutsReply honest words host at start.changes number (told_more start.told h.input (h.written ++ [])) waiting new.records) h.host (cut stopped)))
-      (λ is same. fills left held waiting old new.records h (subst (λ host. HasNoRoomAtEnd host at (told_more start.told h.input (h.written ++ [])) waiting old.records) h.host (full is)) same)
+      (λ stopped. halts left held waiting old new.records h (subst (λ reporter. CutsReply honest words reporter at start.changes number (told_more start.told h.input (h.written ++ [])) waiting new.records) h.reporter (cut stopped)))
+      (λ is same. fills left held waiting old new.records h (subst (λ reporter. HasNoRoomAtEnd reporter at (told_more start.told h.input (h.written ++ [])) waiting old.records) h.reporter (full is)) same)
       unknown
 
   -- the connection is lost
   pub loses : (left held : Option (List ℕ)) (waiting unwritten : List ℕ) (old new : NodeState D) (change : ℕ) (h : IsAt honest words start at number left held waiting unwritten old)
-      → IsLost honest words old.config.host at start.changes number (told_more start.told h.input (h.written ++ unwritten)) old.records new.records new.attempts change → HasLost honest words start at left held new.records
+      → IsLost honest words (reporter_of old.config) at start.changes number (told_more start.told h.input (h.written ++ unwritten)) old.records new.records new.attempts change → HasLost honest words start at left held new.records
   loses left held waiting unwritten old new change h lost =
-      let here = subst (λ host. IsLost honest words host at start.changes number (told_more start.told h.input (h.written ++ unwritten)) old.records new.records new.attempts change) h.host lost in
+      let here = subst (λ reporter. IsLost honest words reporter at start.changes number (told_more start.told h.input (h.written ++ unwritten)) old.records new.records new.attempts change) h.reporter lost in
       record {
         unwritten = unwritten;
         goes = record {
@@ -319,13 +321,13 @@ module _ {D : Type 0} (honest : Type 0) (words : DiskWords D) (start : PushStart
 
   -- the node has refused a loss
   pub refuses_loss : (left held : Option (List ℕ)) (waiting unwritten : List ℕ) (old new : NodeState D) (fault : NodeFault) (h : IsAt honest words start at number left held waiting unwritten old) → RefusesToReply words number old new fault
-      → (fault ≡ node_fault.Stopped → CutsLoss honest words old.config.host at start.changes number (told_more start.told h.input (h.written ++ unwritten)) new.records)
-      → (fault ≡ node_fault.Full → HasNoRoomAtLoss old.config.host at (told_more start.told h.input (h.written ++ unwritten)) old.records)
+      → (fault ≡ node_fault.Stopped → CutsLoss honest words (reporter_of old.config) at start.changes number (told_more start.told h.input (h.written ++ unwritten)) new.records)
+      → (fault ≡ node_fault.Full → HasNoRoomAtLoss (reporter_of old.config) at (told_more start.told h.input (h.written ++ unwritten)) old.records)
       → (fault ≡ node_fault.Unknown → slot_at old.attempts number ≡ None) → HasFailed honest words start at left held new.records (link_fault_of fault)
   refuses_loss left held waiting unwritten old new fault h refused cut full unknown =
       refuses left held waiting unwritten old new fault h refused
       (λ stopped.
-      let here = subst (λ host. CutsLoss honest words host at start.changes number (told_more start.told h.input (h.written ++ unwritten)) new.records) h.host (cut stopped) in
+      let here = subst (λ reporter. CutsLoss honest words reporter at start.changes number (told_more start.told h.input (h.written ++ unwritten)) new.records) h.reporter (cut stopped) in
       record {
         unwritten = unwritten;
         lost = true;
@@ -341,7 +343,7 @@ module _ {D : Type 0} (honest : Type 0) (words : DiskWords D) (start : PushStart
         cut = record { used = 0; cuts = here.cuts };
       })
       (λ is same.
-      let here = subst (λ host. HasNoRoomAtLoss host at (told_more start.told h.input (h.written ++ unwritten)) old.records) h.host (full is) in
+      let here = subst (λ reporter. HasNoRoomAtLoss reporter at (told_more start.told h.input (h.written ++ unwritten)) old.records) h.reporter (full is) in
       record {
         unwritten = unwritten;
         lost = true;
@@ -354,7 +356,7 @@ module _ {D : Type 0} (honest : Type 0) (words : DiskWords D) (start : PushStart
           writes = h.writes;
           course = here.course;
         };
-        room = subst (λ (kept : Kept D). HasNoRoom start.host (outcome_at at start.told (all_later start.told.places)) kept) (sym same) here.room;
+        room = subst (λ (kept : Kept D). HasNoRoom start.reporter (outcome_at at start.told (all_later start.told.places)) kept) (sym same) here.room;
         keeps = subst (λ (kept : Kept D). Keeps honest words kept start.changes) (sym same) h.keeps;
       })
       unknown
@@ -362,13 +364,13 @@ module _ {D : Type 0} (honest : Type 0) (words : DiskWords D) (start : PushStart
   -- What the node made of octets that waited. A beginning of what it wrote then was written.
   module _ (left held new_held : Option (List ℕ)) (waiting : List ℕ) (old new : NodeState D) (replied : Replied)
       (h : IsAt honest words start at number left held waiting [] old)
-      (r : Replies honest words old.config.host at start.changes number (told_more start.told h.input (h.written ++ [])) waiting old new replied)
+      (r : Replies honest words (reporter_of old.config) at start.changes number (told_more start.told h.input (h.written ++ [])) waiting old new replied)
       (front rest : List ℕ) (parts : replied.out.items ≡ front ++ rest) (wrote : Appends held new_held front) where
-    here : Replies honest words start.host at start.changes number (told_more start.told h.input (h.written ++ [])) waiting old new replied
-    here = subst (λ host. Replies honest words host at start.changes number (told_more start.told h.input (h.written ++ [])) waiting old new replied) h.host r
+    here : Replies honest words start.reporter at start.changes number (told_more start.told h.input (h.written ++ [])) waiting old new replied
+    here = subst (λ reporter. Replies honest words reporter at start.changes number (told_more start.told h.input (h.written ++ [])) waiting old new replied) h.reporter r
 
-    by_change : (change : Option ℕ) → replied.change ≡ change → RepliesBy honest words start.host at start.changes number (told_more start.told h.input (h.written ++ [])) waiting old new replied change
-    by_change change is = subst (RepliesBy honest words start.host at start.changes number (told_more start.told h.input (h.written ++ [])) waiting old new replied) is here
+    by_change : (change : Option ℕ) → replied.change ≡ change → RepliesBy honest words start.reporter at start.changes number (told_more start.told h.input (h.written ++ [])) waiting old new replied change
+    by_change change is = subst (RepliesBy honest words start.reporter at start.changes number (told_more start.told h.input (h.written ++ [])) waiting old new replied) is here
 
     -- it has ended
     pub answered_end : (change : ℕ) → replied.change ≡ Some change → PushHasEnded honest words start at left new_held rest new.records
@@ -384,7 +386,7 @@ pub begins : {D : Type 0} (honest : Type 0) (words : DiskWords D) (at number : �
 begins honest words at number left held node changes told keeps tells = record {
   input = [];
   written = [];
-  host = refl;
+  reporter = refl;
   reads = Consumes-nil left;
   writes = Appends-nil held;
   keeps = keeps;

@@ -19,13 +19,14 @@ use Rattle.relay_links.specs.declared.push.Pushed.{Pushed}
 use Rattle.relay_links.specs.declared.push.Pushed.TheVariants.{Ended, Unwritten, Lost}
 use Rattle.relay_links.specs.declared.push.Way.{Way}
 use Rattle.relay_links.specs.declared.push.Way.TheVariants as way
+use Rattle.relay_report.specs.Report.{Reporter, reporter_of}
 
--- where a link of an attempt begins: what its reader still has and its writer holds, the host's name, the changes
--- that the node keeps, and what is told of the attempt
+-- where a link of an attempt begins: what its reader still has and its writer holds, who reports by its host's name,
+-- the changes that the node keeps, and what is told of the attempt
 pub record PushStart : Type 0 where
   pub left : Option (List ℕ)
   pub held : Option (List ℕ)
-  pub host : List ℕ
+  pub reporter : Reporter
   pub changes : List Change
   pub told : Told
 
@@ -33,7 +34,7 @@ pub record PushStart : Type 0 where
 abbrev pub push_start_at : {D : Type 0} → Option (List ℕ) → Option (List ℕ) → NodeState D → List Change → Told
     → PushStart
 push_start_at left held node changes told =
-    record { left = left; held = held; host = node.config.host; changes = changes; told = told }
+    record { left = left; held = held; reporter = reporter_of node.config; changes = changes; told = told }
 
 -- The words below are of a link from its start on, at a moment.
 module _ {D : Type 0} (honest : Type 0) (words : DiskWords D) (start : PushStart) (at : ℕ) where
@@ -43,11 +44,12 @@ module _ {D : Type 0} (honest : Type 0) (words : DiskWords D) (start : PushStart
       : Type 0 where
     pub input : List ℕ
     pub written : List ℕ
-    pub host : node.config.host ≡ start.host
+    pub reporter : reporter_of node.config ≡ start.reporter
     pub reads : Consumes start.left left (input ++ waiting)
     pub writes : Appends start.held held written
     pub keeps : Keeps honest words node.records start.changes
-    pub tells : Tells start.host start.changes node.attempts number (told_more start.told input (written ++ unwritten))
+    pub tells : Tells start.reporter.host start.changes node.attempts number (told_more start.told input (written ++
+        unwritten))
 
   -- What was read and written is the attempt's course, told of a loss or not, with these verdicts or none yet: but for
   -- octets that were read and not used, and these octets, which weren't written any more.
@@ -58,19 +60,20 @@ module _ {D : Type 0} (honest : Type 0) (words : DiskWords D) (start : PushStart
     pub written : List ℕ
     pub reads : Consumes start.left left (input ++ unused)
     pub writes : Appends start.held held written
-    pub course : IsCourse start.host start.told.envelope start.told.text start.told.places
+    pub course : IsCourse start.reporter.host start.told.envelope start.told.text start.told.places
         (start.told.input ++ input) lost (start.told.output ++ (written ++ unwritten)) verdicts
 
   -- the outcome with these verdicts, and the report that is due of it, is the one change that was added
   pub record Concludes (verdicts : List Verdict) (records : Kept D) : Type 0 where
     pub used : ℕ
     pub number : ℕ
-    pub adds : AddsOutcome honest words start.host start.changes (outcome_at at start.told verdicts) used records number
+    pub adds : AddsOutcome honest words start.reporter start.changes (outcome_at at start.told verdicts) used records
+        number
 
   -- a stop came while that outcome was added
   pub record IsCut (verdicts : List Verdict) (records : Kept D) : Type 0 where
     pub used : ℕ
-    pub cuts : CutsOutcome honest words start.host start.changes (outcome_at at start.told verdicts) used records
+    pub cuts : CutsOutcome honest words start.reporter start.changes (outcome_at at start.told verdicts) used records
 
   -- the course has come to verdicts, and its outcome was added
   pub record PushHasEnded (left held : Option (List ℕ)) (unwritten : List ℕ) (records : Kept D) : Type 0 where
@@ -104,7 +107,7 @@ module _ {D : Type 0} (honest : Type 0) (words : DiskWords D) (start : PushStart
     pub lost : Bool
     pub verdicts : List Verdict
     pub goes : Goes left held unwritten lost (Some verdicts)
-    pub room : HasNoRoom start.host (outcome_at at start.told verdicts) records
+    pub room : HasNoRoom start.reporter (outcome_at at start.told verdicts) records
     pub keeps : Keeps honest words records start.changes
 
   -- the device failed while the outcome of the course, or of its loss, was added
@@ -147,7 +150,7 @@ module _ {D : Type 0} (honest : Type 0) (words : DiskWords D) (start : PushStart
 -- due of it, and the spool has grown by the link of that record alone.
 abbrev pub HasGrown : {D : Type 0} → DiskWords D → NodeState D → NodeState D → Type 0
 HasGrown words old new =
-    (outcome : Outcome) × (number : ℕ) × GrowsBy words old.config.host outcome old.records new.records number
+    (outcome : Outcome) × (number : ℕ) × GrowsBy words (reporter_of old.config) outcome old.records new.records number
 
 -- A fault of the device has stopped them, or they were stopped before; at any other fault they are the same.
 abbrev pub LeavesRecords : {D : Type 0} → DiskWords D → NodeState D → NodeState D → LinkFault → Type 0
