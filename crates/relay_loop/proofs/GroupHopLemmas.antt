@@ -9,7 +9,7 @@ use Rattle.relay_book.specs.declared.change.Change.{Change}
 use Rattle.relay_book.specs.Queue.{Fitting, empty_queue}
 use Rattle.relay_records.specs.Staged.{no_row}
 use Rattle.relay_records.specs.declared.fault.NodeFault.{NodeFault}
-use Rattle.relay_report.specs.Report.{Reported}
+use Rattle.relay_report.specs.Report.{Reported, reporter_of}
 use Rattle.relay_loop.specs.declared.hops.Answered.{Answered}
 use Rattle.relay_loop.specs.declared.replying.ReplyPiece.{ReplyPiece}
 use Rattle.relay_loop.specs.GroupHopLaws.{Becomes, GroupsHand, GroupsLeaveHops, used_of}
@@ -43,7 +43,7 @@ becomes_later list at mid new attempt told written replies answers attempts hops
       front = ended.front;
       report = ended.report;
       reported =
-          subst (λ (c : Config). Reported c.host ended.front
+          subst (λ (c : Config). Reported (reporter_of c) ended.front
           (reported_as (outcome_at at told ended.verdicts) ended.report)) (sym config) ended.reported;
       rest = ended.rest;
       list_is = ended.list_is;

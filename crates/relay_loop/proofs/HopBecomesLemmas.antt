@@ -11,7 +11,7 @@ use Rattle.relay_book.specs.Queue.{Fitting, empty_queue}
 use Rattle.relay_records.specs.Staged.{Row}
 use Rattle.relay_records.specs.declared.fault.NodeFault.{NodeFault}
 use Rattle.relay_records.specs.declared.fault.NodeFault.TheVariants.{NoMemory, Stopped, Unknown, TooMany, NotDue, Busy, Open, Full, NoSecond}
-use Rattle.relay_report.specs.Report.{Reported}
+use Rattle.relay_report.specs.Report.{Reported, reporter_of}
 use Rattle.relay_attempts.specs.AddedOutcome.{reported_as}
 use Rattle.relay_attempts.specs.Reply.{IsItsCourse, Told, outcome_at, told_more}
 use Rattle.relay_node.specs.Node.{NodeState}
@@ -296,7 +296,7 @@ module _ {D : Type 0} (honest : Type 0) (words : DiskWords D) (changes : List Ch
           front = changes ++ pending;
           report = h.stages.report;
           reported =
-              subst (λ (c : Config). Reported c.host (changes ++ pending) change) (sym config) h.stages.reported;
+              subst (λ (c : Config). Reported (reporter_of c) (changes ++ pending) change) (sym config) h.stages.reported;
           rest = so_all.added;
           list_is =
               ap (λ (l : List Change). changes ++ l) grown

@@ -15,6 +15,7 @@ use Rattle.relay_loop.specs.Hops.{HandsTo, IsAnsweredBy, IsSetTo, Replies, Repli
 use Rattle.relay_loop.specs.Outboxes.{unwritten_at}
 use Rattle.relay_loop.specs.Relay.{RelayState}
 use Rattle.relay_loop.proofs.ClientLemmas.{waits_there, written_more}
+use Rattle.relay_report.specs.Report.{reporter_of}
 
 -- octets were written to the connection of an attempt
 pub hands_wrote : {D : Type 0} (changes : List Change) (old new : RelayState D) (attempt : ℕ) (told : Told) (written : List ℕ) (count : ℕ) → new.node ≡ old.node → slot_at new.hops attempt ≡ option_map (drop count) (slot_at old.hops attempt)
@@ -49,7 +50,7 @@ module _ {D : Type 0} (honest : Type 0) (words : DiskWords D) (changes : List Ch
   output : told.output ++ replied.out.items ≡ written ++ replied.out.items
   output = ap (λ l. l ++ replied.out.items) all_written
 
-  replies_by : (made : Option ℕ) → NodeRepliesBy honest words old.node.config.host now changes attempt told piece old.node new.node replied made → IsSetTo made attempt replied.out.items answered.last new.hops → RepliesBy honest words changes attempt now told written piece old new answered made
+  replies_by : (made : Option ℕ) → NodeRepliesBy honest words (reporter_of old.node.config) now changes attempt told piece old.node new.node replied made → IsSetTo made attempt replied.out.items answered.last new.hops → RepliesBy honest words changes attempt now told written piece old new answered made
   replies_by None r set = record {
     used = a.used ∙ r.used;
     same = r.same;
@@ -70,10 +71,10 @@ module _ {D : Type 0} (honest : Type 0) (words : DiskWords D) (changes : List Ch
     verdicts = r.verdicts;
     course = subst (λ n. IsItsCourse old.node.config.host (told_more told (take n piece) replied.out.items) false r.verdicts) (sym a.used) r.course;
     output = output;
-    adds = subst (λ n. AddsOutcome honest words old.node.config.host changes (outcome_at now told r.verdicts) n new.node.records made) (sym a.used) r.adds;
+    adds = subst (λ n. AddsOutcome honest words (reporter_of old.node.config) changes (outcome_at now told r.verdicts) n new.node.records made) (sym a.used) r.adds;
     gone = r.gone;
     connection = set.0;
   }
 
-  pub replies : NodeReplies honest words old.node.config.host now changes attempt told piece old.node new.node replied → IsSetTo replied.change attempt replied.out.items answered.last new.hops → Replies honest words changes attempt now told written piece old new answered
+  pub replies : NodeReplies honest words (reporter_of old.node.config) now changes attempt told piece old.node new.node replied → IsSetTo replied.change attempt replied.out.items answered.last new.hops → Replies honest words changes attempt now told written piece old new answered
   replies r set = subst (λ (made : Option ℕ). RepliesBy honest words changes attempt now told written piece old new answered made) (sym a.change) (replies_by replied.change r set)

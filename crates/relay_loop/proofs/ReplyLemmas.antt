@@ -27,23 +27,24 @@ use Rattle.relay_loop.specs.Outboxes.{unwritten_at}
 use Rattle.relay_loop.specs.Relay.{OnlyHop, RelayState}
 use Rattle.relay_loop.proofs.AwaitedLemmas.{one_is_staged, one_more_awaited}
 use Rattle.relay_loop.proofs.ClientLemmas.{waits_there}
+use Rattle.relay_report.specs.Report.{Reporter, reporter_of}
 
 -- what a reply made of records and row, whatever is told of its attempt
-module _ {D : Type 0} (host : List ℕ) (at number : ℕ) (before after : List (Option Run)) (used : ℕ) (old new : Kept D)
+module _ {D : Type 0} (reporter : Reporter) (at number : ℕ) (before after : List (Option Run)) (used : ℕ) (old new : Kept D)
     (row left : Row) where
   -- the outcome that ended it
-  abbrev pub outcome_made : (change : ℕ) → EndsBehind host at number before after used old new row left change → Outcome
+  abbrev pub outcome_made : (change : ℕ) → EndsBehind reporter at number before after used old new row left change → Outcome
   outcome_made change made =
       outcome_of made.run.message at made.run.hop (rulings_of made.run.places.items made.verdicts)
 
   -- the changes that it staged
-  abbrev pub staged_by : (change : Option ℕ) → MakesBehind host at number before after used old new row left change → List Change
+  abbrev pub staged_by : (change : Option ℕ) → MakesBehind reporter at number before after used old new row left change → List Change
   staged_by None made = []
   staged_by (Some change) made = reported_as (outcome_made change made) made.grows.report ∷ []
 
   module _ (honest : Type 0) (words : DiskWords D) (changes pending : List Change)
       (awaits : Awaits honest words old changes pending row) where
-    is_ending : (change : Option ℕ) → (made : MakesBehind host at number before after used old new row left change)
+    is_ending : (change : Option ℕ) → (made : MakesBehind reporter at number before after used old new row left change)
         → IsEnding (length changes + length pending + 1) change (staged_by change made)
     is_ending None made = refl
     is_ending (Some change) made = (
@@ -52,7 +53,7 @@ module _ {D : Type 0} (host : List ℕ) (at number : ℕ) (before after : List (
       refl,
     )
 
-    awaits_made : (change : Option ℕ) → (made : MakesBehind host at number before after used old new row left change)
+    awaits_made : (change : Option ℕ) → (made : MakesBehind reporter at number before after used old new row left change)
         → Awaits honest words new changes (pending ++ staged_by change made) left
     awaits_made None (known, same, unmoved) =
         subst (λ (l : List Change). Awaits honest words new changes l left) (sym (append-nil pending))
@@ -119,12 +120,12 @@ module _ {D : Type 0} (honest : Type 0) (words : DiskWords D) (changes : List Ch
       (only : OnlyHop old new reply.attempt) (a : IsAnsweredBy replied answered) where
     abbrev pub Made : Option ℕ → Type 0
     Made change =
-        MakesBehind old.node.config.host at reply.attempt old.node.attempts new.node.attempts replied.used
+        MakesBehind (reporter_of old.node.config) at reply.attempt old.node.attempts new.node.attempts replied.used
         old.node.records new.node.records row left change
 
     abbrev pub more_by : (change : Option ℕ) → Made change → List Change
     more_by change made =
-        staged_by old.node.config.host at reply.attempt old.node.attempts new.node.attempts replied.used
+        staged_by (reporter_of old.node.config) at reply.attempt old.node.attempts new.node.attempts replied.used
         old.node.records new.node.records row left change made
 
     -- what is told of it then
@@ -136,7 +137,7 @@ module _ {D : Type 0} (honest : Type 0) (words : DiskWords D) (changes : List Ch
           ∙ append-nil written)
 
       hands_by : (change : Option ℕ) → (made : Made change)
-          → RepliesInto honest words old.node.config.host at changes pending reply.attempt told row reply.octets.now
+          → RepliesInto honest words (reporter_of old.node.config) at changes pending reply.attempt told row reply.octets.now
           old.node new.node left replied change
           → IsSetTo change reply.attempt replied.out.items answered.last new.hops
           → HandsBy honest words changes at pending reply.attempt told written reply.octets.now old row new left
@@ -160,7 +161,7 @@ module _ {D : Type 0} (honest : Type 0) (words : DiskWords D) (changes : List Ch
         };
       }
       hands_by (Some change) made r set =
-          let outcome = outcome_made old.node.config.host at reply.attempt old.node.attempts new.node.attempts
+          let outcome = outcome_made (reporter_of old.node.config) at reply.attempt old.node.attempts new.node.attempts
           replied.used old.node.records new.node.records row left change made in
           record {
             last = replied.out.items;
@@ -191,7 +192,7 @@ module _ {D : Type 0} (honest : Type 0) (words : DiskWords D) (changes : List Ch
     -- it has its answer
     pub was_heard : slot_at old.hops reply.attempt ≢ None → (IsLaden row → ⊥)
         → ((told : Told) → Tells old.node.config.host (changes ++ pending) old.node.attempts reply.attempt told
-        → RepliesInto honest words old.node.config.host at changes pending reply.attempt told row reply.octets.now
+        → RepliesInto honest words (reporter_of old.node.config) at changes pending reply.attempt told row reply.octets.now
         old.node new.node left replied replied.change)
         → IsSetTo replied.change reply.attempt replied.out.items answered.last new.hops
         → RepliesOne honest words changes at pending reply old row new left (more_by replied.change uses.makes)
@@ -209,7 +210,7 @@ module _ {D : Type 0} (honest : Type 0) (words : DiskWords D) (changes : List Ch
             old.node.records new.node.records row left honest words changes pending awaits replied.change uses.makes);
         unread = λ why. absurd (stays_unread old reply.attempt row why drained light);
         makes = λ _ _.
-            subst (λ n. MakesBehind old.node.config.host at reply.attempt old.node.attempts new.node.attempts n
+            subst (λ n. MakesBehind (reporter_of old.node.config) at reply.attempt old.node.attempts new.node.attempts n
             old.node.records new.node.records row left answered.change) (sym a.used)
             (subst (λ (change : Option ℕ). Made change) (sym a.change) uses.makes);
         hands = λ _ _ told written t.
@@ -229,7 +230,7 @@ module _ {D : Type 0} (honest : Type 0) (words : DiskWords D) (changes : List Ch
       → RefusesToReplyInto reply.attempt old.node new.node row left fault
       → (fault ≡ Unknown → IsUnknown old reply.attempt) → (fault ≢ Unknown → slot_at old.hops reply.attempt ≢ None)
       → ((told : Told) → Tells old.node.config.host (changes ++ pending) old.node.attempts reply.attempt told
-      → fault ≡ Full → HasNoRoomAtEndBehind old.node.config.host at told reply.octets.now old.node.records row)
+      → fault ≡ Full → HasNoRoomAtEndBehind (reporter_of old.node.config) at told reply.octets.now old.node.records row)
       → OnlyHop old new reply.attempt → Awaits honest words old.node.records changes pending row
       → RepliesOne honest words changes at pending reply old row new left [] (Err fault)
   was_refused pending reply old new row left fault gone leaves unknown known full only awaits =

@@ -7,7 +7,7 @@ use Rattle.relay_slots.specs.Slots.{slot_at}
 use Rattle.relay_book.specs.declared.change.Change.{Change}
 use Rattle.relay_book.specs.declared.change.Verdict.{Verdict}
 use Rattle.relay_records.specs.declared.fault.NodeFault.{NodeFault}
-use Rattle.relay_report.specs.Report.{Reported}
+use Rattle.relay_report.specs.Report.{Reported, reporter_of}
 use Rattle.relay_attempts.specs.AddedOutcome.{reported_as}
 use Rattle.relay_attempts.specs.Reply.{IsItsCourse, Told, outcome_at, told_more}
 use Rattle.relay_loop.specs.declared.group.Group.{Group}
@@ -69,7 +69,7 @@ module _ {D : Type 0} (list : List Change) (at : ℕ) (new : RelayState D) (atte
     pub output : told.output ++ out ≡ written ++ last
     pub front : List Change
     pub report : List ℕ
-    pub reported : Reported new.node.config.host front (reported_as (outcome_at at told verdicts) report)
+    pub reported : Reported (reporter_of new.node.config) front (reported_as (outcome_at at told verdicts) report)
     pub rest : List Change
     pub list_is : list ≡ front ++ reported_as (outcome_at at told verdicts) report ∷ rest
     pub gone : slot_at new.node.attempts attempt ≡ None

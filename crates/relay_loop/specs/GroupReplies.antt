@@ -22,6 +22,7 @@ use Rattle.relay_loop.specs.GroupPieces.{IsLaden}
 use Rattle.relay_loop.specs.Hops.{HandsTo, IsUnknown}
 use Rattle.relay_loop.specs.Outboxes.{unwritten_at}
 use Rattle.relay_loop.specs.Relay.{OnlyHop, RelayState}
+use Rattle.relay_report.specs.Report.{reporter_of}
 
 -- nothing of a reply was used
 abbrev pub unheard : Answered
@@ -60,8 +61,8 @@ module _ {D : Type 0} (honest : Type 0) (words : DiskWords D) (changes : List Ch
       pub verdicts : List Verdict
       pub course : IsItsCourse old.node.config.host (told_more told (take answered.used piece) last) false verdicts
       pub output : told.output ++ last ≡ written ++ last
-      pub stages : StagesOutcome honest words old.node.config.host changes pending row (outcome_at at told verdicts)
-          answered.used new.node.records left number
+      pub stages : StagesOutcome honest words (reporter_of old.node.config) changes pending row (outcome_at at told
+          verdicts) answered.used new.node.records left number
       pub more_is : more ≡ reported_as (outcome_at at told verdicts) stages.report ∷ []
       pub gone : slot_at new.node.attempts attempt ≡ None
       pub connection : slot_at new.hops attempt ≡ None
@@ -84,7 +85,7 @@ module _ {D : Type 0} (honest : Type 0) (words : DiskWords D) (changes : List Ch
     pub unread : (unwritten_at old.hops reply.attempt ≢ []) ⊎ IsLaden row
         → (answered ≡ unheard) × (new ≡ old) × (left ≡ row)
     pub makes : unwritten_at old.hops reply.attempt ≡ [] → (IsLaden row → ⊥)
-        → MakesBehind old.node.config.host at reply.attempt old.node.attempts new.node.attempts answered.used
+        → MakesBehind (reporter_of old.node.config) at reply.attempt old.node.attempts new.node.attempts answered.used
         old.node.records new.node.records row left answered.change
     pub hands : unwritten_at old.hops reply.attempt ≡ [] → (IsLaden row → ⊥) → (told : Told) (written : List ℕ)
         → HandsTo (changes ++ pending) old reply.attempt told written
@@ -101,7 +102,7 @@ module _ {D : Type 0} (honest : Type 0) (words : DiskWords D) (changes : List Ch
     pub known : fault ≢ Unknown → slot_at old.hops reply.attempt ≢ None
     pub full : (told : Told) (written : List ℕ) → HandsTo (changes ++ pending) old reply.attempt told written
         → fault ≡ Full
-        → HasNoRoomAtEndBehind old.node.config.host at told reply.octets.now old.node.records row
+        → HasNoRoomAtEndBehind (reporter_of old.node.config) at told reply.octets.now old.node.records row
 
   abbrev pub RepliesBy
       : List Change → ReplyPiece → RelayState D → Row → RelayState D → Row → List Change → Result Answered NodeFault

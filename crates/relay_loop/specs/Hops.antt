@@ -16,6 +16,7 @@ use Rattle.relay_node.specs.Attempts.{BeginsAtMost, RefusesToReply, Tells, begun
 use Rattle.relay_loop.specs.declared.hops.Answered.{Answered}
 use Rattle.relay_loop.specs.Outboxes.{unwritten_at}
 use Rattle.relay_loop.specs.Relay.{RelayState}
+use Rattle.relay_report.specs.Report.{reporter_of}
 
 -- This is told of the attempt of a number, by these changes: of what it wrote this was written to its connection, and
 -- the rest waits.
@@ -58,8 +59,8 @@ module _ {D : Type 0} (honest : Type 0) (words : DiskWords D) (changes : List Ch
     pub verdicts : List Verdict
     pub course : IsItsCourse old.node.config.host (told_more told (take answered.used piece) last) false verdicts
     pub output : told.output ++ last ≡ written ++ last
-    pub adds : AddsOutcome honest words old.node.config.host changes (outcome_at now told verdicts) answered.used
-        new.node.records change
+    pub adds : AddsOutcome honest words (reporter_of old.node.config) changes (outcome_at now told verdicts)
+        answered.used new.node.records change
     pub gone : slot_at new.node.attempts attempt ≡ None
     pub connection : slot_at new.hops attempt ≡ None
 
@@ -79,7 +80,7 @@ pub record UsesReply {D : Type 0} (words : DiskWords D) (now attempt len : ℕ) 
   pub whole : unwritten_at old.hops attempt ≡ [] → answered.change ≡ None → answered.used ≡ len
   pub gone : answered.change ≢ None → slot_at new.node.attempts attempt ≡ None
   pub makes : unwritten_at old.hops attempt ≡ []
-      → Makes words old.node.config.host now attempt old.node.attempts new.node.attempts old.node.records
+      → Makes words (reporter_of old.node.config) now attempt old.node.attempts new.node.attempts old.node.records
       new.node.records answered.change
   pub failures : FailsNot words old.node.records.spool.disk new.node.records.spool.disk
 

@@ -2,6 +2,7 @@
 ghost use Rattle.std.specs.Prelude.{◌≡◌, ◌≢◌, ◌↔◌, ◌≤◌, ◌<◌, ◌++◌, ℕ, [], None, Some, List, false};
 ghost use Rattle.std.specs.Prelude.{Err, IfErr, IfOk, Ok, drop, length, take};
 ghost use Rattle.std.specs.Option.{option_map};
+ghost use Rattle.relay_report.specs.Report.{reporter_of};
 ghost use Rattle.relay_attempts.specs.Attempts.{RefusesToStart, RefusesToStartAtMost, Starts, StartsAtMost};
 ghost use Rattle.relay_attempts.specs.Reply.{CutsLoss, CutsReply, EndsBy, HasNoRoomAtEnd, HasNoRoomAtLoss};
 ghost use Rattle.relay_attempts.specs.Reply.{IsLost, Told};
@@ -117,12 +118,12 @@ impl<D: Disk> Relay<D> {
         ensures cut { (changes : List Change) (told : Told) (written : List ℕ)
             → Keeps D.honest D.words self.old.node.records changes
             → HandsTo changes self.old attempt told written → result ≡ Err NodeFault.Stopped
-            → CutsReply D.honest D.words self.old.node.config.host now changes attempt told piece.now
+            → CutsReply D.honest D.words (reporter_of self.old.node.config) now changes attempt told piece.now
             self.new.node.records }
         ensures full { (changes : List Change) (told : Told) (written : List ℕ)
             → Keeps D.honest D.words self.old.node.records changes
             → HandsTo changes self.old attempt told written → result ≡ Err NodeFault.Full
-            → HasNoRoomAtEnd self.old.node.config.host now told piece.now self.old.node.records }
+            → HasNoRoomAtEnd (reporter_of self.old.node.config) now told piece.now self.old.node.records }
         ensures used { IfOk result (UsesReply D.words now attempt (length piece.now) self.old self.new) }
         ensures only { OnlyHop self.old self.new attempt }
         ensures refused { RefusesHop D.words attempt self.old self.new result }
@@ -173,18 +174,18 @@ impl<D: Disk> Relay<D> {
         ensures lost { (changes : List Change) (told : Told) (written : List ℕ)
             → Keeps D.honest D.words self.old.node.records changes
             → HandsTo changes self.old attempt told written
-            → IfOk result (IsLost D.honest D.words self.old.node.config.host now changes attempt told
+            → IfOk result (IsLost D.honest D.words (reporter_of self.old.node.config) now changes attempt told
             self.old.node.records self.new.node.records self.new.node.attempts) }
         ensures cut { (changes : List Change) (told : Told) (written : List ℕ)
             → Keeps D.honest D.words self.old.node.records changes
             → HandsTo changes self.old attempt told written → result ≡ Err NodeFault.Stopped
-            → CutsLoss D.honest D.words self.old.node.config.host now changes attempt told
+            → CutsLoss D.honest D.words (reporter_of self.old.node.config) now changes attempt told
             self.new.node.records }
         ensures full { (changes : List Change) (told : Told) (written : List ℕ)
             → Keeps D.honest D.words self.old.node.records changes
             → HandsTo changes self.old attempt told written → result ≡ Err NodeFault.Full
-            → HasNoRoomAtLoss self.old.node.config.host now told self.old.node.records }
-        ensures ends { IfOk result (EndsBy D.words self.old.node.config.host now attempt
+            → HasNoRoomAtLoss (reporter_of self.old.node.config) now told self.old.node.records }
+        ensures ends { IfOk result (EndsBy D.words (reporter_of self.old.node.config) now attempt
             self.old.node.attempts self.new.node.attempts self.old.node.records self.new.node.records) }
         ensures gone { slot_at self.new.hops attempt ≡ None }
         ensures only { OnlyHop self.old self.new attempt }

@@ -1,4 +1,5 @@
 ghost use Rattle.std.specs.Prelude.{◌≡◌, List, None, Err, IfErr, IfOk, MatchResult, OnOk, false, true};
+ghost use Rattle.relay_report.specs.Report.{reporter_of};
 ghost use Rattle.relay_attempts.specs.Outcomes.{AddsUnroutable, CutsUnroutable, EndsUnroutable, RefusesToGiveUp};
 ghost use Rattle.relay_book.specs.declared.change.Change.{Change};
 ghost use Rattle.relay_book.specs.StandsFor.{StandsFor};
@@ -155,18 +156,19 @@ impl<D: Disk> Relay<D> {
     /// As [`Node::give_up_unroutable`]. All connections stay.
     pub fn give_up_unroutable(&mut self, message: u64, now: Moment) -> Result<u64, NodeFault>
         ensures gives_up { (changes : List Change) → Keeps D.honest D.words self.old.node.records changes
-            → IfOk result (AddsUnroutable D.honest D.words self.old.node.config.host self.old.node.config.routes
+            → IfOk result (AddsUnroutable D.honest D.words (reporter_of self.old.node.config)
+            self.old.node.config.routes
             message now changes self.old.node.records self.new.node.records) }
         ensures cut { (changes : List Change) → Keeps D.honest D.words self.old.node.records changes
             → result ≡ Err NodeFault.Stopped
-            → CutsUnroutable D.honest D.words self.old.node.config.host self.old.node.config.routes message now
+            → CutsUnroutable D.honest D.words (reporter_of self.old.node.config) self.old.node.config.routes message now
             changes self.old.node.records self.new.node.records }
-        ensures ends { IfOk result (EndsUnroutable D.words self.old.node.config.host self.old.node.config.routes
-            message now self.old.node.records self.new.node.records) }
+        ensures ends { IfOk result (EndsUnroutable D.words (reporter_of self.old.node.config)
+            self.old.node.config.routes message now self.old.node.records self.new.node.records) }
         ensures rest { (self.new.node.config ≡ self.old.node.config) × (self.new.node.seats ≡ self.old.node.seats)
             × (self.new.node.attempts ≡ self.old.node.attempts) }
         ensures connections { (self.new.clients ≡ self.old.clients) × (self.new.hops ≡ self.old.hops) }
-        ensures refused { IfErr result (RefusesToGiveUp D.words self.old.node.config.host
+        ensures refused { IfErr result (RefusesToGiveUp D.words (reporter_of self.old.node.config)
             self.old.node.config.routes message now self.old.node.records self.new.node.records) }
         ensures stopped { self.old.node.records.spool.live ≡ false
             → (result ≡ Err NodeFault.Stopped) × (self.new.node ≡ self.old.node) }
