@@ -48,6 +48,7 @@ use Rattle.relay_world.proofs.PlaceLemmas.{passing_there}
 use Rattle.relay_world.proofs.PieceLemmas.{same_number}
 use Rattle.relay_world.proofs.RecordLemmas.{HasTakenOutcome, TakesOutcome, outcome_added, outcome_taken}
 use Rattle.relay_world.proofs.TakerLemmas.{AddsTo, HasTakers, ListsAdd, lists_put, lists_stay}
+use Rattle.relay_report.specs.Report.{Reporter, reporter_of}
 
 -- what leaves is no accept
 pub none_accepts : (message report number places : ℕ) (left : List (ℕ × PlaceStep))
@@ -134,7 +135,7 @@ module _ {D : Type 0} (honest : Type 0) (words : DiskWords D) (old new : World D
   Takers node before one = HasTakers honest words old new lists later bound once now node before one
 
   -- a node's list has an outcome more, which was noted
-  outcome_adds : (node : ℕ) (host : Host D) (after : NodeState D) (noted : Noted) (name : List ℕ) (outcome : Outcome)
+  outcome_adds : (node : ℕ) (host : Host D) (after : NodeState D) (noted : Noted) (name : Reporter) (outcome : Outcome)
       (number : ℕ) (changes : List Change) → slice_get lists node ≡ Some changes → slice_get old.hosts node ≡ Some host
       → IsPut old.hosts new.hosts node
       (record host { state = Up after; records = host.records ++ noted.octets ∷ [] })
@@ -156,7 +157,7 @@ module _ {D : Type 0} (honest : Type 0) (words : DiskWords D) (old new : World D
 
   -- an attempt that has ended adds its outcome
   pub ended_adds : (number change_now : ℕ) (of : AttemptOf old number) (after : NodeState D) (fate : Fate)
-      (noted : Noted) (name : List ℕ) (outcome : Outcome) (changes : List Change)
+      (noted : Noted) (name : Reporter) (outcome : Outcome) (changes : List Change)
       → slice_get lists of.attempt.node ≡ Some changes → (fate ≡ Replied change_now) ⊎ (fate ≡ Lost change_now)
       → TakesOutcome honest words name changes outcome after.records change_now noted
       → HasTakenOutcome old new number of after fate change_now noted → Adds
@@ -214,7 +215,7 @@ module _ {D : Type 0} (honest : Type 0) (words : DiskWords D) (old new : World D
       told = told_by reads.of.attempt knows.was.accept (take reads.of.link.down_read reads.of.link.down) knows.was.output
 
       by : (made : Option ℕ)
-          → RepliesBy honest words reads.of.before.config.host old.clock knows.changes reads.of.slot told
+          → RepliesBy honest words (reporter_of reads.of.before.config) old.clock knows.changes reads.of.slot told
           (waiting_down count reads.of.link) reads.of.before reads.after reads.replied made
           → RecordsRead old new number reads.of reads.after made → Adds
       by None on records =
@@ -223,7 +224,7 @@ module _ {D : Type 0} (honest : Type 0) (words : DiskWords D) (old new : World D
       by (Some change_now) ended records =
           ended_adds number change_now reads.of (without_note reads.after) (Replied change_now) records.noted
           reads.of.before.config.host (outcome_at old.clock told ended.verdicts) knows.changes knows.list_at (inl refl)
-          (outcome_added honest words reads.of.before.config.host knows.changes (outcome_at old.clock told ended.verdicts)
+          (outcome_added honest words (reporter_of reads.of.before.config) knows.changes (outcome_at old.clock told ended.verdicts)
           reads.replied.used change_now reads.after records.noted records.note_is ended.adds)
           (outcome_taken old new number reads.of reads.after (Replied change_now) change_now records)
 
@@ -233,7 +234,7 @@ module _ {D : Type 0} (honest : Type 0) (words : DiskWords D) (old new : World D
       ended_adds number change_now loses.of (without_note loses.after) (Lost change_now) loses.records.noted
       loses.of.before.config.host (outcome_at old.clock told (all_later told.places)) knows.changes knows.list_at
       (inr refl)
-      (outcome_added honest words loses.of.before.config.host knows.changes
+      (outcome_added honest words (reporter_of loses.of.before.config) knows.changes
       (outcome_at old.clock told (all_later told.places)) 0 change_now loses.after loses.records.noted
       loses.records.note_is ended.adds)
       (outcome_taken old new number loses.of loses.after (Lost change_now) change_now loses.records)
@@ -244,7 +245,7 @@ module _ {D : Type 0} (honest : Type 0) (words : DiskWords D) (old new : World D
       told : Told
       told = told_by loses.of.attempt knows.was.accept (take loses.of.link.down_read loses.of.link.down) knows.was.output
 
-      ended : IsLost honest words loses.of.before.config.host old.clock knows.changes loses.of.slot told
+      ended : IsLost honest words (reporter_of loses.of.before.config) old.clock knows.changes loses.of.slot told
           loses.of.before.records loses.after.records loses.after.attempts change_now
       ended = loses.loses knows.changes told knows.its_node.keeps
           (subst (λ (c : Config). Tells c.host knows.changes loses.of.before.attempts loses.of.slot told)
@@ -271,13 +272,13 @@ module _ {D : Type 0} (honest : Type 0) (words : DiskWords D) (old new : World D
       its_node : NodeKeeps honest words gives.host.config gives.before listed.0
       its_node = node_kept honest words gives.host listed.0 gives.before kept gives.up
 
-      given_up : AddsUnroutable honest words gives.before.config.host gives.before.config.routes message old.clock listed.0
+      given_up : AddsUnroutable honest words (reporter_of gives.before.config) gives.before.config.routes message old.clock listed.0
           gives.before.records gives.after.records change_now
       given_up = gives.gives_up listed.0 its_node.keeps
 
-      takes : TakesOutcome honest words gives.before.config.host listed.0
+      takes : TakesOutcome honest words (reporter_of gives.before.config) listed.0
           (unroutable gives.before.config.routes message old.clock given_up.message) (without_note gives.after).records
           change_now gives.noted
-      takes = outcome_added honest words gives.before.config.host listed.0
+      takes = outcome_added honest words (reporter_of gives.before.config) listed.0
           (unroutable gives.before.config.routes message old.clock given_up.message) 0 change_now gives.after gives.noted
           gives.note_is given_up.adds

@@ -14,7 +14,7 @@ use Rattle.relay_book.specs.declared.fate.Way.TheVariants.{ByTransfer, ByEnd}
 use Rattle.relay_book.specs.declared.fate.Fate.TheVariants.{Waits, Late, Failed}
 use Rattle.relay_book.specs.DueReport.{fate_of, lateness, patience, way_of}
 use Rattle.relay_book.specs.Marks.{LeavesAt, change_at}
-use Rattle.relay_report.specs.Report.{Reported}
+use Rattle.relay_report.specs.Report.{Reported, Reporter}
 use Rattle.relay_world.specs.Bound.{ReportsBehind}
 use Rattle.relay_world.specs.Custody.{HasCause, LeftFor, changes_before}
 
@@ -50,25 +50,25 @@ has_cause accepted at ByTransfer NoRoute leaves = not_end leaves
 has_cause accepted at ByEnd NoRoute leaves = tt
 
 -- each change of a list has the report that is due after those before it
-reported_at : (host : List ℕ) (front changes : List Change) (n : ℕ) (change : Change) → ReportsBehind host front changes
-    → slice_get changes n ≡ Some change → Reported host (front ++ take n changes) change
-reported_at host front [] n change all found = absurd (false≢true (ap is_some found))
-reported_at host front (first ∷ changes) zero change all found =
-    subst (λ l. Reported host l change) (sym (append-nil front))
-    (subst (λ c. Reported host front c) (same_Some first change found) all.0)
-reported_at host front (first ∷ changes) (suc n) change all found =
-    subst (λ l. Reported host l change) (append_assoc front (first ∷ []) (take n changes))
-    (reported_at host (front ++ first ∷ []) changes n change all.1 found)
+reported_at : (reporter : Reporter) (front changes : List Change) (n : ℕ) (change : Change) → ReportsBehind reporter front changes
+    → slice_get changes n ≡ Some change → Reported reporter (front ++ take n changes) change
+reported_at reporter front [] n change all found = absurd (false≢true (ap is_some found))
+reported_at reporter front (first ∷ changes) zero change all found =
+    subst (λ l. Reported reporter l change) (sym (append-nil front))
+    (subst (λ c. Reported reporter front c) (same_Some first change found) all.0)
+reported_at reporter front (first ∷ changes) (suc n) change all found =
+    subst (λ l. Reported reporter l change) (append_assoc front (first ∷ []) (take n changes))
+    (reported_at reporter (front ++ first ∷ []) changes n change all.1 found)
 
-reported_by : (host : List ℕ) (changes : List Change) (at : ℕ) (change : Change) → ReportsBehind host [] changes
-    → change_at changes at ≡ Some change → Reported host (changes_before at changes) change
-reported_by host changes zero change all found = absurd (false≢true (ap is_some found))
-reported_by host changes (suc n) change all found = reported_at host [] changes n change all found
+reported_by : (reporter : Reporter) (changes : List Change) (at : ℕ) (change : Change) → ReportsBehind reporter [] changes
+    → change_at changes at ≡ Some change → Reported reporter (changes_before at changes) change
+reported_by reporter changes zero change all found = absurd (false≢true (ap is_some found))
+reported_by reporter changes (suc n) change all found = reported_at reporter [] changes n change all found
 
-pub left_for : (host : List ℕ) (changes : List Change) (at number place : ℕ) (way : Way) → ReportsBehind host [] changes
-    → LeavesAt changes at number place way → LeftFor host changes at number place way
-left_for host changes at number place way all leaves = record {
+pub left_for : (reporter : Reporter) (changes : List Change) (at number place : ℕ) (way : Way) → ReportsBehind reporter [] changes
+    → LeavesAt changes at number place way → LeftFor reporter changes at number place way
+left_for reporter changes at number place way all leaves = record {
   leaves = leaves;
   cause = has_cause leaves.accept.at leaves.outcome.at way leaves.verdict leaves.leaves;
-  reported = reported_by host changes at (change.Outcome leaves.outcome) all leaves.change;
+  reported = reported_by reporter changes at (change.Outcome leaves.outcome) all leaves.change;
 }

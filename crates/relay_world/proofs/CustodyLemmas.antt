@@ -14,6 +14,7 @@ use Rattle.relay_world.specs.Custody.{CustodyIsKept}
 use Rattle.relay_world.specs.World.{Host, Up}
 use Rattle.relay_world.proofs.AcknowledgedLemmas.{acknowledged_added}
 use Rattle.relay_world.proofs.CauseLemmas.{left_for}
+use Rattle.relay_report.specs.Report.{reporter_of}
 
 module _ {D : Type 0} (honest : Type 0) (words : DiskWords D) where
   -- a node that is up keeps its list
@@ -40,5 +41,5 @@ module _ {D : Type 0} (honest : Type 0) (words : DiskWords D) where
         images = λ is standing up. (up_keeps host changes keeps standing up).images is;
         images_down = λ is disk undecided down.
             subst (λ state. StateKeeps honest words host.config state changes) down keeps.holds is;
-        left = λ at number place way leaves. left_for host.config.host changes at number place way keeps.reports leaves;
+        left = λ at number place way leaves. left_for (reporter_of host.config) changes at number place way keeps.reports leaves;
       }

@@ -19,6 +19,7 @@ use Rattle.relay_world.specs.World.{World}
 use Rattle.relay_world.proofs.AttemptLemmas.{KnowsAttempt, known}
 use Rattle.relay_world.proofs.OpenLemmas.{list_there, node_kept}
 use Rattle.relay_world.proofs.TalkLemmas.{its_node, listed, says_before, was}
+use Rattle.relay_report.specs.Report.{reporter_of}
 
 none_less : (left : Option ℕ) → left ≡ option_map (λ calls. calls - 0) left
 none_less None = refl
@@ -69,7 +70,7 @@ module _ {D : Type 0} (honest : Type 0) (words : DiskWords D) (old new : World D
       told = told_by read.of.attempt knows.was.accept (take read.of.link.down_read read.of.link.down) knows.was.output
 
       by : (made : Option ℕ)
-          → RepliesBy honest words read.of.before.config.host old.clock knows.changes read.of.slot told
+          → RepliesBy honest words (reporter_of read.of.before.config) old.clock knows.changes read.of.slot told
           (waiting_down count read.of.link) read.of.before read.after read.replied made
           → CountsDown words (calls_of made) read.of.before read.after
       by None on = same_count words read.of.before.records read.after.records on.same
@@ -85,7 +86,7 @@ module _ {D : Type 0} (honest : Type 0) (words : DiskWords D) (old new : World D
       told : Told
       told = told_by lost.of.attempt knows.was.accept (take lost.of.link.down_read lost.of.link.down) knows.was.output
 
-      ended : IsLost honest words lost.of.before.config.host old.clock knows.changes lost.of.slot told
+      ended : IsLost honest words (reporter_of lost.of.before.config) old.clock knows.changes lost.of.slot told
           lost.of.before.records lost.after.records lost.after.attempts change
       ended = lost.loses knows.changes told knows.its_node.keeps
           (subst (λ (c : Config). Tells c.host knows.changes lost.of.before.attempts lost.of.slot told)
@@ -104,7 +105,7 @@ module _ {D : Type 0} (honest : Type 0) (words : DiskWords D) (old new : World D
       keeps : NodeKeeps honest words given.host.config given.before there.0
       keeps = node_kept honest words given.host there.0 given.before kept given.up
 
-      given_up : AddsUnroutable honest words given.before.config.host given.before.config.routes message old.clock
+      given_up : AddsUnroutable honest words (reporter_of given.before.config) given.before.config.routes message old.clock
           there.0 given.before.records given.after.records change
       given_up = given.gives_up there.0 keeps.keeps
 

@@ -24,6 +24,7 @@ use Rattle.relay_world.proofs.MoveLemmas.{Joins, Moves, moved_keeps, same_attemp
 use Rattle.relay_world.proofs.RecordLemmas.{Recording, TakesOutcome, accepts_same, keeps_now, lines_now, other_steps, outcome_added, outcome_of_host, steps_now}
 use Rattle.relay_world.proofs.UndecidedLemmas.{up_not_down}
 use Rattle.relay_world.proofs.OpenLemmas.{list_there, node_kept, same_Up}
+use Rattle.relay_report.specs.Report.{reporter_of}
 
 -- no link at all
 nowhere : Link
@@ -55,18 +56,18 @@ giving_up_keeps {D} honest words old new lists node message change_now bound giv
     its_node : NodeKeeps honest words host.config gives.before changes
     its_node = node_kept honest words host changes gives.before kept gives.up
 
-    given_up : AddsUnroutable honest words gives.before.config.host gives.before.config.routes message old.clock changes
+    given_up : AddsUnroutable honest words (reporter_of gives.before.config) gives.before.config.routes message old.clock changes
         gives.before.records gives.after.records change_now
     given_up = gives.gives_up changes its_node.keeps
 
     outcome : Outcome
     outcome = unroutable gives.before.config.routes message old.clock given_up.message
 
-    takes : TakesOutcome honest words host.config.host changes outcome (without_note gives.after).records change_now
+    takes : TakesOutcome honest words (reporter_of host.config) changes outcome (without_note gives.after).records change_now
         gives.noted
-    takes = outcome_of_host honest words gives.before.config.host host.config.host changes outcome
-        (without_note gives.after).records change_now gives.noted (ap (λ (c : Config). c.host) its_node.config_is)
-        (outcome_added honest words gives.before.config.host changes outcome 0 change_now gives.after gives.noted
+    takes = outcome_of_host honest words (reporter_of gives.before.config) (reporter_of host.config) changes outcome
+        (without_note gives.after).records change_now gives.noted (ap (λ (c : Config). reporter_of c) its_node.config_is)
+        (outcome_added honest words (reporter_of gives.before.config) changes outcome 0 change_now gives.after gives.noted
         gives.note_is given_up.adds)
 
     added : Change

@@ -26,14 +26,15 @@ use Rattle.relay_world.proofs.LoseLemmas.{dropping_keeps}
 use Rattle.relay_world.proofs.RecordLemmas.{HasTakenOutcome, TakesOutcome}
 use Rattle.relay_world.proofs.ReplyLemmas.{Reading, read_nothing, read_outcome, tells_was, told_was}
 use Rattle.relay_world.proofs.UnsettledLemmas.{Unsettled, awaited_kept, awaits_there, last_note, list_there_is, unsettled_grows, unsettled_stays}
+use Rattle.relay_report.specs.Report.{Reporter, reporter_of}
 
 -- an outcome that was staged after changes, with this note after those of the row
-staged_takes : {D : Type 0} (honest : Type 0) (words : DiskWords D) (host : List ℕ) (changes pending : List Change)
+staged_takes : {D : Type 0} (honest : Type 0) (words : DiskWords D) (reporter : Reporter) (changes pending : List Change)
     (row left : Row) (outcome : Outcome) (used number : ℕ) (records : Kept D) (noted : Noted)
     → AreNotes (queue_of changes) pending row.notes → left.notes ≡ row.notes ++ noted ∷ []
-    → StagesOutcome honest words host changes pending row outcome used records left number
-    → TakesOutcome ⊥ words host (changes ++ pending) outcome records number noted
-staged_takes honest words host changes pending row left outcome used number records noted were notes stages =
+    → StagesOutcome honest words reporter changes pending row outcome used records left number
+    → TakesOutcome ⊥ words reporter (changes ++ pending) outcome records number noted
+staged_takes honest words reporter changes pending row left outcome used number records noted were notes stages =
     let one : Change = reported_as outcome stages.report in
     let next : NotesNext (fold step (queue_of changes) pending) one (encode one) noted.used noted =
     last_note (queue_of changes) pending one row.notes noted were
@@ -84,7 +85,7 @@ module _ {D : Type 0} (honest : Type 0) (words : DiskWords D) (old : World D) (l
 
     abbrev pub Replies : Option ℕ → Type 0
     Replies made =
-        RepliesInto honest words of.before.config.host at changes unsettled.pending of.slot told row
+        RepliesInto honest words (reporter_of of.before.config) at changes unsettled.pending of.slot told row
         (waiting_down piece.count of.link) of.before reads.after left reads.replied made
 
     pub replies : Replies reads.replied.change
@@ -104,14 +105,14 @@ module _ {D : Type 0} (honest : Type 0) (words : DiskWords D) (old : World D) (l
 
     -- they have ended the attempt
     module _ (change_now : ℕ)
-        (ended : HasEndedBehind honest words of.before.config.host changes unsettled.pending row at of.slot told
+        (ended : HasEndedBehind honest words (reporter_of of.before.config) changes unsettled.pending row at of.slot told
         (waiting_down piece.count of.link) reads.after.records left reads.after.attempts reads.replied change_now)
         (ends : EndsInto honest words world next piece.number of reads.after row left change_now) where
       abbrev pub outcome : Outcome
       outcome = outcome_at at told ended.verdicts
 
-      pub takes : TakesOutcome ⊥ words of.before.config.host list outcome reads.after.records change_now ends.noted
-      takes = staged_takes honest words of.before.config.host changes unsettled.pending row left outcome
+      pub takes : TakesOutcome ⊥ words (reporter_of of.before.config) list outcome reads.after.records change_now ends.noted
+      takes = staged_takes honest words (reporter_of of.before.config) changes unsettled.pending row left outcome
           reads.replied.used change_now reads.after.records ends.noted awaits_before.notes
           (ends.is_noted changes unsettled.pending awaits_before) ended.stages
 

@@ -21,6 +21,7 @@ use Rattle.relay_world.proofs.ClaimLemmas.{known_attempt, there_too}
 use Rattle.relay_world.proofs.FrameLemmas.{get_last}
 use Rattle.relay_world.proofs.GrowLemmas.{one_more}
 use Rattle.relay_world.proofs.OpenLemmas.{list_there, node_kept}
+use Rattle.relay_report.specs.Report.{reporter_of}
 
 module _ {D : Type 0} (honest : Type 0) (words : DiskWords D) (old new : World D) (lists later : List (List Change))
     (node change_now : ℕ) (bound : IsBound honest words old lists) (invents : Invents honest words old new node change_now)
@@ -34,7 +35,7 @@ module _ {D : Type 0} (honest : Type 0) (words : DiskWords D) (old new : World D
   its_node : NodeKeeps honest words invents.host.config invents.before listed.0
   its_node = node_kept honest words invents.host listed.0 invents.before kept invents.up
 
-  adds : AddsOutcome honest words invents.host.config.host listed.0 invents.outcome 0 invents.after.records change_now
+  adds : AddsOutcome honest words (reporter_of invents.host.config) listed.0 invents.outcome 0 invents.after.records change_now
   adds = invents.adds listed.0 its_node.keeps
 
   abbrev one : Change

@@ -29,6 +29,7 @@ use Rattle.relay_world.proofs.HangUpLemmas.{get_map, link_map}
 use Rattle.relay_world.proofs.HearLemmas.{closed_gone}
 use Rattle.relay_world.proofs.LeakLemmas.{AllGoOn, AllRun, attempt_next, attempt_put, attempts_same, dropped_put, hosts_same, link_next, link_put, links_same, moved, now_down, other_run, other_seat, same_runs, same_seats, session_put, still_up}
 use Rattle.relay_world.proofs.OpenLemmas.{list_there, node_kept, off_by, same_Up}
+use Rattle.relay_report.specs.Report.{reporter_of}
 
 -- no slot of a free table is taken
 free_none : {A : Type 0} (slots : List (Option A)) → AreFree slots → (number : ℕ) → slot_at slots number ≡ None
@@ -246,7 +247,7 @@ module _ {D : Type 0} (honest : Type 0) (words : DiskWords D) (old new : World D
         go_on = link_put old new number is.of.link (read_link is.of.link is.replied) is.of.link_is refl is.links
 
         by : (made : Option ℕ)
-            → RepliesBy honest words is.of.before.config.host old.clock knows.changes is.of.slot told
+            → RepliesBy honest words (reporter_of is.of.before.config) old.clock knows.changes is.of.slot told
             (waiting_down count is.of.link) is.of.before is.after is.replied made
             → RecordsRead old new number is.of is.after made → NothingLeaks new
         by None on records =
@@ -296,7 +297,7 @@ module _ {D : Type 0} (honest : Type 0) (words : DiskWords D) (old new : World D
         told : Told
         told = told_by is.of.attempt knows.was.accept (take is.of.link.down_read is.of.link.down) knows.was.output
 
-        ended : IsLost honest words is.of.before.config.host old.clock knows.changes is.of.slot told
+        ended : IsLost honest words (reporter_of is.of.before.config) old.clock knows.changes is.of.slot told
             is.of.before.records is.after.records is.after.attempts change_now
         ended = is.loses knows.changes told knows.its_node.keeps
             (subst (λ (c : Config). Tells c.host knows.changes is.of.before.attempts is.of.slot told)

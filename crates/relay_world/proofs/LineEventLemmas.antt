@@ -42,6 +42,7 @@ use Rattle.relay_world.proofs.HeldLemmas.{last_fits}
 use Rattle.relay_world.proofs.LineLemmas.{accepted, ended_cause, made_by, recorded, sources_same}
 use Rattle.relay_world.proofs.OpenLemmas.{list_there, node_kept}
 use Rattle.relay_world.proofs.RecordLemmas.{TakesOutcome, outcome_added}
+use Rattle.relay_report.specs.Report.{reporter_of}
 
 -- the outcome by which a message's places without a hop are given up says so of each
 says_no_hop : (config : Config) (changes : List Change) (number at : ℕ) (given : Message) (report : List ℕ)
@@ -116,7 +117,7 @@ module _ {D : Type 0} (honest : Type 0) (words : DiskWords D) (old new : World D
       told = told_by reads.of.attempt knows.was.accept (take reads.of.link.down_read reads.of.link.down) knows.was.output
 
       by : (made : Option ℕ)
-          → RepliesBy honest words reads.of.before.config.host old.clock knows.changes reads.of.slot told
+          → RepliesBy honest words (reporter_of reads.of.before.config) old.clock knows.changes reads.of.slot told
           (waiting_down count reads.of.link) reads.of.before reads.after reads.replied made
           → RecordsRead old new number reads.of reads.after made → HasSources new later
       by None on records = same records.1
@@ -147,7 +148,7 @@ module _ {D : Type 0} (honest : Type 0) (words : DiskWords D) (old new : World D
       told : Told
       told = told_by loses.of.attempt knows.was.accept (take loses.of.link.down_read loses.of.link.down) knows.was.output
 
-      ended : IsLost honest words loses.of.before.config.host old.clock knows.changes loses.of.slot told
+      ended : IsLost honest words (reporter_of loses.of.before.config) old.clock knows.changes loses.of.slot told
           loses.of.before.records loses.after.records loses.after.attempts change_now
       ended = loses.loses knows.changes told knows.its_node.keeps
           (subst (λ (c : Config). Tells c.host knows.changes loses.of.before.attempts loses.of.slot told)
@@ -177,14 +178,14 @@ module _ {D : Type 0} (honest : Type 0) (words : DiskWords D) (old new : World D
       its_node : NodeKeeps honest words gives.host.config gives.before listed.0
       its_node = node_kept honest words gives.host listed.0 gives.before kept gives.up
 
-      given_up : AddsUnroutable honest words gives.before.config.host gives.before.config.routes message old.clock listed.0
+      given_up : AddsUnroutable honest words (reporter_of gives.before.config) gives.before.config.routes message old.clock listed.0
           gives.before.records gives.after.records change_now
       given_up = gives.gives_up listed.0 its_node.keeps
 
-      takes : TakesOutcome honest words gives.before.config.host listed.0
+      takes : TakesOutcome honest words (reporter_of gives.before.config) listed.0
           (unroutable gives.before.config.routes message old.clock given_up.message) (without_note gives.after).records
           change_now gives.noted
-      takes = outcome_added honest words gives.before.config.host listed.0
+      takes = outcome_added honest words (reporter_of gives.before.config) listed.0
           (unroutable gives.before.config.routes message old.clock given_up.message) 0 change_now gives.after gives.noted
           gives.note_is given_up.adds
 

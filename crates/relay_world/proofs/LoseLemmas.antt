@@ -24,6 +24,7 @@ use Rattle.relay_world.proofs.FateLemmas.{dropped_ends, lost_ends}
 use Rattle.relay_world.proofs.OutcomeLemmas.{Ending, GoesOnAs, found_here, message_now, recorded}
 use Rattle.relay_world.proofs.RecordLemmas.{TakesOutcome, outcome_added, outcome_of_host, outcome_taken}
 use Rattle.relay_world.proofs.OpenLemmas.{lines_within}
+use Rattle.relay_report.specs.Report.{reporter_of}
 
 -- a link that is the same
 same_put : (old new : List Link) (number : ℕ) (link : Link) → new ≡ old → link_at old number ≡ Some link
@@ -98,16 +99,16 @@ losing_keeps {D} honest words old new lists number change_now bound lost = (
     its_host : of.before.config.host ≡ of.host.config.host
     its_host = ap (λ (c : Config). c.host) knows.its_node.config_is
 
-    ended : IsLost honest words of.before.config.host old.clock knows.changes of.slot told_was of.before.records
+    ended : IsLost honest words (reporter_of of.before.config) old.clock knows.changes of.slot told_was of.before.records
         lost.after.records lost.after.attempts change_now
     ended = lost.loses knows.changes told_was knows.its_node.keeps
         (subst (λ h. Tells h knows.changes of.before.attempts of.slot told_was) (sym its_host) knows.tells)
 
-    takes : TakesOutcome honest words of.host.config.host knows.changes outcome (without_note lost.after).records
+    takes : TakesOutcome honest words (reporter_of of.host.config) knows.changes outcome (without_note lost.after).records
         change_now lost.records.noted
-    takes = outcome_of_host honest words of.before.config.host of.host.config.host knows.changes outcome
-        (without_note lost.after).records change_now lost.records.noted its_host
-        (outcome_added honest words of.before.config.host knows.changes outcome 0 change_now lost.after
+    takes = outcome_of_host honest words (reporter_of of.before.config) (reporter_of of.host.config) knows.changes outcome
+        (without_note lost.after).records change_now lost.records.noted (ap (λ (c : Config). reporter_of c) knows.its_node.config_is)
+        (outcome_added honest words (reporter_of of.before.config) knows.changes outcome 0 change_now lost.after
         lost.records.noted lost.records.note_is ended.adds)
 
     ending : Ending honest words old new lists number bound of knows of.link [] (without_note lost.after) outcome

@@ -23,6 +23,7 @@ use Rattle.relay_world.specs.Steps.{waiting_down, waiting_up}
 use Rattle.relay_world.specs.World.{World}
 use Rattle.relay_world.proofs.GroupLemmas.{first, hearing_all, settled, unsettled, awaits as last_awaits}
 use Rattle.relay_world.proofs.ReopenGroupLemmas.{none_of}
+use Rattle.relay_report.specs.Report.{reporter_of}
 
 -- as many bodies as there were are of as many changes
 none_more : (pending more : List Change) → map encode (pending ++ more) ≡ map encode pending → length more ≡ 0
@@ -54,7 +55,7 @@ losing_outcome_breaks {D} honest words at old new node piece row left changes pe
     by reads.replied.change (reads.replies changes pending told awaits tells)
   where
     by : (made : Option ℕ)
-        → RepliesInto honest words reads.of.before.config.host at changes pending reads.of.slot told row
+        → RepliesInto honest words (reporter_of reads.of.before.config) at changes pending reads.of.slot told row
         (waiting_down piece.count reads.of.link) reads.of.before reads.after left reads.replied made
         → made ≡ None
     by None on = refl

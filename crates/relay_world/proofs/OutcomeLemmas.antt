@@ -24,6 +24,7 @@ use Rattle.relay_world.proofs.AttemptLemmas.{KnowsAttempt}
 use Rattle.relay_world.proofs.AttemptMoveLemmas.{attempt_moved}
 use Rattle.relay_world.proofs.RecordLemmas.{HasTakenOutcome, Recording, TakesOutcome, accepts_same, found_now, keeps_now, lines_now, other_steps, steps_now}
 use Rattle.relay_world.proofs.OpenLemmas.{number_within}
+use Rattle.relay_report.specs.Report.{reporter_of}
 
 -- the attempt's link: more may have been written and read on it, and else it is the same
 pub record GoesOnAs (link now : Link) (more : List ℕ) : Type 0 where
@@ -50,7 +51,7 @@ module _ {D : Type 0} (honest : Type 0) (words : DiskWords D) (old new : World D
     pub count : length new.hosts ≡ length old.hosts
     pub message : outcome.message ≡ of.attempt.message
     pub ends : (slot : ℕ) → fate ≡ Running slot → ⊥
-    pub takes : TakesOutcome honest words of.host.config.host knows.changes outcome after.records change_now noted
+    pub takes : TakesOutcome honest words (reporter_of of.host.config) knows.changes outcome after.records change_now noted
     pub taken : HasTakenOutcome old new number of after fate change_now noted
 
   module _ (ending : Ending) where

@@ -16,7 +16,7 @@ use Rattle.relay_book.specs.declared.change.Change.{Change}
 use Rattle.relay_records.specs.Records.{Keeps, Kept}
 use Rattle.relay_node.specs.Attempts.{Tells}
 use Rattle.relay_node.specs.Room.{AnswersMore, refusals}
-use Rattle.relay_report.specs.Report.{Reported}
+use Rattle.relay_report.specs.Report.{Reported, Reporter}
 use Rattle.relay_course.specs.Course.{IsCourse}
 use Rattle.relay_book.specs.declared.change.Verdict.{Verdict}
 use Rattle.relay_world.specs.declared.attempt.Attempt.{Attempt}
@@ -68,13 +68,13 @@ still_numbered said later refused last given more numbered also =
     (all_append _ said.answers (refusals refused ++ given) numbered
     (all_append _ (refusals refused) given (refusals_numbered refused) also))
 
-pub reports_more : (host : List ℕ) (front changes : List Change) (change : Change) → ReportsBehind host front changes
-    → Reported host (front ++ changes) change → ReportsBehind host front (changes ++ change ∷ [])
-reports_more host front [] change reports also = (subst (λ l. Reported host l change) (append-nil front) also, tt)
-reports_more host front (first ∷ changes) change reports also = (
+pub reports_more : (reporter : Reporter) (front changes : List Change) (change : Change) → ReportsBehind reporter front changes
+    → Reported reporter (front ++ changes) change → ReportsBehind reporter front (changes ++ change ∷ [])
+reports_more reporter front [] change reports also = (subst (λ l. Reported reporter l change) (append-nil front) also, tt)
+reports_more reporter front (first ∷ changes) change reports also = (
   reports.0,
-  reports_more host (front ++ first ∷ []) changes change reports.1
-      (subst (λ l. Reported host l change) (sym (append_assoc front (first ∷ []) changes)) also),
+  reports_more reporter (front ++ first ∷ []) changes change reports.1
+      (subst (λ l. Reported reporter l change) (sym (append_assoc front (first ∷ []) changes)) also),
 )
 
 -- a row with another value at a place

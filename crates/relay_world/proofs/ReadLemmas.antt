@@ -12,11 +12,12 @@ use Rattle.relay_world.specs.World.{World}
 use Rattle.relay_world.proofs.AttemptLemmas.{KnowsAttempt, known}
 use Rattle.relay_world.proofs.RecordLemmas.{outcome_added, outcome_taken}
 use Rattle.relay_world.proofs.ReplyLemmas.{Reading, read_nothing, read_outcome, tells_was, told_was}
+use Rattle.relay_report.specs.Report.{reporter_of}
 
 module _ {D : Type 0} (honest : Type 0) (words : DiskWords D) (old new : World D) (lists : List (List Change))
     (number count : ℕ) (bound : IsBound honest words old lists) (read : HasRead honest words old new number count)
     (knows : KnowsAttempt honest words old lists number read.of) where
-  replies : Replies honest words read.of.before.config.host old.clock knows.changes read.of.slot
+  replies : Replies honest words (reporter_of read.of.before.config) old.clock knows.changes read.of.slot
       (told_was honest words old lists number bound read.of knows) (waiting_down count read.of.link) read.of.before
       read.after read.replied
   replies = read.replies knows.changes (told_was honest words old lists number bound read.of knows)
@@ -37,7 +38,7 @@ module _ {D : Type 0} (honest : Type 0) (words : DiskWords D) (old new : World D
 
   -- the attempt has ended
   read_to_end : (change_now : ℕ)
-      → AttemptHasEnded honest words read.of.before.config.host old.clock knows.changes read.of.slot
+      → AttemptHasEnded honest words (reporter_of read.of.before.config) old.clock knows.changes read.of.slot
       (told_was honest words old lists number bound read.of knows) (waiting_down count read.of.link) read.of.before.records
       read.after.records read.after.attempts read.replied change_now
       → RecordsOutcome old new number read.of read.after (RepliedBy change_now) change_now
@@ -46,14 +47,14 @@ module _ {D : Type 0} (honest : Type 0) (words : DiskWords D) (old new : World D
     _,
     read_outcome honest words old lists number bound read.of knows new count (without_note read.after) read.replied
         (reading_by None) old.clock change_now records.noted ended.verdicts ended.course
-        (outcome_added honest words read.of.before.config.host knows.changes
+        (outcome_added honest words (reporter_of read.of.before.config) knows.changes
         (outcome_at old.clock (told_was honest words old lists number bound read.of knows) ended.verdicts)
         read.replied.used change_now read.after records.noted records.note_is ended.adds)
         (outcome_taken old new number read.of read.after (RepliedBy change_now) change_now records),
   )
 
   read_by : (made : Option ℕ)
-      → RepliesBy honest words read.of.before.config.host old.clock knows.changes read.of.slot
+      → RepliesBy honest words (reporter_of read.of.before.config) old.clock knows.changes read.of.slot
       (told_was honest words old lists number bound read.of knows) (waiting_down count read.of.link) read.of.before
       read.after read.replied made
       → RecordsRead old new number read.of read.after made

@@ -15,7 +15,7 @@ use Rattle.relay_book.specs.Record.{encode}
 use Rattle.relay_records.specs.declared.noted.Noted.{Noted}
 use Rattle.relay_records.specs.Note.{IsNoted, is_text}
 use Rattle.relay_records.specs.Records.{Keeps, Kept}
-use Rattle.relay_report.specs.Report.{Reported}
+use Rattle.relay_report.specs.Report.{Reported, Reporter, reporter_of}
 use Rattle.relay_attempts.specs.AddedOutcome.{AddsOutcome, reported_as}
 use Rattle.relay_node.specs.Node.{NodeState}
 use Rattle.relay_world.specs.declared.attempt.Fate.{Fate}
@@ -60,22 +60,22 @@ report_is number [] = refl
 report_is number (octet ∷ report) = refl
 
 -- The outcome was recorded with the report that is due of it, as the change of this number, and is noted so.
-pub record TakesOutcome {D : Type 0} (honest : Type 0) (words : DiskWords D) (host : List ℕ) (changes : List Change)
+pub record TakesOutcome {D : Type 0} (honest : Type 0) (words : DiskWords D) (reporter : Reporter) (changes : List Change)
     (outcome : Outcome) (records : Kept D) (number : ℕ) (noted : Noted) : Type 0 where
   pub number_is : number ≡ length changes + 1
   pub report : List ℕ
-  pub reported : Reported host changes (reported_as outcome report)
+  pub reported : Reported reporter changes (reported_as outcome report)
   pub keeps : Keeps honest words records (changes ++ reported_as outcome report ∷ [])
   pub octets : noted.octets ≡ encode (reported_as outcome report)
   pub left : noted.left.items ≡ place_steps (queue_of changes) (reported_as outcome report)
   pub queues : noted.report ≡ is_text report
 
 -- an outcome that was added, whose note was taken
-pub outcome_added : {D : Type 0} (honest : Type 0) (words : DiskWords D) (host : List ℕ) (changes : List Change)
+pub outcome_added : {D : Type 0} (honest : Type 0) (words : DiskWords D) (reporter : Reporter) (changes : List Change)
     (outcome : Outcome) (used number : ℕ) (after : NodeState D) (noted : Noted) → after.records.noted ≡ Some noted
-    → AddsOutcome honest words host changes outcome used after.records number
-    → TakesOutcome honest words host changes outcome (without_note after).records number noted
-outcome_added honest words host changes outcome used number after noted note_is adds =
+    → AddsOutcome honest words reporter changes outcome used after.records number
+    → TakesOutcome honest words reporter changes outcome (without_note after).records number noted
+outcome_added honest words reporter changes outcome used number after noted note_is adds =
     let is_noted : IsNoted (Some noted) changes (reported_as outcome adds.report) used =
     subst (λ n. IsNoted n changes (reported_as outcome adds.report) used) note_is adds.adds.noted in
     let same : is_noted.note ≡ noted = sym (same_Some noted is_noted.note is_noted.is) in
@@ -90,15 +90,15 @@ outcome_added honest words host changes outcome used number after noted note_is 
       queues = ap (λ (n : Noted). n.report) (sym same) ∙ is_noted.report;
     }
 
--- the same of a host by another name for it
-abbrev pub outcome_of_host : {D : Type 0} (honest : Type 0) (words : DiskWords D) (host other : List ℕ)
-    (changes : List Change) (outcome : Outcome) (records : Kept D) (number : ℕ) (noted : Noted) → host ≡ other
-    → TakesOutcome honest words host changes outcome records number noted
+-- the same of a reporter by another name for it
+abbrev pub outcome_of_host : {D : Type 0} (honest : Type 0) (words : DiskWords D) (reporter other : Reporter)
+    (changes : List Change) (outcome : Outcome) (records : Kept D) (number : ℕ) (noted : Noted) → reporter ≡ other
+    → TakesOutcome honest words reporter changes outcome records number noted
     → TakesOutcome honest words other changes outcome records number noted
-outcome_of_host honest words host other changes outcome records number noted same takes = record {
+outcome_of_host honest words reporter other changes outcome records number noted same takes = record {
   number_is = takes.number_is;
   report = takes.report;
-  reported = subst (λ h. Reported h changes (reported_as outcome takes.report)) same takes.reported;
+  reported = subst (λ (r : Reporter). Reported r changes (reported_as outcome takes.report)) same takes.reported;
   keeps = takes.keeps;
   octets = takes.octets;
   left = takes.left;
@@ -133,7 +133,7 @@ module _ {D : Type 0} (honest : Type 0) (words : DiskWords D) (old new : World D
     pub its_node : NodeKeeps honest words host.config before changes
     pub config : after.config ≡ before.config
     pub noted : Noted
-    pub takes : TakesOutcome honest words host.config.host changes outcome after.records change_now noted
+    pub takes : TakesOutcome honest words (reporter_of host.config) changes outcome after.records change_now noted
     pub ledger : new.ledger
         ≡ old.ledger ++ left_lines node outcome.message number (report_told change_now noted.report) noted.left.items
     pub grows : length old.links ≤ length new.links
@@ -205,6 +205,6 @@ module _ {D : Type 0} (honest : Type 0) (words : DiskWords D) (old new : World D
             ∙ sym (map-append encode changes (reported_as outcome r.takes.report ∷ []));
       };
       holds = record { config_is = r.config ∙ r.its_node.config_is; keeps = r.takes.keeps };
-      reports = reports_more host.config.host [] changes (reported_as outcome r.takes.report) r.kept.reports
+      reports = reports_more (reporter_of host.config) [] changes (reported_as outcome r.takes.report) r.kept.reports
           r.takes.reported;
     }

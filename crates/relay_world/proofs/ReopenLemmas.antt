@@ -31,6 +31,7 @@ use Rattle.relay_world.proofs.OpenLemmas.{lines_within, list_there, number_withi
 use Rattle.relay_world.proofs.PieceLemmas.{all_append, passes_as, reports_more, with_at, with_at-length, with_at-put}
 use Rattle.relay_world.proofs.RecordLemmas.{none_left_accepted}
 use Rattle.relay_world.proofs.UndecidedLemmas.{serves_as, serves_cut, up_not_down}
+use Rattle.relay_report.specs.Report.{reporter_of}
 
 module _ {D : Type 0} (honest : Type 0) (words : DiskWords D) (old new : World D) (lists : List (List Change)) (node : ℕ)
     (bound : IsBound honest words old lists) (opens : HasReopened honest words old new node) where
@@ -107,7 +108,7 @@ module _ {D : Type 0} (honest : Type 0) (words : DiskWords D) (old new : World D
             ∙ sym (map-append encode listed.0 (may.change ∷ []));
       };
       holds = record { config_is = opens.idle.config_is; keeps = keeps };
-      reports = reports_more opens.host.config.host [] listed.0 may.change kept.reports may.reported;
+      reports = reports_more (reporter_of opens.host.config) [] listed.0 may.change kept.reports may.reported;
     }
 
     steps_now : steps_in node new.ledger ≡ steps_of grown

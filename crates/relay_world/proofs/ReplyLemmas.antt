@@ -31,6 +31,7 @@ use Rattle.relay_world.proofs.MoveLemmas.{same_attempts}
 use Rattle.relay_world.proofs.OutcomeLemmas.{Ending, GoesOnAs, found_here, message_now, recorded}
 use Rattle.relay_world.proofs.RecordLemmas.{HasTakenOutcome, TakesOutcome, outcome_of_host}
 use Rattle.relay_world.proofs.OpenLemmas.{lines_within}
+use Rattle.relay_report.specs.Report.{reporter_of}
 
 module _ {D : Type 0} (honest : Type 0) (words : DiskWords D) (old : World D) (lists : List (List Change)) (number : ℕ)
     (bound : IsBound honest words old lists) (of : AttemptOf old number)
@@ -187,15 +188,15 @@ module _ {D : Type 0} (honest : Type 0) (words : DiskWords D) (old : World D) (l
     -- The attempt has ended: the outcome of these verdicts, at this moment, was recorded as the change of this number.
     module _ (at change_now : ℕ) (noted : Noted) (verdicts : List Verdict)
         (course : IsItsCourse of.before.config.host told_now false verdicts)
-        (takes_by : TakesOutcome honest words of.before.config.host knows.changes (outcome_at at told_was verdicts)
+        (takes_by : TakesOutcome honest words (reporter_of of.before.config) knows.changes (outcome_at at told_was verdicts)
         after.records change_now noted)
         (taken : HasTakenOutcome old new number of after (RepliedBy change_now) change_now noted) where
       abbrev outcome : Outcome
       outcome = outcome_at at told_was verdicts
 
-      abbrev takes : TakesOutcome honest words of.host.config.host knows.changes outcome after.records change_now noted
-      takes = outcome_of_host honest words of.before.config.host of.host.config.host knows.changes outcome after.records
-          change_now noted its_host takes_by
+      abbrev takes : TakesOutcome honest words (reporter_of of.host.config) knows.changes outcome after.records change_now noted
+      takes = outcome_of_host honest words (reporter_of of.before.config) (reporter_of of.host.config) knows.changes outcome after.records
+          change_now noted (ap (λ (c : Config). reporter_of c) knows.its_node.config_is) takes_by
 
       abbrev ending : Ending honest words old new lists number bound of knows (read_link of.link replied) out_now after
           outcome change_now (RepliedBy change_now) noted

@@ -18,6 +18,7 @@ use Rattle.relay_world.specs.World.{Down, FromNoHop, HostState, Host, Undecided,
 use Rattle.relay_world.proofs.DownLemmas.{Notes, down_halted, down_left, fits_more, host_moved, no_attempt_down, no_session_down, notes, outcome_steps, remains_same, same_undecided}
 use Rattle.relay_world.proofs.OpenLemmas.{list_there, node_kept}
 use Rattle.relay_world.proofs.UndecidedLemmas.{still_may_be_in}
+use Rattle.relay_report.specs.Report.{reporter_of}
 
 -- a node on which nothing went on has another state, which keeps its list, and all else is the same
 module _ {D : Type 0} (honest : Type 0) (words : DiskWords D) (old new : World D) (lists : List (List Change)) (node : ℕ)
@@ -135,15 +136,15 @@ stopping_giving_up_keeps {D} honest words old new lists node message bound stops
     its_node : NodeKeeps honest words host.config stops.before changes
     its_node = node_kept honest words host changes stops.before kept stops.up
 
-    cut : CutsUnroutable honest words stops.before.config.host stops.before.config.routes message old.clock changes
+    cut : CutsUnroutable honest words (reporter_of stops.before.config) stops.before.config.routes message old.clock changes
         stops.before.records stops.stopped
     cut = stops.cuts changes its_node.keeps
 
     outcome : Outcome
     outcome = unroutable stops.before.config.routes message old.clock cut.message
 
-    cuts : CutsOutcome honest words host.config.host changes outcome 0 stops.stopped
-    cuts = subst (λ (c : Config). CutsOutcome honest words c.host changes outcome 0 stops.stopped) its_node.config_is cut.cuts
+    cuts : CutsOutcome honest words (reporter_of host.config) changes outcome 0 stops.stopped
+    cuts = subst (λ (c : Config). CutsOutcome honest words (reporter_of c) changes outcome 0 stops.stopped) its_node.config_is cut.cuts
 
     added : Change
     added = reported_as outcome cuts.report

@@ -26,6 +26,7 @@ use Rattle.relay_world.proofs.EventLemmas.{kept, moved_on, relinked, same_accept
 use Rattle.relay_world.proofs.GrowLemmas.{stored_fits}
 use Rattle.relay_world.proofs.OpenLemmas.{list_there, node_kept}
 use Rattle.relay_world.proofs.TakerLemmas.{ended_still, lists_stay}
+use Rattle.relay_report.specs.Report.{reporter_of}
 
 -- a node that is down with this note has no other
 same_note : {D : Type 0} (disk other : Disks D) (one another : Undecided) → Down disk (Some one) ≡ Down other (Some another)
@@ -151,7 +152,7 @@ module _ {D : Type 0} (honest : Type 0) (words : DiskWords D) (old new : World D
       its_node : NodeKeeps honest words stops.host.config stops.before listed.0
       its_node = node_kept honest words stops.host listed.0 stops.before kept_here stops.up
 
-      cuts : CutsUnroutable honest words stops.before.config.host stops.before.config.routes message old.clock listed.0
+      cuts : CutsUnroutable honest words (reporter_of stops.before.config) stops.before.config.routes message old.clock listed.0
           stops.before.records stops.stopped
       cuts = stops.cuts listed.0 its_node.keeps
 

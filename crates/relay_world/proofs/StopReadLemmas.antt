@@ -41,6 +41,7 @@ use Rattle.relay_world.proofs.MoveLemmas.{Settled, put_cases, still_served}
 use Rattle.relay_world.proofs.OpenLemmas.{lines_within}
 use Rattle.relay_world.proofs.PieceLemmas.{read_more, read_within}
 use Rattle.relay_world.proofs.UndecidedLemmas.{serves_cut}
+use Rattle.relay_report.specs.Report.{Reporter, reporter_of}
 
 module _ {D : Type 0} (honest : Type 0) (words : DiskWords D) (old new : World D) (lists : List (List Change)) (number : ℕ)
     (bound : IsBound honest words old lists) (of : AttemptOf old number) (knows : KnowsAttempt honest words old lists number of)
@@ -194,7 +195,7 @@ module _ {D : Type 0} (honest : Type 0) (words : DiskWords D) (old new : World D
 
   -- the attempt with the outcome, once it has read what the note tells
   module _ (verdicts : List Verdict) (used : ℕ) (fate : Fate) (told_loss : Bool) (more : List ℕ)
-      (cuts : CutsOutcome honest words of.host.config.host knows.changes
+      (cuts : CutsOutcome honest words (reporter_of of.host.config) knows.changes
       (outcome_at old.clock (told_by of.attempt knows.was.accept (take of.link.down_read of.link.down) knows.was.output) verdicts)
       used stopped) where
     abbrev added : Change
@@ -264,15 +265,15 @@ module _ {D : Type 0} (honest : Type 0) (words : DiskWords D) (old new : World D
   its_host : stops.of.before.config.host ≡ stops.of.host.config.host
   its_host = ap (λ (c : Config). c.host) knows.its_node.config_is
 
-  cut : CutsReply honest words stops.of.before.config.host old.clock knows.changes stops.of.slot told_was
+  cut : CutsReply honest words (reporter_of stops.of.before.config) old.clock knows.changes stops.of.slot told_was
       (waiting_down count stops.of.link) stops.stopped
   cut = stops.cuts knows.changes told_was knows.its_node.keeps
       (subst (λ h. Tells h knows.changes stops.of.before.attempts stops.of.slot told_was) (sym its_host) knows.tells)
 
-  cuts : CutsOutcome honest words stops.of.host.config.host knows.changes (outcome_at old.clock told_was cut.ends.verdicts)
+  cuts : CutsOutcome honest words (reporter_of stops.of.host.config) knows.changes (outcome_at old.clock told_was cut.ends.verdicts)
       cut.ends.used stops.stopped
-  cuts = subst (λ h. CutsOutcome honest words h knows.changes (outcome_at old.clock told_was cut.ends.verdicts) cut.ends.used
-      stops.stopped) its_host cut.cuts
+  cuts = subst (λ (r : Reporter). CutsOutcome honest words r knows.changes (outcome_at old.clock told_was cut.ends.verdicts) cut.ends.used
+      stops.stopped) (ap (λ (c : Config). reporter_of c) knows.its_node.config_is) cut.cuts
 
   abbrev change_read : Change
   change_read = reported_as (outcome_at old.clock told_was cut.ends.verdicts) cuts.report
@@ -355,14 +356,14 @@ module _ {D : Type 0} (honest : Type 0) (words : DiskWords D) (old new : World D
   host_lost : stops.of.before.config.host ≡ stops.of.host.config.host
   host_lost = ap (λ (c : Config). c.host) knows.its_node.config_is
 
-  cut_lost : CutsLoss honest words stops.of.before.config.host old.clock knows.changes stops.of.slot told_lost stops.stopped
+  cut_lost : CutsLoss honest words (reporter_of stops.of.before.config) old.clock knows.changes stops.of.slot told_lost stops.stopped
   cut_lost = stops.cuts knows.changes told_lost knows.its_node.keeps
       (subst (λ h. Tells h knows.changes stops.of.before.attempts stops.of.slot told_lost) (sym host_lost) knows.tells)
 
-  cuts_lost : CutsOutcome honest words stops.of.host.config.host knows.changes (outcome_at old.clock told_lost laters) 0
+  cuts_lost : CutsOutcome honest words (reporter_of stops.of.host.config) knows.changes (outcome_at old.clock told_lost laters) 0
       stops.stopped
-  cuts_lost = subst (λ h. CutsOutcome honest words h knows.changes (outcome_at old.clock told_lost laters) 0 stops.stopped)
-      host_lost cut_lost.cuts
+  cuts_lost = subst (λ (r : Reporter). CutsOutcome honest words r knows.changes (outcome_at old.clock told_lost laters) 0 stops.stopped)
+      (ap (λ (c : Config). reporter_of c) knows.its_node.config_is) cut_lost.cuts
 
   abbrev change_lost : Change
   change_lost = reported_as (outcome_at old.clock told_lost laters) cuts_lost.report

@@ -44,6 +44,7 @@ use Rattle.relay_world.proofs.MoveLemmas.{link_cases, client_was, links_kept, Jo
 use Rattle.relay_world.proofs.UndecidedLemmas.{up_not_down}
 use Rattle.relay_world.proofs.OpenLemmas.{lines_within, number_within, list_there, node_kept, off_by, same_Up, still_says}
 use Rattle.relay_world.proofs.PieceLemmas.{begins_more, written_broken, written_whole, read_more, all_append, still_answered, still_numbered, reports_more, with_at, with_at-length, with_at-put, same_number, passes_as, read_stays, few_within, read_within}
+use Rattle.relay_report.specs.Report.{reporter_of}
 
 -- an accept, as the ledger tells of it
 abbrev accept_told : ℕ × Offered → ℕ × ℕ
@@ -493,7 +494,7 @@ module _ {D : Type 0} (honest : Type 0) (words : DiskWords D) (old : World D) (l
               config_is = talk.config ∙ its_node.config_is;
               keeps = takes.keeps;
             };
-            reports = reports_more of.host.config.host [] listed.0 (change.Accept takes.accept) kept.reports tt;
+            reports = reports_more (reporter_of of.host.config) [] listed.0 (change.Accept takes.accept) kept.reports tt;
           };
         }
 

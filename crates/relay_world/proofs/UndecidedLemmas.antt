@@ -8,7 +8,7 @@ use Rattle.relay_octets.specs.Beginning.{Begins}
 use Rattle.relay_routes.specs.declared.config.Config.{Config}
 use Rattle.relay_book.specs.declared.change.Change.{Change}
 use Rattle.relay_records.specs.declared.noted.Noted.{Noted}
-use Rattle.relay_report.specs.Report.{Reported}
+use Rattle.relay_report.specs.Report.{Reported, reporter_of}
 use Rattle.relay_node.specs.Node.{NodeState}
 use Rattle.relay_world.specs.declared.attempt.Attempt.{Attempt}
 use Rattle.relay_meeting.specs.Joined.{output_with}
@@ -181,7 +181,7 @@ module _ {D : Type 0} (old new : World D) (node : ℕ) where
       octets = may.octets;
       number = may.number;
       fitting = may.fitting;
-      reported = subst (λ (c : Config). Reported c.host changes may.change) (sym config) may.reported;
+      reported = subst (λ (c : Config). Reported (reporter_of c) changes may.change) (sym config) may.reported;
       steps = may.steps;
       came = still_came may.change undecided.note undecided.origin may.came;
     }

@@ -22,7 +22,7 @@ use Rattle.relay_book.specs.Record.{IsAccept, encode}
 use Rattle.relay_book.specs.StandsFor.{StandsFor}
 use Rattle.relay_records.specs.declared.noted.Noted.{Noted}
 use Rattle.relay_records.specs.Records.{Keeps}
-use Rattle.relay_report.specs.Report.{Reported}
+use Rattle.relay_report.specs.Report.{Reported, Reporter, reporter_of}
 use Rattle.relay_course.specs.Course.{IsCourse}
 use Rattle.relay_course.specs.Laws.{AreWithin}
 use Rattle.relay_attempts.specs.Outcomes.{outcome_of, rulings_of}
@@ -50,10 +50,10 @@ pub record IsListOf (records : List (List ℕ)) (changes : List Change) : Type 0
   pub records_are : records ≡ map encode changes
 
 -- each outcome of the changes after these has the report that is due of it, and none where none is due
-abbrev pub ReportsBehind : List ℕ → List Change → List Change → Type 0
-ReportsBehind host front [] = Unit {0}
-ReportsBehind host front (change ∷ changes) =
-    Reported host front change × ReportsBehind host (front ++ change ∷ []) changes
+abbrev pub ReportsBehind : Reporter → List Change → List Change → Type 0
+ReportsBehind reporter front [] = Unit {0}
+ReportsBehind reporter front (change ∷ changes) =
+    Reported reporter front change × ReportsBehind reporter (front ++ change ∷ []) changes
 
 -- the change that the next opening decides has this record
 abbrev pub IsUndecided : Option Undecided → Change → Type 0
@@ -82,7 +82,7 @@ module _ {D : Type 0} (honest : Type 0) (words : DiskWords D) where
   pub record HostKeeps (host : Host D) (changes : List Change) : Type 0 where
     pub list : IsListOf host.records changes
     pub holds : StateKeeps host.config host.state changes
-    pub reports : ReportsBehind host.config.host [] changes
+    pub reports : ReportsBehind (reporter_of host.config) [] changes
 
 -- a node that is up has this session, which stands after what was said
 abbrev pub SaysThere : {D : Type 0} → Host D → Option ℕ → List ℕ → Said → Type 0
@@ -256,7 +256,7 @@ pub record MayBeIn {D : Type 0} (world : World D) (node : ℕ) (host : Host D) (
   pub octets : undecided.note.octets ≡ encode change
   pub number : undecided.note.number ≡ length changes + 1
   pub fitting : Fitting (changes ++ change ∷ [])
-  pub reported : Reported host.config.host changes change
+  pub reported : Reported (reporter_of host.config) changes change
   pub steps : steps_in node (lines_of node undecided) ≡ steps_by changes change
   pub came : MayHaveCome world node host changes change undecided.note undecided.origin
 

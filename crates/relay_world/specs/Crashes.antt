@@ -21,6 +21,7 @@ use Rattle.relay_world.specs.Steps.{AttemptOf, IsPut, SessionOf, waiting_down, w
 use Rattle.relay_world.specs.Stops.{IsLeftBy}
 use Rattle.relay_world.specs.World.{Down, FromClient, FromLoss, FromNoHop, FromReplies, Host, Origin, Undecided, Up}
 use Rattle.relay_world.specs.World.{World}
+use Rattle.relay_report.specs.Report.{reporter_of}
 
 -- whether a server end is this node's
 abbrev pub serves_for : ℕ → Option ServerEnd → Bool
@@ -98,7 +99,7 @@ pub record CrashesGivingUp {D : Type 0} (honest : Type 0) (words : DiskWords D) 
     pub stopped : Kept D
     pub failed : IsStopped words before.records stopped
     pub cuts : (changes : List Change) → Keeps honest words before.records changes
-        → CutsUnroutable honest words before.config.host before.config.routes message old.clock changes
+        → CutsUnroutable honest words (reporter_of before.config) before.config.routes message old.clock changes
         before.records stopped
     pub noted : Noted
     pub note_is : stopped.noted ≡ Some noted
@@ -140,7 +141,8 @@ pub record CrashesReading {D : Type 0} (honest : Type 0) (words : DiskWords D) (
   pub failed : IsStopped words of.before.records stopped
   pub cuts : (changes : List Change) (told : Told) → Keeps honest words of.before.records changes
       → Tells of.before.config.host changes of.before.attempts of.slot told
-      → CutsReply honest words of.before.config.host old.clock changes of.slot told (waiting_down count of.link) stopped
+      → CutsReply honest words (reporter_of of.before.config) old.clock changes of.slot told (waiting_down count
+        of.link) stopped
   pub crash : CrashesEnding honest words old new number of stopped (FromReplies number of.place of.attempt.message)
 
 -- and so, as its device failed, by the loss of its link
@@ -151,7 +153,7 @@ pub record CrashesLosing {D : Type 0} (honest : Type 0) (words : DiskWords D) (o
   pub failed : IsStopped words of.before.records stopped
   pub cuts : (changes : List Change) (told : Told) → Keeps honest words of.before.records changes
       → Tells of.before.config.host changes of.before.attempts of.slot told
-      → CutsLoss honest words of.before.config.host old.clock changes of.slot told stopped
+      → CutsLoss honest words (reporter_of of.before.config) old.clock changes of.slot told stopped
   pub crash : CrashesEnding honest words old new number of stopped (FromLoss number of.place of.attempt.message)
 
 abbrev pub CrashingInHearingKeeps : {D : Type 0} → Type 0 → DiskWords D → Type 0

@@ -23,7 +23,7 @@ use Rattle.relay_book.specs.Marks.{Added, Ended, Held, IsOneOf, LeavesAt, Transf
 use Rattle.relay_book.specs.Queue.{held_of}
 use Rattle.relay_book.specs.StandsFor.{StandsFor}
 use Rattle.relay_node.specs.Node.{NodeState}
-use Rattle.relay_report.specs.Report.{Reported}
+use Rattle.relay_report.specs.Report.{Reported, Reporter, reporter_of}
 use Rattle.relay_world.specs.declared.link.Link.{Link}
 use Rattle.relay_world.specs.declared.link.ServerEnd.{ServerEnd}
 use Rattle.relay_world.specs.Bound.{IsBound, StandsAt, StandsForUnlessDecided}
@@ -85,10 +85,10 @@ changes_before zero changes = []
 changes_before (suc n) changes = take n changes
 
 -- A place has left by the change of this number for a cause, and that change has the report that is due of it.
-pub record LeftFor (host : List ℕ) (changes : List Change) (at number place : ℕ) (way : Way) : Type 0 where
+pub record LeftFor (reporter : Reporter) (changes : List Change) (at number place : ℕ) (way : Way) : Type 0 where
   pub leaves : LeavesAt changes at number place way
   pub cause : HasCause leaves.accept.at leaves.outcome.at way leaves.verdict
-  pub reported : Reported host (changes_before at changes) (change.Outcome leaves.outcome)
+  pub reported : Reported reporter (changes_before at changes) (change.Outcome leaves.outcome)
 
 -- What a bound world keeps of the recipients of each node.
 pub record KeepsCustody {D : Type 0} (honest : Type 0) (words : DiskWords D) (world : World D) (node : ℕ)
@@ -110,7 +110,7 @@ pub record KeepsCustody {D : Type 0} (honest : Type 0) (words : DiskWords D) (wo
       → EveryImageHas words disk (StandsForUnlessDecided changes undecided)
   -- each that has left has left for a cause, with the report that is due
   pub left : (at number place : ℕ) (way : Way) → LeavesAt changes at number place way
-      → LeftFor host.config.host changes at number place way
+      → LeftFor (reporter_of host.config) changes at number place way
 
 -- Custody is kept by each node of a bound world.
 abbrev pub CustodyIsKept : {D : Type 0} → Type 0 → DiskWords D → Type 0

@@ -27,6 +27,7 @@ use Rattle.relay_world.specs.Steps.{AttemptOf, DropsAttempt, EndsSession, IsPut,
 use Rattle.relay_world.specs.Steps.{read_link, waiting_down, waiting_up}
 use Rattle.relay_world.specs.Stops.{IsLeftBy, OnlyHostsChange}
 use Rattle.relay_world.specs.World.{Host, Up, World, link_at}
+use Rattle.relay_report.specs.Report.{reporter_of}
 
 -- a link, by its number, and how many of the octets that wait on it were carried
 pub record Piece : Type 0 where
@@ -122,7 +123,7 @@ module _ {D : Type 0} (honest : Type 0) (words : DiskWords D) where
     pub replies : (changes pending : List Change) (told : Told)
         → Awaits honest words of.before.records changes pending row
         → Tells of.before.config.host (changes ++ pending) of.before.attempts of.slot told
-        → RepliesInto honest words of.before.config.host at changes pending of.slot told row
+        → RepliesInto honest words (reporter_of of.before.config) at changes pending of.slot told row
         (waiting_down piece.count of.link) of.before after left replied replied.change
     pub used : replied.used ≤ length (waiting_down piece.count of.link)
     pub others : OthersStay of.before.attempts after.attempts of.slot

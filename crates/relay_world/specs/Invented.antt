@@ -14,6 +14,7 @@ use Rattle.relay_world.specs.Bound.{IsBound}
 use Rattle.relay_world.specs.Once.{IsTriedOnce}
 use Rattle.relay_world.specs.Steps.{IsPut, without_note}
 use Rattle.relay_world.specs.World.{Host, Up, World}
+use Rattle.relay_report.specs.Report.{reporter_of}
 
 -- A node has recorded an outcome, and no attempt has ended with it. One of its verdicts isn't that a place has no hop.
 pub record Invents {D : Type 0} (honest : Type 0) (words : DiskWords D) (old new : World D) (node change : ℕ)
@@ -29,7 +30,7 @@ pub record Invents {D : Type 0} (honest : Type 0) (words : DiskWords D) (old new
   pub ruling : Contains outcome.rulings (record { place = place; verdict = verdict })
   pub other : verdict ≢ NoRoute
   pub adds : (changes : List Change) → Keeps honest words before.records changes
-      → AddsOutcome honest words host.config.host changes outcome 0 after.records change
+      → AddsOutcome honest words (reporter_of host.config) changes outcome 0 after.records change
   pub noted : Noted
   pub note_is : after.records.noted ≡ Some noted
   pub hosts : IsPut old.hosts new.hosts node

@@ -24,6 +24,7 @@ use Rattle.relay_world.specs.Once.{Happen, IsTriedOnce}
 use Rattle.relay_world.specs.Passing.{NoChildHolds, RepliesGave}
 use Rattle.relay_world.specs.Transfers.{HasPassedOn}
 use Rattle.relay_world.specs.World.{Host, World, link_at}
+use Rattle.relay_report.specs.Report.{reporter_of}
 
 -- what has come of a recipient: its node holds it, its next hop has accepted it, or it has ended for a cause, with the
 -- report that is due: by a verdict that an attempt for its message was given by what it has read, or since it has no
@@ -34,7 +35,7 @@ pub data HasCome {D : Type 0} (world : World D) (lists : List (List Change)) (no
   IsHeld : Held changes number place → HasCome world lists node host changes number place
   IsPassedOn : HasPassedOn world lists node host changes number place
       → HasCome world lists node host changes number place
-  HasEnded : (at : ℕ) (left : LeftFor host.config.host changes at number place ByEnd)
+  HasEnded : (at : ℕ) (left : LeftFor (reporter_of host.config) changes at number place ByEnd)
       → GaveVerdict world lists node host changes at number place left.leaves.verdict
       ⊎ HadNoHop host changes number place left.leaves.verdict → HasCome world lists node host changes number place
 

@@ -26,6 +26,7 @@ use Rattle.relay_world.specs.Bound.{IsBound}
 use Rattle.relay_world.specs.Ledger.{left_lines, report_told}
 use Rattle.relay_world.specs.HopLinks.{IsLinkedToHop}
 use Rattle.relay_world.specs.World.{Host, Up, World, link_at}
+use Rattle.relay_report.specs.Report.{reporter_of}
 
 -- the value is put at this place: in the place of another, or after the last; all others are the same
 pub record IsPut {A : Type 0} (old new : List A) (place : ℕ) (value : A) : Type 0 where
@@ -250,7 +251,7 @@ pub record HasRead {D : Type 0} (honest : Type 0) (words : DiskWords D) (old new
   pub replied : Replied
   pub replies : (changes : List Change) (told : Told) → Keeps honest words of.before.records changes
       → Tells of.before.config.host changes of.before.attempts of.slot told
-      → Replies honest words of.before.config.host old.clock changes of.slot told (waiting_down count of.link)
+      → Replies honest words (reporter_of of.before.config) old.clock changes of.slot told (waiting_down count of.link)
       of.before after replied
   pub used : replied.used ≤ length (waiting_down count of.link)
   pub others : OthersStay of.before.attempts after.attempts of.slot
@@ -267,7 +268,8 @@ pub record HasLost {D : Type 0} (honest : Type 0) (words : DiskWords D) (old new
   pub after : NodeState D
   pub loses : (changes : List Change) (told : Told) → Keeps honest words of.before.records changes
       → Tells of.before.config.host changes of.before.attempts of.slot told
-      → IsLost honest words of.before.config.host old.clock changes of.slot told of.before.records after.records
+      → IsLost honest words (reporter_of of.before.config) old.clock changes of.slot told of.before.records
+        after.records
       after.attempts change
   pub others : OthersStay of.before.attempts after.attempts of.slot
   pub config : after.config ≡ of.before.config
@@ -350,7 +352,8 @@ pub record HasGivenUp {D : Type 0} (honest : Type 0) (words : DiskWords D) (old 
     pub up : host.state ≡ Up before
     pub after : NodeState D
     pub gives_up : (changes : List Change) → Keeps honest words before.records changes
-        → AddsUnroutable honest words before.config.host before.config.routes message old.clock changes before.records
+        → AddsUnroutable honest words (reporter_of before.config) before.config.routes message old.clock changes
+          before.records
         after.records change
     pub config : after.config ≡ before.config
     pub seats : after.seats ≡ before.seats

@@ -28,6 +28,7 @@ use Rattle.relay_world.specs.Ledger.{lines_of}
 use Rattle.relay_world.specs.Steps.{AttemptOf, IsPut, IsPutAt, SessionOf, waiting_down, waiting_up}
 use Rattle.relay_world.specs.World.{Down, FromClient, FromLoss, FromNoHop, FromReplies, Host, Origin, Undecided, Up}
 use Rattle.relay_world.specs.World.{World, link_at}
+use Rattle.relay_report.specs.Report.{reporter_of}
 
 -- Nothing else of a node goes on when it stops: its sessions on other links and its other attempts end first, in events
 -- of their own that leave the node as it was, and those links break. So an event is of one node and of one link at
@@ -166,7 +167,8 @@ pub record StopsReading {D : Type 0} (honest : Type 0) (words : DiskWords D) (ol
   pub failed : IsStopped words of.before.records stopped
   pub cuts : (changes : List Change) (told : Told) → Keeps honest words of.before.records changes
       → Tells of.before.config.host changes of.before.attempts of.slot told
-      → CutsReply honest words of.before.config.host old.clock changes of.slot told (waiting_down count of.link) stopped
+      → CutsReply honest words (reporter_of of.before.config) old.clock changes of.slot told (waiting_down count
+        of.link) stopped
   pub drops : DropsAtStop honest words old new number of stopped (FromReplies number of.place of.attempt.message)
 
 -- A node has stopped in the call that told it of the loss of an attempt's link, as its device failed while the outcome
@@ -178,7 +180,7 @@ pub record StopsLosing {D : Type 0} (honest : Type 0) (words : DiskWords D) (old
   pub failed : IsStopped words of.before.records stopped
   pub cuts : (changes : List Change) (told : Told) → Keeps honest words of.before.records changes
       → Tells of.before.config.host changes of.before.attempts of.slot told
-      → CutsLoss honest words of.before.config.host old.clock changes of.slot told stopped
+      → CutsLoss honest words (reporter_of of.before.config) old.clock changes of.slot told stopped
   pub drops : DropsAtStop honest words old new number of stopped (FromLoss number of.place of.attempt.message)
 
 -- A node has stopped in a call that gave up the places of a message without a hop, as its device failed while their
@@ -195,7 +197,7 @@ pub record StopsGivingUp {D : Type 0} (honest : Type 0) (words : DiskWords D) (o
     pub stopped : Kept D
     pub failed : IsStopped words before.records stopped
     pub cuts : (changes : List Change) → Keeps honest words before.records changes
-        → CutsUnroutable honest words before.config.host before.config.routes message old.clock changes
+        → CutsUnroutable honest words (reporter_of before.config) before.config.routes message old.clock changes
         before.records stopped
     pub noted : Noted
     pub note_is : stopped.noted ≡ Some noted
