@@ -27,6 +27,7 @@ use Rattle.relay_hosts.specs.declared.recorded.Recorded.{Recorded}
 use Rattle.relay_hosts.specs.Call.{IsWhyUnheard, KnowsAttempt, KnowsSession, LosesAttempt, LosesSession, NotesChange, NotesOne, Runs, StopsHearing, StopsLosing, StopsReading, TakesNote, is_stop}
 use Rattle.relay_hosts.specs.Host.{OwesWithin, count_some, host_of, notes_of}
 use Rattle.relay_hosts.proofs.SlotLemmas.{count_drop, count_no_more, count_one}
+use Rattle.relay_report.specs.Report.{Reporter, reporter_of}
 
 -- a fault that stopped the node is the one fault that says so
 pub stop_is : (fault : NodeFault) → is_stop fault ≡ true → fault ≡ Stopped
@@ -245,7 +246,7 @@ module _ {D : Type 0} (honest : Type 0) (words : DiskWords D) (before after : No
     (failed : IsStopped words before.records after.records) where
   pub stops_losing : ((changes : List Change) (told : Told) → Keeps honest words before.records changes
       → Tells before.config.host changes before.attempts slot told
-      → CutsLoss honest words before.config.host now changes slot told after.records)
+      → CutsLoss honest words (reporter_of before.config) now changes slot told after.records)
       → StopsLosing honest words now (host_of before records) (host_of after records) slot
   stops_losing cuts =
       let cut = cuts knows.changes knows.told knows.keeps knows.tells in
@@ -261,7 +262,7 @@ module _ {D : Type 0} (honest : Type 0) (words : DiskWords D) (before after : No
 
   pub stops_reading : (piece : List ℕ) → ((changes : List Change) (told : Told) → Keeps honest words before.records changes
       → Tells before.config.host changes before.attempts slot told
-      → CutsReply honest words before.config.host now changes slot told piece after.records)
+      → CutsReply honest words (reporter_of before.config) now changes slot told piece after.records)
       → StopsReading honest words now (host_of before records) (host_of after records) slot piece
   stops_reading piece cuts =
       let cut = cuts knows.changes knows.told knows.keeps knows.tells in
@@ -283,24 +284,24 @@ owes_taken after now old new recorded len capacity owed takes room =
     subst (λ (n : NodeState _). OwesWithin (notes_of n) len capacity owed) (sym takes.after_is) room
 
 -- replies that ended no attempt left the records as they were, and others recorded its outcome
-module _ {D : Type 0} (honest : Type 0) (words : DiskWords D) (before after : NodeState D) (host : List ℕ) (now : ℕ)
+module _ {D : Type 0} (honest : Type 0) (words : DiskWords D) (before after : NodeState D) (reporter : Reporter) (now : ℕ)
     (changes : List Change) (slot : ℕ) (told : Told) (piece : List ℕ) (replied : Replied) where
-  pub read_same : Replies honest words host now changes slot told piece before after replied → replied.change ≡ None
+  pub read_same : Replies honest words reporter now changes slot told piece before after replied → replied.change ≡ None
       → after.records ≡ before.records
   read_same replies is = by replied.change replies is
     where
-      by : (change : Option ℕ) → RepliesBy honest words host now changes slot told piece before after replied change
+      by : (change : Option ℕ) → RepliesBy honest words reporter now changes slot told piece before after replied change
           → change ≡ None → after.records ≡ before.records
       by None on none = on.same
       by (Some number) ended none = absurd (none-some number (sym none))
 
-  pub read_ended : Replies honest words host now changes slot told piece before after replied → (replied.change ≡ None → ⊥)
-      → (number : ℕ) × AttemptHasEnded honest words host now changes slot told piece before.records after.records after.attempts replied number
+  pub read_ended : Replies honest words reporter now changes slot told piece before after replied → (replied.change ≡ None → ⊥)
+      → (number : ℕ) × AttemptHasEnded honest words reporter now changes slot told piece before.records after.records after.attempts replied number
   read_ended replies some = by replied.change replies some
     where
-      by : (change : Option ℕ) → RepliesBy honest words host now changes slot told piece before after replied change
+      by : (change : Option ℕ) → RepliesBy honest words reporter now changes slot told piece before after replied change
           → (change ≡ None → ⊥)
-          → (number : ℕ) × AttemptHasEnded honest words host now changes slot told piece before.records after.records after.attempts replied number
+          → (number : ℕ) × AttemptHasEnded honest words reporter now changes slot told piece before.records after.records after.attempts replied number
       by None on there = absurd (there refl)
       by (Some number) ended there = (number, ended)
 

@@ -38,6 +38,7 @@ use Rattle.relay_hosts.specs.declared.work.Begun.TheVariants as begun
 use Rattle.relay_hosts.specs.declared.work.GivenUp.{GivenUp}
 use Rattle.relay_hosts.specs.declared.work.GivenUp.TheVariants as given
 use Rattle.relay_hosts.specs.Work.{BeginsOrNot, BeginsUnlessFull, GivesUpOrNot, GivesUpUnlessFull, HasChanges, HoldsChanges, KnowsChanges, LacksRoom, OpensSession, attempts_in, works_in}
+use Rattle.relay_report.specs.Report.{reporter_of}
 
 -- The numbers of the messages in a queue rise.
 rise_joined : (least next : ℕ) (entries : List (ℕ × Message)) (message : Message) → Rise least next entries
@@ -293,9 +294,9 @@ module _ {D : Type 0} (node : NodeState D) (now message : ℕ) (live : node.reco
   -- and it refuses to give up the places of its first work for want of memory, or of room
   refused_no_route : (words : DiskWords D) (fault : NodeFault)
       → IsWorkOf node.config.routes node.attempts now node.records.queue (NoRoute message)
-      → RefusesToGiveUp words node.config.host node.config.routes message now node.records node.records fault
+      → RefusesToGiveUp words (reporter_of node.config) node.config.routes message now node.records node.records fault
       → (fault ≡ NoMemory)
-      ⊎ ((fault ≡ Full) × HasNoRoomFor words node.config.host node.config.routes message now node.records)
+      ⊎ ((fault ≡ Full) × HasNoRoomFor words (reporter_of node.config) node.config.routes message now node.records)
   refused_no_route words NoMemory work refuses = inl refl
   refused_no_route words Stopped work (inl before) = absurd (true≢false (sym live ∙ before.0))
   refused_no_route words Stopped work (inr stopped) = absurd (true≢false (sym live ∙ stopped.live))

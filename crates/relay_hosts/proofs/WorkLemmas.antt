@@ -24,6 +24,7 @@ use Rattle.relay_hosts.specs.Host.{OwesWithin, host_of, notes_of}
 use Rattle.relay_hosts.specs.Work.{HasChanges, KnowsChanges, OpensOrRefuses, OpensSession, RefusesAttempt, RefusesGivingUp, RefusesSession, StopsGivingUp, works_in}
 use Rattle.relay_hosts.proofs.CallLemmas.{owed_live, runs_on}
 use Rattle.relay_hosts.proofs.SlotLemmas.{count_more}
+use Rattle.relay_report.specs.Report.{Reporter, reporter_of}
 
 -- a host whose node and records are as they were
 pub same_host : {D : Type 0} (before after : NodeState D) (old new : List (List ℕ)) → after ≡ before → new ≡ old
@@ -60,17 +61,17 @@ owes_more {D} before after slot len capacity owed more len_now capacity_now room
     (omega (arith, few, live, now, count, one), fits)
 
 -- a refusal to give up leaves the records, unless it is a stop
-pub given_up_same : {D : Type 0} (words : DiskWords D) (host : List ℕ) (table : RouteTable) (message now : ℕ) (old new : Kept D)
-    (fault : NodeFault) → is_stop fault ≡ false → RefusesToGiveUp words host table message now old new fault → new ≡ old
-given_up_same words host table message now old new NoMemory ok refuses = refuses.2
-given_up_same words host table message now old new Stopped ok refuses = absurd (true≢false ok)
-given_up_same words host table message now old new Unknown ok refuses = refuses.2
-given_up_same words host table message now old new TooMany ok refuses = absurd refuses
-given_up_same words host table message now old new NotDue ok refuses = refuses.2
-given_up_same words host table message now old new Busy ok refuses = absurd refuses
-given_up_same words host table message now old new (Open cause) ok refuses = absurd refuses
-given_up_same words host table message now old new Full ok refuses = refuses.1
-given_up_same words host table message now old new NoSecond ok refuses = absurd refuses
+pub given_up_same : {D : Type 0} (words : DiskWords D) (reporter : Reporter) (table : RouteTable) (message now : ℕ) (old new : Kept D)
+    (fault : NodeFault) → is_stop fault ≡ false → RefusesToGiveUp words reporter table message now old new fault → new ≡ old
+given_up_same words reporter table message now old new NoMemory ok refuses = refuses.2
+given_up_same words reporter table message now old new Stopped ok refuses = absurd (true≢false ok)
+given_up_same words reporter table message now old new Unknown ok refuses = refuses.2
+given_up_same words reporter table message now old new TooMany ok refuses = absurd refuses
+given_up_same words reporter table message now old new NotDue ok refuses = refuses.2
+given_up_same words reporter table message now old new Busy ok refuses = absurd refuses
+given_up_same words reporter table message now old new (Open cause) ok refuses = absurd refuses
+given_up_same words reporter table message now old new Full ok refuses = refuses.1
+given_up_same words reporter table message now old new NoSecond ok refuses = absurd refuses
 
 module _ {D : Type 0} (honest : Type 0) (words : DiskWords D) (before after : NodeState D) (old new : List (List ℕ))
     (message now : ℕ) where
@@ -87,22 +88,22 @@ module _ {D : Type 0} (honest : Type 0) (words : DiskWords D) (before after : No
 
   -- a node that refused to give up the places of a message
   pub refuses_giving_up : (fault : NodeFault) → after ≡ before → new ≡ old
-      → RefusesToGiveUp words before.config.host before.config.routes message now before.records after.records fault
+      → RefusesToGiveUp words (reporter_of before.config) before.config.routes message now before.records after.records fault
       → RefusesGivingUp honest words now (host_of before old) (host_of after new) message fault
   refuses_giving_up fault node records refused = record {
     before = before;
     up = refl;
     refused = subst
-        (λ (n : NodeState D). RefusesToGiveUp words before.config.host before.config.routes message now before.records n.records fault)
+        (λ (n : NodeState D). RefusesToGiveUp words (reporter_of before.config) before.config.routes message now before.records n.records fault)
         node refused;
     new_is = same_host before after old new node records;
   }
 
   -- a node that stopped while it gave them up, for its device failed
   pub stops_giving_up : KnowsChanges honest words before → new ≡ old → after.config ≡ before.config
-      → RefusesToGiveUp words before.config.host before.config.routes message now before.records after.records Stopped
+      → RefusesToGiveUp words (reporter_of before.config) before.config.routes message now before.records after.records Stopped
       → ((changes : List Change) → Keeps honest words before.records changes
-      → CutsUnroutable honest words before.config.host before.config.routes message now changes before.records after.records)
+      → CutsUnroutable honest words (reporter_of before.config) before.config.routes message now changes before.records after.records)
       → StopsGivingUp honest words now (host_of before old) (host_of after new) message
   stops_giving_up knows same config refused cuts =
       let cut = cuts knows.changes knows.keeps in

@@ -25,6 +25,7 @@ use Rattle.relay_hosts.specs.declared.calls.Read.{Read}
 use Rattle.relay_hosts.specs.declared.calls.Read.TheVariants as read
 use Rattle.relay_hosts.specs.declared.calls.ToldLoss.{ToldLoss}
 use Rattle.relay_hosts.specs.declared.calls.ToldLoss.TheVariants as loss
+use Rattle.relay_report.specs.Report.{reporter_of}
 
 -- whether this fault says that the node has stopped
 abbrev pub is_stop : NodeFault → Bool
@@ -143,7 +144,7 @@ module _ {D : Type 0} (honest : Type 0) (words : DiskWords D) where
       (fault ≡ node_fault.NoMemory)
       ⊎ ((fault ≡ node_fault.Full) × ((changes : List Change) (told : Told) → Keeps honest words node.records changes
       → Tells node.config.host changes node.attempts slot told
-      → HasNoRoomAtEnd node.config.host now told piece node.records))
+      → HasNoRoomAtEnd (reporter_of node.config) now told piece node.records))
   IsWhyUnread now (Down disk undecided) slot piece fault = ⊥
 
   -- and why it loses one that was told of the loss of its link: no memory was left for that outcome, or no room
@@ -152,7 +153,7 @@ module _ {D : Type 0} (honest : Type 0) (words : DiskWords D) where
       (fault ≡ node_fault.NoMemory)
       ⊎ ((fault ≡ node_fault.Full) × ((changes : List Change) (told : Told) → Keeps honest words node.records changes
       → Tells node.config.host changes node.attempts slot told
-      → HasNoRoomAtLoss node.config.host now told node.records))
+      → HasNoRoomAtLoss (reporter_of node.config) now told node.records))
   IsWhyUntold now (Down disk undecided) slot fault = ⊥
 
   -- A host has heard octets on a session, without a fault.
@@ -198,7 +199,7 @@ module _ {D : Type 0} (honest : Type 0) (words : DiskWords D) where
     pub after : NodeState D
     pub replies : (changes : List Change) (told : Told) → Keeps honest words before.records changes
         → Tells before.config.host changes before.attempts slot told
-        → Replies honest words before.config.host now changes slot told piece before after replied
+        → Replies honest words (reporter_of before.config) now changes slot told piece before after replied
     pub used : replied.used ≤ length piece
     pub others : OthersStay before.attempts after.attempts slot
     pub config : after.config ≡ before.config
@@ -212,7 +213,7 @@ module _ {D : Type 0} (honest : Type 0) (words : DiskWords D) where
     pub runs : Runs old new before after
     pub cuts : (changes : List Change) (told : Told) → Keeps honest words before.records changes
         → Tells before.config.host changes before.attempts slot told
-        → CutsReply honest words before.config.host now changes slot told piece after.records
+        → CutsReply honest words (reporter_of before.config) now changes slot told piece after.records
     pub failed : IsStopped words before.records after.records
     pub noted : Noted
     pub note_is : after.records.noted ≡ Some noted
@@ -230,7 +231,8 @@ module _ {D : Type 0} (honest : Type 0) (words : DiskWords D) where
     pub after : NodeState D
     pub loses : (changes : List Change) (told : Told) → Keeps honest words before.records changes
         → Tells before.config.host changes before.attempts slot told
-        → IsLost honest words before.config.host now changes slot told before.records after.records after.attempts
+        → IsLost honest words (reporter_of before.config) now changes slot told before.records after.records
+          after.attempts
         change
     pub others : OthersStay before.attempts after.attempts slot
     pub config : after.config ≡ before.config
@@ -244,7 +246,7 @@ module _ {D : Type 0} (honest : Type 0) (words : DiskWords D) where
     pub runs : Runs old new before after
     pub cuts : (changes : List Change) (told : Told) → Keeps honest words before.records changes
         → Tells before.config.host changes before.attempts slot told
-        → CutsLoss honest words before.config.host now changes slot told after.records
+        → CutsLoss honest words (reporter_of before.config) now changes slot told after.records
     pub failed : IsStopped words before.records after.records
     pub noted : Noted
     pub note_is : after.records.noted ≡ Some noted

@@ -24,6 +24,7 @@ use Rattle.relay_hosts.specs.declared.work.Begun.TheVariants as begun
 use Rattle.relay_hosts.specs.declared.work.GivenUp.{GivenUp}
 use Rattle.relay_hosts.specs.declared.work.GivenUp.TheVariants as given
 use Rattle.relay_hosts.specs.Call.{NotesOne, Runs}
+use Rattle.relay_report.specs.Report.{reporter_of}
 
 -- the work of a node at a moment; none of one that is down
 abbrev pub works_in : {D : Type 0} → ℕ → HostState D → List Work
@@ -123,7 +124,8 @@ module _ {D : Type 0} (honest : Type 0) (words : DiskWords D) where
     pub up : old.state ≡ Up before
     pub after : NodeState D
     pub gives_up : (changes : List Change) → Keeps honest words before.records changes
-        → AddsUnroutable honest words before.config.host before.config.routes message now changes before.records
+        → AddsUnroutable honest words (reporter_of before.config) before.config.routes message now changes
+          before.records
         after.records change
     pub config : after.config ≡ before.config
     pub seats : after.seats ≡ before.seats
@@ -136,7 +138,8 @@ module _ {D : Type 0} (honest : Type 0) (words : DiskWords D) where
     pub after : NodeState D
     pub runs : Runs old new before after
     pub cuts : (changes : List Change) → Keeps honest words before.records changes
-        → CutsUnroutable honest words before.config.host before.config.routes message now changes before.records
+        → CutsUnroutable honest words (reporter_of before.config) before.config.routes message now changes
+          before.records
         after.records
     pub failed : IsStopped words before.records after.records
     pub noted : Noted
@@ -146,7 +149,7 @@ module _ {D : Type 0} (honest : Type 0) (words : DiskWords D) where
   pub record RefusesGivingUp (now : ℕ) (old new : Host D) (message : ℕ) (fault : NodeFault) : Type 0 where
     pub before : NodeState D
     pub up : old.state ≡ Up before
-    pub refused : RefusesToGiveUp words before.config.host before.config.routes message now before.records
+    pub refused : RefusesToGiveUp words (reporter_of before.config) before.config.routes message now before.records
         before.records fault
     pub new_is : new ≡ old
 
@@ -158,7 +161,8 @@ module _ {D : Type 0} (honest : Type 0) (words : DiskWords D) where
 
   -- there is no room for the outcome that gives up the places of a message
   abbrev pub LacksRoom : ℕ → HostState D → ℕ → Type 0
-  LacksRoom now (Up node) message = HasNoRoomFor words node.config.host node.config.routes message now node.records
+  LacksRoom now (Up node) message = HasNoRoomFor words (reporter_of node.config) node.config.routes message now
+    node.records
   LacksRoom now (Down disk undecided) message = ⊥
 
   -- Of a host's first work the places of a message have ended, unless there was no memory, or no room for their

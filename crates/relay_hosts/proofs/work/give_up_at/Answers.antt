@@ -5,13 +5,14 @@ use Rattle.relay_hosts.specs.Call.{is_stop}
 use Rattle.relay_hosts.proofs.CallLemmas.{noted_some, notes_one, owed_stopped, owes_noted, stop_is}
 use Rattle.relay_hosts.proofs.WorkLemmas.{given_up_same, owes_unchanged, refuses_giving_up, same_node, stops_giving_up}
 use Rattle.relay_hosts.proofs.work.give_up_at.Goals as goal
+use Rattle.relay_report.specs.Report.{reporter_of}
 
 pub returns-then-is_stop-clause-given : goal.returns-then-is_stop-clause-given
 returns-then-is_stop-clause-given g c =
     let stop : is_stop c.in-Err.fault ≡ true = search rules in
     stops_giving_up g.D.Disk.honest g.D.Disk.words c.args.node.now c.give_up_unroutable.new.self c.args.records.now.items
     c.reserve.new.self.items c.args.message c.args.now c.requires.changes c.in-Ok.ensures.items c.in-Err.ensures.rest.0
-    (subst (λ f. RefusesToGiveUp g.D.Disk.words c.args.node.now.config.host c.args.node.now.config.routes c.args.message
+    (subst (λ f. RefusesToGiveUp g.D.Disk.words (reporter_of c.args.node.now.config) c.args.node.now.config.routes c.args.message
     c.args.now c.args.node.now.records c.give_up_unroutable.new.self.records f) (stop_is c.in-Err.fault stop)
     c.in-Err.ensures.refused)
     (λ changes keeps. c.in-Err.ensures.cut changes keeps (ap (λ f. Err f) (stop_is c.in-Err.fault stop)))
