@@ -50,6 +50,7 @@ use Rattle.relay_events.proofs.PlaceLemmas.{set_same, value_put}
 use Rattle.relay_events.proofs.ReopenLemmas.{held_put}
 use Rattle.relay_events.proofs.RunLemmas.{both_happened, one_happened, opened_happened, still_bound}
 use Rattle.relay_events.proofs.StepLemmas.{told_already}
+use Rattle.relay_report.specs.Report.{reporter_of}
 
 -- no more places leave or are late by an outcome than it rules on
 one_step : (made : Option PlaceStep) (place : ℕ) (rest : List (ℕ × PlaceStep))
@@ -198,7 +199,7 @@ module _ {D : Type 0} (honest : Type 0) (words : DiskWords D) (old called : Worl
         failed = subst (λ (n : NodeState D). IsStopped words calls.gives.before.records n.records) after_same
             calls.gives.failed;
         cuts = λ changes keeps. subst
-            (λ (n : NodeState D). CutsUnroutable honest words calls.gives.before.config.host calls.gives.before.config.routes
+            (λ (n : NodeState D). CutsUnroutable honest words (reporter_of calls.gives.before.config) calls.gives.before.config.routes
             message old.clock changes calls.gives.before.records n.records) after_same (calls.gives.cuts changes keeps);
         noted = crashes.noted;
         note_is = crashes.note_is;

@@ -35,6 +35,7 @@ use Rattle.relay_events.proofs.ClientEndLemmas.{crash_fewer, crash_room, crash_r
 use Rattle.relay_events.proofs.CutShortLemmas.{cut_short as was_cut, goes_down, note_there, stopped_same}
 use Rattle.relay_events.proofs.LossLemmas.{attempt_of, few_left, few_recorded, has_lost, lines_room, over_fewer, over_room, over_running, same_before}
 use Rattle.relay_events.proofs.RunLemmas.{both_happened, one_happened, opened_happened, still_bound}
+use Rattle.relay_report.specs.Report.{reporter_of}
 
 module _ {D : Type 0} (honest : Type 0) (words : DiskWords D) (old called : World D) (number : ℕ) (end : ClientEnd)
     (runs : RunsThere honest words old number end) where
@@ -126,7 +127,7 @@ module _ {D : Type 0} (honest : Type 0) (words : DiskWords D) (old called : Worl
           failed = subst (λ (n : NodeState D). IsStopped words calls.tells.before.records n.records) after_same
               calls.tells.failed;
           cuts = λ changes told keeps tells. subst
-              (λ (n : NodeState D). CutsLoss honest words calls.tells.before.config.host old.clock changes end.slot told n.records)
+              (λ (n : NodeState D). CutsLoss honest words (reporter_of calls.tells.before.config) old.clock changes end.slot told n.records)
               after_same (calls.tells.cuts changes told keeps tells);
           crash = record {
             noted = crashes.noted;

@@ -44,6 +44,7 @@ use Rattle.relay_events.proofs.CutShortLemmas.{cut_short as was_cut, goes_down, 
 use Rattle.relay_events.proofs.LossLemmas.{attempt_of, few_left, lines_room, same_before}
 use Rattle.relay_events.proofs.ReadLemmas.{answered_carries, answered_happened, carried_world, few_replied, read_room, read_running, used_within}
 use Rattle.relay_events.proofs.RunLemmas.{both_happened, opened_happened, still_bound}
+use Rattle.relay_report.specs.Report.{reporter_of}
 
 module _ {D : Type 0} (honest : Type 0) (words : DiskWords D) (old called : World D) (number count : ℕ) (end : ClientEnd)
     (runs : RunsThere honest words old number end) where
@@ -198,7 +199,7 @@ module _ {D : Type 0} (honest : Type 0) (words : DiskWords D) (old called : Worl
         stopped = crashes.before.records;
         failed = subst (λ (n : NodeState D). IsStopped words stops.before.records n.records) after_same stops.failed;
         cuts = λ changes told keeps tells. subst
-            (λ (n : NodeState D). CutsReply honest words stops.before.config.host old.clock changes end.slot told
+            (λ (n : NodeState D). CutsReply honest words (reporter_of stops.before.config) old.clock changes end.slot told
             (waiting_down count runs.on.link) n.records) after_same (stops.cuts changes told keeps tells);
         crash = record {
           noted = crashes.noted;

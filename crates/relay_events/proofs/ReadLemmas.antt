@@ -37,6 +37,7 @@ use Rattle.relay_events.proofs.LossLemmas.{attempt_of, few_left, over_room, over
 use Rattle.relay_events.proofs.PlaceLemmas.{link_put, set_same, value_put}
 use Rattle.relay_events.proofs.ReopenLemmas.{held_put}
 use Rattle.relay_events.proofs.RunLemmas.{both_happened, one_happened}
+use Rattle.relay_report.specs.Report.{reporter_of}
 
 -- what was used of the octets that wait was there
 pub used_within : (octets : List ℕ) (count read used : ℕ) → read ≤ length octets → used ≤ length (take count (drop read octets))
@@ -130,7 +131,7 @@ module _ {D : Type 0} (honest : Type 0) (words : DiskWords D) (old : World D) (n
 
   -- no more places have left than the attempt has
   few_by : (before after : NodeState D) (change : Option ℕ) (lines : Option Recorded) → NotesChange was now after change lines
-      → RepliesBy honest words before.config.host old.clock on.changes slot on.told (waiting_down count on.link) before after replied
+      → RepliesBy honest words (reporter_of before.config) old.clock on.changes slot on.told (waiting_down count on.link) before after replied
       change → length (replied_lines number attempt change lines) ≤ length attempt.places.items
   few_by before after None lines notes replies = omega arith
   few_by before after (Some change) None notes replies = absurd notes
