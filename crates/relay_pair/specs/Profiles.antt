@@ -6,6 +6,7 @@ use Rattle.std.specs.declared.net.socket_addr.SocketAddrV4.{SocketAddrV4}
 use Rattle.relay_routes.specs.Routes.{Route}
 use Rattle.relay_routes.specs.declared.bare_newlines.BareNewlines.TheVariants.{Pass}
 use Rattle.relay_routes.specs.declared.routed_paths.RoutedPaths.TheVariants as routed
+use Rattle.relay_routes.specs.declared.report_form.ReportForm.TheVariants.{Plain}
 use Rattle.relay_routes.specs.declared.config.Config.{Config}
 use Rattle.relay_events.specs.Step.{outside_address}
 
@@ -79,6 +80,7 @@ pub record IsProfile (host address : List ℕ) (routes : List Route) (config : C
   pub bare_newlines : config.bare_newlines ≡ Pass
   pub trusted_clients : config.trusted_clients ≡ None
   pub routed_paths : config.routed_paths ≡ routed.Pass
+  pub reports : config.reports ≡ Plain
 
 -- each of these is the configuration of the node at its place among so many
 abbrev pub HaveProfiles : ℕ → List Config → Type 0
