@@ -27,6 +27,7 @@ use Rattle.relay_links.specs.declared.push.Pushed.{Pushed}
 use Rattle.relay_links.specs.declared.push.Pushed.TheVariants as pushed
 use Rattle.relay_links.specs.Push.{PushHasEnded, IsAt, PushesTo, push_start_at}
 use Rattle.relay_service.specs.Pushing.{Concludes, DoesEach, DoesOne, DoesSome, Ends, HandsOn, IsDone, IsSameButNote, StaysBeside, TellsDevice, WorksOff, WorksTo, HasEnded as EndsOn}
+use Rattle.relay_report.specs.Report.{Reporter, reporter_of}
 
 -- the same node with this note
 abbrev pub noted_as : {D : Type 0} → Option Noted → NodeState D → NodeState D
@@ -47,9 +48,9 @@ module _ {D : Type 0} (honest : Type 0) (words : DiskWords D) where
       record { live = keeps.live; fitting = keeps.fitting; queue = keeps.queue; bodies = keeps.bodies; images = keeps.images }
 
   -- an outcome that was added is the one change more
-  concluded : (host : List ℕ) (changes : List Change) (outcome : Outcome) (used : ℕ) (new : Kept D) (number : ℕ) → AddsOutcome honest words host changes outcome used new number
-      → (later : List Change) × (Concludes host changes later outcome × Keeps honest words new later)
-  concluded host changes outcome used new number adds =
+  concluded : (reporter : Reporter) (changes : List Change) (outcome : Outcome) (used : ℕ) (new : Kept D) (number : ℕ) → AddsOutcome honest words reporter changes outcome used new number
+      → (later : List Change) × (Concludes reporter changes later outcome × Keeps honest words new later)
+  concluded reporter changes outcome used new number adds =
       (_, (record { report = adds.report; reported = adds.reported; later_is = refl }, adds.adds.keeps))
 
   -- all attempts stay where the one that began is gone
@@ -112,10 +113,10 @@ module _ {D : Type 0} (honest : Type 0) (words : DiskWords D) where
     )
 
     -- the places of a message without a hop have ended
-    pub gave_up : (number : ℕ) (changes : List Change) (old new : NodeState D) (added : ℕ) → AddsUnroutable honest words old.config.host old.config.routes number now changes old.records new.records added
+    pub gave_up : (number : ℕ) (changes : List Change) (old new : NodeState D) (added : ℕ) → AddsUnroutable honest words (reporter_of old.config) old.config.routes number now changes old.records new.records added
         → new.config ≡ old.config → new.seats ≡ old.seats → new.attempts ≡ old.attempts → IsDone honest words now (NoRoute number) changes old new
     gave_up number changes old new added adds config seats attempts =
-        let all = concluded old.config.host changes (unroutable old.config.routes number now adds.message) 0 new.records added adds.adds in (
+        let all = concluded (reporter_of old.config) changes (unroutable old.config.routes number now adds.message) 0 new.records added adds.adds in (
           all.0,
           record {
             does = inl (record { message = adds.message; found = adds.found; concludes = all.1.0 });
@@ -126,7 +127,7 @@ module _ {D : Type 0} (honest : Type 0) (words : DiskWords D) where
 
     -- what a fault of `give_up_unroutable` leaves, where all but a failed device leaves the work
     pub gave_up_not : {X : Type 0} {F : Type 0} (ended : F) (number : ℕ) (changes : List Change) (old new : NodeState D) (fault : NodeFault) (result : Result X F) → Keeps honest words old.records changes
-        → RefusesToGiveUp words old.config.host old.config.routes number now old.records new.records fault
+        → RefusesToGiveUp words (reporter_of old.config) old.config.routes number now old.records new.records fault
         → new.config ≡ old.config → new.seats ≡ old.seats → new.attempts ≡ old.attempts
         → MatchResult result (λ _. fault ≢ node_fault.Stopped) (λ e. (fault ≡ node_fault.Stopped) × (e ≡ ended))
         → WorksTo honest words now (NoRoute number) changes old new result
@@ -142,7 +143,7 @@ module _ {D : Type 0} (honest : Type 0) (words : DiskWords D) where
           },
         )
 
-        left_by : (fault : NodeFault) → RefusesToGiveUp words old.config.host old.config.routes number now old.records new.records fault → fault ≢ node_fault.Stopped → IsDone honest words now (NoRoute number) changes old new
+        left_by : (fault : NodeFault) → RefusesToGiveUp words (reporter_of old.config) old.config.routes number now old.records new.records fault → fault ≢ node_fault.Stopped → IsDone honest words now (NoRoute number) changes old new
         left_by node_fault.NoMemory refuses other = same refuses.2
         left_by node_fault.Stopped refuses other = absurd (other refl)
         left_by node_fault.Unknown refuses other = same refuses.2
@@ -153,22 +154,22 @@ module _ {D : Type 0} (honest : Type 0) (words : DiskWords D) where
         left_by node_fault.Full refuses other = same refuses.1
         left_by node_fault.NoSecond refuses other = absurd refuses
 
-        stopped_by : RefusesToGiveUp words old.config.host old.config.routes number now old.records new.records node_fault.Stopped → new.records.spool.live ≡ false
+        stopped_by : RefusesToGiveUp words (reporter_of old.config) old.config.routes number now old.records new.records node_fault.Stopped → new.records.spool.live ≡ false
         stopped_by refuses = elim refuses [ inl before ↦ absurd (true≢false (sym keeps.live ∙ before.0)) | inr here ↦ here.live ]
 
         by_result : (result : Result X F) → MatchResult result (λ _. fault ≢ node_fault.Stopped) (λ e. (fault ≡ node_fault.Stopped) × (e ≡ ended))
             → WorksTo honest words now (NoRoute number) changes old new result
         by_result (Ok x) other = left_by fault refuses other
-        by_result (Err e) is = inr (stopped_by (subst (λ f. RefusesToGiveUp words old.config.host old.config.routes number now old.records new.records f) is.0 refuses))
+        by_result (Err e) is = inr (stopped_by (subst (λ f. RefusesToGiveUp words (reporter_of old.config) old.config.routes number now old.records new.records f) is.0 refuses))
 
   -- a link has ended, of an attempt of which this was told
   pub handed : (at : ℕ) (left held new_left new_held : Option (List ℕ)) (node : NodeState D) (records : Kept D) (changes : List Change) (told : Told) (result : Result Pushed LinkFault)
-      → PushesTo honest words (push_start_at left held node changes told) at new_left new_held records result → HandsOn honest words node.config.host changes told records result
+      → PushesTo honest words (push_start_at left held node changes told) at new_left new_held records result → HandsOn honest words (reporter_of node.config) changes told records result
   handed at left held new_left new_held node records changes told result pushes = by_result result pushes
     where
-      ended : (unwritten : List ℕ) → PushHasEnded honest words (push_start_at left held node changes told) at new_left new_held unwritten records → EndsOn honest words node.config.host changes told records
+      ended : (unwritten : List ℕ) → PushHasEnded honest words (push_start_at left held node changes told) at new_left new_held unwritten records → EndsOn honest words (reporter_of node.config) changes told records
       ended unwritten h =
-          let all = concluded node.config.host changes (outcome_at at told h.verdicts) h.concludes.used records h.concludes.number h.concludes.adds in
+          let all = concluded (reporter_of node.config) changes (outcome_at at told h.verdicts) h.concludes.used records h.concludes.number h.concludes.adds in
           record {
             later = all.0;
             at = at;
@@ -176,11 +177,11 @@ module _ {D : Type 0} (honest : Type 0) (words : DiskWords D) where
             keeps = all.1.1;
           }
 
-      by_result : (result : Result Pushed LinkFault) → PushesTo honest words (push_start_at left held node changes told) at new_left new_held records result → HandsOn honest words node.config.host changes told records result
+      by_result : (result : Result Pushed LinkFault) → PushesTo honest words (push_start_at left held node changes told) at new_left new_held records result → HandsOn honest words (reporter_of node.config) changes told records result
       by_result (Ok pushed.Ended) h = ended [] h
       by_result (Ok pushed.Unwritten) h = ended h.0 h.2
       by_result (Ok pushed.Lost) h =
-          let all = concluded node.config.host changes (outcome_at at told (all_later told.places)) h.concludes.used records h.concludes.number h.concludes.adds in
+          let all = concluded (reporter_of node.config) changes (outcome_at at told (all_later told.places)) h.concludes.used records h.concludes.number h.concludes.adds in
           record {
             later = all.0;
             at = at;
@@ -194,12 +195,12 @@ module _ {D : Type 0} (honest : Type 0) (words : DiskWords D) where
       by_result (Err link_fault.Device) h = h.cut.cuts.cuts.halted.stopped
 
   -- a fault that isn't the device's leaves the changes of before
-  pub keeps_but : (host : List ℕ) (changes : List Change) (told : Told) (records : Kept D) (fault : LinkFault) → HandsOn honest words host changes told records (Err fault) → fault ≢ link_fault.Device → Keeps honest words records changes
-  keeps_but host changes told records link_fault.Input h other = absurd h
-  keeps_but host changes told records link_fault.Output h other = absurd h
-  keeps_but host changes told records link_fault.NoMemory h other = h
-  keeps_but host changes told records link_fault.Full h other = h
-  keeps_but host changes told records link_fault.Device h other = absurd (other refl)
+  pub keeps_but : (reporter : Reporter) (changes : List Change) (told : Told) (records : Kept D) (fault : LinkFault) → HandsOn honest words reporter changes told records (Err fault) → fault ≢ link_fault.Device → Keeps honest words records changes
+  keeps_but reporter changes told records link_fault.Input h other = absurd h
+  keeps_but reporter changes told records link_fault.Output h other = absurd h
+  keeps_but reporter changes told records link_fault.NoMemory h other = h
+  keeps_but reporter changes told records link_fault.Full h other = h
+  keeps_but reporter changes told records link_fault.Device h other = absurd (other refl)
 
   -- before an attempt has read or written anything its link begins, whatever it is read from and written to
   pub begins_here : (at number : ℕ) (node : NodeState D) (changes : List Change) (told : Told) → Keeps honest words node.records changes → Tells node.config.host changes node.attempts number told
@@ -230,7 +231,7 @@ module _ {D : Type 0} (honest : Type 0) (words : DiskWords D) where
     }
 
     -- it has ended
-    tried : EndsOn honest words mid.config.host changes (begun_with number hop started.places.items begins.message) new.records → IsDone honest words now (Try number hop) changes old new
+    tried : EndsOn honest words (reporter_of mid.config) changes (begun_with number hop started.places.items begins.message) new.records → IsDone honest words now (Try number hop) changes old new
     tried h = (
       h.later,
       record {
@@ -239,7 +240,7 @@ module _ {D : Type 0} (honest : Type 0) (words : DiskWords D) where
           started = started;
           begins = begins;
           at = h.at;
-          ended = inl (subst (λ host. Ends host changes h.later (begun_with number hop started.places.items begins.message) h.at) (ap (λ config. config.host) config) h.ends);
+          ended = inl (subst (λ reporter. Ends reporter changes h.later (begun_with number hop started.places.items begins.message) h.at) (ap (λ config. config.host) config) h.ends);
         });
         keeps = h.keeps;
         beside = beside h.keeps.live;
@@ -259,17 +260,17 @@ module _ {D : Type 0} (honest : Type 0) (words : DiskWords D) where
 
     -- it was handed on, and what is said of it then changes no more than the note
     pub handed_over : {X Y : Type 0} (pushed : Result Pushed LinkFault) (last : NodeState D) (result : Result X Y)
-        → HandsOn honest words mid.config.host changes (begun_with number hop started.places.items begins.message) new.records pushed
+        → HandsOn honest words (reporter_of mid.config) changes (begun_with number hop started.places.items begins.message) new.records pushed
         → IsSameButNote new last → TellsDevice pushed result → WorksTo honest words now (Try number hop) changes old last result
     handed_over (Ok pushed.Ended) last result h same told = whatever_noted now last.records.noted (Try number hop) changes old new last result (tried h) same
     handed_over (Ok pushed.Unwritten) last result h same told = whatever_noted now last.records.noted (Try number hop) changes old new last result (tried h) same
     handed_over (Ok pushed.Lost) last result h same told = whatever_noted now last.records.noted (Try number hop) changes old new last result (tried h) same
     handed_over {X} {Y} (Err fault) last (Ok done) h same told =
         let begun : Told = begun_with number hop started.places.items begins.message in
-        whatever_noted now {X = X} {Y = Y} last.records.noted (Try number hop) changes old new last (Ok done) (dropped (keeps_but mid.config.host changes begun new.records fault h told)) same
+        whatever_noted now {X = X} {Y = Y} last.records.noted (Try number hop) changes old new last (Ok done) (dropped (keeps_but (reporter_of mid.config) changes begun new.records fault h told)) same
     handed_over (Err fault) last (Err ended) h same told =
         inr (ap (λ (node : NodeState D). node.records.spool.live) same
-        ∙ subst (λ (f : LinkFault). HandsOn honest words mid.config.host changes (begun_with number hop started.places.items begins.message) new.records (Err f)) told h)
+        ∙ subst (λ (f : LinkFault). HandsOn honest words (reporter_of mid.config) changes (begun_with number hop started.places.items begins.message) new.records (Err f)) told h)
 
   module _ (now : ℕ) where
     -- after each of these works one more was done

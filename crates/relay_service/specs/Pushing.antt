@@ -9,7 +9,7 @@ use Rattle.relay_book.specs.declared.change.Verdict.{Verdict}
 use Rattle.relay_book.specs.declared.message.Message.{Message}
 use Rattle.relay_book.specs.Queue.{message_of}
 use Rattle.relay_records.specs.Records.{Keeps, Kept}
-use Rattle.relay_report.specs.Report.{Reported}
+use Rattle.relay_report.specs.Report.{Reported, Reporter, reporter_of}
 use Rattle.relay_attempts.specs.AddedOutcome.{reported_as}
 use Rattle.relay_course.specs.Course.{IsCourse}
 use Rattle.relay_attempts.specs.declared.start.Started.{Started}
@@ -31,9 +31,9 @@ pub record StaysBeside {D : Type 0} (old new : NodeState D) : Type 0 where
   pub attempts : (number : ℕ) → slot_at new.attempts number ≡ slot_at old.attempts number
 
 -- the outcome, with the report that is due of it, is the one change more
-pub record Concludes (host : List ℕ) (changes later : List Change) (outcome : Outcome) : Type 0 where
+pub record Concludes (reporter : Reporter) (changes later : List Change) (outcome : Outcome) : Type 0 where
   pub report : List ℕ
-  pub reported : Reported host changes (reported_as outcome report)
+  pub reported : Reported reporter changes (reported_as outcome report)
   pub later_is : later ≡ changes ++ reported_as outcome report ∷ []
 
 -- the node is the same but for its note
@@ -46,22 +46,22 @@ TellsDevice pushed result = IfErr pushed (λ fault. MatchResult result (λ _. fa
 
 -- Of an attempt that has begun: what was read and written is its course with these verdicts, at a loss or without one,
 -- and the outcome with these, at this moment, is the one change more.
-pub record Ends (host : List ℕ) (changes later : List Change) (told : Told) (at : ℕ) : Type 0 where
+pub record Ends (reporter : Reporter) (changes later : List Change) (told : Told) (at : ℕ) : Type 0 where
   pub verdicts : List Verdict
   pub lost : Bool
   pub input : List ℕ
   pub output : List ℕ
-  pub course : IsCourse host told.envelope told.text told.places input lost output (Some verdicts)
-  pub concludes : Concludes host changes later (outcome_at at told verdicts)
+  pub course : IsCourse reporter.host told.envelope told.text told.places input lost output (Some verdicts)
+  pub concludes : Concludes reporter changes later (outcome_at at told verdicts)
 
 -- What a link has done with an attempt of which this is told, of a node that kept these changes.
-module _ {D : Type 0} (honest : Type 0) (words : DiskWords D) (host : List ℕ) (changes : List Change)
+module _ {D : Type 0} (honest : Type 0) (words : DiskWords D) (reporter : Reporter) (changes : List Change)
     (told : Told) where
   -- it has ended
   pub record HasEnded (records : Kept D) : Type 0 where
     pub later : List Change
     pub at : ℕ
-    pub ends : Ends host changes later told at
+    pub ends : Ends reporter changes later told at
     pub keeps : Keeps honest words records later
 
   -- where a fault is told, it is gone without an outcome for want of memory or of room, or the device failed
@@ -79,7 +79,7 @@ module _ {D : Type 0} (honest : Type 0) (words : DiskWords D) (now : ℕ) where
   pub record GivesUp (number : ℕ) (changes later : List Change) (old : NodeState D) : Type 0 where
     pub message : Message
     pub found : message_of old.records.queue.messages number ≡ Some message
-    pub concludes : Concludes old.config.host changes later (unroutable old.config.routes number now message)
+    pub concludes : Concludes (reporter_of old.config) changes later (unroutable old.config.routes number now message)
 
   -- an attempt has begun for those places of the message that are due and go to the hop, and it has ended, or is gone
   -- without an outcome
@@ -88,7 +88,8 @@ module _ {D : Type 0} (honest : Type 0) (words : DiskWords D) (now : ℕ) where
     pub started : Started
     pub begins : Begins old.config changes number hop now old.attempts begun started
     pub at : ℕ
-    pub ended : Ends old.config.host changes later (begun_with number hop started.places.items begins.message) at
+    pub ended : Ends (reporter_of old.config) changes later (begun_with number hop started.places.items begins.message)
+        at
         ⊎ (later ≡ changes)
 
   -- the work was done once, or it was left: for want of memory or of room, or since it isn't due any more

@@ -1,5 +1,6 @@
 //! Mail that is handed on to its next hops.
 ghost use Rattle.std.specs.Prelude.{◌≡◌, ◌≢◌, ℕ, None, true, List, MatchResult};
+ghost use Rattle.relay_report.specs.Report.{reporter_of};
 ghost use Rattle.relay_attempts.specs.Reply.{Told};
 ghost use Rattle.relay_attempts.specs.Work.{works_of};
 ghost use Rattle.relay_attempts.specs.declared.work.Work.TheVariants as work;
@@ -188,7 +189,7 @@ fn hand_on<C: Clock>(
 ) -> Handed
     ensures pushed { (changes : List Change) (told : Told) → Keeps ⊥ file_words node.old.records changes
         → Tells node.old.config.host changes node.old.attempts attempt told
-        → HandsOn ⊥ file_words node.old.config.host changes told node.new.records result.pushed }
+        → HandsOn ⊥ file_words (reporter_of node.old.config) changes told node.new.records result.pushed }
     ensures gone { node.new.records.spool.live ≡ true → slot_at node.new.attempts attempt ≡ None }
     ensures rest { OthersStay node.old.attempts node.new.attempts attempt
         × (node.new.config ≡ node.old.config) × (node.new.seats ≡ node.old.seats) }
