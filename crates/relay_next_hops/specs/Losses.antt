@@ -13,13 +13,14 @@ use Rattle.relay_limits.specs.declared.pace.Pace.{Pace}
 use Rattle.relay_connections.specs.declared.clocks.Now.{Now}
 use Rattle.relay_next_hops.specs.Paces.{IsHeldAt}
 use Rattle.relay_next_hops.specs.declared.errand.Errand.{Errand}
+use Rattle.relay_report.specs.Report.{reporter_of}
 
 -- The words below are of a call at a moment, of a relay on files.
 module _ (at : ℕ) (old new : RelayState FileDisk) where
   -- the attempt of this number has ended, and its outcome was recorded; its connection is gone
   pub record LosesAttempt (attempt : ℕ) : Type 0 where
     pub change : ℕ
-    pub ends : EndsBy file_words old.node.config.host at attempt old.node.attempts new.node.attempts
+    pub ends : EndsBy file_words (reporter_of old.node.config) at attempt old.node.attempts new.node.attempts
         old.node.records new.node.records change
     pub gone : slot_at new.hops attempt ≡ None
 

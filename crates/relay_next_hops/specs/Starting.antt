@@ -30,6 +30,7 @@ use Rattle.relay_next_hops.specs.declared.starting.Step.{Step}
 use Rattle.relay_next_hops.specs.declared.starting.Step.TheVariants.{Left, Back, Over, NoRoom, NoSlot}
 use Rattle.relay_next_hops.specs.declared.starting.Tried.{Tried}
 use Rattle.relay_next_hops.specs.declared.starting.Tried.TheVariants.{Connects, Wants, Fails, HasNoPlace}
+use Rattle.relay_report.specs.Report.{reporter_of}
 
 -- the errand of a task without an attempt
 pub record IsOfTask (task : Task) (errand : Errand) : Type 0 where
@@ -73,7 +74,7 @@ IsTried now lane number task hops_old hops_new lanes_old lanes_new old new HasNo
 pub record GivesUp (at message : ℕ) (old new : RelayState FileDisk) : Type 0 where
   pub between : RelayState FileDisk
   pub added : ℕ
-  pub ends : EndsUnroutable file_words old.node.config.host old.node.config.routes message at old.node.records
+  pub ends : EndsUnroutable file_words (reporter_of old.node.config) old.node.config.routes message at old.node.records
       between.node.records added
   pub noted : TakesNote between new
 
@@ -81,9 +82,10 @@ pub record GivesUp (at message : ℕ) (old new : RelayState FileDisk) : Type 0 w
 abbrev pub IsGivenUp : ℕ → ℕ → RelayState FileDisk → RelayState FileDisk → Lanes → Bool → Type 0
 IsGivenUp at message old new lanes true = GivesUp at message old new
 IsGivenUp at message old new lanes false =
-    RefusesToGiveUp file_words old.node.config.host old.node.config.routes message at old.node.records new.node.records
+    RefusesToGiveUp file_words (reporter_of old.node.config) old.node.config.routes message at old.node.records
+      new.node.records
     Unknown
-    ⊎ RefusesToGiveUp file_words old.node.config.host old.node.config.routes message at old.node.records
+    ⊎ RefusesToGiveUp file_words (reporter_of old.node.config) old.node.config.routes message at old.node.records
     new.node.records NotDue
     ⊎ (lanes.is_stale ≡ true)
 
