@@ -6,7 +6,7 @@ use strsim::levenshtein;
 use toml::Table;
 
 /// How many keys a configuration may have.
-pub(crate) const KEY_COUNT: usize = 15;
+pub(crate) const KEY_COUNT: usize = 16;
 
 /// The keys of a configuration.
 const KEYS: [&str; KEY_COUNT] = [
@@ -19,6 +19,7 @@ const KEYS: [&str; KEY_COUNT] = [
     "routes",
     "trusted_clients",
     "routed_paths",
+    "reports",
     "sessions_per_client",
     "attempts_per_hop",
     "client_timeout",

@@ -177,6 +177,7 @@ fn rule_of(key: Key) -> Rule {
         Key::BareNewlines => ("\"pass\" or \"refuse\"", Good::Text("refuse")),
         Key::TrustedClients => ("an array of IPv4 networks", Good::NoNetworks),
         Key::RoutedPaths => ("\"pass\" or \"refuse\"", Good::Text("refuse")),
+        Key::Reports => ("\"plain\" or \"rich\"", Good::Text("rich")),
     };
     Rule {
         key: key.text(),
