@@ -4,7 +4,7 @@
 use crate::answer::{Answer, RowsFault};
 use crate::rows::read_file;
 use relay_envelope::{Path, PathBuf};
-use relay_routes::{BareNewlines, Config, Hop, RoutedPaths, Table};
+use relay_routes::{BareNewlines, Config, Hop, ReportForm, RoutedPaths, Table};
 use std::net::Ipv4Addr;
 
 /// Tells what comes of the lines, of the file, or of the file and the path that a row gives.
@@ -43,8 +43,8 @@ fn document_of(answer: &mut Answer, lines: &str) -> String {
     }
 }
 
-/// Tells what a configuration says: its values without the routes, and whether it refuses bare line ends and routed
-/// paths, or its fault.
+/// Tells what a configuration says: its values without the routes, whether it refuses bare line ends and routed paths, and
+/// whether its reports are rich, or its fault.
 fn tell_config(answer: &mut Answer, document: &str) {
     match Config::read(answer.alloc, document) {
         Ok(config) => tell_values(answer, &config),
@@ -65,6 +65,9 @@ fn tell_values(answer: &mut Answer, config: &Config) {
     }
     if matches!(config.routed_paths, RoutedPaths::Refuse) {
         answer.say(" no routed paths");
+    }
+    if matches!(config.reports, ReportForm::Rich) {
+        answer.say(" rich reports");
     }
 }
 

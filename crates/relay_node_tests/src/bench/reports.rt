@@ -3,6 +3,7 @@ use crate::told::Told;
 use relay_book::{Book, Message, Ruling, Rulings, Verdict};
 use relay_octets::Octets;
 use relay_report::{Report, report_if_due};
+use relay_routes::ReportForm;
 use std::alloc::{AllocError, Global};
 use std::test::Fail;
 
@@ -30,6 +31,7 @@ fn count_octets(
 ) -> Result<u64, AllocError> {
     let rulings = refusal(alloc)?;
     let report = Report {
+        form: ReportForm::Plain,
         host: b"relay.example",
         number: book.next_number(),
         message,

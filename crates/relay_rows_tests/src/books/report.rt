@@ -6,18 +6,20 @@ use crate::words::Words;
 use relay_book::{Book, Change, Message, Outcome, decode_change};
 use relay_octets::Octets;
 use relay_report::{Parts, Report, boundary_for, report_if_due, split_report};
+use relay_routes::ReportForm;
 use std::alloc::{AllocError, Global};
 
 /// The name of the host that makes the reports.
 const HOST: &[u8] = b"relay.example";
 
-/// Tells what comes of a row: `report ACCEPT OUTCOME`, two records, of which the first is change 1 and the report's
-/// number is 2, or `boundary NUMBER PART PART PART`. A line that begins with `#` says what the next row shows, and
+/// Tells what comes of a row: `report ACCEPT OUTCOME` or `rich ACCEPT OUTCOME`, two records, of which the first is change
+/// 1 and the report's number is 2, or `boundary NUMBER PART PART PART`. A line that begins with `#` says what the next row shows, and
 /// stands as it is.
 pub fn tell_report_row(answer: &mut Answer, row: &str) {
     let mut words = Words { rest: row };
     match words.word() {
-        "report" => tell_report(answer, words),
+        "report" => tell_report(answer, words, ReportForm::Plain),
+        "rich" => tell_report(answer, words, ReportForm::Rich),
         "boundary" => tell_boundary(answer, words),
         _ if row.starts_with('#') => answer.say(row),
         _ => answer.stop(RowsFault::Row),
@@ -44,28 +46,28 @@ fn tell_boundary(answer: &mut Answer, words: Words<'_>) {
 
 /// Tells the report of an outcome for the message of an accept, both of which are records, and the sizes of the parts
 /// that it is taken apart to.
-fn tell_report(answer: &mut Answer, words: Words<'_>) {
+fn tell_report(answer: &mut Answer, words: Words<'_>, form: ReportForm) {
     let mut words = words;
     let accept = octets_of(answer, words.word());
     let outcome = octets_of(answer, words.word());
     let mut book = Book::new(answer.alloc);
     match read_into(answer.alloc, &mut book, accept.as_slice()) {
-        Ok(()) => tell_report_of(answer, &book, outcome.as_slice()),
+        Ok(()) => tell_report_of(answer, &book, outcome.as_slice(), form),
         Err(fault) => answer.stop(RowsFault::from(fault)),
     }
 }
 
-fn tell_report_of(answer: &mut Answer, book: &Book, outcome: &[u8]) {
+fn tell_report_of(answer: &mut Answer, book: &Book, outcome: &[u8], form: ReportForm) {
     match decode_change(answer.alloc, outcome) {
-        Ok(Change::Outcome(outcome)) => tell_report_by(answer, book, &outcome),
+        Ok(Change::Outcome(outcome)) => tell_report_by(answer, book, &outcome, form),
         Ok(Change::Accept(_)) => answer.stop(RowsFault::Row),
         Err(fault) => answer.stop(RowsFault::from(fault)),
     }
 }
 
-fn tell_report_by(answer: &mut Answer, book: &Book, outcome: &Outcome) {
+fn tell_report_by(answer: &mut Answer, book: &Book, outcome: &Outcome, form: ReportForm) {
     match book.message(outcome.message) {
-        Some(message) => match report_of(answer.alloc, book, message, outcome) {
+        Some(message) => match report_of(answer.alloc, book, message, outcome, form) {
             Ok(report) => tell_parts(answer, report.as_slice()),
             Err(_) => answer.stop(RowsFault::NoMemory),
         },
@@ -78,8 +80,10 @@ fn report_of(
     book: &Book,
     message: &Message,
     outcome: &Outcome,
+    form: ReportForm,
 ) -> Result<Octets, AllocError> {
     let report = Report {
+        form,
         host: HOST,
         number: book.next_number(),
         message,
