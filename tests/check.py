@@ -105,6 +105,7 @@ routes = 1
 trusted_clients = "127.0.0.1"
 routed_paths = "no"
 balancers = "192.0.2.5"
+reports = "long"
 """, [
         '1:1: error: host = "relay example": write a name of 1 to 255 letters, digits, hyphens and periods, such as '
         'host = "relay.example.org"',
@@ -125,7 +126,8 @@ balancers = "192.0.2.5"
         '13:1: error: trusted_clients = "127.0.0.1": write an array of IPv4 networks, such as '
         'trusted_clients = ["127.0.0.0/8"]',
         '14:1: error: routed_paths = "no": write "pass" or "refuse", such as routed_paths = "refuse"',
-        '15:1: error: balancers = "192.0.2.5": write an array of IPv4 networks, such as balancers = ["192.0.2.5"]'])
+        '15:1: error: balancers = "192.0.2.5": write an array of IPv4 networks, such as balancers = ["192.0.2.5"]',
+        '16:1: error: reports = "long": write "plain" or "rich", such as reports = "rich"'])
 
 
 def each_network_is_judged_on_its_own(program):

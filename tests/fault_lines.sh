@@ -64,6 +64,8 @@ sed -i '4c trusted_clients = ["127.0.0.1/8"]' relayd.toml
 refused 1 'relayd: config BadValue trusted_clients' list --config relayd.toml
 sed -i '4c routed_paths = "no"' relayd.toml
 refused 1 'relayd: config BadValue routed_paths' list --config relayd.toml
+sed -i '4c reports = "long"' relayd.toml
+refused 1 'relayd: config BadValue reports' list --config relayd.toml
 
 # The content of a configuration comes before the spool that it names.
 mkdir folder

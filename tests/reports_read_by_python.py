@@ -1,6 +1,7 @@
 #!/usr/bin/env python3
-"""Reads each report that the program writes with Python's email package: a multipart/report of three parts, with the
-fields that the records of its row fill in, and the parts that the program itself takes it apart to.
+"""Reads each report that the program writes, plain or rich, with Python's email package: a multipart/report of three
+parts without defects, with the fields that the records of its row fill in, and the parts that the program itself takes
+it apart to.
 
     tests/reports_read_by_python.py crates/relay_rows_tests/out/relay_rows_tests
 """
@@ -16,6 +17,7 @@ DATA = pathlib.Path(__file__).resolve().parent.parent / "crates/relay_rows_tests
 HOST = "relay.example"
 # How long a place waits before it is late, and before it fails, in seconds; the last moment that a date shows.
 LATENESS, PATIENCE, LAST_SECOND = 14_400, 432_000, 253_370_764_799
+STATUS_CODE = re.compile(r"5\.(0|[1-9][0-9]{0,2})\.(0|[1-9][0-9]{0,2})(?= |$)")
 ESCAPE = re.compile(rb"\\(r|n|x[0-9A-F]{2})")
 
 
@@ -80,13 +82,19 @@ def date_of(moment):
     return at.strftime("%a, %d %b %Y %H:%M:%S +0000")
 
 
-def fields_of(hop, place, kind, refusal, action, until):
+def status_of(refusal, rich):
+    """The code that a reply begins with, if it is one of a permanent failure, as the reply is."""
+    found = STATUS_CODE.match(refusal[1]) if rich and refusal[0] >= 500 else None
+    return found[0] if found else "5.0.0"
+
+
+def fields_of(hop, place, kind, refusal, action, until, rich):
     path, _, orcpt = place
     fields = {"Final-Recipient": f"rfc822; {path[1:-1]}", "Action": action}
     if orcpt:
         kind_of_address, address = orcpt.split(";", 1)
         fields["Original-Recipient"] = f"{kind_of_address}; {plain(address)}"
-    fields["Status"] = {2: "2.0.0", 3: "5.0.0", 4: "4.4.7", 5: "5.6.3", 6: "5.1.2"}[kind]
+    fields["Status"] = {2: "2.0.0", 4: "4.4.7", 5: "5.6.3", 6: "5.1.2"}.get(kind) or status_of(refusal, rich)
     if action == "delayed":
         fields["Status"] = "4.0.0"
         if until <= LAST_SECOND:
@@ -98,41 +106,79 @@ def fields_of(hop, place, kind, refusal, action, until):
     return fields
 
 
+def check_people(lines, told, rich):
+    """The part for people: a line for each place, or sentences with the hop's own words."""
+    if not rich:
+        assert lines[0] == f"Delivery report of {HOST} for message 1." and len(lines) == 1 + len(told)
+        assert lines[1:] == [f"{fields['Action']} <{fields['Final-Recipient'][8:]}>" for fields in told]
+        return
+    assert lines[0] == f"This is the mail relay at {HOST}." and lines[1].endswith(" as number 1,")
+    blocks = "\n".join(lines).split("\n\n")[1:]
+    assert len(blocks) == len(told), "other blocks"
+    for block, fields in zip(blocks, told):
+        first, *rest = block.split("\n")
+        assert first == f"For <{fields['Final-Recipient'][8:]}>:"
+        words = fields.get("Diagnostic-Code")
+        assert words is None or f"    {words[6:]}" in rest, "other words of the hop"
+        until = fields.get("Will-Retry-Until")
+        assert until is None or f"  The relay keeps trying until {until}." in rest, "another end"
+
+
+def check_header(message, moment, told, eight_bit, rich):
+    """What a rich report's header section has, and a plain one's hasn't."""
+    assert message["Message-ID"] == (f"<{moment}.2@{HOST}>" if rich else f"<2@{HOST}>")
+    assert message["Auto-Submitted"] == ("auto-replied" if rich else None)
+    assert message["Content-Transfer-Encoding"] == ("8bit" if rich and eight_bit else None)
+    actions = [fields["Action"] for fields in told]
+    worst = next(action for action in ("failed", "delayed", "relayed") if action in actions)
+    path = told[actions.index(worst)]["Final-Recipient"][8:]
+    assert message["Subject"] == (f"Delivery {worst}: <{path}>" if rich else "Delivery report")
+
+
+def check_defects(text):
+    """A report and its parts have no defects; what is returned is what the sender wrote, and may have some."""
+    for policy in (email.policy.compat32, email.policy.default):
+        report = email.message_from_bytes(text, policy=policy)
+        for part in (report, *report.get_payload()):
+            assert not part.defects, f"{part.defects}"
+
+
 def check(row, text, sizes):
+    rich = row[0] == "rich"
+    check_defects(text)
     accepted, path, ret, envid, places, stored = read_accept(row[1])
     moment, hop, verdicts = read_outcome(row[2])
     message = email.message_from_bytes(text, policy=email.policy.compat32)
     assert message.get_content_type() == "multipart/report" and not message.defects, "no report"
     assert message.get_param("report-type") == "delivery-status"
     assert message["To"] == path and message["From"] == f"<postmaster@{HOST}>"
-    assert message["Message-ID"] == f"<2@{HOST}>"
     people, status, returned = message.get_payload()
     assert people.get_content_type() == "text/plain" and status.get_content_type() == "message/delivery-status"
     told = []
     for place, kind, refusal in verdicts:
         action = action_of(kind, places[place][1], moment - accepted)
         if action:
-            told.append(fields_of(hop, places[place], kind, refusal, action, accepted + PATIENCE))
+            told.append(fields_of(hop, places[place], kind, refusal, action, accepted + PATIENCE, rich))
     whole = ret == 1 and any(fields["Action"] == "failed" for fields in told)
     assert returned.get_content_type() == ("message/rfc822" if whole else "text/rfc822-headers")
-    lines = people.get_payload().splitlines()
-    assert lines[0] == f"Delivery report of {HOST} for message 1." and len(lines) == 1 + len(told)
+    check_people(people.get_payload().splitlines(), told, rich)
     of_message, *of_places = status.get_payload()
     assert of_message["Reporting-MTA"] == f"dns; {HOST}"
     assert of_message["Original-Envelope-Id"] == (plain(envid) or None)
     assert len(of_places) == len(told), "other places"
-    for found, wanted, line in zip(of_places, told, lines[1:]):
-        wanted.pop("Last-Attempt-Date", None)
+    for found, wanted in zip(of_places, told):
         dated = "Last-Attempt-Date" in found
         assert dated == (wanted["Status"] != "5.1.2"), "date of an attempt"
         assert {key: value for key, value in found.items() if key != "Last-Attempt-Date"} == wanted, f"{found.items()}"
-        assert line == f"{wanted['Action']} <{wanted['Final-Recipient'][8:]}>"
     boundary = message.get_boundary().encode()
     header, *pieces = text.split(b"\r\n--" + boundary)
     parts = [piece.split(b"\r\n\r\n", 1)[1] for piece in pieces[:3]]
     assert len(pieces) == 4 and pieces[3] == b"--\r\n" and [len(part) for part in parts] == sizes, "other parts"
     end = stored.find("\r\n\r\n") + 2 if "\r\n\r\n" in stored else len(stored)
     assert parts[2] == (stored if whole else stored[:end]).encode("latin-1"), "other text"
+    eight_bit = any(octet > 127 for octet in parts[2])
+    check_header(message, moment, told, eight_bit, rich)
+    assert returned["Content-Transfer-Encoding"] == ("8bit" if rich and eight_bit else None)
 
 
 def main():
@@ -143,14 +189,14 @@ def main():
     # What comes of these rows is written last.
     for row, line in zip(rows, written[-len(rows) :], strict=True):
         words = row.split(" ")
-        if words[0] != "report":
+        if words[0] not in ("report", "rich"):
             continue
         if line == "no report":
             continue
         shown, sizes = line.split(" | parts of ")
         check(words, octets_of(shown), [int(size) for size in sizes.split(", ")])
         count += 1
-    assert count >= 17, f"{count} reports"
+    assert count >= 38, f"{count} reports"
     print(f"{count} reports were read")
 
 
