@@ -38,15 +38,15 @@ module _ (count first step : ℕ) where
     next = omega arith
 
   -- a connection that has nothing to hear is passed over
-  pub passes : (tick : ℕ) (answers : Answers) (old new : List (Option Hop)) → step < count → hearing_at old ((first + step) % count) ≡ None → AnswersEach tick behind answers old new → AnswersEach tick (turned count (first + step) (count - step)) answers old new
+  pub passes : {S : Type 0} (tick : ℕ) (answers : Answers) (old new : List (Option (Hop S))) → step < count → hearing_at old ((first + step) % count) ≡ None → AnswersEach tick behind answers old new → AnswersEach tick (turned count (first + step) (count - step)) answers old new
   passes tick answers old new below none rest = subst (λ (order : List ℕ). AnswersEach tick order answers old new) (sym (turned_next below)) (inl (none, rest))
 
   -- no answer is left
-  pub stops : (tick : ℕ) (old : List (Option Hop)) → step < count → hearing_at old ((first + step) % count) ≢ None → AnswersEach tick (turned count (first + step) (count - step)) [] old old
+  pub stops : {S : Type 0} (tick : ℕ) (old : List (Option (Hop S))) → step < count → hearing_at old ((first + step) % count) ≢ None → AnswersEach tick (turned count (first + step) (count - step)) [] old old
   stops tick old below some = subst (λ (order : List ℕ). AnswersEach tick order [] old old) (sym (turned_next below)) (inr (inl (some, refl, refl)))
 
   -- a connection that has is answered by the next
-  pub hears : (tick : ℕ) (answer : Result Answered NodeFault) (rest : Answers) (old between new : List (Option Hop)) → step < count → hearing_at old ((first + step) % count) ≢ None → AnswersOne tick ((first + step) % count) answer old between → AnswersEach tick behind rest between new → AnswersEach tick (turned count (first + step) (count - step)) (answer ∷ rest) old new
+  pub hears : {S : Type 0} (tick : ℕ) (answer : Result Answered NodeFault) (rest : Answers) (old between new : List (Option (Hop S))) → step < count → hearing_at old ((first + step) % count) ≢ None → AnswersOne tick ((first + step) % count) answer old between → AnswersEach tick behind rest between new → AnswersEach tick (turned count (first + step) (count - step)) (answer ∷ rest) old new
   hears tick answer rest old between new below some one goes_on = subst (λ (order : List ℕ). AnswersEach tick order (answer ∷ rest) old new) (sym (turned_next below)) (inr (inr (
     some,
     record {
@@ -79,30 +79,30 @@ found_all f found all count first step past so_far = sym (append-nil found) ∙ 
   none = omega (arith, past)
 
 -- where all was gone over, nothing is left
-pub all_over : (tick count first step : ℕ) (answers : Answers) (hops : List (Option Hop)) → count - step ≡ 0 → AnswersEach tick (turned count (first + step) (count - step)) answers hops hops
+pub all_over : {S : Type 0} (tick count first step : ℕ) (answers : Answers) (hops : List (Option (Hop S))) → count - step ≡ 0 → AnswersEach tick (turned count (first + step) (count - step)) answers hops hops
 all_over tick count first step answers hops none = subst (λ (left : ℕ). AnswersEach tick (turned count (first + step) left) answers hops hops) (sym none) refl
 
 -- One that is left unread stays as it is.
-pub left_alone : (tick : ℕ) (hops : List (Option Hop)) (number : ℕ) (answer : Result Answered NodeFault) → WasLeft answer → AnswersOne tick number answer hops hops
-left_alone tick hops number answer left = record { own = by answer (slot_at hops number) left; others = λ other apart. refl } where
-  by : (answer : Result Answered NodeFault) (slot : Option Hop) → WasLeft answer → IsAnswered tick answer slot slot
+pub left_alone : {S : Type 0} (tick : ℕ) (hops : List (Option (Hop S))) (number : ℕ) (answer : Result Answered NodeFault) → WasLeft answer → AnswersOne tick number answer hops hops
+left_alone {S} tick hops number answer left = record { own = by answer (slot_at hops number) left; others = λ other apart. refl } where
+  by : (answer : Result Answered NodeFault) (slot : Option (Hop S)) → WasLeft answer → IsAnswered tick answer slot slot
   by answer None left = tt
   by (Ok answered) (Some hop) left = record { goes_on = left.1; unread = inr (left, 0, refl); errand = record { aim = refl; message = refl; name = refl } }
   by (Err fault) (Some hop) left = absurd left
 
 -- Where none is there, none is answered.
-pub none_answered : (tick : ℕ) (hops new : List (Option Hop)) (number : ℕ) (answer : Result Answered NodeFault) → slot_at hops number ≡ None → new ≡ slice_set hops number None → AnswersOne tick number answer hops new
-none_answered tick hops new number answer none rest = subst (AnswersOne tick number answer hops) (sym (rest ∙ none_taken hops number none)) (record { own = subst (λ (slot : Option Hop). IsAnswered tick answer slot slot) (sym none) tt; others = λ other apart. refl })
+pub none_answered : {S : Type 0} (tick : ℕ) (hops new : List (Option (Hop S))) (number : ℕ) (answer : Result Answered NodeFault) → slot_at hops number ≡ None → new ≡ slice_set hops number None → AnswersOne tick number answer hops new
+none_answered {S} tick hops new number answer none rest = subst (AnswersOne tick number answer hops) (sym (rest ∙ none_taken hops number none)) (record { own = subst (λ (slot : Option (Hop S)). IsAnswered tick answer slot slot) (sym none) tt; others = λ other apart. refl })
 
 -- One that was answered is put back, or is gone.
-pub answered_by : (tick : ℕ) (hops taken new : List (Option Hop)) (number : ℕ) (hop after : Hop) (course : Course) (answer : Result Answered NodeFault) → Some hop ≡ slot_at hops number → taken ≡ slice_set hops number None → slot_at new number ≡ left_of course after → OthersStay taken new number → IsAnswered tick answer (Some hop) (left_of course after) → AnswersOne tick number answer hops new
-answered_by tick hops taken new number hop after course answer there rest own others uses = record {
-  own = subst (λ (slot : Option Hop). IsAnswered tick answer slot (slot_at new number)) there (subst (IsAnswered tick answer (Some hop)) (sym own) uses);
+pub answered_by : {S : Type 0} (tick : ℕ) (hops taken new : List (Option (Hop S))) (number : ℕ) (hop after : Hop S) (course : Course) (answer : Result Answered NodeFault) → Some hop ≡ slot_at hops number → taken ≡ slice_set hops number None → slot_at new number ≡ left_of course after → OthersStay taken new number → IsAnswered tick answer (Some hop) (left_of course after) → AnswersOne tick number answer hops new
+answered_by {S} tick hops taken new number hop after course answer there rest own others uses = record {
+  own = subst (λ (slot : Option (Hop S)). IsAnswered tick answer slot (slot_at new number)) there (subst (IsAnswered tick answer (Some hop)) (sym own) uses);
   others = λ other apart. others other apart ∙ ap (λ hops. slot_at hops other) rest ∙ set_beside hops number None other apart;
 }
 
 -- its octets were used
-pub used_own : (tick : ℕ) (answer : Result Answered NodeFault) (old new : Hop) (course : Course) → KeepsErrand old new → IsCourse tick answer old new course → IsAnswered tick answer (Some old) (left_of course new)
+pub used_own : {S : Type 0} (tick : ℕ) (answer : Result Answered NodeFault) (old new : Hop S) (course : Course) → KeepsErrand old new → IsCourse tick answer old new course → IsAnswered tick answer (Some old) (left_of course new)
 used_own tick (Err fault) old new course keeps is = subst (λ (course : Course). IsAnswered tick (Err fault) (Some old) (left_of course new)) (sym is) tt
 used_own tick (Ok answered) old new course keeps is = by answered.last refl is where
   by : (last : Option Outbox) → answered.last ≡ last → MatchOption last ((unread_of new.channel ≡ drop answered.used (unread_of old.channel)) × ((course ≡ Stays) ⊎ ((course ≡ Lost Silent) × IsLate tick new))) (λ outbox. (noted : Option Noted) × (course ≡ Ended outbox noted)) → IsAnswered tick (Ok answered) (Some old) (left_of course new)
@@ -116,7 +116,7 @@ used_own tick (Ok answered) old new course keeps is = by answered.last refl is w
   by (Some outbox) some ended = subst (λ (course : Course). IsAnswered tick (Ok answered) (Some old) (left_of course new)) (sym ended.1) (inl (λ none. cc (sym some ∙ none)))
 
 -- where it stays, some of its octets were used
-pub used_some : (tick : ℕ) (answer : Result Answered NodeFault) (old new : Hop) (course : Course) → IsCourse tick answer old new course → course ≡ Stays → (used : ℕ) × (unread_of new.channel ≡ drop used (unread_of old.channel))
+pub used_some : {S : Type 0} (tick : ℕ) (answer : Result Answered NodeFault) (old new : Hop S) (course : Course) → IsCourse tick answer old new course → course ≡ Stays → (used : ℕ) × (unread_of new.channel ≡ drop used (unread_of old.channel))
 used_some tick (Err fault) old new course is stays = absurd (cc (sym is ∙ stays))
 used_some tick (Ok answered) old new course is stays = by answered.last is where
   by : (last : Option Outbox) → MatchOption last ((unread_of new.channel ≡ drop answered.used (unread_of old.channel)) × ((course ≡ Stays) ⊎ ((course ≡ Lost Silent) × IsLate tick new))) (λ outbox. (noted : Option Noted) × (course ≡ Ended outbox noted)) → (used : ℕ) × (unread_of new.channel ≡ drop used (unread_of old.channel))
@@ -124,7 +124,7 @@ used_some tick (Ok answered) old new course is stays = by answered.last is where
   by (Some outbox) ended = absurd (cc (sym ended.1 ∙ stays))
 
 -- they were used alone
-pub used_alone : (tick : ℕ) (answer : Result Answered NodeFault) (old new : Hop) (result : Result Course Fault) → KeepsErrand old new → WasLeft answer → IfOk result (λ course. course ≡ Stays → (used : ℕ) × (unread_of new.channel ≡ drop used (unread_of old.channel))) → IfOk result (λ course. IsAnswered tick answer (Some old) (left_of course new))
+pub used_alone : {S : Type 0} (tick : ℕ) (answer : Result Answered NodeFault) (old new : Hop S) (result : Result Course Fault) → KeepsErrand old new → WasLeft answer → IfOk result (λ course. course ≡ Stays → (used : ℕ) × (unread_of new.channel ≡ drop used (unread_of old.channel))) → IfOk result (λ course. IsAnswered tick answer (Some old) (left_of course new))
 used_alone tick (Err fault) old new result keeps left used = absurd left
 used_alone tick (Ok answered) old new (Err fault) keeps left used = tt
 used_alone tick (Ok answered) old new (Ok Stays) keeps left used = record { goes_on = left.1; unread = inr (left, (used refl).0, (used refl).1); errand = keeps }

@@ -115,25 +115,25 @@ same_found found one other is also = cc (sym is ∙ also)
 
 -- Lanes keep what they had, and may have more.
 module _ (old new : Lanes) (more : ListsMore old new) (kept : KeepsListed old new) where
-  pub for_kept : (hops : List (Option Hop)) (message : ℕ) (name : List ℕ) (at : SocketAddrV4) → IsListedFor hops message name at old → IsListedFor hops message name at new
+  pub for_kept : {S : Type 0} (hops : List (Option (Hop S))) (message : ℕ) (name : List ℕ) (at : SocketAddrV4) → IsListedFor hops message name at old → IsListedFor hops message name at new
   for_kept hops message name at (inl turn) = inl (turn.0, more.places turn.0 at turn.1, by turn.2) where
     by : Waits message name old turn.0 ⊎ HasConnection hops message name turn.0 → Waits message name new turn.0 ⊎ HasConnection hops message name turn.0
     by (inl waits) = inl (kept.tasks message turn.0 name waits)
     by (inr has) = inr has
   for_kept hops message name at (inr stale) = inr (kept.stale stale)
 
-  pub place_kept : (hops : List (Option Hop)) (moment : ℕ) (table : RouteTable) (message : ℕ) (recipients : List Recipient) (index : ℕ) (place : Place) → IsPlaceListed hops moment table message recipients index place old → IsPlaceListed hops moment table message recipients index place new
+  pub place_kept : {S : Type 0} (hops : List (Option (Hop S))) (moment : ℕ) (table : RouteTable) (message : ℕ) (recipients : List Recipient) (index : ℕ) (place : Place) → IsPlaceListed hops moment table message recipients index place old → IsPlaceListed hops moment table message recipients index place new
   place_kept hops moment table message recipients index place listed held = by (route_of table recipients index) (listed held) where
     by : (hop : Option NextHop) → MatchOption hop (IsListedUnroutable message old) (λ hop. place.due ≤ moment → IsListedFor hops message hop.name hop.at old) → MatchOption hop (IsListedUnroutable message new) (λ hop. place.due ≤ moment → IsListedFor hops message hop.name hop.at new)
     by None listed = kept.unroutable message listed
     by (Some hop) listed = λ due. for_kept hops message hop.name hop.at (listed due)
 
-  pub places_kept : (hops : List (Option Hop)) (moment : ℕ) (table : RouteTable) (message : ℕ) (recipients : List Recipient) (places : List Place) (count : ℕ) → ArePlacesListed hops moment table message recipients places count old → ArePlacesListed hops moment table message recipients places count new
+  pub places_kept : {S : Type 0} (hops : List (Option (Hop S))) (moment : ℕ) (table : RouteTable) (message : ℕ) (recipients : List Recipient) (places : List Place) (count : ℕ) → ArePlacesListed hops moment table message recipients places count old → ArePlacesListed hops moment table message recipients places count new
   places_kept hops moment table message recipients places count listed index place low there =
       place_kept hops moment table message recipients index place (listed index place low there)
 
   -- one place more is listed
-  pub places_next : (hops : List (Option Hop)) (moment : ℕ) (table : RouteTable) (message : ℕ) (recipients : List Recipient) (places : List Place) (index : ℕ) (place : Place) → slice_get places index ≡ Some place → ArePlacesListed hops moment table message recipients places index old → IsPlaceListed hops moment table message recipients index place new → ArePlacesListed hops moment table message recipients places (index + 1) new
+  pub places_next : {S : Type 0} (hops : List (Option (Hop S))) (moment : ℕ) (table : RouteTable) (message : ℕ) (recipients : List Recipient) (places : List Place) (index : ℕ) (place : Place) → slice_get places index ≡ Some place → ArePlacesListed hops moment table message recipients places index old → IsPlaceListed hops moment table message recipients index place new → ArePlacesListed hops moment table message recipients places (index + 1) new
   places_next hops moment table message recipients places index place is before own other standing below there = by (cases_lt other index) where
     by : (other < index) ⊎ (index ≤ other) → IsPlaceListed hops moment table message recipients other standing new
     by (inl low) = place_kept hops moment table message recipients other standing (before other standing low there)
@@ -141,14 +141,14 @@ module _ (old new : Lanes) (more : ListsMore old new) (kept : KeepsListed old ne
       same : index ≡ other
       same = omega (arith, below, high)
 
-  pub message_kept : {D : Type 0} (hops : List (Option Hop)) (moment : ℕ) (node : NodeState D) (number : ℕ) → IsListed hops moment node number old → IsListed hops moment node number new
+  pub message_kept : {S D : Type 0} (hops : List (Option (Hop S))) (moment : ℕ) (node : NodeState D) (number : ℕ) → IsListed hops moment node number old → IsListed hops moment node number new
   message_kept hops moment node number listed = by (message_of node.records.queue.messages number) listed where
     by : (message : Option Message) → MatchOption message (Unit {0}) (λ message. ArePlacesListed hops moment node.config.routes number message.accept.envelope.recipients message.places (length message.places) old) → MatchOption message (Unit {0}) (λ message. ArePlacesListed hops moment node.config.routes number message.accept.envelope.recipients message.places (length message.places) new)
     by None listed = tt
     by (Some message) listed = places_kept hops moment node.config.routes number message.accept.envelope.recipients message.places (length message.places) listed
 
   -- one message more is listed
-  pub messages_next : {D : Type 0} (hops : List (Option Hop)) (moment : ℕ) (node : NodeState D) (first number : ℕ) → AreListedFrom hops moment node first number old → IsListed hops moment node number new → AreListedFrom hops moment node first (number + 1) new
+  pub messages_next : {S D : Type 0} (hops : List (Option (Hop S))) (moment : ℕ) (node : NodeState D) (first number : ℕ) → AreListedFrom hops moment node first number old → IsListed hops moment node number new → AreListedFrom hops moment node first (number + 1) new
   messages_next hops moment node first number before own other from below = by (cases_lt other number) where
     by : (other < number) ⊎ (number ≤ other) → IsListed hops moment node other new
     by (inl low) = message_kept hops moment node other (before other from low)
@@ -157,7 +157,7 @@ module _ (old new : Lanes) (more : ListsMore old new) (kept : KeepsListed old ne
       same = omega (arith, below, high)
 
   -- and one of a walk
-  pub walk_next : {D : Type 0} (hops : List (Option Hop)) (moment : ℕ) (node : NodeState D) (walk : List ℕ) (size number : ℕ) → slice_get walk size ≡ Some number → ((step other : ℕ) → step < size → slice_get walk step ≡ Some other → IsListed hops moment node other old) → IsListed hops moment node number new → (step other : ℕ) → step < size + 1 → slice_get walk step ≡ Some other → IsListed hops moment node other new
+  pub walk_next : {S D : Type 0} (hops : List (Option (Hop S))) (moment : ℕ) (node : NodeState D) (walk : List ℕ) (size number : ℕ) → slice_get walk size ≡ Some number → ((step other : ℕ) → step < size → slice_get walk step ≡ Some other → IsListed hops moment node other old) → IsListed hops moment node number new → (step other : ℕ) → step < size + 1 → slice_get walk step ≡ Some other → IsListed hops moment node other new
   walk_next hops moment node walk size number is before own step other below there = by (cases_lt step size) where
     by : (step < size) ⊎ (size ≤ step) → IsListed hops moment node other new
     by (inl low) = message_kept hops moment node other (before step other low there)

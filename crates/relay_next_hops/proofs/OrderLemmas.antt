@@ -125,11 +125,11 @@ module _ (count : ℕ) where
   same_found f none short (number ∷ long) (inr pads) = ap (filter_map f) pads.1 ∙ ap (cons_option (f number)) (same_found f none pads.0 long pads.2)
 
   -- what is answered in the one order is answered in the other, where nothing stands under the other numbers
-  pub same_answered : (tick : ℕ) (short long : List ℕ) (answers : List (Result Answered NodeFault)) (old new : List (Option Hop)) → Pads short long → ((number : ℕ) → count ≤ number → slot_at old number ≡ None) → AnswersEach tick short answers old new → AnswersEach tick long answers old new
-  same_answered tick short [] answers old new pads none each = subst (λ (order : List ℕ). AnswersEach tick order answers old new) pads each
-  same_answered tick short (number ∷ long) answers old new (inl pads) none each = inl (ap (option_and_then hearing_of) (none number pads.0), same_answered tick short long answers old new pads.1 none each)
-  same_answered tick short (number ∷ long) answers old new (inr pads) none each = by (λ answers old. same_answered tick pads.0 long answers old new pads.2) (subst (λ (order : List ℕ). AnswersEach tick order answers old new) pads.1 each) where
-    by : ((answers : List (Result Answered NodeFault)) (old : List (Option Hop)) → ((number : ℕ) → count ≤ number → slot_at old number ≡ None) → AnswersEach tick pads.0 answers old new → AnswersEach tick long answers old new) → AnswersEach tick (number ∷ pads.0) answers old new → AnswersEach tick (number ∷ long) answers old new
+  pub same_answered : {S : Type 0} (tick : ℕ) (short long : List ℕ) (answers : List (Result Answered NodeFault)) (old new : List (Option (Hop S))) → Pads short long → ((number : ℕ) → count ≤ number → slot_at old number ≡ None) → AnswersEach tick short answers old new → AnswersEach tick long answers old new
+  same_answered {S} tick short [] answers old new pads none each = subst (λ (order : List ℕ). AnswersEach tick order answers old new) pads each
+  same_answered {S} tick short (number ∷ long) answers old new (inl pads) none each = inl (ap (option_and_then hearing_of) (none number pads.0), same_answered tick short long answers old new pads.1 none each)
+  same_answered {S} tick short (number ∷ long) answers old new (inr pads) none each = by (λ answers old. same_answered tick pads.0 long answers old new pads.2) (subst (λ (order : List ℕ). AnswersEach tick order answers old new) pads.1 each) where
+    by : ((answers : List (Result Answered NodeFault)) (old : List (Option (Hop S))) → ((number : ℕ) → count ≤ number → slot_at old number ≡ None) → AnswersEach tick pads.0 answers old new → AnswersEach tick long answers old new) → AnswersEach tick (number ∷ pads.0) answers old new → AnswersEach tick (number ∷ long) answers old new
     by others (inl silent) = inl (silent.0, others answers old none silent.1)
     by others (inr (inl over)) = inr (inl over)
     by others (inr (inr next)) = inr (inr (
@@ -153,12 +153,12 @@ beyond (slot ∷ slots) zero past = absurd (omega (arith, past))
 beyond (slot ∷ slots) (suc number) past = beyond slots number (omega (arith, past))
 
 -- the order in which all are served
-order_is : (served : Hops) → turned 64 (served.first % 64) 64 ≡ order_of served
+order_is : {S : Type 0} (served : Hops S) → turned 64 (served.first % 64) 64 ≡ order_of served
 unfolding order_of
 order_is served = refl
 
 -- Those that stand are the first so many.
-module _ (served : Hops) (standing : List (Option Hop)) (slots : (number : ℕ) → slot_at standing number ≡ slot_at served.hops number) (count start : ℕ) (all : count ≡ length standing) (within : length standing ≤ 64) (goes_on : served.first % 64 < count → start ≡ served.first % 64) (anew : count ≤ served.first % 64 → start ≡ 0) where
+module _ {S : Type 0} (served : Hops S) (standing : List (Option (Hop S))) (slots : (number : ℕ) → slot_at standing number ≡ slot_at served.hops number) (count start : ℕ) (all : count ≡ length standing) (within : length standing ≤ 64) (goes_on : served.first % 64 < count → start ≡ served.first % 64) (anew : count ≤ served.first % 64 → start ≡ 0) where
   none_behind : (number : ℕ) → count ≤ number → slot_at served.hops number ≡ None
   none_behind number past = sym (slots number) ∙ beyond standing number (omega (arith, all, past))
 
@@ -174,9 +174,9 @@ module _ (served : Hops) (standing : List (Option Hop)) (slots : (number : ℕ) 
     left = omega arith
 
   -- what is found among them is all that is found
-  pub round_found : {X : Type 0} (f : Option Hop → Option X) → f None ≡ None → filter_map (λ number. f (slot_at served.hops number)) (turned count (start + 0) (count - 0)) ≡ filter_map (λ number. f (slot_at served.hops number)) (order_of served)
+  pub round_found : {X : Type 0} (f : Option (Hop S) → Option X) → f None ≡ None → filter_map (λ number. f (slot_at served.hops number)) (turned count (start + 0) (count - 0)) ≡ filter_map (λ number. f (slot_at served.hops number)) (order_of served)
   round_found f none = ap (filter_map (λ number. f (slot_at served.hops number))) begins ∙ same_found count (λ number. f (slot_at served.hops number)) (λ number past. ap f (none_behind number past) ∙ none) (turned count start count) (order_of served) pads
 
   -- where they are answered, all are
-  pub round_answered : (tick : ℕ) (answers : List (Result Answered NodeFault)) (new : List (Option Hop)) → AnswersEach tick (turned count (start + 0) (count - 0)) answers served.hops new → AnswersEach tick (order_of served) answers served.hops new
+  pub round_answered : (tick : ℕ) (answers : List (Result Answered NodeFault)) (new : List (Option (Hop S))) → AnswersEach tick (turned count (start + 0) (count - 0)) answers served.hops new → AnswersEach tick (order_of served) answers served.hops new
   round_answered tick answers new each = same_answered count tick (turned count start count) (order_of served) answers served.hops new pads none_behind (subst (λ (order : List ℕ). AnswersEach tick order answers served.hops new) begins each)

@@ -13,13 +13,12 @@ use Rattle.relay_next_hops.specs.Turns.{IsGoneOver, IsStopped}
 use Rattle.relay_next_hops.specs.declared.hop.Hop.{Hop}
 use Rattle.relay_next_hops.specs.declared.lane.Task.{Task}
 use Rattle.relay_next_hops.specs.declared.lanes.Lanes.{Lanes}
-use Rattle.relay_next_hops.specs.declared.spares.Spares.{Spares}
 use Rattle.relay_next_hops.specs.declared.starting.Begun.{Begun}
 use Rattle.relay_next_hops.specs.declared.starting.Begun.TheVariants.{AllDone, Crowded, HasMore, Full, Wanting}
 use Rattle.relay_next_hops.specs.declared.starting.TheConstants.{MOST_UNANSWERED}
 
 -- Another lane had its turn.
-module _ (tick lane : ℕ) (hops_old hops_new : List (Option Hop)) (old new : Lanes) (only : OnlyLane lane old new) (more : unanswered_of hops_old old.paces ≤ unanswered_of hops_new new.paces) (other : ℕ) (apart : other ≢ lane) where
+module _ {S : Type 0} (tick lane : ℕ) (hops_old hops_new : List (Option (Hop S))) (old new : Lanes) (only : OnlyLane lane old new) (more : unanswered_of hops_old old.paces ≤ unanswered_of hops_new new.paces) (other : ℕ) (apart : other ≢ lane) where
   pub done_kept : IsDone tick hops_old old other → IsDone tick hops_new new other
   done_kept done may = by (done may_old) where
     may_old : MayBeginAt old.most tick old.paces other
@@ -34,7 +33,7 @@ module _ (tick lane : ℕ) (hops_old hops_new : List (Option Hop)) (old new : La
   gone_kept spares first (inr tried) = inr (subst (λ (tasks : List Task). length tasks + SLOT_COUNT ≤ length (tasks_at first other) + spares) (sym (only.tasks other apart)) tried)
 
 -- its own turn
-module _ (tick kept spares lane : ℕ) (hops : List (Option Hop)) (first old new : Lanes) (held : Spares) where
+module _ {S : Type 0} (tick kept spares lane : ℕ) (hops : List (Option (Hop S))) (first old new : Lanes) (held : ℕ) where
   pub gone_own : (begun : Begun) → IsStoppedBy begun false → IsBegun tick kept old hops new held lane begun → kept ≤ spares → length (tasks_at old lane) ≤ length (tasks_at first lane) → IsGoneOver tick spares first hops new lane
   gone_own AllDone goes is few fewer = inl is
   gone_own Crowded goes is few fewer = inl is

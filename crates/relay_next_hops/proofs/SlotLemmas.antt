@@ -49,9 +49,9 @@ count_set such [] number value low = absurd (omega (arith, low))
 count_set such (slot ∷ slots) zero value low = omega arith
 count_set such (slot ∷ slots) (suc number) value low = omega (arith, count_set such slots number value (omega (arith, low)))
 
-module _ (hops : List (Option Hop)) (number : ℕ) where
+module _ {S : Type 0} (hops : List (Option (Hop S))) (number : ℕ) where
   -- one that is taken out is counted beside the table
-  pub counts_taken : (hop : Hop) (paces : List Pace) → slot_at hops number ≡ Some hop → CountsMatch hops paces → CountsMatchWith hop (slice_set hops number None) paces
+  pub counts_taken : (hop : Hop S) (paces : List Pace) → slot_at hops number ≡ Some hop → CountsMatch hops paces → CountsMatchWith hop (slice_set hops number None) paces
   counts_taken hop paces there match_is lane =
       let set : one (is_in lane) (slot_at hops number) + count_of_such (is_in lane) (slice_set hops number None) ≡ 0 + count_of_such (is_in lane) hops = count_set (is_in lane) hops number None (some_within hops number hop there) in
       let own : one (is_in lane) (slot_at hops number) ≡ one (is_in lane) (Some hop) = ap (one (is_in lane)) there in
@@ -59,7 +59,7 @@ module _ (hops : List (Option Hop)) (number : ℕ) where
       omega (arith, set, own, counted)
 
   -- one that is put under a free number is counted in it
-  pub counts_put : (hop : Hop) (paces : List Pace) → slot_at hops number ≡ None → number < length hops → CountsMatchWith hop hops paces → CountsMatch (slice_set hops number (Some hop)) paces
+  pub counts_put : (hop : Hop S) (paces : List Pace) → slot_at hops number ≡ None → number < length hops → CountsMatchWith hop hops paces → CountsMatch (slice_set hops number (Some hop)) paces
   counts_put hop paces free low match_is lane =
       let set : one (is_in lane) (slot_at hops number) + count_of_such (is_in lane) (slice_set hops number (Some hop)) ≡ one (is_in lane) (Some hop) + count_of_such (is_in lane) hops = count_set (is_in lane) hops number (Some hop) low in
       let none : one (is_in lane) (slot_at hops number) ≡ 0 = ap (one (is_in lane)) free in
@@ -67,14 +67,14 @@ module _ (hops : List (Option Hop)) (number : ℕ) where
       omega (arith, set, none, counted)
 
 -- where as many run as before, the counts match as before
-pub counts_stay : (hops : List (Option Hop)) (old new : List Pace) → RunAsBefore old new → CountsMatch hops old → CountsMatch hops new
+pub counts_stay : {S : Type 0} (hops : List (Option (Hop S))) (old new : List Pace) → RunAsBefore old new → CountsMatch hops old → CountsMatch hops new
 counts_stay hops old new same match_is lane = same lane ∙ match_is lane
 
-pub counts_with_stay : (hop : Hop) (hops : List (Option Hop)) (old new : List Pace) → RunAsBefore old new → CountsMatchWith hop hops old → CountsMatchWith hop hops new
+pub counts_with_stay : {S : Type 0} (hop : Hop S) (hops : List (Option (Hop S))) (old new : List Pace) → RunAsBefore old new → CountsMatchWith hop hops old → CountsMatchWith hop hops new
 counts_with_stay hop hops old new same match_is lane = same lane ∙ match_is lane
 
 -- where one is gone, one less of its lane runs
-pub counts_ended : (hop : Hop) (hops : List (Option Hop)) (old new : List Pace) → RunsOneLess hop.aim.lane old new → CountsMatchWith hop hops old → CountsMatch hops new
+pub counts_ended : {S : Type 0} (hop : Hop S) (hops : List (Option (Hop S))) (old new : List Pace) → RunsOneLess hop.aim.lane old new → CountsMatchWith hop hops old → CountsMatch hops new
 counts_ended hop hops old new less match_is lane = by (eqb_tells hop.aim.lane lane) where
   by : ((eqb hop.aim.lane lane ≡ true) × (hop.aim.lane ≡ lane)) ⊎ ((eqb hop.aim.lane lane ≡ false) × (hop.aim.lane ≢ lane)) → running_at new lane ≡ count_of_such (is_in lane) hops
   by (inl own) =
@@ -124,7 +124,7 @@ pub few_stand : {A : Type 0} (slots standing : List (Option A)) → ((number : �
 few_stand slots standing same within = omega (arith, within, same_count standing slots same, count_within (λ value. true) standing)
 
 -- where one was put, one more of its lane runs
-pub counts_begun : (hop : Hop) (hops : List (Option Hop)) (old new : List Pace) → count_of hops ≤ 64 → RunsOneMore hop.aim.lane old new → CountsMatch hops old → CountsMatchWith hop hops new
+pub counts_begun : {S : Type 0} (hop : Hop S) (hops : List (Option (Hop S))) (old new : List Pace) → count_of hops ≤ 64 → RunsOneMore hop.aim.lane old new → CountsMatch hops old → CountsMatchWith hop hops new
 counts_begun hop hops old new within more match_is lane = by (eqb_tells hop.aim.lane lane) where
   by : ((eqb hop.aim.lane lane ≡ true) × (hop.aim.lane ≡ lane)) ⊎ ((eqb hop.aim.lane lane ≡ false) × (hop.aim.lane ≢ lane)) → running_at new lane ≡ one (is_in lane) (Some hop) + count_of_such (is_in lane) hops
   by (inl own) =
@@ -139,7 +139,7 @@ counts_begun hop hops old new within more match_is lane = by (eqb_tells hop.aim.
       omega (arith, same, is, counted)
 
 -- those of a table are aimed where one is taken out
-pub aimed_taken : (routes : List Route) (hops : List (Option Hop)) (number : ℕ) → AreAimed routes hops → AreAimed routes (slice_set hops number None)
+pub aimed_taken : {S : Type 0} (routes : List Route) (hops : List (Option (Hop S))) (number : ℕ) → AreAimed routes hops → AreAimed routes (slice_set hops number None)
 aimed_taken routes hops number aimed other hop there = by (eqb_tells other number) where
   by : ((eqb other number ≡ true) × (other ≡ number)) ⊎ ((eqb other number ≡ false) × (other ≢ number)) → IsAimed routes hop
   by (inl own) = absurd (cc (sym there ∙ ap (slot_at (slice_set hops number None)) own.1 ∙ set_there hops number None low)) where
@@ -148,7 +148,7 @@ aimed_taken routes hops number aimed other hop there = by (eqb_tells other numbe
   by (inr apart) = aimed other hop (sym (set_beside hops number None other apart.1) ∙ there)
 
 -- and where one is put that is aimed
-pub aimed_put : (routes : List Route) (hops : List (Option Hop)) (number : ℕ) (hop : Hop) → IsAimed routes hop → AreAimed routes hops → AreAimed routes (slice_set hops number (Some hop))
+pub aimed_put : {S : Type 0} (routes : List Route) (hops : List (Option (Hop S))) (number : ℕ) (hop : Hop S) → IsAimed routes hop → AreAimed routes hops → AreAimed routes (slice_set hops number (Some hop))
 aimed_put routes hops number hop is aimed other standing there = by (eqb_tells other number) where
   by : ((eqb other number ≡ true) × (other ≡ number)) ⊎ ((eqb other number ≡ false) × (other ≢ number)) → IsAimed routes standing
   by (inl own) = subst (IsAimed routes) same is where
@@ -160,7 +160,7 @@ aimed_put routes hops number hop is aimed other standing there = by (eqb_tells o
   by (inr apart) = aimed other standing (sym (set_beside hops number (Some hop) other apart.1) ∙ there)
 
 -- what keeps its errand is aimed as before
-pub keeps_aim : (routes : List Route) (old new : Hop) → KeepsErrand old new → IsAimed routes old → IsAimed routes new
+pub keeps_aim : {S : Type 0} (routes : List Route) (old new : Hop S) → KeepsErrand old new → IsAimed routes old → IsAimed routes new
 keeps_aim routes old new keeps is = subst (λ (name : List ℕ). place_of routes name ≡ Some new.aim.at) (sym keeps.name) (is ∙ ap (λ aim. Some aim.at) (sym keeps.aim))
 
 -- in a free table none stands
@@ -176,11 +176,11 @@ none_counted such (None ∷ slots) free = omega (arith, none_counted such slots 
 none_counted such (Some value ∷ slots) free = absurd free
 
 -- a connection that keeps its errand counts as before
-pub counts_keep : (old new : Hop) (hops : List (Option Hop)) (paces : List Pace) → KeepsErrand old new → CountsMatchWith old hops paces → CountsMatchWith new hops paces
+pub counts_keep : {S : Type 0} (old new : Hop S) (hops : List (Option (Hop S))) (paces : List Pace) → KeepsErrand old new → CountsMatchWith old hops paces → CountsMatchWith new hops paces
 counts_keep old new hops paces keeps match_is lane = match_is lane ∙ ap (λ (aim : Aim). (if aim.lane == lane then 1 else 0) + count_of_such (is_in lane) hops) (sym keeps.aim)
 
 -- of one that doesn't stay nothing is left
-pub left_none : (course : Course) (hop : Hop) → course ≢ Stays → left_of course hop ≡ None
+pub left_none : {S : Type 0} (course : Course) (hop : Hop S) → course ≢ Stays → left_of course hop ≡ None
 left_none Stays hop apart = absurd (apart refl)
 left_none (Ended outbox noted) hop apart = refl
 left_none (Lost loss) hop apart = refl
@@ -199,7 +199,7 @@ none_taken [] number there = refl
 none_taken (slot ∷ slots) zero there = ap (λ slot. slot ∷ slots) (sym there)
 none_taken (slot ∷ slots) (suc number) there = ap (λ slots. slot ∷ slots) (none_taken slots number there)
 
-module _ (hops : List (Option Hop)) (number : ℕ) (hop : Hop) (there : slot_at hops number ≡ Some hop) where
+module _ {S : Type 0} (hops : List (Option (Hop S))) (number : ℕ) (hop : Hop S) (there : slot_at hops number ≡ Some hop) where
   pub taken_free : slot_at (slice_set hops number None) number ≡ None
   taken_free = set_there hops number None (some_within hops number hop there)
 
@@ -207,15 +207,15 @@ module _ (hops : List (Option Hop)) (number : ℕ) (hop : Hop) (there : slot_at 
   taken_low = subst (λ (length : ℕ). number < length) (sym (length_set hops number None)) (some_within hops number hop there)
 
   -- one that is taken out and put back with its errand counts as before, and is aimed as before
-  pub counts_back : (after : Hop) (paces : List Pace) → KeepsErrand hop after → CountsMatch hops paces → CountsMatch (slice_set (slice_set hops number None) number (Some after)) paces
+  pub counts_back : (after : Hop S) (paces : List Pace) → KeepsErrand hop after → CountsMatch hops paces → CountsMatch (slice_set (slice_set hops number None) number (Some after)) paces
   counts_back after paces keeps match_is =
       counts_put (slice_set hops number None) number after paces taken_free taken_low (counts_keep hop after (slice_set hops number None) paces keeps (counts_taken hops number hop paces there match_is))
 
-  pub aimed_back : (routes : List Route) (after : Hop) → KeepsErrand hop after → AreAimed routes hops → AreAimed routes (slice_set (slice_set hops number None) number (Some after))
+  pub aimed_back : (routes : List Route) (after : Hop S) → KeepsErrand hop after → AreAimed routes hops → AreAimed routes (slice_set (slice_set hops number None) number (Some after))
   aimed_back routes after keeps aimed = aimed_put routes (slice_set hops number None) number after (keeps_aim routes hop after keeps (aimed number hop there)) (aimed_taken routes hops number aimed)
 
   -- what is left of the counts while it is worked on, and it has its errand
-  pub counts_out : (after : Hop) (old new : List Pace) → KeepsErrand hop after → RunAsBefore old new → CountsMatch hops old → CountsMatchWith after (slice_set hops number None) new
+  pub counts_out : (after : Hop S) (old new : List Pace) → KeepsErrand hop after → RunAsBefore old new → CountsMatch hops old → CountsMatchWith after (slice_set hops number None) new
   counts_out after old new keeps same match_is =
       counts_with_stay after (slice_set hops number None) old new same (counts_keep hop after (slice_set hops number None) old keeps (counts_taken hops number hop old there match_is))
 
@@ -229,7 +229,7 @@ below_or_behind (suc number) (suc next) = by (below_or_behind number next) where
   by (inr behind) = inr (omega (arith, behind))
 
 -- what a table says of a value that was put under a number
-module _ (old new : List (Option Hop)) (number : ℕ) (hop : Hop) (stands : number < length old → new ≡ slice_set old number (Some hop)) (past : length old ≤ number → new ≡ old) where
+module _ {S : Type 0} (old new : List (Option (Hop S))) (number : ℕ) (hop : Hop S) (stands : number < length old → new ≡ slice_set old number (Some hop)) (past : length old ≤ number → new ≡ old) where
   pub put_beside : OthersStay old new number
   put_beside other apart = by (below_or_behind number (length old)) where
     by : (number < length old) ⊎ (length old ≤ number) → slot_at new other ≡ slot_at old other
@@ -276,15 +276,15 @@ all_cleared slots number count past before behind = free_of slots (λ other. by 
   by other (inr high) = behind other (omega (arith, past, high))
 
 -- One is taken out, and worked on; it keeps its errand.
-module _ (hops taken : List (Option Hop)) (number : ℕ) (hop after : Hop) (there : Some hop ≡ slot_at hops number) (rest : taken ≡ slice_set hops number None) (keeps : KeepsErrand hop after) where
+module _ {S : Type 0} (hops taken : List (Option (Hop S))) (number : ℕ) (hop after : Hop S) (there : Some hop ≡ slot_at hops number) (rest : taken ≡ slice_set hops number None) (keeps : KeepsErrand hop after) where
   pub out_free : slot_at taken number ≡ None
   out_free = ap (λ hops. slot_at hops number) rest ∙ taken_free hops number hop (sym there)
 
   pub out_low : number < length taken
-  out_low = subst (λ (hops : List (Option Hop)). number < length hops) (sym rest) (taken_low hops number hop (sym there))
+  out_low = subst (λ (hops : List (Option (Hop S))). number < length hops) (sym rest) (taken_low hops number hop (sym there))
 
   pub out_counts : (old new : List Pace) → RunAsBefore old new → CountsMatch hops old → CountsMatchWith after taken new
-  out_counts old new same match_is = subst (λ (hops : List (Option Hop)). CountsMatchWith after hops new) (sym rest) (counts_out hops number hop (sym there) after old new keeps same match_is)
+  out_counts old new same match_is = subst (λ (hops : List (Option (Hop S))). CountsMatchWith after hops new) (sym rest) (counts_out hops number hop (sym there) after old new keeps same match_is)
 
   pub out_aimed : (routes : List Route) → AreAimed routes hops → AreAimed routes taken
   out_aimed routes aimed = subst (AreAimed routes) (sym rest) (aimed_taken routes hops number aimed)
@@ -292,9 +292,9 @@ module _ (hops taken : List (Option Hop)) (number : ℕ) (hop after : Hop) (ther
   pub out_aim : (routes : List Route) → AreAimed routes hops → IsAimed routes after
   out_aim routes aimed = keeps_aim routes hop after keeps (aimed number hop (sym there))
 
-  module _ (new : List (Option Hop)) (stands : number < length taken → new ≡ slice_set taken number (Some after)) where
+  module _ (new : List (Option (Hop S))) (stands : number < length taken → new ≡ slice_set taken number (Some after)) where
     pub back_counts : (paces : List Pace) → CountsMatch hops paces → CountsMatch new paces
-    back_counts paces match_is = subst (λ (hops : List (Option Hop)). CountsMatch hops paces) (sym (stands out_low)) (counts_put taken number after paces out_free out_low (out_counts paces paces (λ lane. refl) match_is))
+    back_counts paces match_is = subst (λ (hops : List (Option (Hop S))). CountsMatch hops paces) (sym (stands out_low)) (counts_put taken number after paces out_free out_low (out_counts paces paces (λ lane. refl) match_is))
 
     pub back_aimed : (routes : List Route) → AreAimed routes hops → AreAimed routes new
     back_aimed routes aimed = subst (AreAimed routes) (sym (stands out_low)) (aimed_put routes taken number after (out_aim routes aimed) (out_aimed routes aimed))
@@ -304,12 +304,12 @@ pub is_none : {A : Type 0} (found : Option A) → ((value : A) → found ≡ Som
 is_none None none = refl
 is_none (Some value) none = absurd (none value refl)
 
-pub counts_same : (hops taken : List (Option Hop)) (number : ℕ) (paces : List Pace) → slot_at hops number ≡ None → taken ≡ slice_set hops number None → CountsMatch hops paces → CountsMatch taken paces
-counts_same hops taken number paces none rest match_is = subst (λ (hops : List (Option Hop)). CountsMatch hops paces) (sym (rest ∙ none_taken hops number none)) match_is
+pub counts_same : {S : Type 0} (hops taken : List (Option (Hop S))) (number : ℕ) (paces : List Pace) → slot_at hops number ≡ None → taken ≡ slice_set hops number None → CountsMatch hops paces → CountsMatch taken paces
+counts_same {S} hops taken number paces none rest match_is = subst (λ (hops : List (Option (Hop S))). CountsMatch hops paces) (sym (rest ∙ none_taken hops number none)) match_is
 
 -- a table without a connection matches lanes of which none runs
-pub free_aimed : (routes : List Route) (hops : List (Option Hop)) → AreFree hops → AreAimed routes hops
+pub free_aimed : {S : Type 0} (routes : List Route) (hops : List (Option (Hop S))) → AreFree hops → AreAimed routes hops
 free_aimed routes hops free number hop there = absurd (cc (sym there ∙ free_at hops free number))
 
-pub free_counts : (hops : List (Option Hop)) (paces : List Pace) → AreFree hops → paces ≡ [] → CountsMatch hops paces
+pub free_counts : {S : Type 0} (hops : List (Option (Hop S))) (paces : List Pace) → AreFree hops → paces ≡ [] → CountsMatch hops paces
 free_counts hops paces free none lane = ap (λ (paces : List Pace). running_at paces lane) none ∙ sym (none_counted (is_in lane) hops free)

@@ -1,10 +1,12 @@
 -- What a task that was tried does to the counts of lanes, and where its connection goes.
 use Rattle.std.proofs.Common.{◌≡◌, inl, inr, ℕ, ◌+◌, ◌<◌, ◌≤◌, List, ◌∷◌, length, Option, None, Some, sym, ap, subst, ◌∙◌, add-one, arith}
-use Rattle.relay_disk.specs.declared.file.FileDisk.{FileDisk}
+use Rattle.std.specs.declared.net.socket_addr.SocketAddrV4.{SocketAddrV4}
+use Rattle.relay_disk.specs.Device.{DiskWords}
 use Rattle.relay_routes.specs.Routes.{place_of}
 use Rattle.relay_slots.specs.Slots.{slot_at}
 use Rattle.relay_loop.specs.Relay.{RelayState}
 use Rattle.relay_connections.specs.Table.{count_of}
+use Rattle.relay_connections.specs.declared.channel.Channel.{Channel}
 use Rattle.relay_connections.specs.declared.clocks.Now.{Now}
 use Rattle.relay_next_hops.specs.Counts.{CountsMatch, unanswered_of}
 use Rattle.relay_next_hops.specs.Errands.{AreAimed, IsAimed}
@@ -15,8 +17,6 @@ use Rattle.relay_next_hops.specs.declared.errand.Aim.{Aim}
 use Rattle.relay_next_hops.specs.declared.hop.Hop.{Hop}
 use Rattle.relay_next_hops.specs.declared.lane.Task.{Task}
 use Rattle.relay_next_hops.specs.declared.lanes.Lanes.{Lanes}
-use Rattle.relay_next_hops.specs.Spares.{held_of}
-use Rattle.relay_next_hops.specs.declared.spares.Spares.{Spares}
 use Rattle.relay_next_hops.specs.declared.starting.Begun.{Begun}
 use Rattle.relay_next_hops.specs.declared.starting.Begun.TheVariants.{AllDone, Crowded, Full, Wanting}
 use Rattle.relay_next_hops.specs.declared.starting.Step.{Step}
@@ -26,25 +26,25 @@ use Rattle.relay_next_hops.specs.declared.starting.Tried.TheVariants.{Connects, 
 use Rattle.relay_next_hops.proofs.SlotLemmas.{aimed_put, counts_begun, counts_put, counts_stay}
 use Rattle.relay_next_hops.proofs.TurnLemmas.{unanswered_put, unanswered_stay}
 
-module _ (now : Now) (lane number : ℕ) (task : Task) (hops_old hops_new : List (Option Hop)) (lanes_old lanes_new : Lanes) (old new : RelayState FileDisk) where
+module _ {D S : Type 0} (words : DiskWords D) (Opened : SocketAddrV4 → Channel S → Type 0) (now : Now) (lane number : ℕ) (task : Task) (hops_old hops_new : List (Option (Hop S))) (lanes_old lanes_new : Lanes) (old new : RelayState D) where
   -- of each lane as many attempts run as it has connections, as before
-  pub tried_counts : (tried : Tried) → IsTried now lane number task hops_old hops_new lanes_old lanes_new old new tried → slot_at hops_old number ≡ None → number < length hops_old → count_of hops_old ≤ 64 → CountsMatch hops_old lanes_old.paces → CountsMatch hops_new lanes_new.paces
+  pub tried_counts : (tried : Tried) → IsTried words Opened now lane number task hops_old hops_new lanes_old lanes_new old new tried → slot_at hops_old number ≡ None → number < length hops_old → count_of hops_old ≤ 64 → CountsMatch hops_old lanes_old.paces → CountsMatch hops_new lanes_new.paces
   tried_counts Connects is free low few match_is =
-      let connects : ConnectsFor lane number task hops_old hops_new lanes_old lanes_new old = is.0 in
+      let connects : ConnectsFor Opened lane number task hops_old hops_new lanes_old lanes_new old = is.0 in
       let its_lane : connects.puts.hop.aim.lane ≡ lane = ap (λ (aim : Aim). aim.lane) connects.puts.its_aim ∙ connects.its_lane in
-      subst (λ (hops : List (Option Hop)). CountsMatch hops lanes_new.paces) (sym connects.puts.put)
+      subst (λ (hops : List (Option (Hop S))). CountsMatch hops lanes_new.paces) (sym connects.puts.put)
       (counts_put hops_old number connects.puts.hop lanes_new.paces free low
       (counts_begun connects.puts.hop hops_old lanes_old.paces lanes_new.paces few (subst (λ (lane : ℕ). RunsOneMore lane lanes_old.paces lanes_new.paces) (sym its_lane) connects.runs) match_is))
-  tried_counts Wants is free low few match_is = subst (λ (hops : List (Option Hop)). CountsMatch hops lanes_new.paces) (sym is.2) (counts_stay hops_old lanes_old.paces lanes_new.paces is.1.runs match_is)
-  tried_counts Fails is free low few match_is = subst (λ (hops : List (Option Hop)). CountsMatch hops lanes_new.paces) (sym is.2) (counts_stay hops_old lanes_old.paces lanes_new.paces is.1.runs match_is)
+  tried_counts Wants is free low few match_is = subst (λ (hops : List (Option (Hop S))). CountsMatch hops lanes_new.paces) (sym is.2) (counts_stay hops_old lanes_old.paces lanes_new.paces is.1.runs match_is)
+  tried_counts Fails is free low few match_is = subst (λ (hops : List (Option (Hop S))). CountsMatch hops lanes_new.paces) (sym is.2) (counts_stay hops_old lanes_old.paces lanes_new.paces is.1.runs match_is)
   tried_counts HasNoPlace is free low few match_is =
-      subst (λ (hops : List (Option Hop)). CountsMatch hops lanes_new.paces) (sym is.2)
+      subst (λ (hops : List (Option (Hop S))). CountsMatch hops lanes_new.paces) (sym is.2)
       (subst (λ (lanes : Lanes). CountsMatch hops_old lanes.paces) (sym is.1) match_is)
 
   -- each connection goes to the place that the routes give for its next hop, as before
-  pub tried_aimed : (tried : Tried) → IsTried now lane number task hops_old hops_new lanes_old lanes_new old new tried → AreAimed old.node.config.routes.routes hops_old → AreAimed old.node.config.routes.routes hops_new
+  pub tried_aimed : (tried : Tried) → IsTried words Opened now lane number task hops_old hops_new lanes_old lanes_new old new tried → AreAimed old.node.config.routes.routes hops_old → AreAimed old.node.config.routes.routes hops_new
   tried_aimed Connects is aimed =
-      let connects : ConnectsFor lane number task hops_old hops_new lanes_old lanes_new old = is.0 in
+      let connects : ConnectsFor Opened lane number task hops_old hops_new lanes_old lanes_new old = is.0 in
       let goes : IsAimed old.node.config.routes.routes connects.puts.hop =
       ap (place_of old.node.config.routes.routes) connects.puts.its_name ∙ connects.its_place ∙ ap (λ (aim : Aim). Some aim.at) (sym connects.puts.its_aim) in
       subst (AreAimed old.node.config.routes.routes) (sym connects.puts.put) (aimed_put old.node.config.routes.routes hops_old number connects.puts.hop goes aimed)
@@ -53,14 +53,14 @@ module _ (now : Now) (lane number : ℕ) (task : Task) (hops_old hops_new : List
   tried_aimed HasNoPlace is aimed = subst (AreAimed old.node.config.routes.routes) (sym is.2) aimed
 
   -- no fewer are unanswered than before
-  pub tried_unanswered : (tried : Tried) → IsTried now lane number task hops_old hops_new lanes_old lanes_new old new tried → slot_at hops_old number ≡ None → number < length hops_old → OnlyLane lane lanes_old lanes_new → unanswered_of hops_old lanes_old.paces ≤ unanswered_of hops_new lanes_new.paces
+  pub tried_unanswered : (tried : Tried) → IsTried words Opened now lane number task hops_old hops_new lanes_old lanes_new old new tried → slot_at hops_old number ≡ None → number < length hops_old → OnlyLane lane lanes_old lanes_new → unanswered_of hops_old lanes_old.paces ≤ unanswered_of hops_new lanes_new.paces
   tried_unanswered Connects is free low only =
-      let connects : ConnectsFor lane number task hops_old hops_new lanes_old lanes_new old = is.0 in
-      subst (λ (hops : List (Option Hop)). unanswered_of hops_old lanes_old.paces ≤ unanswered_of hops lanes_new.paces) (sym connects.puts.put)
+      let connects : ConnectsFor Opened lane number task hops_old hops_new lanes_old lanes_new old = is.0 in
+      subst (λ (hops : List (Option (Hop S))). unanswered_of hops_old lanes_old.paces ≤ unanswered_of hops lanes_new.paces) (sym connects.puts.put)
       (omega (arith, unanswered_stay hops_old lane lanes_old lanes_new only, unanswered_put lanes_new.paces hops_old number connects.puts.hop free low))
-  tried_unanswered Wants is free low only = subst (λ (hops : List (Option Hop)). unanswered_of hops_old lanes_old.paces ≤ unanswered_of hops lanes_new.paces) (sym is.2) (unanswered_stay hops_old lane lanes_old lanes_new only)
-  tried_unanswered Fails is free low only = subst (λ (hops : List (Option Hop)). unanswered_of hops_old lanes_old.paces ≤ unanswered_of hops lanes_new.paces) (sym is.2) (unanswered_stay hops_old lane lanes_old lanes_new only)
-  tried_unanswered HasNoPlace is free low only = subst (λ (hops : List (Option Hop)). unanswered_of hops_old lanes_old.paces ≤ unanswered_of hops lanes_new.paces) (sym is.2) (unanswered_stay hops_old lane lanes_old lanes_new only)
+  tried_unanswered Wants is free low only = subst (λ (hops : List (Option (Hop S))). unanswered_of hops_old lanes_old.paces ≤ unanswered_of hops lanes_new.paces) (sym is.2) (unanswered_stay hops_old lane lanes_old lanes_new only)
+  tried_unanswered Fails is free low only = subst (λ (hops : List (Option (Hop S))). unanswered_of hops_old lanes_old.paces ≤ unanswered_of hops lanes_new.paces) (sym is.2) (unanswered_stay hops_old lane lanes_old lanes_new only)
+  tried_unanswered HasNoPlace is free low only = subst (λ (hops : List (Option (Hop S))). unanswered_of hops_old lanes_old.paces ≤ unanswered_of hops lanes_new.paces) (sym is.2) (unanswered_stay hops_old lane lanes_old lanes_new only)
 
 same_begun : (one other : Begun) → Some one ≡ Some other → one ≡ other
 same_begun one other same = cc
@@ -83,15 +83,15 @@ one_more old between new task first fewer =
     omega (arith, longer, fewer longer)
 
 -- The task was the next of its lane: what has come of it is what its step says.
-module _ (now : Now) (lane : ℕ) (hops_old hops_new : List (Option Hop)) (lanes_old lanes_new : Lanes) (old new : RelayState FileDisk) where
-  pub step_is : (tried : Tried) → TriesNext now lane hops_old hops_new lanes_old lanes_new old new tried → ((before : ℕ) → length (tasks_at lanes_old lane) ≡ before + 1 → length (tasks_at lanes_new lane) ≤ before + back_of tried) → IsStep now lane hops_old hops_new lanes_old lanes_new old new (step_after tried)
+module _ {D S : Type 0} (words : DiskWords D) (Opened : SocketAddrV4 → Channel S → Type 0) (now : Now) (lane : ℕ) (hops_old hops_new : List (Option (Hop S))) (lanes_old lanes_new : Lanes) (old new : RelayState D) where
+  pub step_is : (tried : Tried) → TriesNext words Opened now lane hops_old hops_new lanes_old lanes_new old new tried → ((before : ℕ) → length (tasks_at lanes_old lane) ≡ before + 1 → length (tasks_at lanes_new lane) ≤ before + back_of tried) → IsStep words Opened now lane hops_old hops_new lanes_old lanes_new old new (step_after tried)
   step_is Connects tries fewer = (Connects, tries, one_less (tasks_at lanes_old lane) (tasks_at tries.between lane) (tasks_at lanes_new lane) tries.task tries.first (fewer (length (tasks_at tries.between lane))))
   step_is Wants tries fewer = (tries, one_more (tasks_at lanes_old lane) (tasks_at tries.between lane) (tasks_at lanes_new lane) tries.task tries.first (fewer (length (tasks_at tries.between lane))))
   step_is Fails tries fewer = (Fails, tries, one_less (tasks_at lanes_old lane) (tasks_at tries.between lane) (tasks_at lanes_new lane) tries.task tries.first (fewer (length (tasks_at tries.between lane))))
   step_is HasNoPlace tries fewer = (HasNoPlace, tries, one_less (tasks_at lanes_old lane) (tasks_at tries.between lane) (tasks_at lanes_new lane) tries.task tries.first (fewer (length (tasks_at tries.between lane))))
 
   -- a step that isn't the lane's last
-  pub step_goes_on : (step : Step) (begun : Option Begun) (kept_old kept_new : ℕ) → IsStep now lane hops_old hops_new lanes_old lanes_new old new step → IsEndOf step kept_old kept_new begun → ((last : Begun) → begun ≡ Some last → ⊥) → (length (tasks_at lanes_new lane) + 1 + kept_new ≤ length (tasks_at lanes_old lane) + kept_old) × (kept_old ≤ kept_new + 1) × (kept_new ≤ kept_old)
+  pub step_goes_on : (step : Step) (begun : Option Begun) (kept_old kept_new : ℕ) → IsStep words Opened now lane hops_old hops_new lanes_old lanes_new old new step → IsEndOf step kept_old kept_new begun → ((last : Begun) → begun ≡ Some last → ⊥) → (length (tasks_at lanes_new lane) + 1 + kept_new ≤ length (tasks_at lanes_old lane) + kept_old) × (kept_old ≤ kept_new + 1) × (kept_new ≤ kept_old)
   step_goes_on Left begun kept_old kept_new is ends none = (omega (arith, is.2, ends.1), omega (arith, ends.1), omega (arith, ends.1))
   step_goes_on Back begun kept_old kept_new is (inl ends) none = (omega (arith, is.1, ends.1), omega (arith, ends.1), omega (arith, ends.1))
   step_goes_on Back begun kept_old kept_new is (inr ends) none = absurd (none Wanting ends.0)
@@ -100,10 +100,10 @@ module _ (now : Now) (lane : ℕ) (hops_old hops_new : List (Option Hop)) (lanes
   step_goes_on NoSlot begun kept_old kept_new is ends none = absurd (none Full ends.0)
 
   -- and one that is
-  pub step_ends : (step : Step) (begun : Begun) (kept : ℕ) (lanes_first : Lanes) (kept_old : ℕ) (spares : Spares) → IsStep now lane hops_old hops_new lanes_old lanes_new old new step → IsEndOf step kept_old (held_of spares) (Some begun) → IsBegun now.tick kept lanes_first hops_new lanes_new spares lane begun
-  step_ends Left begun kept lanes_first kept_old spares is ends = absurd (cc ends.0)
-  step_ends Back begun kept lanes_first kept_old spares is (inl ends) = absurd (cc ends.0)
-  step_ends Back begun kept lanes_first kept_old spares is (inr ends) = subst (IsBegun now.tick kept lanes_first hops_new lanes_new spares lane) (same_begun Wanting begun (sym ends.0)) ends.2
-  step_ends Over begun kept lanes_first kept_old spares is ends = subst (IsBegun now.tick kept lanes_first hops_new lanes_new spares lane) (same_begun AllDone begun (sym ends.0)) is
-  step_ends NoRoom begun kept lanes_first kept_old spares is ends = subst (IsBegun now.tick kept lanes_first hops_new lanes_new spares lane) (same_begun Crowded begun (sym ends.0)) is
-  step_ends NoSlot begun kept lanes_first kept_old spares is ends = subst (IsBegun now.tick kept lanes_first hops_new lanes_new spares lane) (same_begun Full begun (sym ends.0)) is
+  pub step_ends : (step : Step) (begun : Begun) (kept : ℕ) (lanes_first : Lanes) (kept_old left : ℕ) → IsStep words Opened now lane hops_old hops_new lanes_old lanes_new old new step → IsEndOf step kept_old left (Some begun) → IsBegun now.tick kept lanes_first hops_new lanes_new left lane begun
+  step_ends Left begun kept lanes_first kept_old left is ends = absurd (cc ends.0)
+  step_ends Back begun kept lanes_first kept_old left is (inl ends) = absurd (cc ends.0)
+  step_ends Back begun kept lanes_first kept_old left is (inr ends) = subst (IsBegun now.tick kept lanes_first hops_new lanes_new left lane) (same_begun Wanting begun (sym ends.0)) ends.2
+  step_ends Over begun kept lanes_first kept_old left is ends = subst (IsBegun now.tick kept lanes_first hops_new lanes_new left lane) (same_begun AllDone begun (sym ends.0)) is
+  step_ends NoRoom begun kept lanes_first kept_old left is ends = subst (IsBegun now.tick kept lanes_first hops_new lanes_new left lane) (same_begun Crowded begun (sym ends.0)) is
+  step_ends NoSlot begun kept lanes_first kept_old left is ends = subst (IsBegun now.tick kept lanes_first hops_new lanes_new left lane) (same_begun Full begun (sym ends.0)) is

@@ -34,17 +34,17 @@ count_more some other passes (Some value ∷ slots) = by (some value) refl (coun
   by false is rest = omega (arith, either (other value) rest)
 
 -- A call for one lane leaves no fewer unanswered.
-pub unanswered_stay : (hops : List (Option Hop)) (lane : ℕ) (old new : Lanes) → OnlyLane lane old new → unanswered_of hops old.paces ≤ unanswered_of hops new.paces
-unanswered_stay hops lane old new only = count_more (is_unanswered old.paces) (is_unanswered new.paces) (λ hop is. by hop is (cases_eq hop.aim.lane lane)) hops where
-  by : (hop : Hop) → is_unanswered old.paces hop ≡ true → (hop.aim.lane ≡ lane) ⊎ (hop.aim.lane ≡ lane → ⊥) → is_unanswered new.paces hop ≡ true
+pub unanswered_stay : {S : Type 0} (hops : List (Option (Hop S))) (lane : ℕ) (old new : Lanes) → OnlyLane lane old new → unanswered_of hops old.paces ≤ unanswered_of hops new.paces
+unanswered_stay {S} hops lane old new only = count_more (is_unanswered old.paces) (is_unanswered new.paces) (λ hop is. by hop is (cases_eq hop.aim.lane lane)) hops where
+  by : (hop : Hop S) → is_unanswered old.paces hop ≡ true → (hop.aim.lane ≡ lane) ⊎ (hop.aim.lane ≡ lane → ⊥) → is_unanswered new.paces hop ≡ true
   by hop is (inl same) = ap not (subst (λ (lane : ℕ). has_answered_at new.paces lane ≡ false) (sym same) (only.silent (subst (λ (lane : ℕ). has_answered_at old.paces lane ≡ false) same (not_true (has_answered_at old.paces hop.aim.lane) is))))
   by hop is (inr apart) = ap (λ (pace : Option Pace). not (option_map_or (λ (pace : Pace). pace.has_answered) pace false)) (only.paces hop.aim.lane apart) ∙ is
 
 -- nor does one that is put under a free number
-pub unanswered_put : (paces : List Pace) (hops : List (Option Hop)) (number : ℕ) (hop : Hop) → slot_at hops number ≡ None → number < length hops → unanswered_of hops paces ≤ unanswered_of (slice_set hops number (Some hop)) paces
-unanswered_put paces hops number hop free low =
+pub unanswered_put : {S : Type 0} (paces : List Pace) (hops : List (Option (Hop S))) (number : ℕ) (hop : Hop S) → slot_at hops number ≡ None → number < length hops → unanswered_of hops paces ≤ unanswered_of (slice_set hops number (Some hop)) paces
+unanswered_put {S} paces hops number hop free low =
     let set = count_set (is_unanswered paces) hops number (Some hop) low in
-    let none : ◌≡◌ {A = ℕ} (if is_such (is_unanswered paces) (slot_at hops number) then 1 else 0) 0 = ap (λ (slot : Option Hop). if is_such (is_unanswered paces) slot then 1 else 0) free in
+    let none : ◌≡◌ {A = ℕ} (if is_such (is_unanswered paces) (slot_at hops number) then 1 else 0) 0 = ap (λ (slot : Option (Hop S)). if is_such (is_unanswered paces) slot then 1 else 0) free in
     omega (arith, set, none)
 
 -- a pace that lets one begin is a lane's

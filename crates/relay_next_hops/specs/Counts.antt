@@ -6,22 +6,22 @@ use Rattle.relay_next_hops.specs.Paces.{has_answered_at, running_at}
 use Rattle.relay_next_hops.specs.declared.hop.Hop.{Hop}
 
 -- the connection is one of this lane
-abbrev pub is_in : ℕ → Hop → Bool
+abbrev pub is_in : {S : Type 0} → ℕ → Hop S → Bool
 is_in lane hop = hop.aim.lane == lane
 
 -- of each lane as many attempts run as it has connections
-abbrev pub CountsMatch : List (Option Hop) → List Pace → Type 0
+abbrev pub CountsMatch : {S : Type 0} → List (Option (Hop S)) → List Pace → Type 0
 CountsMatch hops paces = (lane : ℕ) → running_at paces lane ≡ count_of_such (is_in lane) hops
 
 -- the same where one more connection is counted, which is worked on outside of the table
-abbrev pub CountsMatchWith : Hop → List (Option Hop) → List Pace → Type 0
+abbrev pub CountsMatchWith : {S : Type 0} → Hop S → List (Option (Hop S)) → List Pace → Type 0
 CountsMatchWith hop hops paces =
     (lane : ℕ) → running_at paces lane ≡ (if is_in lane hop then 1 else 0) + count_of_such (is_in lane) hops
 
 -- a connection whose next hop hasn't said anything since its place was left alone last, or since the relay began
-abbrev pub is_unanswered : List Pace → Hop → Bool
+abbrev pub is_unanswered : {S : Type 0} → List Pace → Hop S → Bool
 is_unanswered paces hop = not (has_answered_at paces hop.aim.lane)
 
 -- how many such connections stand
-abbrev pub unanswered_of : List (Option Hop) → List Pace → ℕ
+abbrev pub unanswered_of : {S : Type 0} → List (Option (Hop S)) → List Pace → ℕ
 unanswered_of hops paces = count_of_such (is_unanswered paces) hops

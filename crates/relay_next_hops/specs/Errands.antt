@@ -1,31 +1,34 @@
 -- What connections to next hops are made for, and where they go.
-use Rattle.std.specs.Prelude.{◌≡◌, ℕ, List, Option, None, Some, slice_set}
+use Rattle.std.specs.Prelude.{◌≡◌, ℕ, false, List, [], Option, None, Some, slice_set}
+use Rattle.std.specs.declared.net.socket_addr.SocketAddrV4.{SocketAddrV4}
 use Rattle.relay_slots.specs.Slots.{slot_at}
 use Rattle.relay_routes.specs.Routes.{Route, place_of}
 use Rattle.relay_attempts.specs.Attempts.{Starts}
 use Rattle.relay_attempts.specs.declared.start.Started.{Started}
 use Rattle.relay_loop.specs.Relay.{OnlyHop, RelayState}
+use Rattle.relay_connections.specs.Channel.{held_of, is_shut, unread_of}
+use Rattle.relay_connections.specs.declared.channel.Channel.{Channel}
 use Rattle.relay_next_hops.specs.declared.errand.Aim.{Aim}
 use Rattle.relay_next_hops.specs.declared.errand.Course.{Course}
 use Rattle.relay_next_hops.specs.declared.errand.Course.TheVariants.{Stays, Ended, Lost, TurnedAway, Void}
 use Rattle.relay_next_hops.specs.declared.hop.Hop.{Hop}
 
 -- it is a connection for the same message and next hop, in the same lane, to the same place
-pub record KeepsErrand (old new : Hop) : Type 0 where
+pub record KeepsErrand {S : Type 0} (old new : Hop S) : Type 0 where
   pub aim : new.aim ≡ old.aim
   pub message : new.message ≡ old.message
   pub name : new.name ≡ old.name
 
 -- the connection goes to the place that the routes give for its next hop
-abbrev pub IsAimed : List Route → Hop → Type 0
+abbrev pub IsAimed : {S : Type 0} → List Route → Hop S → Type 0
 IsAimed routes hop = place_of routes hop.name ≡ Some hop.aim.at
 
 -- each connection does
-abbrev pub AreAimed : List Route → List (Option Hop) → Type 0
-AreAimed routes hops = (number : ℕ) (hop : Hop) → slot_at hops number ≡ Some hop → IsAimed routes hop
+abbrev pub AreAimed : {S : Type 0} → List Route → List (Option (Hop S)) → Type 0
+AreAimed {S} routes hops = (number : ℕ) (hop : Hop S) → slot_at hops number ≡ Some hop → IsAimed routes hop
 
 -- what is left in the table of a connection that has come to this: itself where it stays
-abbrev pub left_of : Course → Hop → Option Hop
+abbrev pub left_of : {S : Type 0} → Course → Hop S → Option (Hop S)
 left_of Stays hop = Some hop
 left_of (Ended outbox noted) hop = None
 left_of (Lost loss) hop = None
@@ -42,9 +45,24 @@ pub record StartsFor {D : Type 0} (at message : ℕ) (name : List ℕ) (attempt 
   pub records : new.node.records ≡ old.node.records
   pub only : OnlyHop old new started.attempt
 
--- a connection for this message and next hop is put under a number, and goes on this way; its attempt hasn't begun
-pub record PutsFor (aim : Aim) (message : ℕ) (name : List ℕ) (number : ℕ) (old new : List (Option Hop)) : Type 0 where
-  pub hop : Hop
+-- The connection is that of a stream that was opened to this place. Nothing was read of it or written to it yet, nor
+-- is anything held back, or the peer told that nothing comes.
+pub record IsOpenedTo {S : Type 0} (leads_to : S → SocketAddrV4 → Type 0) (remaining contents : S → Option (List ℕ))
+    (at : SocketAddrV4) (channel : Channel S) : Type 0 where
+  pub stream : S
+  pub leads : leads_to stream at
+  pub input : remaining channel.stream ≡ remaining stream
+  pub output : contents channel.stream ≡ contents stream
+  pub unread : unread_of channel ≡ []
+  pub held : held_of channel ≡ []
+  pub shut : is_shut channel ≡ false
+
+-- A connection for this message and next hop is put under a number, which was opened to the place of its aim. Its
+-- attempt hasn't begun.
+pub record PutsFor {S : Type 0} (Opened : SocketAddrV4 → Channel S → Type 0) (aim : Aim) (message : ℕ) (name : List ℕ)
+    (number : ℕ) (old new : List (Option (Hop S))) : Type 0 where
+  pub hop : Hop S
+  pub opened : Opened aim.at hop.channel
   pub put : new ≡ slice_set old number (Some hop)
   pub its_aim : hop.aim ≡ aim
   pub its_message : hop.message ≡ message

@@ -22,27 +22,27 @@ abbrev pub told_of : ReplyPiece → ℕ × List ℕ
 told_of reply = (reply.attempt, reply.octets.now)
 
 -- the attempt of a connection, where it has octets that it may hear
-abbrev pub hearing_of : Hop → Option ℕ
+abbrev pub hearing_of : {S : Type 0} → Hop S → Option ℕ
 hearing_of hop = if hop.hears then hop.attempt else None
 
 -- what the attempt of a connection has to hear: all that was read of that connection and isn't used yet
-abbrev pub reply_of : Option Hop → Option (ℕ × List ℕ)
+abbrev pub reply_of : {S : Type 0} → Option (Hop S) → Option (ℕ × List ℕ)
 reply_of None = None
 reply_of (Some hop) = option_map (λ attempt. (attempt, unread_of hop.channel)) (hearing_of hop)
 
 -- the attempt of the connection of a number that has something to hear
-abbrev pub hearing_at : List (Option Hop) → ℕ → Option ℕ
+abbrev pub hearing_at : {S : Type 0} → List (Option (Hop S)) → ℕ → Option ℕ
 hearing_at hops number = option_and_then hearing_of (slot_at hops number)
 
-abbrev pub reply_at : List (Option Hop) → ℕ → Option (ℕ × List ℕ)
+abbrev pub reply_at : {S : Type 0} → List (Option (Hop S)) → ℕ → Option (ℕ × List ℕ)
 reply_at hops number = reply_of (slot_at hops number)
 
 -- the numbers of all connections, in the order in which they are served: from the first on, and 0 after the last
-unfoldable pub order_of : Hops → List ℕ
+unfoldable pub order_of : {S : Type 0} → Hops S → List ℕ
 order_of hops = turned 64 (hops.first % 64) 64
 
 -- what all attempts have to hear, in that order
-abbrev pub replies_of : Hops → List (ℕ × List ℕ)
+abbrev pub replies_of : {S : Type 0} → Hops S → List (ℕ × List ℕ)
 replies_of hops = filter_map (reply_at hops.hops) (order_of hops)
 
 -- no octet of the reply was used, since the call took no more, and the attempt goes on
@@ -54,13 +54,13 @@ WasLeft (Ok answered) = IsLeft answered
 WasLeft (Err fault) = ⊥
 
 -- the next hop of a connection has taken too long at this tick
-abbrev pub IsLate : ℕ → Hop → Type 0
+abbrev pub IsLate : {S : Type 0} → ℕ → Hop S → Type 0
 IsLate tick hop = min hop.idle_deadline hop.answer_deadline ≤ tick
 
 -- What becomes of a connection by what came of octets that its attempt has heard: at a fault the attempt is gone; where
 -- it has ended these are its last octets; and otherwise it goes on without the octets that were used, unless its next
 -- hop has taken too long.
-abbrev pub IsCourse : ℕ → Result Answered NodeFault → Hop → Hop → Course → Type 0
+abbrev pub IsCourse : {S : Type 0} → ℕ → Result Answered NodeFault → Hop S → Hop S → Course → Type 0
 IsCourse tick (Err fault) old new course = course ≡ Void
 IsCourse tick (Ok answered) old new course =
     MatchOption answered.last
@@ -70,27 +70,27 @@ IsCourse tick (Ok answered) old new course =
 
 -- A connection stays for its errand without the octets that were used. Where none was used, its attempt may hear them
 -- alone, and then some of them are used.
-pub record UsesOwn (answered : Answered) (old new : Hop) : Type 0 where
+pub record UsesOwn {S : Type 0} (answered : Answered) (old new : Hop S) : Type 0 where
   pub goes_on : answered.last ≡ None
   pub unread : (unread_of new.channel ≡ drop answered.used (unread_of old.channel))
       ⊎ (IsLeft answered × (used : ℕ) × (unread_of new.channel ≡ drop used (unread_of old.channel)))
   pub errand : KeepsErrand old new
 
 -- The words below are of a tick.
-module _ (tick : ℕ) where
+module _ {S : Type 0} (tick : ℕ) where
   -- it went on so, and then its next hop had taken too long
-  pub record WentLate (answered : Answered) (old : Hop) : Type 0 where
-    pub new : Hop
+  pub record WentLate (answered : Answered) (old : Hop S) : Type 0 where
+    pub new : Hop S
     pub uses : UsesOwn answered old new
     pub late : IsLate tick new
 
   -- A connection is gone: its attempt has ended, or its next hop has taken too long. Where none of its octets was used,
   -- its attempt has heard them alone.
-  abbrev pub IsGone : Answered → Hop → Type 0
+  abbrev pub IsGone : Answered → Hop S → Type 0
   IsGone answered old = (answered.last ≢ None) ⊎ IsLeft answered ⊎ WentLate answered old
 
   -- what became of a connection by an answer to its attempt; where that is a fault, the connection is gone
-  abbrev pub IsAnswered : Result Answered NodeFault → Option Hop → Option Hop → Type 0
+  abbrev pub IsAnswered : Result Answered NodeFault → Option (Hop S) → Option (Hop S) → Type 0
   IsAnswered answer None None = Unit {0}
   IsAnswered answer None (Some new) = ⊥
   IsAnswered (Err fault) (Some old) None = Unit {0}
@@ -99,25 +99,26 @@ module _ (tick : ℕ) where
   IsAnswered (Ok answered) (Some old) (Some new) = UsesOwn answered old new
 
   -- the connection of this number was answered so, and no other changes
-  pub record AnswersOne (number : ℕ) (answer : Result Answered NodeFault) (old new : List (Option Hop)) : Type 0 where
+  pub record AnswersOne (number : ℕ) (answer : Result Answered NodeFault) (old new : List (Option (Hop S)))
+      : Type 0 where
     pub own : IsAnswered answer (slot_at old number) (slot_at new number)
     pub others : OthersStay old new number
 
   -- the next of these answers goes to the connection of this number, and the others go on from there
-  pub record HearsNext (GoesOn : List (Result Answered NodeFault) → List (Option Hop) → Type 0) (number : ℕ)
-      (answers : List (Result Answered NodeFault)) (old : List (Option Hop))
+  pub record HearsNext (GoesOn : List (Result Answered NodeFault) → List (Option (Hop S)) → Type 0) (number : ℕ)
+      (answers : List (Result Answered NodeFault)) (old : List (Option (Hop S)))
       : Type 0 where
     pub answer : Result Answered NodeFault
     pub rest : List (Result Answered NodeFault)
     pub answers_are : answers ≡ answer ∷ rest
-    pub between : List (Option Hop)
+    pub between : List (Option (Hop S))
     pub one : AnswersOne number answer old between
     pub goes_on : GoesOn rest between
 
   -- Of these connections, in this order, each that has something to hear is answered by the next of these answers, as
   -- far as there are any.
   abbrev pub AnswersEach
-      : List ℕ → List (Result Answered NodeFault) → List (Option Hop) → List (Option Hop) → Type 0
+      : List ℕ → List (Result Answered NodeFault) → List (Option (Hop S)) → List (Option (Hop S)) → Type 0
   AnswersEach [] answers old new = new ≡ old
   AnswersEach (number ∷ order) answers old new =
       ((hearing_at old number ≡ None) × AnswersEach order answers old new)

@@ -10,7 +10,7 @@ use Rattle.relay_next_hops.specs.declared.next_hops.NextHops.{NextHops}
 use Rattle.relay_next_hops.specs.Paces.{RunAsBefore, has_answered_at}
 
 -- the tick at which something is due that isn't listed, as the node has told
-abbrev pub next_due_of : NextHops → ℕ
+abbrev pub next_due_of : {S : Type 0} → NextHops S → ℕ
 next_due_of next_hops = next_hops.lanes.next_due
 
 -- what is due for the lane of a number, in the order in which it is begun; nothing where there is no such lane

@@ -27,16 +27,17 @@ abbrev pub Waits : ℕ → List ℕ → Lanes → ℕ → Type 0
 Waits message name lanes lane = list_any (is_for message name) (tasks_at lanes lane) ≡ true
 
 -- a connection for this message and next hop is being made or stands, in the lane of this number
-pub record HasConnection (hops : List (Option Hop)) (message : ℕ) (name : List ℕ) (lane : ℕ) : Type 0 where
+pub record HasConnection {S : Type 0} (hops : List (Option (Hop S))) (message : ℕ) (name : List ℕ) (lane : ℕ)
+    : Type 0 where
   pub number : ℕ
-  pub hop : Hop
+  pub hop : Hop S
   pub there : slot_at hops number ≡ Some hop
   pub its_message : hop.message ≡ message
   pub its_name : hop.name ≡ name
   pub its_lane : hop.aim.lane ≡ lane
 
 -- what is due of this message for this next hop waits in the lane of the hop's place, or has a connection there
-abbrev pub HasTurn : List (Option Hop) → ℕ → List ℕ → SocketAddrV4 → Lanes → Type 0
+abbrev pub HasTurn : {S : Type 0} → List (Option (Hop S)) → ℕ → List ℕ → SocketAddrV4 → Lanes → Type 0
 HasTurn hops message name at lanes = (lane : ℕ) × (slice_get lanes.places lane ≡ Some at)
     × (Waits message name lanes lane ⊎ HasConnection hops message name lane)
 
@@ -48,7 +49,7 @@ pub record KeepsListed (old new : Lanes) : Type 0 where
   pub stale : old.is_stale ≡ true → new.is_stale ≡ true
 
 -- it has its turn, or all that is due is to be listed anew
-abbrev pub IsListedFor : List (Option Hop) → ℕ → List ℕ → SocketAddrV4 → Lanes → Type 0
+abbrev pub IsListedFor : {S : Type 0} → List (Option (Hop S)) → ℕ → List ℕ → SocketAddrV4 → Lanes → Type 0
 IsListedFor hops message name at lanes = HasTurn hops message name at lanes ⊎ (lanes.is_stale ≡ true)
 
 -- the next hop of a message's place, if it has one
@@ -57,7 +58,7 @@ route_of table recipients place =
     option_and_then (λ recipient. hop_at table recipient.path) (slice_get recipients place)
 
 -- The words below are of a moment, with these connections to next hops.
-module _ (hops : List (Option Hop)) (moment : ℕ) where
+module _ {S : Type 0} (hops : List (Option (Hop S))) (moment : ℕ) where
   -- A place of a message is listed: where it is held and has no next hop its message is unroutable, and where it is due
   -- the message has its turn at its next hop.
   abbrev pub IsPlaceListed : RouteTable → ℕ → List Recipient → ℕ → Place → Lanes → Type 0

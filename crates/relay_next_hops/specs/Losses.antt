@@ -1,7 +1,6 @@
 -- How the loss of a connection to a next hop is recorded at the node.
 use Rattle.std.specs.Prelude.{◌≡◌, ◌⊎◌, ℕ, List, Option, None, Some, Err}
-use Rattle.relay_disk.specs.File.{file_words}
-use Rattle.relay_disk.specs.declared.file.FileDisk.{FileDisk}
+use Rattle.relay_disk.specs.Device.{DiskWords}
 use Rattle.relay_slots.specs.Slots.{slot_at}
 use Rattle.relay_records.specs.declared.fault.NodeFault.{NodeFault}
 use Rattle.relay_attempts.specs.Attempts.{RefusesToStart, Starts}
@@ -15,31 +14,31 @@ use Rattle.relay_next_hops.specs.Paces.{IsHeldAt}
 use Rattle.relay_next_hops.specs.declared.errand.Errand.{Errand}
 use Rattle.relay_report.specs.Report.{reporter_of}
 
--- The words below are of a call at a moment, of a relay on files.
-module _ (at : ℕ) (old new : RelayState FileDisk) where
+-- The words below are of a call at a moment, of a relay on a disk of these words.
+module _ {D : Type 0} (words : DiskWords D) (at : ℕ) (old new : RelayState D) where
   -- the attempt of this number has ended, and its outcome was recorded; its connection is gone
   pub record LosesAttempt (attempt : ℕ) : Type 0 where
     pub change : ℕ
-    pub ends : EndsBy file_words (reporter_of old.node.config) at attempt old.node.attempts new.node.attempts
+    pub ends : EndsBy words (reporter_of old.node.config) at attempt old.node.attempts new.node.attempts
         old.node.records new.node.records change
     pub gone : slot_at new.hops attempt ≡ None
 
   -- The loss of the attempt of this number was refused: its connection is gone.
   pub record RefusesLoss (attempt : ℕ) : Type 0 where
     pub fault : NodeFault
-    pub refused : RefusesHop {T = ℕ} file_words attempt old new (Err fault)
+    pub refused : RefusesHop {T = ℕ} words attempt old new (Err fault)
     pub gone : slot_at new.hops attempt ≡ None
 
 -- The words below are of such a call, for a message and a next hop.
-module _ (at message : ℕ) (hop : List ℕ) (old new : RelayState FileDisk) where
+module _ {D : Type 0} (words : DiskWords D) (at message : ℕ) (hop : List ℕ) (old new : RelayState D) where
   -- an attempt has begun for them, and was lost at once
   pub record StartsAndLoses : Type 0 where
     pub started : Started
-    pub between : RelayState FileDisk
+    pub between : RelayState D
     pub starts : Starts old.node.config.host old.node.config.routes message hop at old.node.records.queue
         old.node.attempts between.node.attempts started
     pub records : between.node.records ≡ old.node.records
-    pub loses : LosesAttempt at between new started.attempt
+    pub loses : LosesAttempt words at between new started.attempt
 
   -- no attempt may begin for them, and nothing changes
   pub record StartsNone : Type 0 where
@@ -51,44 +50,48 @@ module _ (at message : ℕ) (hop : List ℕ) (old new : RelayState FileDisk) whe
   -- an attempt has begun, and its loss was refused
   pub record StartsAndRefuses : Type 0 where
     pub started : Started
-    pub between : RelayState FileDisk
+    pub between : RelayState D
     pub starts : Starts old.node.config.host old.node.config.routes message hop at old.node.records.queue
         old.node.attempts between.node.attempts started
-    pub refuses : RefusesLoss at between new started.attempt
+    pub refuses : RefusesLoss words at between new started.attempt
 
 -- no attempt may begin, or the node refuses its loss
-abbrev pub StartsNothing : ℕ → ℕ → List ℕ → RelayState FileDisk → RelayState FileDisk → Type 0
-StartsNothing at message hop old new = StartsNone at message hop old new ⊎ StartsAndRefuses at message hop old new
+abbrev pub StartsNothing
+    : {D : Type 0} → DiskWords D → ℕ → ℕ → List ℕ → RelayState D → RelayState D → Type 0
+StartsNothing words at message hop old new =
+    StartsNone words at message hop old new ⊎ StartsAndRefuses words at message hop old new
 
 -- the loss of an errand is recorded: that of its attempt, or where it has none that of one that begins for it
-abbrev pub Loses : ℕ → Errand → RelayState FileDisk → RelayState FileDisk → Option ℕ → Type 0
-Loses at errand old new (Some attempt) = LosesAttempt at old new attempt
-Loses at errand old new None = StartsAndLoses at errand.message errand.name old new
+abbrev pub Loses : {D : Type 0} → DiskWords D → ℕ → Errand → RelayState D → RelayState D → Option ℕ → Type 0
+Loses words at errand old new (Some attempt) = LosesAttempt words at old new attempt
+Loses words at errand old new None = StartsAndLoses words at errand.message errand.name old new
 
 -- it isn't recorded: no attempt may begin, or the node refuses its loss
-abbrev pub LosesNot : ℕ → Errand → RelayState FileDisk → RelayState FileDisk → Option ℕ → Type 0
-LosesNot at errand old new (Some attempt) = RefusesLoss at old new attempt
-LosesNot at errand old new None = StartsNothing at errand.message errand.name old new
+abbrev pub LosesNot : {D : Type 0} → DiskWords D → ℕ → Errand → RelayState D → RelayState D → Option ℕ → Type 0
+LosesNot words at errand old new (Some attempt) = RefusesLoss words at old new attempt
+LosesNot words at errand old new None = StartsNothing words at errand.message errand.name old new
 
 -- the note of the last change was taken, and nothing else changes
-abbrev pub TakesNote : RelayState FileDisk → RelayState FileDisk → Type 0
+abbrev pub TakesNote : {D : Type 0} → RelayState D → RelayState D → Type 0
 TakesNote old new =
     (new.node ≡ record old.node { records = record old.node.records { noted = None } })
     × (new.clients ≡ old.clients) × (new.hops ≡ old.hops)
 
 -- the loss of an errand is recorded, and its note was taken
-pub record IsRecorded (at : ℕ) (errand : Errand) (old new : RelayState FileDisk) : Type 0 where
-  pub between : RelayState FileDisk
-  pub loses : Loses at errand old between errand.attempt
+pub record IsRecorded {D : Type 0} (words : DiskWords D) (at : ℕ) (errand : Errand) (old new : RelayState D)
+    : Type 0 where
+  pub between : RelayState D
+  pub loses : Loses words at errand old between errand.attempt
   pub noted : TakesNote between new
 
 -- it is recorded so, or the node refuses that
-abbrev pub IsRecordedOrRefused : ℕ → Errand → RelayState FileDisk → RelayState FileDisk → Type 0
-IsRecordedOrRefused at errand old new = IsRecorded at errand old new ⊎ LosesNot at errand old new errand.attempt
+abbrev pub IsRecordedOrRefused : {D : Type 0} → DiskWords D → ℕ → Errand → RelayState D → RelayState D → Type 0
+IsRecordedOrRefused words at errand old new =
+    IsRecorded words at errand old new ⊎ LosesNot words at errand old new errand.attempt
 
 -- An errand has ended as lost: that is recorded, or refused. Only where its attempt hasn't begun, and its place is left
 -- alone, it stays due instead, and nothing changes.
-abbrev pub EndsLost : Now → Errand → List Pace → RelayState FileDisk → RelayState FileDisk → Type 0
-EndsLost now errand paces old new =
+abbrev pub EndsLost : {D : Type 0} → DiskWords D → Now → Errand → List Pace → RelayState D → RelayState D → Type 0
+EndsLost words now errand paces old new =
     ((errand.attempt ≡ None) × IsHeldAt now.tick paces errand.aim.lane × (new ≡ old))
-    ⊎ IsRecordedOrRefused now.moment errand old new
+    ⊎ IsRecordedOrRefused words now.moment errand old new

@@ -3,7 +3,7 @@ use Rattle.std.specs.Prelude.{◌≡◌, ◌-◌, ◌+◌, ◌*◌, ℕ, Bool, f
 use Rattle.std.specs.Prelude.{take, drop, find, length, slice_get}
 use Rattle.std.specs.List.{list_any}
 use Rattle.std.specs.Option.{option_map_or}
-use Rattle.relay_disk.specs.declared.file.FileDisk.{FileDisk}
+use Rattle.relay_disk.specs.Device.{DiskWords}
 use Rattle.relay_book.specs.Queue.{message_of}
 use Rattle.relay_book.specs.declared.message.Message.{Message}
 use Rattle.relay_book.specs.declared.message.Place.{Place}
@@ -60,7 +60,8 @@ pub record TakesOut (lane : ℕ) (task : Task) (old new : Lanes) : Type 0 where
   pub gone : tasks_at new lane ≡ before ++ rest
 
 -- the loss of the task was recorded, or refused
-pub record LosesTask (at : ℕ) (task : Task) (old new : RelayState FileDisk) : Type 0 where
+pub record LosesTask {D : Type 0} (words : DiskWords D) (at : ℕ) (task : Task) (old new : RelayState D)
+    : Type 0 where
   pub errand : Errand
   pub of_task : IsOfTask task errand
-  pub lost : IsRecordedOrRefused at errand old new
+  pub lost : IsRecordedOrRefused words at errand old new

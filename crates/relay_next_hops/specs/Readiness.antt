@@ -9,13 +9,13 @@ use Rattle.relay_next_hops.specs.declared.hop.Hop.{Hop}
 use Rattle.relay_next_hops.specs.declared.next_hops.NextHops.{NextHops}
 
 -- the connections to next hops, by number
-abbrev pub hops_of : NextHops → List (Option Hop)
+abbrev pub hops_of : {S : Type 0} → NextHops S → List (Option (Hop S))
 hops_of next_hops = next_hops.hops.hops
 
 -- the next hop of an attempt, which has this number among the connections to next hops, was left in mid-read, and
 -- nothing waits to be written to it
-pub record IsLeftHop {D : Type 0} (hops : List (Option Hop)) (relay : RelayState D) (number : ℕ) : Type 0 where
-  pub hop : Hop
+pub record IsLeftHop {S D : Type 0} (hops : List (Option (Hop S))) (relay : RelayState D) (number : ℕ) : Type 0 where
+  pub hop : Hop S
   pub there : slot_at hops number ≡ Some hop
   pub unread : unread_of hop.channel ≢ []
   pub attempt : ℕ

@@ -1,12 +1,13 @@
 -- What comes of tasks: connections that begin for them, and messages that are lost or given up without one.
 use Rattle.std.specs.Prelude.{◌≡◌, ◌⊎◌, ◌<◌, ◌≤◌, ◌+◌, ℕ, Bool, true, false, List, [], ◌∷◌, Option}
 use Rattle.std.specs.Prelude.{None, Some, length}
-use Rattle.relay_disk.specs.File.{file_words}
-use Rattle.relay_disk.specs.declared.file.FileDisk.{FileDisk}
+use Rattle.std.specs.declared.net.socket_addr.SocketAddrV4.{SocketAddrV4}
+use Rattle.relay_disk.specs.Device.{DiskWords}
 use Rattle.relay_routes.specs.Routes.{place_of}
 use Rattle.relay_records.specs.declared.fault.NodeFault.TheVariants.{NotDue, Unknown}
 use Rattle.relay_attempts.specs.Outcomes.{EndsUnroutable, RefusesToGiveUp}
 use Rattle.relay_loop.specs.Relay.{RelayState}
+use Rattle.relay_connections.specs.declared.channel.Channel.{Channel}
 use Rattle.relay_connections.specs.declared.clocks.Now.{Now}
 use Rattle.relay_limits.specs.declared.pace.Pace.{Pace}
 use Rattle.relay_slots.specs.Slots.{IsFull, IsLeastFree}
@@ -15,14 +16,12 @@ use Rattle.relay_next_hops.specs.Counts.{unanswered_of}
 use Rattle.relay_next_hops.specs.Errands.{PutsFor}
 use Rattle.relay_next_hops.specs.Lanes.{IsPutBack, KeepsCounts, KeepsPlaces, tasks_at}
 use Rattle.relay_next_hops.specs.Losses.{EndsLost, TakesNote}
-use Rattle.relay_next_hops.specs.Spares.{held_of}
 use Rattle.relay_next_hops.specs.Paces.{MayBeginAt, RunsOneMore, has_answered_at}
 use Rattle.relay_next_hops.specs.declared.errand.Aim.{Aim}
 use Rattle.relay_next_hops.specs.declared.errand.Errand.{Errand}
 use Rattle.relay_next_hops.specs.declared.hop.Hop.{Hop}
 use Rattle.relay_next_hops.specs.declared.lane.Task.{Task}
 use Rattle.relay_next_hops.specs.declared.lanes.Lanes.{Lanes}
-use Rattle.relay_next_hops.specs.declared.spares.Spares.{Spares}
 use Rattle.relay_next_hops.specs.declared.starting.TheConstants.{MOST_UNANSWERED}
 use Rattle.relay_next_hops.specs.declared.starting.Begun.{Begun}
 use Rattle.relay_next_hops.specs.declared.starting.Begun.TheVariants.{AllDone, Crowded, HasMore, Full, Wanting}
@@ -38,60 +37,61 @@ pub record IsOfTask (task : Task) (errand : Errand) : Type 0 where
   pub name : errand.name ≡ task.hop
   pub none : errand.attempt ≡ None
 
--- a connection for the task is put under this number, which goes to the place that the routes give for its next hop
-pub record ConnectsFor (lane number : ℕ) (task : Task) (hops_old hops_new : List (Option Hop))
-    (lanes_old lanes_new : Lanes) (relay : RelayState FileDisk)
+-- A connection for the task is put under this number, which was opened to the place that the routes give for its next
+-- hop.
+pub record ConnectsFor {D S : Type 0} (Opened : SocketAddrV4 → Channel S → Type 0) (lane number : ℕ) (task : Task)
+    (hops_old hops_new : List (Option (Hop S))) (lanes_old lanes_new : Lanes) (relay : RelayState D)
     : Type 0 where
   pub aim : Aim
   pub its_lane : aim.lane ≡ lane
   pub its_place : place_of relay.node.config.routes.routes task.hop ≡ Some aim.at
-  pub puts : PutsFor aim task.message task.hop number hops_old hops_new
+  pub puts : PutsFor Opened aim task.message task.hop number hops_old hops_new
   pub runs : RunsOneMore lane lanes_old.paces lanes_new.paces
   pub places : KeepsPlaces lanes_old lanes_new
 
 -- the task has ended as lost, as an errand of its lane
-pub record FailsFor (now : Now) (lane : ℕ) (task : Task) (paces : List Pace) (old new : RelayState FileDisk)
+pub record FailsFor {D : Type 0} (words : DiskWords D) (now : Now) (lane : ℕ) (task : Task) (paces : List Pace)
+    (old new : RelayState D)
     : Type 0 where
   pub errand : Errand
   pub its_lane : errand.aim.lane ≡ lane
   pub of_task : IsOfTask task errand
-  pub lost : EndsLost now errand paces old new
+  pub lost : EndsLost words now errand paces old new
 
 -- what has come of a task of a lane for which a connection was to begin under a number
-abbrev pub IsTried : Now → ℕ → ℕ → Task → List (Option Hop) → List (Option Hop) → Lanes → Lanes → RelayState FileDisk
-    → RelayState FileDisk → Tried → Type 0
-IsTried now lane number task hops_old hops_new lanes_old lanes_new old new Connects =
-    ConnectsFor lane number task hops_old hops_new lanes_old lanes_new old × (new ≡ old)
-IsTried now lane number task hops_old hops_new lanes_old lanes_new old new Wants =
+abbrev pub IsTried : {D S : Type 0} → DiskWords D → (SocketAddrV4 → Channel S → Type 0) → Now → ℕ → ℕ → Task
+    → List (Option (Hop S)) → List (Option (Hop S)) → Lanes → Lanes → RelayState D → RelayState D → Tried → Type 0
+IsTried words Opened now lane number task hops_old hops_new lanes_old lanes_new old new Connects =
+    ConnectsFor Opened lane number task hops_old hops_new lanes_old lanes_new old × (new ≡ old)
+IsTried words Opened now lane number task hops_old hops_new lanes_old lanes_new old new Wants =
     IsPutBack lane task lanes_old lanes_new × KeepsCounts lanes_old lanes_new × (hops_new ≡ hops_old) × (new ≡ old)
-IsTried now lane number task hops_old hops_new lanes_old lanes_new old new Fails =
-    FailsFor now lane task lanes_old.paces old new × KeepsCounts lanes_old lanes_new × (hops_new ≡ hops_old)
-IsTried now lane number task hops_old hops_new lanes_old lanes_new old new HasNoPlace =
+IsTried words Opened now lane number task hops_old hops_new lanes_old lanes_new old new Fails =
+    FailsFor words now lane task lanes_old.paces old new × KeepsCounts lanes_old lanes_new × (hops_new ≡ hops_old)
+IsTried words Opened now lane number task hops_old hops_new lanes_old lanes_new old new HasNoPlace =
     (place_of old.node.config.routes.routes task.hop ≡ None) × (lanes_new ≡ lanes_old) × (hops_new ≡ hops_old)
     × (new ≡ old)
 
 -- the held places of the message without a hop have ended, and the note of that was taken
-pub record GivesUp (at message : ℕ) (old new : RelayState FileDisk) : Type 0 where
-  pub between : RelayState FileDisk
+pub record GivesUp {D : Type 0} (words : DiskWords D) (at message : ℕ) (old new : RelayState D) : Type 0 where
+  pub between : RelayState D
   pub added : ℕ
-  pub ends : EndsUnroutable file_words (reporter_of old.node.config) old.node.config.routes message at old.node.records
+  pub ends : EndsUnroutable words (reporter_of old.node.config) old.node.config.routes message at old.node.records
       between.node.records added
   pub noted : TakesNote between new
 
 -- The message is given up. Where it isn't, that isn't due any more, or what is due is to be listed anew.
-abbrev pub IsGivenUp : ℕ → ℕ → RelayState FileDisk → RelayState FileDisk → Lanes → Bool → Type 0
-IsGivenUp at message old new lanes true = GivesUp at message old new
-IsGivenUp at message old new lanes false =
-    RefusesToGiveUp file_words (reporter_of old.node.config) old.node.config.routes message at old.node.records
-      new.node.records
-    Unknown
-    ⊎ RefusesToGiveUp file_words (reporter_of old.node.config) old.node.config.routes message at old.node.records
+abbrev pub IsGivenUp : {D : Type 0} → DiskWords D → ℕ → ℕ → RelayState D → RelayState D → Lanes → Bool → Type 0
+IsGivenUp words at message old new lanes true = GivesUp words at message old new
+IsGivenUp words at message old new lanes false =
+    RefusesToGiveUp words (reporter_of old.node.config) old.node.config.routes message at old.node.records
+    new.node.records Unknown
+    ⊎ RefusesToGiveUp words (reporter_of old.node.config) old.node.config.routes message at old.node.records
     new.node.records NotDue
     ⊎ (lanes.is_stale ≡ true)
 
 -- No more may begin for a lane: its pace lets none begin, or no task is left, or its next hop hasn't said anything yet,
 -- as the next hops of so many connections that there is no room for it.
-abbrev pub IsDone : ℕ → List (Option Hop) → Lanes → ℕ → Type 0
+abbrev pub IsDone : {S : Type 0} → ℕ → List (Option (Hop S)) → Lanes → ℕ → Type 0
 IsDone tick hops lanes lane = MayBeginAt lanes.most tick lanes.paces lane
     → (tasks_at lanes lane ≡ [])
     ⊎ ((has_answered_at lanes.paces lane ≡ false) × (MOST_UNANSWERED ≤ unanswered_of hops lanes.paces))
@@ -117,8 +117,9 @@ step_after HasNoPlace = Left
 
 -- The next task of a lane was tried, since one more may begin, and its next hop has answered or there is room among
 -- those that haven't.
-pub record TriesNext (now : Now) (lane : ℕ) (hops_old hops_new : List (Option Hop)) (lanes_old lanes_new : Lanes)
-    (old new : RelayState FileDisk) (tried : Tried)
+pub record TriesNext {D S : Type 0} (words : DiskWords D) (Opened : SocketAddrV4 → Channel S → Type 0) (now : Now)
+    (lane : ℕ) (hops_old hops_new : List (Option (Hop S))) (lanes_old lanes_new : Lanes) (old new : RelayState D)
+    (tried : Tried)
     : Type 0 where
   pub number : ℕ
   pub task : Task
@@ -128,20 +129,22 @@ pub record TriesNext (now : Now) (lane : ℕ) (hops_old hops_new : List (Option 
   pub free : IsLeastFree hops_old number
   pub first : tasks_at lanes_old lane ≡ task ∷ tasks_at between lane
   pub runs : between.paces ≡ lanes_old.paces
-  pub comes : IsTried now lane number task hops_old hops_new between lanes_new old new tried
+  pub comes : IsTried words Opened now lane number task hops_old hops_new between lanes_new old new tried
 
 -- what has come of the next task of a lane
-abbrev pub IsStep : Now → ℕ → List (Option Hop) → List (Option Hop) → Lanes → Lanes → RelayState FileDisk
-    → RelayState FileDisk → Step → Type 0
-IsStep now lane hops_old hops_new lanes_old lanes_new old new Left =
-    (tried : Tried) × TriesNext now lane hops_old hops_new lanes_old lanes_new old new tried
+abbrev pub IsStep : {D S : Type 0} → DiskWords D → (SocketAddrV4 → Channel S → Type 0) → Now → ℕ
+    → List (Option (Hop S)) → List (Option (Hop S)) → Lanes → Lanes → RelayState D → RelayState D → Step → Type 0
+IsStep words Opened now lane hops_old hops_new lanes_old lanes_new old new Left =
+    (tried : Tried) × TriesNext words Opened now lane hops_old hops_new lanes_old lanes_new old new tried
     × (length (tasks_at lanes_new lane) + 1 ≤ length (tasks_at lanes_old lane))
-IsStep now lane hops_old hops_new lanes_old lanes_new old new Back =
-    TriesNext now lane hops_old hops_new lanes_old lanes_new old new Wants
+IsStep words Opened now lane hops_old hops_new lanes_old lanes_new old new Back =
+    TriesNext words Opened now lane hops_old hops_new lanes_old lanes_new old new Wants
     × (length (tasks_at lanes_new lane) ≤ length (tasks_at lanes_old lane))
-IsStep now lane hops_old hops_new lanes_old lanes_new old new Over = IsDone now.tick hops_new lanes_new lane
-IsStep now lane hops_old hops_new lanes_old lanes_new old new NoRoom = IsDone now.tick hops_new lanes_new lane
-IsStep now lane hops_old hops_new lanes_old lanes_new old new NoSlot = IsFull hops_new
+IsStep words Opened now lane hops_old hops_new lanes_old lanes_new old new Over =
+    IsDone now.tick hops_new lanes_new lane
+IsStep words Opened now lane hops_old hops_new lanes_old lanes_new old new NoRoom =
+    IsDone now.tick hops_new lanes_new lane
+IsStep words Opened now lane hops_old hops_new lanes_old lanes_new old new NoSlot = IsFull hops_new
 
 -- Where a step is the last of a lane, this is how far it has come with the lane. A task that was put back takes one of
 -- the descriptors that are kept, of which there were and are so many.
@@ -161,10 +164,10 @@ IsStoppedBy HasMore stops = stops ≡ false
 IsStoppedBy Full stops = stops ≡ true
 IsStoppedBy Wanting stops = stops ≡ true
 
--- how far it has come with a lane
-abbrev pub IsBegun : ℕ → ℕ → Lanes → List (Option Hop) → Lanes → Spares → ℕ → Begun → Type 0
-IsBegun tick kept old hops new spares lane AllDone = IsDone tick hops new lane
-IsBegun tick kept old hops new spares lane Crowded = IsDone tick hops new lane
-IsBegun tick kept old hops new spares lane HasMore = IsTriedOut kept old new lane
-IsBegun tick kept old hops new spares lane Full = IsFull hops
-IsBegun tick kept old hops new spares lane Wanting = held_of spares ≡ 0
+-- how far it has come with a lane, where so many descriptors were kept before, and so many are left
+abbrev pub IsBegun : {S : Type 0} → ℕ → ℕ → Lanes → List (Option (Hop S)) → Lanes → ℕ → ℕ → Begun → Type 0
+IsBegun tick kept old hops new left lane AllDone = IsDone tick hops new lane
+IsBegun tick kept old hops new left lane Crowded = IsDone tick hops new lane
+IsBegun tick kept old hops new left lane HasMore = IsTriedOut kept old new lane
+IsBegun tick kept old hops new left lane Full = IsFull hops
+IsBegun tick kept old hops new left lane Wanting = left ≡ 0

@@ -7,6 +7,6 @@ use Rattle.relay_next_hops.specs.declared.next_hops.NextHops.{NextHops}
 
 -- Each connection goes to the place that the routes give for its next hop, and of each lane as many attempts run as it
 -- has connections.
-pub record TablesMatch (routes : List Route) (next_hops : NextHops) : Type 0 where
+pub record TablesMatch {S : Type 0} (routes : List Route) (next_hops : NextHops S) : Type 0 where
   pub aimed : AreAimed routes next_hops.hops.hops
   pub counts : CountsMatch next_hops.hops.hops next_hops.lanes.paces

@@ -1,16 +1,14 @@
 -- How far a turn goes: over all lanes, as far as there is room.
 use Rattle.std.specs.Prelude.{◌≡◌, ◌⊎◌, ℕ, List, Option}
 use Rattle.relay_slots.specs.Slots.{IsFull}
-use Rattle.relay_next_hops.specs.Spares.{held_of}
 use Rattle.relay_next_hops.specs.Starting.{IsDone, IsTriedOut}
 use Rattle.relay_next_hops.specs.declared.hop.Hop.{Hop}
 use Rattle.relay_next_hops.specs.declared.lanes.Lanes.{Lanes}
-use Rattle.relay_next_hops.specs.declared.spares.Spares.{Spares}
 
 -- a lane was gone over: no more may begin for it, or as many of its tasks have left it as may at a turn
-abbrev pub IsGoneOver : ℕ → ℕ → Lanes → List (Option Hop) → Lanes → ℕ → Type 0
+abbrev pub IsGoneOver : {S : Type 0} → ℕ → ℕ → Lanes → List (Option (Hop S)) → Lanes → ℕ → Type 0
 IsGoneOver tick spares old hops new lane = IsDone tick hops new lane ⊎ IsTriedOut spares old new lane
 
 -- what stops a turn before each lane was gone over: there is no room for a connection, or no descriptor is kept
-abbrev pub IsStopped : List (Option Hop) → Spares → Type 0
-IsStopped hops spares = IsFull hops ⊎ (held_of spares ≡ 0)
+abbrev pub IsStopped : {S : Type 0} → List (Option (Hop S)) → ℕ → Type 0
+IsStopped hops spares = IsFull hops ⊎ (spares ≡ 0)

@@ -7,17 +7,17 @@ ghost use Rattle.relay_next_hops.specs.Hearing.{IsAnswered, IsCourse};
 use crate::errand::Course;
 use crate::hearing::{has_ended, was_left};
 use crate::hop::Hop;
-use relay_connections::Now;
-use relay_disk::FileDisk;
+use relay_connections::{Now, Stream};
+use relay_disk::Disk;
 use relay_files::Fault;
 use relay_loop::{Answered, Relay};
 use relay_node::{NodeFault, Noted};
 
-impl Hop {
+impl<S: Stream> Hop<S> {
     /// Takes what came of the octets that its attempt has heard, or lets it hear them alone if they were left unread.
-    pub(crate) fn take_answer(
+    pub(crate) fn take_answer<D: Disk>(
         &mut self,
-        relay: &mut Relay<FileDisk>,
+        relay: &mut Relay<D>,
         attempt: usize,
         answer: Result<Answered, NodeFault>,
         noted: Option<Noted>,
@@ -36,9 +36,9 @@ impl Hop {
 
     /// Takes what came of the octets that its attempt has heard, and writes what they lead to at once as far as that
     /// goes. Where they end the attempt, the note is that of its outcome.
-    fn answer(
+    fn answer<D: Disk>(
         &mut self,
-        relay: &mut Relay<FileDisk>,
+        relay: &mut Relay<D>,
         attempt: usize,
         answered: Result<Answered, NodeFault>,
         noted: Option<Noted>,
@@ -70,9 +70,9 @@ impl Hop {
     }
 
     /// Lets its attempt hear what was read by a call of its own.
-    fn hear_alone(
+    fn hear_alone<D: Disk>(
         &mut self,
-        relay: &mut Relay<FileDisk>,
+        relay: &mut Relay<D>,
         attempt: usize,
         now: &Now,
     ) -> Result<Course, Fault>

@@ -7,9 +7,8 @@ ghost use Rattle.relay_next_hops.specs.Paces.{RunsOneLess};
 
 use crate::errand::{Course, Errand};
 use crate::lanes::Lanes;
-use mio::Registry;
-use relay_connections::{Channel, Leaving, Now};
-use relay_disk::FileDisk;
+use relay_connections::{Channel, Leaving, Now, Stream};
+use relay_disk::Disk;
 use relay_files::Fault;
 use relay_log::{Attempt, Log, Loss, Talk};
 use relay_loop::{Outbox, Relay};
@@ -18,12 +17,12 @@ use relay_routes::HostName;
 
 /// Does what is left to be done for an errand that has come to this end.
 #[tactic(auto, using(crate::proofs::PaceLemmas::less_then_same))]
-pub(crate) fn conclude(
-    registry: &Registry,
-    relay: &mut Relay<FileDisk>,
+pub(crate) fn conclude<S: Stream + Drop, D: Disk>(
+    registry: &S::Registry,
+    relay: &mut Relay<D>,
     lanes: &mut Lanes,
-    leaving: &mut Leaving,
-    ended: (Channel, Errand),
+    leaving: &mut Leaving<S>,
+    ended: (Channel<S>, Errand),
     course: Course,
     now: &Now,
     log: &mut Log<'_, Vec<u8>>,
@@ -40,12 +39,12 @@ pub(crate) fn conclude(
 }
 
 /// Does what is left to be done for an errand that counts no more among its lane's.
-fn finish(
-    registry: &Registry,
-    relay: &mut Relay<FileDisk>,
+fn finish<S: Stream + Drop, D: Disk>(
+    registry: &S::Registry,
+    relay: &mut Relay<D>,
     lanes: &mut Lanes,
-    leaving: &mut Leaving,
-    channel: Channel,
+    leaving: &mut Leaving<S>,
+    channel: Channel<S>,
     errand: Errand,
     is_shared: bool,
     course: Course,
@@ -81,11 +80,11 @@ fn finish(
 }
 
 /// Lets a connection leave whose attempt has ended with an outcome.
-fn end_well(
-    registry: &Registry,
+fn end_well<S: Stream + Drop>(
+    registry: &S::Registry,
     lanes: &mut Lanes,
-    leaving: &mut Leaving,
-    channel: Channel,
+    leaving: &mut Leaving<S>,
+    channel: Channel<S>,
     errand: Errand,
     outbox: Outbox,
     noted: Option<Noted>,
@@ -105,15 +104,15 @@ fn end_well(
 
 /// Records that the attempt of an errand is lost. A next hop that has said nothing is left alone then; and where it
 /// is already, an attempt that hasn't begun is none.
-pub(crate) fn lose(
-    relay: &mut Relay<FileDisk>,
+pub(crate) fn lose<D: Disk>(
+    relay: &mut Relay<D>,
     lanes: &mut Lanes,
     errand: Errand,
     loss: Loss,
     now: &Now,
     log: &mut Log<'_, Vec<u8>>,
 ) -> Result<(), Fault>
-    ensures lost { OnOk result (EndsLost now.now errand lanes.old.paces relay.old relay.new) }
+    ensures lost { OnOk result (EndsLost D.words now.now errand lanes.old.paces relay.old relay.new) }
     ensures counts { KeepsCounts lanes.old lanes.new }
     ensures only { OnlyLane errand.aim.lane lanes.old lanes.new }
     ensures tasks { lanes.new.lanes ≡ lanes.old.lanes }
@@ -132,13 +131,13 @@ pub(crate) fn lose(
 }
 
 /// Records that an errand was lost to a place that is left alone.
-pub(crate) fn lose_held(
-    relay: &mut Relay<FileDisk>,
+pub(crate) fn lose_held<D: Disk>(
+    relay: &mut Relay<D>,
     errand: Errand,
     now: &Now,
     log: &mut Log<'_, Vec<u8>>,
 ) -> Result<(), Fault>
-    ensures lost { OnOk result (IsRecordedOrRefused now.now.moment errand relay.old relay.new) }
+    ensures lost { OnOk result (IsRecordedOrRefused D.words now.now.moment errand relay.old relay.new) }
     ensures config { relay.new.node.config ≡ relay.old.node.config }
 {
     let talk = log.talk_of(relay.node().message(errand.message));
@@ -150,12 +149,12 @@ pub(crate) fn lose_held(
 }
 
 /// Ends an attempt as lost, as [`record_loss`], and takes the note of what was recorded.
-fn record_and_note(
-    relay: &mut Relay<FileDisk>,
+fn record_and_note<D: Disk>(
+    relay: &mut Relay<D>,
     errand: &Errand,
     now: &Now,
 ) -> Result<(bool, Option<Noted>), Fault>
-    ensures lost { OnOk result (IsRecordedOrRefused now.now.moment errand.now relay.old relay.new) }
+    ensures lost { OnOk result (IsRecordedOrRefused D.words now.now.moment errand.now relay.old relay.new) }
     ensures config { relay.new.node.config ≡ relay.old.node.config }
 {
     match record_loss(relay, errand, now) {
@@ -180,10 +179,11 @@ fn hold(lanes: &mut Lanes, errand: &Errand, loss: Loss, log: &mut Log<'_, Vec<u8
 
 /// Ends an attempt as lost, which begins for that where it hasn't begun. It tells whether that is recorded: it isn't
 /// where there is no memory or no number for it, and where the message isn't due there any more.
-fn record_loss(relay: &mut Relay<FileDisk>, errand: &Errand, now: &Now) -> Result<bool, Fault>
-    ensures lost { result ≡ Ok true → Loses now.now.moment errand.now relay.old relay.new errand.now.attempt }
+fn record_loss<D: Disk>(relay: &mut Relay<D>, errand: &Errand, now: &Now) -> Result<bool, Fault>
+    ensures lost { result ≡ Ok true
+        → Loses D.words now.now.moment errand.now relay.old relay.new errand.now.attempt }
     ensures refused { result ≡ Ok false
-        → LosesNot now.now.moment errand.now relay.old relay.new errand.now.attempt }
+        → LosesNot D.words now.now.moment errand.now relay.old relay.new errand.now.attempt }
     ensures config { relay.new.node.config ≡ relay.old.node.config }
 {
     match errand.attempt {
@@ -193,14 +193,14 @@ fn record_loss(relay: &mut Relay<FileDisk>, errand: &Errand, now: &Now) -> Resul
 }
 
 /// Begins an attempt for a message, and ends it as lost.
-fn lose_at_once(
-    relay: &mut Relay<FileDisk>,
+fn lose_at_once<D: Disk>(
+    relay: &mut Relay<D>,
     message: u64,
     name: &HostName,
     now: &Now,
 ) -> Result<bool, Fault>
-    ensures lost { result ≡ Ok true → StartsAndLoses now.now.moment message name.now relay.old relay.new }
-    ensures refused { result ≡ Ok false → StartsNothing now.now.moment message name.now relay.old relay.new }
+    ensures lost { result ≡ Ok true → StartsAndLoses D.words now.now.moment message name.now relay.old relay.new }
+    ensures refused { result ≡ Ok false → StartsNothing D.words now.now.moment message name.now relay.old relay.new }
     ensures config { relay.new.node.config ≡ relay.old.node.config }
 {
     match relay.start(message, name, now.moment) {
@@ -211,9 +211,9 @@ fn lose_at_once(
 }
 
 /// Ends an attempt that runs as lost.
-fn lose_attempt(relay: &mut Relay<FileDisk>, attempt: usize, now: &Now) -> Result<bool, Fault>
-    ensures lost { result ≡ Ok true → LosesAttempt now.now.moment relay.old relay.new attempt }
-    ensures refused { result ≡ Ok false → RefusesLoss now.now.moment relay.old relay.new attempt }
+fn lose_attempt<D: Disk>(relay: &mut Relay<D>, attempt: usize, now: &Now) -> Result<bool, Fault>
+    ensures lost { result ≡ Ok true → LosesAttempt D.words now.now.moment relay.old relay.new attempt }
+    ensures refused { result ≡ Ok false → RefusesLoss D.words now.now.moment relay.old relay.new attempt }
     ensures config { relay.new.node.config ≡ relay.old.node.config }
 {
     match relay.lose(attempt, now.moment) {

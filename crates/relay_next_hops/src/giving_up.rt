@@ -5,22 +5,22 @@ ghost use Rattle.relay_next_hops.specs.Starting.{IsGivenUp};
 
 use crate::lanes::Lanes;
 use relay_connections::Now;
-use relay_disk::FileDisk;
+use relay_disk::Disk;
 use relay_files::Fault;
 use relay_log::{Attempt, Log, Talk};
 use relay_loop::Relay;
 use relay_node::{NodeFault, Noted};
 
 /// Gives up the places of the next message that have no hop, if there is one. It tells whether that was recorded.
-pub(crate) fn give_up_next(
-    relay: &mut Relay<FileDisk>,
+pub(crate) fn give_up_next<D: Disk>(
+    relay: &mut Relay<D>,
     lanes: &mut Lanes,
     now: &Now,
     log: &mut Log<'_, Vec<u8>>,
 ) -> Result<bool, Fault>
     ensures none { lanes.old.unroutable.items ≡ [] → (result ≡ Ok false) × (relay.new ≡ relay.old) }
     ensures first { (message : ℕ) (rest : List ℕ) → lanes.old.unroutable.items ≡ message ∷ rest
-        → IfOk result (IsGivenUp now.now.moment message relay.old relay.new lanes.new)
+        → IfOk result (IsGivenUp D.words now.now.moment message relay.old relay.new lanes.new)
         × (lanes.new.unroutable.items ≡ rest) }
     ensures counts { KeepsCounts lanes.old lanes.new }
     ensures config { relay.new.node.config ≡ relay.old.node.config }
@@ -33,14 +33,14 @@ pub(crate) fn give_up_next(
 
 /// Gives up the places of a message that have no hop. It tells whether that was recorded. Where it wasn't, and they are
 /// still due, all that is due is listed anew.
-fn give_up(
-    relay: &mut Relay<FileDisk>,
+fn give_up<D: Disk>(
+    relay: &mut Relay<D>,
     lanes: &mut Lanes,
     message: u64,
     now: &Now,
     log: &mut Log<'_, Vec<u8>>,
 ) -> Result<bool, Fault>
-    ensures gives_up { IfOk result (IsGivenUp now.now.moment message relay.old relay.new lanes.new) }
+    ensures gives_up { IfOk result (IsGivenUp D.words now.now.moment message relay.old relay.new lanes.new) }
     ensures others { lanes.new.unroutable ≡ lanes.old.unroutable }
     ensures counts { KeepsCounts lanes.old lanes.new }
     ensures config { relay.new.node.config ≡ relay.old.node.config }

@@ -9,9 +9,8 @@ ghost use Rattle.relay_next_hops.specs.Hearing.{reply_at, told_of};
 use crate::errand::Course;
 use crate::hops::Hops;
 use crate::lanes::Lanes;
-use mio::Registry;
-use relay_connections::{Leaving, Now, Replied};
-use relay_disk::FileDisk;
+use relay_connections::{Leaving, Now, Replied, Stream};
+use relay_disk::Disk;
 use relay_files::Fault;
 use relay_log::{Log, Loss};
 use relay_loop::{Answered, Relay, ReplyPiece};
@@ -23,7 +22,7 @@ use std::alloc::AllocError;
 /// syncs.
 const MOST_ALONE: usize = 4;
 
-impl Hops {
+impl<S: Stream + Drop> Hops<S> {
     /// Returns the number of the connection that is served first, of the first so many: 0 where none of these comes
     /// after those that were served last.
     fn first_of(&self, count: usize) -> usize
@@ -65,13 +64,13 @@ impl Hops {
     /// Takes what came of the replies, in the order in which they were told. It tells whether a connection was closed.
     /// Where clients have brought so much that replies were left unread, a few are heard even so, each time others.
     /// Where no memory was left to hear them, the first of them is lost.
-    pub(crate) fn answer(
+    pub(crate) fn answer<D: Disk>(
         &mut self,
         replied: Option<Replied>,
-        registry: &Registry,
-        relay: &mut Relay<FileDisk>,
+        registry: &S::Registry,
+        relay: &mut Relay<D>,
         lanes: &mut Lanes,
-        leaving: &mut Leaving,
+        leaving: &mut Leaving<S>,
         now: &Now,
         log: &mut Log<'_, Vec<u8>>,
     ) -> Result<bool, Fault>
@@ -125,17 +124,17 @@ impl Hops {
 
     /// Takes what came of the reply to the attempt of a number, which hears it alone where it was left unread, and so
     /// many others may. It tells whether its connection stays.
-    fn answer_one(
+    fn answer_one<D: Disk>(
         &mut self,
         number: usize,
         attempt: usize,
         answer: Result<Answered, NodeFault>,
         noted: Option<Noted>,
         alone: &mut usize,
-        registry: &Registry,
-        relay: &mut Relay<FileDisk>,
+        registry: &S::Registry,
+        relay: &mut Relay<D>,
         lanes: &mut Lanes,
-        leaving: &mut Leaving,
+        leaving: &mut Leaving<S>,
         now: &Now,
         log: &mut Log<'_, Vec<u8>>,
     ) -> Result<bool, Fault>
@@ -162,12 +161,12 @@ impl Hops {
 
     /// Gives the first of those up whose attempts may hear something, since no memory is left. It tells whether there
     /// was one.
-    fn lose_one(
+    fn lose_one<D: Disk>(
         &mut self,
-        registry: &Registry,
-        relay: &mut Relay<FileDisk>,
+        registry: &S::Registry,
+        relay: &mut Relay<D>,
         lanes: &mut Lanes,
-        leaving: &mut Leaving,
+        leaving: &mut Leaving<S>,
         now: &Now,
         log: &mut Log<'_, Vec<u8>>,
     ) -> Result<bool, Fault>

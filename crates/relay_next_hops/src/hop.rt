@@ -7,8 +7,8 @@ ghost use Rattle.relay_next_hops.specs.Hearing.{IsLate, hearing_of};
 
 use crate::errand::{Aim, Course, Errand};
 use crate::phase::Phase;
-use relay_connections::{Channel, End, Now};
-use relay_disk::FileDisk;
+use relay_connections::{Channel, End, Now, Stream};
+use relay_disk::Disk;
 use relay_files::Fault;
 use relay_log::{Loss, Talk};
 use relay_loop::Relay;
@@ -23,8 +23,8 @@ const ANSWER_SECONDS: u64 = 30 * 60;
 const WRITE_LIMIT: usize = 16;
 
 /// The connection to a next hop for a message. It has an attempt of the node once the next hop has begun to greet.
-pub(crate) struct Hop {
-    pub(crate) channel: Channel,
+pub(crate) struct Hop<S> {
+    pub(crate) channel: Channel<S>,
     pub(crate) aim: Aim,
     pub(crate) message: u64,
     pub(crate) name: HostName,
@@ -46,7 +46,7 @@ pub(crate) struct Hop {
 }
 
 // Written out, so that what drops it calls this, and doesn't look into its connection.
-impl Drop for Hop {
+impl<S: Drop> Drop for Hop<S> {
     fn drop(self) {
         let Hop {
             channel: _channel,
@@ -65,17 +65,18 @@ impl Drop for Hop {
     }
 }
 
-impl Hop {
+impl<S: Stream> Hop<S> {
     /// A connection that is being made for a message. Where it `tells`, the next hop's replies are kept in mind.
     pub(crate) fn new(
         alloc: Global,
-        channel: Channel,
+        channel: Channel<S>,
         aim: Aim,
         message: u64,
         name: HostName,
         tells: bool,
         now: &Now,
     ) -> Self
+        ensures channel { result.channel ≡ channel }
         ensures aim { result.aim ≡ aim }
         ensures errand { (result.message ≡ message) × (result.name ≡ name) }
         ensures none { (result.attempt ≡ None) × (result.hears ≡ false) }
@@ -97,7 +98,7 @@ impl Hop {
     }
 
     /// Its connection, and what is told of it.
-    pub(crate) fn into_parts(self) -> (Channel, Errand)
+    pub(crate) fn into_parts(self) -> (Channel<S>, Errand)
         ensures aim { result.1.aim ≡ self.aim }
         ensures errand { (result.1.message ≡ self.message) × (result.1.name ≡ self.name) }
         ensures attempt { result.1.attempt ≡ self.attempt }
@@ -145,9 +146,9 @@ impl Hop {
 
     /// Does one thing more: makes the connection, awaits the greeting, writes what waits, or reads what its attempt may
     /// hear then. The next hop is shared where other connections to it stand, or stood when this one was begun.
-    pub(crate) fn attend(
+    pub(crate) fn attend<D: Disk>(
         &mut self,
-        relay: &mut Relay<FileDisk>,
+        relay: &mut Relay<D>,
         is_shared: bool,
         now: &Now,
     ) -> Result<Course, Fault>
@@ -165,9 +166,9 @@ impl Hop {
     }
 
     /// Makes the connection, awaits the greeting, writes what waits, or reads.
-    fn go_on(
+    fn go_on<D: Disk>(
         &mut self,
-        relay: &mut Relay<FileDisk>,
+        relay: &mut Relay<D>,
         is_shared: bool,
         now: &Now,
     ) -> Result<Course, Fault>
@@ -203,7 +204,7 @@ impl Hop {
     }
 
     /// Whether something can be done with it at once.
-    pub(crate) fn is_ready(&self, relay: &Relay<FileDisk>) -> bool
+    pub(crate) fn is_ready<D: Disk>(&self, relay: &Relay<D>) -> bool
         ensures { (attempt : ℕ) → self.now.attempt ≡ Some attempt → unread_of self.now.channel ≢ []
             → unwritten_at relay.now.hops attempt ≡ [] → result ≡ true }
     {
@@ -239,9 +240,9 @@ impl Hop {
 
     /// Begins the attempt once the next hop has begun to greet. A next hop that greets by 4yz, as 421 for too many
     /// connections, while it serves others puts no message off for that.
-    fn await_greeting(
+    fn await_greeting<D: Disk>(
         &mut self,
-        relay: &mut Relay<FileDisk>,
+        relay: &mut Relay<D>,
         is_shared: bool,
         now: &Now,
     ) -> Result<Course, Fault>
@@ -264,7 +265,7 @@ impl Hop {
     }
 
     /// Begins the attempt, which may hear what was read.
-    fn begin(&mut self, relay: &mut Relay<FileDisk>, now: &Now) -> Result<Course, Fault>
+    fn begin<D: Disk>(&mut self, relay: &mut Relay<D>, now: &Now) -> Result<Course, Fault>
         ensures errand { KeepsErrand self.old self.new }
         ensures starts { self.old.attempt ≡ None → self.new.attempt ≢ None
             → StartsFor now.now.moment self.old.message self.old.name self.new.attempt relay.old relay.new }
@@ -284,7 +285,7 @@ impl Hop {
     }
 
     /// Writes what waits, or else reads what its attempt may hear.
-    fn exchange(&mut self, relay: &mut Relay<FileDisk>, attempt: usize, now: &Now) -> Course
+    fn exchange<D: Disk>(&mut self, relay: &mut Relay<D>, attempt: usize, now: &Now) -> Course
         ensures errand { KeepsErrand self.old self.new }
         ensures attempt { self.new.attempt ≡ self.old.attempt }
     {
@@ -311,7 +312,7 @@ impl Hop {
     }
 
     /// It has as long from now on as what it is waited for may take.
-    pub(crate) fn wait_on(&mut self, relay: &Relay<FileDisk>, attempt: usize, now: &Now)
+    pub(crate) fn wait_on<D: Disk>(&mut self, relay: &Relay<D>, attempt: usize, now: &Now)
         ensures errand { KeepsErrand self.old self.new }
         ensures attempt { self.new.attempt ≡ self.old.attempt }
         ensures channel { (self.new.channel ≡ self.old.channel) × (self.new.hears ≡ self.old.hears) }
@@ -321,7 +322,7 @@ impl Hop {
     }
 
     /// Writes what waits for the next hop as far as that goes at once.
-    pub(crate) fn flush(&mut self, relay: &mut Relay<FileDisk>, attempt: usize, now: &Now)
+    pub(crate) fn flush<D: Disk>(&mut self, relay: &mut Relay<D>, attempt: usize, now: &Now)
         ensures errand { KeepsErrand self.old self.new }
         ensures attempt { self.new.attempt ≡ self.old.attempt }
         ensures unread { unread_of self.new.channel ≡ unread_of self.old.channel }

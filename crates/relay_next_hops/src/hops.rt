@@ -4,20 +4,19 @@ ghost use Rattle.relay_slots.specs.Slots.{AreFree, IsFull, IsLeastFree, OthersSt
 ghost use Rattle.relay_connections.specs.Table.{count_of, is_such};
 ghost use Rattle.relay_limits.specs.declared.pace.Pace.{Pace};
 ghost use Rattle.relay_next_hops.specs.Counts.{CountsMatch, CountsMatchWith, is_unanswered, unanswered_of};
-ghost use Rattle.relay_next_hops.specs.Errands.{AreAimed, IsAimed, PutsFor, left_of};
+ghost use Rattle.relay_next_hops.specs.Errands.{AreAimed, IsAimed, IsOpenedTo, PutsFor, left_of};
 ghost use Rattle.relay_next_hops.specs.Lanes.{KeepsCounts};
 ghost use Rattle.relay_next_hops.specs.Listing.{HasConnection};
 ghost use Rattle.relay_next_hops.specs.Readiness.{IsLeftHop};
 
+use crate::dial::Dial;
 use crate::ending::conclude;
 use crate::errand::{Aim, Course};
 use crate::hop::Hop;
 use crate::lane::Task;
 use crate::lanes::Lanes;
-use mio::Registry;
-use mio::net::TcpStream;
-use relay_connections::{Channel, Leaving, Now, Readiness, Table, holds, turned};
-use relay_disk::FileDisk;
+use relay_connections::{Channel, Leaving, Now, Readiness, Stream, Table, holds, turned};
+use relay_disk::Disk;
 use relay_files::Fault;
 use relay_log::Log;
 use relay_loop::Relay;
@@ -25,21 +24,24 @@ use relay_routes::HostName;
 use relay_slots::SLOT_COUNT;
 use std::alloc::{AllocError, Global};
 use std::io;
-use std::net::{Net, SocketAddr, SocketAddrV4};
+use std::net::SocketAddrV4;
 
 /// The most connections that are lost at a turn. Each takes two syncs, for which clients wait.
 const MOST_LOSSES: usize = 4;
 
+/// The token of the first of them.
+pub(crate) const FIRST_TOKEN: usize = SLOT_COUNT;
+
 /// The connections to next hops, up to 64.
-pub(crate) struct Hops {
+pub(crate) struct Hops<S> {
     pub(crate) alloc: Global,
-    pub(crate) hops: Table<Hop>,
+    pub(crate) hops: Table<Hop<S>>,
     /// Which is served first at the next turn.
     pub(crate) first: usize,
 }
 
 // Written out, so that what drops them calls this, and doesn't look into each.
-impl Drop for Hops {
+impl<S: Drop> Drop for Hops<S> {
     fn drop(self) {
         let Hops {
             alloc: _,
@@ -49,10 +51,7 @@ impl Drop for Hops {
     }
 }
 
-impl Hops {
-    /// The token of the first of them.
-    pub(crate) const FIRST_TOKEN: usize = SLOT_COUNT;
-
+impl<S: Stream + Drop> Hops<S> {
     /// None. It fails where memory runs out.
     pub(crate) fn new(alloc: Global) -> Result<Self, AllocError>
         ensures { IfOk result (λ hops. AreFree hops.hops) }
@@ -132,10 +131,10 @@ impl Hops {
     }
 
     /// Begins to make a connection under this number, which is free.
-    pub(crate) fn connect<N: Net>(
+    pub(crate) fn connect<N: Dial<Stream = S>>(
         &mut self,
-        net: &N,
-        registry: &Registry,
+        dial: &mut N,
+        registry: &S::Registry,
         number: usize,
         task: Task,
         aim: &Aim,
@@ -143,11 +142,13 @@ impl Hops {
         now: &Now,
     ) -> Result<(), (Task, io::Error)>
         ensures made { number < length self.old.hops
-            → OnOk result (PutsFor aim.now task.message task.hop number self.old.hops self.new.hops) }
+            → OnOk result (PutsFor (IsOpenedTo N.leads_to S.remaining S.contents) aim.now task.message task.hop
+            number self.old.hops self.new.hops) }
         ensures failed { IfErr result (λ refused. (refused.0 ≡ task) × (self.new ≡ self.old)) }
+        ensures kept { N.spares dial.new ≡ N.spares dial.old }
     {
-        let token = Hops::FIRST_TOKEN.saturating_add(number);
-        match connecting(self.alloc, net, registry, token, aim.at) {
+        let token = FIRST_TOKEN.saturating_add(number);
+        match connecting(self.alloc, dial, registry, token, aim.at) {
             Ok(channel) => {
                 let (message, name) = task.into_parts();
                 let hop = Hop::new(self.alloc, channel, *aim, message, name, tells, now);
@@ -172,12 +173,12 @@ impl Hops {
 
     /// Attends to each of them once, each time beginning with another, until so many were lost that clients are to have
     /// their turn; it goes on after these then. It tells whether one was closed.
-    pub(crate) fn attend(
+    pub(crate) fn attend<D: Disk>(
         &mut self,
-        registry: &Registry,
-        relay: &mut Relay<FileDisk>,
+        registry: &S::Registry,
+        relay: &mut Relay<D>,
         lanes: &mut Lanes,
-        leaving: &mut Leaving,
+        leaving: &mut Leaving<S>,
         now: &Now,
         log: &mut Log<'_, Vec<u8>>,
     ) -> Result<bool, Fault>
@@ -205,13 +206,13 @@ impl Hops {
     }
 
     /// Attends to the connection of a number. It tells whether that stays.
-    fn attend_one(
+    fn attend_one<D: Disk>(
         &mut self,
         number: usize,
-        registry: &Registry,
-        relay: &mut Relay<FileDisk>,
+        registry: &S::Registry,
+        relay: &mut Relay<D>,
         lanes: &mut Lanes,
-        leaving: &mut Leaving,
+        leaving: &mut Leaving<S>,
         now: &Now,
         log: &mut Log<'_, Vec<u8>>,
     ) -> Result<bool, Fault>
@@ -233,15 +234,15 @@ impl Hops {
     }
 
     /// Puts a connection where it belongs after what was done with it. It tells whether it stays.
-    pub(crate) fn settle(
+    pub(crate) fn settle<D: Disk>(
         &mut self,
         number: usize,
-        hop: Hop,
+        hop: Hop<S>,
         course: Course,
-        registry: &Registry,
-        relay: &mut Relay<FileDisk>,
+        registry: &S::Registry,
+        relay: &mut Relay<D>,
         lanes: &mut Lanes,
-        leaving: &mut Leaving,
+        leaving: &mut Leaving<S>,
         now: &Now,
         log: &mut Log<'_, Vec<u8>>,
     ) -> Result<bool, Fault>
@@ -268,7 +269,7 @@ impl Hops {
     }
 
     /// Whether one is left with something to be done at once.
-    pub(crate) fn is_ready(&self, relay: &Relay<FileDisk>) -> bool
+    pub(crate) fn is_ready<D: Disk>(&self, relay: &Relay<D>) -> bool
         ensures { (number : ℕ) → IsLeftHop self.now.hops relay.now number → result ≡ true }
     {
         for slot in self.hops.standing() {
@@ -296,16 +297,19 @@ impl Hops {
 }
 
 /// A connection to this place that is being made, of which the system tells under this token.
-fn connecting<N: Net>(
+fn connecting<S: Stream + Drop, N: Dial<Stream = S>>(
     alloc: Global,
-    net: &N,
-    registry: &Registry,
+    dial: &mut N,
+    registry: &S::Registry,
     token: usize,
     at: SocketAddrV4,
-) -> io::Result<Channel> {
-    let stream = TcpStream::connect(net, SocketAddr::V4(at))?;
+) -> io::Result<Channel<S>>
+    ensures opened { IfOk result (IsOpenedTo N.leads_to S.remaining S.contents at) }
+    ensures kept { N.spares dial.new ≡ N.spares dial.old }
+{
+    let mut stream = dial.connect(at)?;
     // All that belongs together is written by one call.
-    let _ = stream.set_nodelay(true);
+    stream.set_nodelay();
     let mut channel = Channel::new(alloc, stream);
     channel.awaits_writing();
     channel.register(registry, token)?;
@@ -313,7 +317,7 @@ fn connecting<N: Net>(
 }
 
 /// Whether a connection stands in a slot whose next hop hasn't said anything yet.
-fn is_unanswered(slot: &Option<Hop>, lanes: &Lanes) -> bool
+fn is_unanswered<S>(slot: &Option<Hop<S>>, lanes: &Lanes) -> bool
     ensures { result ≡ is_such (is_unanswered lanes.now.paces) slot.now }
 {
     match slot {
@@ -323,8 +327,8 @@ fn is_unanswered(slot: &Option<Hop>, lanes: &Lanes) -> bool
 }
 
 /// Takes note where the next hop of a connection has said something for the first time.
-fn note_spoken(
-    hop: &Hop,
+fn note_spoken<S>(
+    hop: &Hop<S>,
     had_spoken: bool,
     lanes: &mut Lanes,
     now: &Now,
@@ -339,7 +343,7 @@ fn note_spoken(
 }
 
 /// Logs that the next hop of a connection has said something, if it was left alone and has said nothing since.
-fn tell_back(hop: &Hop, lanes: &Lanes, now: &Now, log: &mut Log<'_, Vec<u8>>) {
+fn tell_back<S>(hop: &Hop<S>, lanes: &Lanes, now: &Now, log: &mut Log<'_, Vec<u8>>) {
     if let Some(outage) = lanes.outage(hop.aim.lane) {
         let seconds = now.tick.saturating_sub(outage.since) / 1_000;
         log.came_back(hop.name.as_slice(), hop.aim.at, seconds, outage.failures);

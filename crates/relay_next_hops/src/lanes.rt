@@ -11,7 +11,7 @@ use crate::lane::{Lane, Task};
 use crate::numbers::Numbers;
 use crate::paces::Paces;
 use crate::places::Places;
-use relay_connections::{Leaving, Now};
+use relay_connections::{Leaving, Now, Stream};
 use relay_limits::Outage;
 use std::alloc::Global;
 use std::collections::VecDeque;
@@ -284,14 +284,14 @@ impl Lanes {
     }
 
     /// A connection of a lane may be leaving.
-    pub(crate) fn note_leaving_of(&mut self, number: usize, leaving: &Leaving)
+    pub(crate) fn note_leaving_of<S: Stream + Drop>(&mut self, number: usize, leaving: &Leaving<S>)
         ensures counts { KeepsCounts self.old self.new }
     {
         self.paces.note_leaving(number, leaving.count_to(number));
     }
 
     /// Connections that were leaving are closed: more may be begun where the next hop takes no more than stood.
-    pub(crate) fn note_leaving(&mut self, leaving: &Leaving)
+    pub(crate) fn note_leaving<S: Stream + Drop>(&mut self, leaving: &Leaving<S>)
         ensures counts { KeepsCounts self.old self.new }
     {
         for number in 0..self.lanes.len() {

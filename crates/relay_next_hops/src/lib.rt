@@ -2,6 +2,7 @@
 #![tactic(auto)]
 
 mod answering;
+mod dial;
 mod ending;
 mod errand;
 mod giving_up;
@@ -17,10 +18,15 @@ mod overdue;
 mod paces;
 mod phase;
 mod places;
+mod scripted;
+mod sockets;
 mod sorting;
 mod spares;
 mod starting;
 mod turning;
 
+pub use dial::Dial;
 pub use next_hops::NextHops;
+pub use scripted::{PlacedStream, ScriptedDial};
+pub use sockets::Sockets;
 pub use spares::Spares;

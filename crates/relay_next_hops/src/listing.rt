@@ -14,8 +14,8 @@ ghost use Rattle.relay_next_hops.specs.Listing.{AreListedFrom, IsListed, KeepsLi
 use crate::hops::Hops;
 use crate::lanes::Lanes;
 use crate::numbers::Numbers;
-use relay_connections::{Now, tick_of};
-use relay_disk::FileDisk;
+use relay_connections::{Now, Stream, tick_of};
+use relay_disk::Disk;
 use relay_files::Fault;
 use relay_loop::Relay;
 use relay_node::NodeFault;
@@ -39,11 +39,11 @@ impl Lanes {
     /// Lists what has come since the last time; and a part of all that is due, where something is due that isn't
     /// listed, and the last listing is long enough ago, or hasn't come to its end. Want of memory leaves it for the
     /// next time.
-    pub(crate) fn refresh<C: Clock>(
+    pub(crate) fn refresh<C: Clock, S: Stream + Drop, D: Disk>(
         &mut self,
         clock: &C,
-        relay: &Relay<FileDisk>,
-        hops: &Hops,
+        relay: &Relay<D>,
+        hops: &Hops<S>,
         now: &Now,
     ) -> Result<(), Fault>
         ensures more { ListsMore self.old self.new }
@@ -62,7 +62,12 @@ impl Lanes {
     }
 
     /// Lists a part of all that is due, of which it may be the first. Want of memory leaves it for the next time.
-    fn list_more(&mut self, relay: &Relay<FileDisk>, hops: &Hops, now: &Now) -> Result<(), Fault>
+    fn list_more<S: Stream + Drop, D: Disk>(
+        &mut self,
+        relay: &Relay<D>,
+        hops: &Hops<S>,
+        now: &Now,
+    ) -> Result<(), Fault>
         ensures more { ListsMore self.old self.new }
         ensures part { self.old.is_listing ≡ true
             → OnOk result (ListsPart hops.now.hops now.now.moment relay.now.node self.old self.new) }
@@ -76,10 +81,10 @@ impl Lanes {
 
     /// Lists what has come since, and asks the node when something is due next, where nothing waits that is due
     /// already: of that alone it would tell.
-    pub(crate) fn look_ahead(
+    pub(crate) fn look_ahead<S: Stream + Drop, D: Disk>(
         &mut self,
-        relay: &Relay<FileDisk>,
-        hops: &Hops,
+        relay: &Relay<D>,
+        hops: &Hops<S>,
         now: &Now,
     ) -> Result<(), Fault>
         ensures more { ListsMore self.old self.new }
@@ -102,7 +107,7 @@ impl Lanes {
     }
 
     /// Takes note that a minute is over, that something is due, or that a place isn't left alone any more.
-    fn note_time(&mut self, hops: &Hops, now: &Now)
+    fn note_time<S: Stream + Drop>(&mut self, hops: &Hops<S>, now: &Now)
         ensures counts { KeepsCounts self.old self.new }
         ensures kept { KeepsListed self.old self.new }
         ensures walk { (self.new.queued ≡ self.old.queued) × (self.new.is_listing ≡ self.old.is_listing) }
@@ -112,7 +117,7 @@ impl Lanes {
     }
 
     /// Takes note that a minute is over, or that something is due.
-    fn note_due(&mut self, hops: &Hops, now: &Now)
+    fn note_due<S: Stream + Drop>(&mut self, hops: &Hops<S>, now: &Now)
         ensures counts { KeepsCounts self.old self.new }
         ensures kept { KeepsListed self.old self.new }
         ensures walk { (self.new.queued ≡ self.old.queued) × (self.new.is_listing ≡ self.old.is_listing) }
@@ -154,7 +159,7 @@ impl Lanes {
     }
 
     /// Whether something that is due waits to be begun, or a connection is being made for it.
-    fn has_waiting(&self, hops: &Hops) -> bool {
+    fn has_waiting<S: Stream + Drop>(&self, hops: &Hops<S>) -> bool {
         !self.unroutable.is_empty()
             || hops.is_any_connecting()
             || self.lanes.as_slice().iter().any(|lane| !lane.is_empty())
@@ -174,7 +179,12 @@ impl Lanes {
 
     /// Lists what is due of the messages that have come since the last time, reports too. It tells whether there was a
     /// change.
-    fn take_new(&mut self, relay: &Relay<FileDisk>, hops: &Hops, now: &Now) -> bool
+    fn take_new<S: Stream + Drop, D: Disk>(
+        &mut self,
+        relay: &Relay<D>,
+        hops: &Hops<S>,
+        now: &Now,
+    ) -> bool
         ensures more { ListsMore self.old self.new }
         ensures kept { KeepsListed self.old self.new }
         ensures listed { 0 < self.old.next_number → AreListedFrom hops.now.hops now.now.moment relay.now.node
@@ -192,7 +202,13 @@ impl Lanes {
     }
 
     /// Lists what is due of the messages that have come since the last time, before this one.
-    fn take_up_to(&mut self, relay: &Relay<FileDisk>, hops: &Hops, next_number: u64, now: &Now)
+    fn take_up_to<S: Stream + Drop, D: Disk>(
+        &mut self,
+        relay: &Relay<D>,
+        hops: &Hops<S>,
+        next_number: u64,
+        now: &Now,
+    )
         ensures more { ListsMore self.old self.new }
         ensures kept { KeepsListed self.old self.new }
         ensures listed { 0 < self.old.next_number → AreListedFrom hops.now.hops now.now.moment relay.now.node
@@ -210,7 +226,13 @@ impl Lanes {
 
     /// Lists what is due of a message that has come. Where memory runs out for its number, the next listing asks the
     /// node.
-    fn take_one(&mut self, relay: &Relay<FileDisk>, hops: &Hops, number: u64, now: &Now)
+    fn take_one<S: Stream + Drop, D: Disk>(
+        &mut self,
+        relay: &Relay<D>,
+        hops: &Hops<S>,
+        number: u64,
+        now: &Now,
+    )
         ensures more { ListsMore self.old self.new }
         ensures kept { KeepsListed self.old self.new }
         ensures listed { IsListed hops.now.hops now.now.moment relay.now.node number self.new }
@@ -225,7 +247,7 @@ impl Lanes {
     }
 
     /// Begins to list all that is due, with nothing listed, and tells whether: not where no memory is left for that.
-    fn begin_listing(&mut self, relay: &Relay<FileDisk>, now: &Now) -> Result<bool, Fault>
+    fn begin_listing<D: Disk>(&mut self, relay: &Relay<D>, now: &Now) -> Result<bool, Fault>
         ensures counts { KeepsCounts self.old self.new }
     {
         if !self.knows_all && !self.gather(relay)? {
@@ -249,7 +271,7 @@ impl Lanes {
 
     /// Asks the node which messages are queued: those that come later are listed as they come. Want of memory leaves it
     /// for the first listing.
-    pub(crate) fn prepare(&mut self, relay: &Relay<FileDisk>) -> Result<(), Fault>
+    pub(crate) fn prepare<D: Disk>(&mut self, relay: &Relay<D>) -> Result<(), Fault>
         ensures counts { KeepsCounts self.old self.new }
         ensures due { self.new.next_due ≡ self.old.next_due }
     {
@@ -260,7 +282,7 @@ impl Lanes {
     }
 
     /// Asks the node which messages are queued, and tells whether it has said: not where no memory is left for that.
-    fn gather(&mut self, relay: &Relay<FileDisk>) -> Result<bool, Fault>
+    fn gather<D: Disk>(&mut self, relay: &Relay<D>) -> Result<bool, Fault>
         ensures counts { KeepsCounts self.old self.new }
         ensures due { self.new.next_due ≡ self.old.next_due }
     {
@@ -280,7 +302,7 @@ impl Lanes {
     }
 
     /// Lists what is due of the next messages, and lets go of as much that was listed before.
-    fn list_part(&mut self, relay: &Relay<FileDisk>, hops: &Hops, now: &Now)
+    fn list_part<S: Stream + Drop, D: Disk>(&mut self, relay: &Relay<D>, hops: &Hops<S>, now: &Now)
         ensures more { ListsMore self.old self.new }
         ensures part { ListsPart hops.now.hops now.now.moment relay.now.node self.old self.new }
     {
@@ -310,7 +332,7 @@ impl Lanes {
     }
 
     /// Lists what is due of the next messages.
-    fn list_next(&mut self, relay: &Relay<FileDisk>, hops: &Hops, now: &Now)
+    fn list_next<S: Stream + Drop, D: Disk>(&mut self, relay: &Relay<D>, hops: &Hops<S>, now: &Now)
         ensures more { ListsMore self.old self.new }
         ensures part { ListsPart hops.now.hops now.now.moment relay.now.node self.old self.new }
     {
@@ -324,7 +346,13 @@ impl Lanes {
 
     /// Lists what is due of a message that the walk has come to. Where memory runs out for its number, the next listing
     /// asks the node.
-    fn look_at(&mut self, relay: &Relay<FileDisk>, hops: &Hops, number: u64, now: &Now)
+    fn look_at<S: Stream + Drop, D: Disk>(
+        &mut self,
+        relay: &Relay<D>,
+        hops: &Hops<S>,
+        number: u64,
+        now: &Now,
+    )
         ensures more { ListsMore self.old self.new }
         ensures kept { KeepsListed self.old self.new }
         ensures listed { IsListed hops.now.hops now.now.moment relay.now.node number self.new }

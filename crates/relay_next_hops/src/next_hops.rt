@@ -7,32 +7,31 @@ ghost use Rattle.relay_next_hops.specs.Lanes.{IsNew, next_due_of};
 ghost use Rattle.relay_next_hops.specs.Readiness.{IsLeftHop, hops_of};
 ghost use Rattle.relay_next_hops.specs.Tables.{TablesMatch};
 
+use crate::dial::Dial;
 use crate::giving_up::give_up_next;
-use crate::hops::Hops;
+use crate::hops::{FIRST_TOKEN, Hops};
 use crate::lanes::Lanes;
-use crate::spares::Spares;
 use crate::starting::Starts;
 use crate::turning::start_tasks;
-use mio::Registry;
-use relay_connections::{Leaving, Now, Readiness, Replied};
-use relay_disk::FileDisk;
+use mio::net::TcpStream;
+use relay_connections::{Leaving, Now, Readiness, Replied, Stream};
+use relay_disk::Disk;
 use relay_files::Fault;
 use relay_limits::Limits;
 use relay_log::Log;
 use relay_loop::{Relay, ReplyPiece};
 use std::alloc::{AllocError, Global};
-use std::net::Net;
 use std::rt::Clock;
 
 /// The connections to next hops, up to 64, and what is due for them.
-pub struct NextHops {
-    hops: Hops,
+pub struct NextHops<S = TcpStream> {
+    hops: Hops<S>,
     lanes: Lanes,
     starts: Starts,
 }
 
 // Written out, so that what drops them calls this, and doesn't look into each.
-impl Drop for NextHops {
+impl<S: Drop> Drop for NextHops<S> {
     fn drop(self) {
         let NextHops {
             hops: _hops,
@@ -44,8 +43,10 @@ impl Drop for NextHops {
 
 impl NextHops {
     /// The token of the first connection; those of the others follow, in the order of their numbers.
-    pub const FIRST_TOKEN: usize = Hops::FIRST_TOKEN;
+    pub const FIRST_TOKEN: usize = FIRST_TOKEN;
+}
 
+impl<S: Stream + Drop> NextHops<S> {
     /// No connection, and nothing that is due is listed yet; within these limits. It fails where memory runs out.
     #[tactic(auto, using(crate::proofs::SlotLemmas::free_aimed, crate::proofs::SlotLemmas::free_counts))]
     pub fn new(alloc: Global, limits: &Limits) -> Result<Self, AllocError>
@@ -90,7 +91,7 @@ impl NextHops {
     /// Asks the node which messages are queued, before there is a turn that clients wait for: it takes some
     /// milliseconds for 100,000 of them. Without memory for that, the first listing asks again. Only a device that
     /// failed is a fault.
-    pub fn prepare(&mut self, relay: &Relay<FileDisk>) -> Result<(), Fault>
+    pub fn prepare<D: Disk>(&mut self, relay: &Relay<D>) -> Result<(), Fault>
         ensures matches { (routes : List Route) → TablesMatch routes self.old → TablesMatch routes self.new }
         ensures due { next_due_of self.new ≡ next_due_of self.old }
     {
@@ -107,11 +108,11 @@ impl NextHops {
     /// Attends to each connection once, each time beginning with another: makes it, writes what waits, or reads a block
     /// that its attempt may hear then. Where so many were lost that clients are to have their turn, it goes on after
     /// these the next time. It tells whether one was closed. Only a device that failed is a fault.
-    pub fn attend(
+    pub fn attend<D: Disk>(
         &mut self,
-        registry: &Registry,
-        relay: &mut Relay<FileDisk>,
-        leaving: &mut Leaving,
+        registry: &S::Registry,
+        relay: &mut Relay<D>,
+        leaving: &mut Leaving<S>,
         now: &Now,
         log: &mut Log<'_, Vec<u8>>,
     ) -> Result<bool, Fault>
@@ -131,12 +132,12 @@ impl NextHops {
     /// Takes what came of those replies, in their order, and writes what they lead to as far as that goes at once.
     /// Where no memory was left to hear them, the first of them is lost. It tells whether a connection was closed. Only
     /// a device that failed is a fault.
-    pub fn answer(
+    pub fn answer<D: Disk>(
         &mut self,
         replied: Option<Replied>,
-        registry: &Registry,
-        relay: &mut Relay<FileDisk>,
-        leaving: &mut Leaving,
+        registry: &S::Registry,
+        relay: &mut Relay<D>,
+        leaving: &mut Leaving<S>,
         now: &Now,
         log: &mut Log<'_, Vec<u8>>,
     ) -> Result<bool, Fault>
@@ -150,7 +151,7 @@ impl NextHops {
     }
 
     /// Connections that were leaving are closed: a next hop that took no more than stood may take another.
-    pub fn note_leaving(&mut self, leaving: &Leaving)
+    pub fn note_leaving(&mut self, leaving: &Leaving<S>)
         ensures { (routes : List Route) → TablesMatch routes self.old → TablesMatch routes self.new }
     {
         self.lanes.note_leaving(leaving);
@@ -158,12 +159,12 @@ impl NextHops {
 
     /// Begins what is due and may be begun, with the descriptors that are kept for that, and gives the places of one
     /// message up that have no next hop. It tells whether it did that. Only a device that failed is a fault.
-    pub fn begin<R: Clock + Net>(
+    pub fn begin<C: Clock, N: Dial<Stream = S>, D: Disk>(
         &mut self,
-        rt: &R,
-        registry: &Registry,
-        relay: &mut Relay<FileDisk>,
-        spares: &mut Spares,
+        clock: &C,
+        dial: &mut N,
+        registry: &S::Registry,
+        relay: &mut Relay<D>,
         now: &Now,
         log: &mut Log<'_, Vec<u8>>,
     ) -> Result<bool, Fault>
@@ -171,15 +172,14 @@ impl NextHops {
             → OnOk result (TablesMatch relay.old.node.config.routes.routes self.new) }
         ensures config { relay.new.node.config ≡ relay.old.node.config }
     {
-        self.lanes.refresh(rt, relay, &self.hops, now)?;
+        self.lanes.refresh(clock, relay, &self.hops, now)?;
         let gave_up = give_up_next(relay, &mut self.lanes, now, log)?;
         start_tasks(
-            rt,
+            dial,
             registry,
             relay,
             &mut self.hops,
             &mut self.lanes,
-            spares,
             &mut self.starts,
             now,
             log,
@@ -189,7 +189,7 @@ impl NextHops {
     }
 
     /// Whether something can be done at once. Without leave to begin what is due, that waits.
-    pub fn is_ready(&self, relay: &Relay<FileDisk>, may_begin: bool) -> bool
+    pub fn is_ready<D: Disk>(&self, relay: &Relay<D>, may_begin: bool) -> bool
         ensures { (number : ℕ) → IsLeftHop (hops_of self.now) relay.now number → result ≡ true }
     {
         if self.hops.is_ready(relay) {

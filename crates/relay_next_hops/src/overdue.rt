@@ -20,7 +20,7 @@ use crate::lanes::Lanes;
 use crate::starting::{aim_of, errand_of};
 use relay_book::Place;
 use relay_connections::Now;
-use relay_disk::FileDisk;
+use relay_disk::Disk;
 use relay_files::Fault;
 use relay_log::Log;
 use relay_loop::Relay;
@@ -30,8 +30,8 @@ const OVERDUE_SECONDS: u64 = 4 * 60 * 60;
 
 /// Records that the first overdue message of a lane whose place is left alone is lost, among the next tasks that
 /// weren't checked yet, and returns whether it was. It checks no more than `checks`, and takes off what it has checked.
-pub(crate) fn lose_overdue(
-    relay: &mut Relay<FileDisk>,
+pub(crate) fn lose_overdue<D: Disk>(
+    relay: &mut Relay<D>,
     lanes: &mut Lanes,
     lane: usize,
     checks: &mut usize,
@@ -42,7 +42,7 @@ pub(crate) fn lose_overdue(
         → overdue_at now.now.moment relay.old.node.records.queue.messages lanes.old lane checks.old ≡ Some task
         → IsHeldAt now.now.tick lanes.old.paces lane → ¬ IsFull relay.old.node.attempts
         → place_of relay.old.node.config.routes.routes task.hop ≡ Some place
-        → IfOk result (λ lost. (lost ≡ true) × LosesTask now.now.moment task relay.old relay.new) }
+        → IfOk result (λ lost. (lost ≡ true) × LosesTask D.words now.now.moment task relay.old relay.new) }
     ensures timely { overdue_at now.now.moment relay.old.node.records.queue.messages lanes.old lane checks.old ≡ None
         → IsHeldAt now.now.tick lanes.old.paces lane → ¬ IsFull relay.old.node.attempts
         → (result ≡ Ok false) × Checks lane checks.old lanes.old lanes.new × (relay.new ≡ relay.old) }
@@ -69,8 +69,8 @@ pub(crate) fn lose_overdue(
 
 /// Takes the first overdue task of a lane, among the next that weren't checked yet. It checks no more than `checks`,
 /// and takes off what it has checked.
-fn next_overdue(
-    relay: &Relay<FileDisk>,
+fn next_overdue<D: Disk>(
+    relay: &Relay<D>,
     lanes: &mut Lanes,
     lane: usize,
     checks: &mut usize,
@@ -137,7 +137,7 @@ impl Lanes {
 }
 
 /// Whether a place of a message has been due for longer than it may without an attempt.
-fn is_overdue(relay: &Relay<FileDisk>, message: u64, now: &Now) -> bool
+fn is_overdue<D: Disk>(relay: &Relay<D>, message: u64, now: &Now) -> bool
     ensures { result ≡ is_overdue now.now.moment (message_of relay.now.node.records.queue.messages message) }
 {
     match relay.node().message(message) {

@@ -8,8 +8,8 @@ use crate::hops::Hops;
 use crate::lane::{Lane, Task};
 use crate::lanes::Lanes;
 use relay_book::Place;
-use relay_connections::Now;
-use relay_disk::FileDisk;
+use relay_connections::{Now, Stream};
+use relay_disk::Disk;
 use relay_envelope::Recipient;
 use relay_loop::Relay;
 use relay_routes::{Hop, HostName, Table};
@@ -18,10 +18,10 @@ use std::net::SocketAddrV4;
 impl Lanes {
     /// Lists what is due of a message, and isn't tried. It tells whether there is such a message. One that has a held
     /// place without a hop is listed as unroutable; if memory runs out, all is listed anew.
-    pub(crate) fn add(
+    pub(crate) fn add<S: Stream + Drop, D: Disk>(
         &mut self,
-        relay: &Relay<FileDisk>,
-        hops: &Hops,
+        relay: &Relay<D>,
+        hops: &Hops<S>,
         number: u64,
         now: &Now,
     ) -> bool
@@ -47,9 +47,9 @@ impl Lanes {
     }
 
     /// Lists what is due of these places of a message.
-    fn add_places(
+    fn add_places<S: Stream + Drop>(
         &mut self,
-        hops: &Hops,
+        hops: &Hops<S>,
         number: u64,
         routes: &Table,
         recipients: &[Recipient],
@@ -69,9 +69,9 @@ impl Lanes {
 
     /// Lists a place of a message for its next hop, if it is due, or the message as unroutable, if the place is held
     /// and has no hop.
-    fn add_place(
+    fn add_place<S: Stream + Drop>(
         &mut self,
-        hops: &Hops,
+        hops: &Hops<S>,
         number: u64,
         routes: &Table,
         recipients: &[Recipient],
@@ -100,7 +100,13 @@ impl Lanes {
 
     /// Lists a message for a next hop, after all others, unless it is tried there. If memory runs out, all is listed
     /// anew.
-    fn push(&mut self, hops: &Hops, message: u64, at: SocketAddrV4, name: &HostName)
+    fn push<S: Stream + Drop>(
+        &mut self,
+        hops: &Hops<S>,
+        message: u64,
+        at: SocketAddrV4,
+        name: &HostName,
+    )
         ensures more { ListsMore self.old self.new }
         ensures kept { KeepsListed self.old self.new }
         ensures listed { IsListedFor hops.now.hops message name.now at self.new }
@@ -112,7 +118,13 @@ impl Lanes {
     }
 
     /// Puts a message into the lane of its next hop's place, and returns whether memory was left for it.
-    fn sort_in(&mut self, hops: &Hops, message: u64, at: SocketAddrV4, name: &HostName) -> bool
+    fn sort_in<S: Stream + Drop>(
+        &mut self,
+        hops: &Hops<S>,
+        message: u64,
+        at: SocketAddrV4,
+        name: &HostName,
+    ) -> bool
         ensures more { ListsMore self.old self.new }
         ensures kept { KeepsListed self.old self.new }
         ensures turn { result ≡ true → HasTurn hops.now.hops message name.now at self.new }

@@ -7,7 +7,7 @@ use std::alloc::{AllocError, Global};
 use std::fs::File;
 
 /// How many descriptors are kept.
-const SPARE_COUNT: usize = 4;
+pub(crate) const SPARE_COUNT: usize = 4;
 
 /// Copies of an open file, each of which keeps a descriptor: four, where the system has them.
 pub struct Spares {
@@ -37,7 +37,7 @@ impl Spares {
     }
 
     /// Takes descriptors until all are kept, and tells whether they are: a client may be taken only then.
-    pub fn fill(&mut self) -> bool
+    pub(crate) fn fill(&mut self) -> bool
         ensures { IsTrue result ↔ (SPARE_COUNT ≤ held_of self.new) }
     {
         for _ in self.copies.len()..SPARE_COUNT {

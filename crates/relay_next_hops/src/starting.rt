@@ -3,28 +3,25 @@ ghost use Rattle.std.specs.Prelude.{◌≡◌, ◌+◌, ◌<◌, ◌≤◌, IfOk
 ghost use Rattle.relay_book.specs.Queue.{message_of};
 ghost use Rattle.relay_routes.specs.Routes.{place_of};
 ghost use Rattle.relay_next_hops.specs.Counts.{CountsMatch, unanswered_of};
-ghost use Rattle.relay_next_hops.specs.Errands.{AreAimed};
+ghost use Rattle.relay_next_hops.specs.Errands.{AreAimed, IsOpenedTo};
 ghost use Rattle.relay_next_hops.specs.Lanes.{OnlyLane, tasks_at};
 ghost use Rattle.relay_next_hops.specs.Paces.{HasLane};
-ghost use Rattle.relay_next_hops.specs.Spares.{held_of};
 ghost use Rattle.relay_next_hops.specs.Starting.{IsBegun, IsEndOf, IsStep};
 ghost use Rattle.relay_next_hops.specs.Starting.{IsTried, back_of, step_after};
 
+use crate::dial::Dial;
 use crate::ending::lose;
 use crate::errand::{Aim, Errand};
 use crate::hops::Hops;
 use crate::lane::Task;
 use crate::lanes::Lanes;
-use crate::spares::Spares;
-use mio::Registry;
-use relay_connections::Now;
-use relay_disk::FileDisk;
+use relay_connections::{Now, Stream};
+use relay_disk::Disk;
 use relay_files::{Fault, is_want_of_sockets};
 use relay_log::{Log, Loss};
 use relay_loop::Relay;
 use relay_slots::SLOT_COUNT;
 use relay_trace::Moment;
-use std::net::Net;
 
 /// How many milliseconds no connection is begun after one for which the system had no descriptor or no memory.
 const WANT_PAUSE: u64 = 1_000;
@@ -55,7 +52,12 @@ impl Starts {
     }
 
     /// The tick at which connections may be begun again that couldn't, or the given one where that is earlier.
-    pub(crate) fn next_deadline(&self, hops: &Hops, lanes: &Lanes, otherwise: u64) -> u64
+    pub(crate) fn next_deadline<S: Stream + Drop>(
+        &self,
+        hops: &Hops<S>,
+        lanes: &Lanes,
+        otherwise: u64,
+    ) -> u64
         ensures { result ≤ otherwise }
     {
         if lanes.is_open() && hops.free().is_some() {
@@ -111,14 +113,13 @@ pub(crate) enum Tried {
 
 /// Begins what may be begun of a lane. Where the system has no descriptor for a connection, one is given up that was
 /// kept for that.
-pub(crate) fn start_lane<N: Net>(
-    net: &N,
-    registry: &Registry,
-    relay: &mut Relay<FileDisk>,
-    hops: &mut Hops,
+pub(crate) fn start_lane<S: Stream + Drop, N: Dial<Stream = S>, D: Disk>(
+    dial: &mut N,
+    registry: &S::Registry,
+    relay: &mut Relay<D>,
+    hops: &mut Hops<S>,
     lanes: &mut Lanes,
     lane: usize,
-    spares: &mut Spares,
     now: &Now,
     log: &mut Log<'_, Vec<u8>>,
 ) -> Result<Begun, Fault>
@@ -130,14 +131,14 @@ pub(crate) fn start_lane<N: Net>(
     ensures more { OnOk result (unanswered_of hops.old.hops lanes.old.paces
         ≤ unanswered_of hops.new.hops lanes.new.paces) }
     ensures fewer { OnOk result (length (tasks_at lanes.new lane) ≤ length (tasks_at lanes.old lane)) }
-    ensures kept { held_of spares.new ≤ held_of spares.old }
-    ensures begun { IfOk result (IsBegun now.now.tick (held_of spares.old) lanes.old hops.new.hops lanes.new
-        spares.new lane) }
+    ensures kept { N.spares dial.new ≤ N.spares dial.old }
+    ensures begun { IfOk result (IsBegun now.now.tick (N.spares dial.old) lanes.old hops.new.hops lanes.new
+        (N.spares dial.new) lane) }
     ensures config { relay.new.node.config ≡ relay.old.node.config }
 {
     for _ in 0..SLOT_COUNT {
-        let step = start_next(net, registry, relay, hops, lanes, lane, now, log)?;
-        if let Some(begun) = end_of(step, spares) {
+        let step = start_next(dial, registry, relay, hops, lanes, lane, now, log)?;
+        if let Some(begun) = end_of(step, dial) {
             return Ok(begun);
         }
     }
@@ -146,13 +147,13 @@ pub(crate) fn start_lane<N: Net>(
 
 /// Returns how far it has come with a lane, where this was its last step. A task that was put back takes one of the
 /// descriptors that are kept.
-fn end_of(step: Step, spares: &mut Spares) -> Option<Begun>
-    ensures { IsEndOf step (held_of spares.old) (held_of spares.new) result }
+fn end_of<N: Dial>(step: Step, dial: &mut N) -> Option<Begun>
+    ensures { IsEndOf step (N.spares dial.old) (N.spares dial.new) result }
 {
     match step {
         Step::Left => None,
         Step::Back => {
-            if spares.give() {
+            if dial.give_spare() {
                 None
             } else {
                 Some(Begun::Wanting)
@@ -165,11 +166,11 @@ fn end_of(step: Step, spares: &mut Spares) -> Option<Begun>
 }
 
 /// Begins the next task of a lane, if one may be begun.
-fn start_next<N: Net>(
-    net: &N,
-    registry: &Registry,
-    relay: &mut Relay<FileDisk>,
-    hops: &mut Hops,
+fn start_next<S: Stream + Drop, N: Dial<Stream = S>, D: Disk>(
+    dial: &mut N,
+    registry: &S::Registry,
+    relay: &mut Relay<D>,
+    hops: &mut Hops<S>,
     lanes: &mut Lanes,
     lane: usize,
     now: &Now,
@@ -183,8 +184,9 @@ fn start_next<N: Net>(
     ensures more { OnOk result (unanswered_of hops.old.hops lanes.old.paces
         ≤ unanswered_of hops.new.hops lanes.new.paces) }
     ensures fewer { OnOk result (length (tasks_at lanes.new lane) ≤ length (tasks_at lanes.old lane)) }
-    ensures came { IfOk result (IsStep now.now lane hops.old.hops hops.new.hops lanes.old lanes.new relay.old
-        relay.new) }
+    ensures kept { N.spares dial.new ≡ N.spares dial.old }
+    ensures came { IfOk result (IsStep D.words (IsOpenedTo N.leads_to S.remaining S.contents) now.now lane
+        hops.old.hops hops.new.hops lanes.old lanes.new relay.old relay.new) }
     ensures config { relay.new.node.config ≡ relay.old.node.config }
 {
     let Some(number) = hops.free() else {
@@ -200,7 +202,7 @@ fn start_next<N: Net>(
         return Ok(Step::Over);
     };
     let tried = start_task(
-        net, registry, relay, hops, lanes, lane, number, task, now, log,
+        dial, registry, relay, hops, lanes, lane, number, task, now, log,
     )?;
     Ok(step_after(tried))
 }
@@ -215,11 +217,11 @@ fn step_after(tried: Tried) -> Step
 }
 
 /// Begins a connection for a task of a lane, under a number that is free.
-fn start_task<N: Net>(
-    net: &N,
-    registry: &Registry,
-    relay: &mut Relay<FileDisk>,
-    hops: &mut Hops,
+fn start_task<S: Stream + Drop, N: Dial<Stream = S>, D: Disk>(
+    dial: &mut N,
+    registry: &S::Registry,
+    relay: &mut Relay<D>,
+    hops: &mut Hops<S>,
     lanes: &mut Lanes,
     lane: usize,
     number: usize,
@@ -227,9 +229,10 @@ fn start_task<N: Net>(
     now: &Now,
     log: &mut Log<'_, Vec<u8>>,
 ) -> Result<Tried, Fault>
+    ensures kept { N.spares dial.new ≡ N.spares dial.old }
     ensures tried { number < length hops.old.hops → HasLane lanes.old.paces lane
-        → IfOk result (IsTried now.now lane number task hops.old.hops hops.new.hops lanes.old lanes.new
-        relay.old relay.new) }
+        → IfOk result (IsTried D.words (IsOpenedTo N.leads_to S.remaining S.contents) now.now lane number task
+        hops.old.hops hops.new.hops lanes.old lanes.new relay.old relay.new) }
     ensures only { OnlyLane lane lanes.old lanes.new }
     ensures fewer { IfOk result (λ tried. length (tasks_at lanes.new lane)
         ≤ length (tasks_at lanes.old lane) + back_of tried) }
@@ -238,7 +241,7 @@ fn start_task<N: Net>(
     let Some(aim) = aim_of(relay, lanes, &task, lane) else {
         return Ok(Tried::HasNoPlace);
     };
-    match hops.connect(net, registry, number, task, &aim, log.speaks(), now) {
+    match hops.connect(dial, registry, number, task, &aim, log.speaks(), now) {
         Ok(()) => {
             lanes.began(lane);
             Ok(Tried::Connects)
@@ -256,8 +259,8 @@ fn start_task<N: Net>(
 }
 
 /// Returns where a connection for a task goes: to the place that the routes give for its next hop.
-pub(crate) fn aim_of(
-    relay: &Relay<FileDisk>,
+pub(crate) fn aim_of<D: Disk>(
+    relay: &Relay<D>,
     lanes: &Lanes,
     task: &Task,
     lane: usize,
@@ -280,7 +283,7 @@ pub(crate) fn aim_of(
 }
 
 /// Returns when a message was accepted, if it is queued.
-fn accepted_at(relay: &Relay<FileDisk>, message: u64) -> Option<Moment>
+fn accepted_at<D: Disk>(relay: &Relay<D>, message: u64) -> Option<Moment>
     ensures { result ≡ option_map (λ message. message.accept.at)
         (message_of relay.now.node.records.queue.messages message) }
 {

@@ -3,22 +3,19 @@ ghost use Rattle.std.specs.Prelude.{◌≡◌, ◌≢◌, ◌⊎◌, ◌+◌, �
 ghost use Rattle.relay_next_hops.specs.Counts.{CountsMatch};
 ghost use Rattle.relay_next_hops.specs.Errands.{AreAimed};
 ghost use Rattle.relay_next_hops.specs.Lanes.{IsNth, KeepsCounts, OnlyLane, tasks_at, turned_to};
-ghost use Rattle.relay_next_hops.specs.Spares.{held_of};
 ghost use Rattle.relay_next_hops.specs.Starting.{IsDone, IsStoppedBy};
 ghost use Rattle.relay_next_hops.specs.Turns.{IsGoneOver, IsStopped};
 
+use crate::dial::Dial;
 use crate::hops::Hops;
 use crate::lanes::Lanes;
 use crate::overdue::lose_overdue;
-use crate::spares::Spares;
 use crate::starting::{Begun, Starts, start_lane};
-use mio::Registry;
-use relay_connections::Now;
-use relay_disk::FileDisk;
+use relay_connections::{Now, Stream};
+use relay_disk::Disk;
 use relay_files::Fault;
 use relay_log::Log;
 use relay_loop::Relay;
-use std::net::Net;
 
 /// How many tasks are checked at a turn for being overdue.
 const MOST_CHECKS: usize = 512;
@@ -95,13 +92,12 @@ pub(crate) fn visited(first: usize, count: usize, waiting: Option<usize>, step: 
 /// for the first that waits, after the one that had the last: each waits until the others have had one connection, and
 /// no longer. It goes over every lane, unless it is paused, there is no room at all, or no descriptor is kept; and the
 /// lanes are closed only where none of them has more that may begin.
-pub(crate) fn start_tasks<N: Net>(
-    net: &N,
-    registry: &Registry,
-    relay: &mut Relay<FileDisk>,
-    hops: &mut Hops,
+pub(crate) fn start_tasks<S: Stream + Drop, N: Dial<Stream = S>, D: Disk>(
+    dial: &mut N,
+    registry: &S::Registry,
+    relay: &mut Relay<D>,
+    hops: &mut Hops<S>,
     lanes: &mut Lanes,
-    spares: &mut Spares,
     starts: &mut Starts,
     now: &Now,
     log: &mut Log<'_, Vec<u8>>,
@@ -111,9 +107,9 @@ pub(crate) fn start_tasks<N: Net>(
     ensures aimed { AreAimed relay.old.node.config.routes.routes hops.old.hops
         → OnOk result (AreAimed relay.old.node.config.routes.routes hops.new.hops) }
     ensures whole { lanes.old.is_open ≡ true → OnOk result ((now.now.tick < starts.old.paused_until)
-        ⊎ IsStopped hops.new.hops spares.new
+        ⊎ IsStopped hops.new.hops (N.spares dial.new)
         ⊎ ((lane : ℕ) → lane < length lanes.old.lanes.items
-        → IsGoneOver now.now.tick (held_of spares.old) lanes.old hops.new.hops lanes.new lane)) }
+        → IsGoneOver now.now.tick (N.spares dial.old) lanes.old hops.new.hops lanes.new lane)) }
     ensures closes { lanes.old.is_open ≡ true → OnOk result ((lanes.new.is_open ≡ true)
         ⊎ ((lane : ℕ) → lane < length lanes.old.lanes.items → IsDone now.now.tick hops.new.hops lanes.new lane)) }
     ensures config { relay.new.node.config ≡ relay.old.node.config }
@@ -128,7 +124,7 @@ pub(crate) fn start_tasks<N: Net>(
     for step in 0..count.saturating_add(1) {
         let lane = visited(first, count, waiting, step);
         has_lost = lose_once(has_lost, relay, lanes, lane, &mut checks, now, log)?;
-        let begun = start_lane(net, registry, relay, hops, lanes, lane, spares, now, log)?;
+        let begun = start_lane(dial, registry, relay, hops, lanes, lane, now, log)?;
         if stops(begun) {
             // What ends next opens the lanes again.
             lanes.turn(if step == 0 { waiting } else { crowded });
@@ -151,9 +147,9 @@ pub(crate) fn start_tasks<N: Net>(
 
 /// Records that an overdue message of a lane is lost, as [`lose_overdue`], unless one was lost already. It tells
 /// whether one was.
-fn lose_once(
+fn lose_once<D: Disk>(
     has_lost: bool,
-    relay: &mut Relay<FileDisk>,
+    relay: &mut Relay<D>,
     lanes: &mut Lanes,
     lane: usize,
     checks: &mut usize,

@@ -9,7 +9,7 @@ use relay_files::Fault;
 use relay_limits::Balancers;
 use relay_log::Log;
 use relay_loop::{Closing, Outbox, Relay, closing_line};
-use relay_next_hops::Spares;
+use relay_next_hops::Dial;
 use relay_slots::SLOT_COUNT;
 use std::alloc::Global;
 use std::io::{self, ErrorKind, Write};
@@ -161,13 +161,13 @@ impl Door {
 
     /// Takes the clients that are waiting, while the descriptors are kept that are for attempts, and then those whose
     /// headers are whole. One for which there is no room is told so and closed.
-    pub(crate) fn admit(
+    pub(crate) fn admit<N: Dial>(
         &mut self,
         registry: &Registry,
         relay: &mut Relay<FileDisk>,
         clients: &mut Clients,
         leaving: &mut Leaving,
-        spares: &mut Spares,
+        dial: &mut N,
         now: &Now,
         log: &mut Log<'_, Vec<u8>>,
     ) -> Result<(), Fault> {
@@ -176,7 +176,7 @@ impl Door {
             if !self.may_accept(now) {
                 break;
             }
-            if !spares.fill() {
+            if !dial.fill_spares() {
                 self.pause(now);
                 break;
             }

@@ -6,7 +6,7 @@ use crate::status_page::StatusPage;
 use crate::turns::serve;
 use mio::{Events, Poll};
 use relay_files::Fault;
-use relay_next_hops::Spares;
+use relay_next_hops::{Sockets, Spares};
 use relay_slots::SLOT_COUNT;
 use std::alloc::Global;
 use std::fs::File;
@@ -45,15 +45,15 @@ pub fn run<
     let at = config.listen;
     let form = log_form(quiet, &limits);
     let (relay, room) = locked_relay(alloc, rt, config)?;
-    let spares = Spares::new(alloc, kept_file(rt, path)?)?;
+    let mut sockets = Sockets::new(rt, Spares::new(alloc, kept_file(rt, path)?)?);
     let Ok(poll) = Poll::new(rt) else {
         return Err(Fault::Socket);
     };
     let door = open_door(alloc, rt, poll.registry(), at, form, errors)?.with(balancers);
     let page = open_page(alloc, rt, poll.registry(), &limits, &relay)?;
-    let mut shell = Shell::new(alloc, relay, door, spares, room, page, &limits)?;
+    let mut shell = Shell::new(alloc, relay, door, room, page, &limits)?;
     shell.next_hops.prepare(&shell.relay)?;
     let events = Events::with_capacity(alloc, EVENT_COUNT)?;
     say_ready(alloc, &shell.relay, at, writer)?;
-    serve(alloc, rt, poll, events, shell, form, errors)
+    serve(alloc, rt, &mut sockets, poll, events, shell, form, errors)
 }

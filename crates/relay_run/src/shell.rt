@@ -12,17 +12,17 @@ use crate::status_page::StatusPage;
 use crate::status_texts::Busy;
 use crate::tidying::Tidying;
 use mio::Registry;
+use mio::net::TcpStream;
 use relay_connections::{Clients, Intake, Leaving, Now, Replied};
 use relay_disk::FileDisk;
 use relay_files::Fault;
 use relay_limits::Limits;
 use relay_log::{Counters, Log};
 use relay_loop::Relay;
-use relay_next_hops::{NextHops, Spares};
+use relay_next_hops::{Dial, NextHops};
 use relay_node::NodeFault;
 use std::alloc::{AllocError, Global};
 use std::io::Write;
-use std::net::Net;
 use std::rt::Clock;
 
 /// All connections of a relay, and what is due.
@@ -32,7 +32,6 @@ pub(crate) struct Shell {
     pub(crate) clients: Clients,
     pub(crate) next_hops: NextHops,
     pub(crate) leaving: Leaving,
-    spares: Spares,
     pub(crate) tidying: Tidying,
     pauses: Pauses,
     pub(crate) room: Room,
@@ -49,7 +48,6 @@ impl Drop for Shell {
             clients: _clients,
             next_hops: _next_hops,
             leaving: _leaving,
-            spares: _spares,
             tidying: _,
             pauses: _,
             room: _room,
@@ -66,7 +64,6 @@ impl Shell {
         alloc: Global,
         relay: Relay<FileDisk>,
         door: Door,
-        spares: Spares,
         room: Room,
         page: StatusPage,
         limits: &Limits,
@@ -82,7 +79,6 @@ impl Shell {
             clients,
             next_hops,
             leaving,
-            spares,
             tidying: Tidying::new(),
             pauses,
             room,
@@ -113,7 +109,6 @@ impl Shell {
             clients,
             next_hops,
             leaving,
-            spares,
             tidying: _,
             pauses,
             room,
@@ -139,7 +134,6 @@ impl Shell {
             clients,
             next_hops: next_hops.renewed(),
             leaving,
-            spares,
             tidying: Tidying::new(),
             pauses,
             room,
@@ -184,9 +178,10 @@ impl Shell {
 
     /// Does for each connection what can be done at once, one thing each, and begins what is due. While the relay is
     /// short of room that is tested first, where that is due.
-    pub(crate) fn turn<R: Clock + Net>(
+    pub(crate) fn turn<C: Clock, N: Dial<Stream = TcpStream>>(
         &mut self,
-        rt: &R,
+        clock: &C,
+        dial: &mut N,
         registry: &Registry,
         now: &Now,
         log: &mut Log<'_, Vec<u8>>,
@@ -200,7 +195,7 @@ impl Shell {
             &mut self.relay,
             &mut self.clients,
             &mut self.leaving,
-            &mut self.spares,
+            dial,
             now,
             log,
         )?;
@@ -210,7 +205,7 @@ impl Shell {
             self.door.resume();
             self.next_hops.note_leaving(&self.leaving);
         }
-        self.begin(rt, registry, now, log)
+        self.begin(clock, dial, registry, now, log)
     }
 
     /// Writes the spool anew where that is due after a turn and worth it, and there is room for it. A fault comes of a
@@ -340,9 +335,10 @@ impl Shell {
     }
 
     /// Begins what is due, and nothing while the room for what comes of it isn't there.
-    fn begin<R: Clock + Net>(
+    fn begin<C: Clock, N: Dial<Stream = TcpStream>>(
         &mut self,
-        rt: &R,
+        clock: &C,
+        dial: &mut N,
         registry: &Registry,
         now: &Now,
         log: &mut Log<'_, Vec<u8>>,
@@ -355,7 +351,7 @@ impl Shell {
         }
         let gave_up = self
             .next_hops
-            .begin(rt, registry, &mut self.relay, &mut self.spares, now, log)?;
+            .begin(clock, dial, registry, &mut self.relay, now, log)?;
         if gave_up {
             self.tidying.note_shrunk();
         }

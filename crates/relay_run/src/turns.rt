@@ -4,21 +4,23 @@ ghost use Rattle.std.specs.Prelude.{IfOk};
 use crate::reopening::Why;
 use crate::reporter::Reporter;
 use crate::shell::Shell;
+use mio::net::TcpStream;
 use mio::{Events, Poll};
 use relay_connections::Now;
 use relay_files::Fault;
 use relay_log::{Counters, Form, Log};
+use relay_next_hops::Dial;
 use relay_trace::clock_moment;
 use std::alloc::Global;
 use std::io::Write;
-use std::net::Net;
 use std::rt::Clock;
 use std::time::Duration;
 
 /// Serves without an end.
-pub(crate) fn serve<R: Clock + Net, E: Write>(
+pub(crate) fn serve<C: Clock, N: Dial<Stream = TcpStream>, E: Write>(
     alloc: Global,
-    rt: &R,
+    rt: &C,
+    dial: &mut N,
     poll: Poll,
     events: Events,
     shell: Shell,
@@ -37,6 +39,7 @@ pub(crate) fn serve<R: Clock + Net, E: Write>(
         let end = take_turn(
             alloc,
             rt,
+            dial,
             &poll,
             &mut shell,
             form,
@@ -105,9 +108,10 @@ fn kept_or_reopened<R: Clock, E: Write>(
 
 /// A turn, whose lines of the log are written then; and what keeps the spool small after it, which may take a while,
 /// and so comes when those lines are out. The page is served last.
-fn take_turn<R: Clock + Net, E: Write>(
+fn take_turn<C: Clock, N: Dial<Stream = TcpStream>, E: Write>(
     alloc: Global,
-    rt: &R,
+    rt: &C,
+    dial: &mut N,
     poll: &Poll,
     shell: &mut Shell,
     form: Option<Form>,
@@ -116,7 +120,7 @@ fn take_turn<R: Clock + Net, E: Write>(
     errors: &mut E,
 ) -> Result<(), Fault> {
     let now = Now::of(rt);
-    let end = serve_all(alloc, rt, poll, shell, &now, form, counters, lines);
+    let end = serve_all(alloc, rt, dial, poll, shell, &now, form, counters, lines);
     hand_out(lines, errors);
     end?;
     shell.note_known();
@@ -129,9 +133,10 @@ fn take_turn<R: Clock + Net, E: Write>(
 }
 
 /// Serves all connections once, and gathers the lines of the log.
-fn serve_all<R: Clock + Net>(
+fn serve_all<C: Clock, N: Dial<Stream = TcpStream>>(
     alloc: Global,
-    rt: &R,
+    rt: &C,
+    dial: &mut N,
     poll: &Poll,
     shell: &mut Shell,
     now: &Now,
@@ -140,7 +145,7 @@ fn serve_all<R: Clock + Net>(
     lines: &mut Vec<u8>,
 ) -> Result<(), Fault> {
     let mut log = Log::stamped(alloc, lines, form, now.moment, counters);
-    shell.turn(rt, poll.registry(), now, &mut log)
+    shell.turn(rt, dial, poll.registry(), now, &mut log)
 }
 
 /// Writes the spool anew where that is due, and gathers the lines of the log.

@@ -3,7 +3,7 @@ use Rattle.std.proofs.Common.{inr}
 use Rattle.relay_next_hops.proofs.ending.lose_at_once.Goals as goal
 
 pub returns-in-Ok-clause-lost : goal.returns-in-Ok-clause-lost
-returns-in-Ok-clause-lost c = λ is. record {
+returns-in-Ok-clause-lost g c = λ is. record {
   started = c.in-Ok.started;
   between = c.start.new.self;
   starts = c.in-Ok.ensures.begins;
@@ -12,7 +12,7 @@ returns-in-Ok-clause-lost c = λ is. record {
 }
 
 pub returns-in-Ok-clause-refused : goal.returns-in-Ok-clause-refused
-returns-in-Ok-clause-refused c = λ is. inr (record {
+returns-in-Ok-clause-refused g c = λ is. inr (record {
   started = c.in-Ok.started;
   between = c.start.new.self;
   starts = c.in-Ok.ensures.begins;

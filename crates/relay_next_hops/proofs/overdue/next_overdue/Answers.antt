@@ -10,7 +10,7 @@ use Rattle.relay_next_hops.proofs.overdue.next_overdue.Goals as goal
 
 -- The first that wasn't checked is overdue, and so it is the first that is.
 pub returns-then-is_overdue-clause-first : goal.returns-then-is_overdue-clause-first
-returns-then-is_overdue-clause-first c =
+returns-then-is_overdue-clause-first g c =
     let message : Task → ℕ = λ task. task.message in
     let test : ℕ → Bool = λ message. is_overdue c.args.now.now.moment (message_of c.args.relay.now.node.records.queue.messages message) in
     let left = unchecked_at c.loop-checks.lanes c.args.lane in
@@ -23,13 +23,13 @@ returns-then-is_overdue-clause-first c =
 
 -- It leaves the lane, and nothing else does.
 pub returns-then-is_overdue-clause-taken : goal.returns-then-is_overdue-clause-taken
-returns-then-is_overdue-clause-taken c =
+returns-then-is_overdue-clause-taken g c =
     takes_out c.take_unchecked.result c.args.lane c.args.lanes.now c.loop-checks.lanes c.take_unchecked.new.self
     c.loop-checks.invariant.tasks c.take_unchecked.ensures.unchecked c.take_unchecked.ensures.checked
 
 -- The first that wasn't checked isn't overdue.
 pub loop-checks-preserved : goal.loop-checks-preserved
-loop-checks-preserved c =
+loop-checks-preserved g c =
     let message : Task → ℕ = λ task. task.message in
     let test : ℕ → Bool = λ message. is_overdue c.args.now.now.moment (message_of c.args.relay.now.node.records.queue.messages message) in
     let left = unchecked_at c.loop-checks.lanes c.args.lane in
@@ -52,7 +52,7 @@ loop-checks-preserved c =
 
 -- None is left that wasn't checked.
 pub returns-in_default-clause-none : goal.returns-in_default-clause-none
-returns-in_default-clause-none c =
+returns-in_default-clause-none g c =
     let message : Task → ℕ = λ task. task.message in
     let left = unchecked_at c.loop-checks.lanes c.args.lane in
     let empty = none_left message left (sym c.in_default.ensures) in
@@ -62,19 +62,19 @@ returns-in_default-clause-none c =
     }
 
 pub returns-in_default-clause-stops : goal.returns-in_default-clause-stops
-returns-in_default-clause-stops c =
+returns-in_default-clause-stops g c =
     let message : Task → ℕ = λ task. task.message in
     λ _. inr (none_left message (unchecked_at c.loop-checks.lanes c.args.lane) (sym c.in_default.ensures))
 
 -- One task less is left.
 pub returns-then-is_overdue-clause-fewer : goal.returns-then-is_overdue-clause-fewer
-returns-then-is_overdue-clause-fewer c =
+returns-then-is_overdue-clause-fewer g c =
     takes_fewer c.take_unchecked.result c.args.lane c.args.lanes.now c.loop-checks.lanes c.take_unchecked.new.self
     c.loop-checks.invariant.tasks c.take_unchecked.ensures.unchecked c.take_unchecked.ensures.checked
 
 -- None is overdue where none is left.
 pub returns-in_default-clause-first : goal.returns-in_default-clause-first
-returns-in_default-clause-first c =
+returns-in_default-clause-first g c =
     let message : Task → ℕ = λ task. task.message in
     let test = is_overdue_task c.args.now.now.moment c.args.relay.now.node.records.queue.messages in
     let empty = none_left message (unchecked_at c.loop-checks.lanes c.args.lane) (sym c.in_default.ensures) in

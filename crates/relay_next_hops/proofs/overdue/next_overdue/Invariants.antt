@@ -5,7 +5,7 @@ use Rattle.relay_next_hops.specs.Overdue.{overdue_at, unchecked_at}
 use Rattle.relay_next_hops.proofs.overdue.next_overdue.Given as goal
 
 abbrev pub invariant-loop-checks : goal.invariant-loop-checks
-invariant-loop-checks l = record {
+invariant-loop-checks g l = record {
   first : overdue_at l.now.moment l.relay.node.records.queue.messages l.lanes l.lane l.checks
       ≡ overdue_at l.now.moment l.relay.node.records.queue.messages l.initial.lanes l.lane l.initial.checks;
   rest : drop l.checks (unchecked_at l.lanes l.lane) ≡ drop l.initial.checks (unchecked_at l.initial.lanes l.lane);
@@ -15,4 +15,4 @@ invariant-loop-checks l = record {
 }
 
 abbrev pub decreases-loop-checks : goal.decreases-loop-checks
-decreases-loop-checks l = l.checks
+decreases-loop-checks g l = l.checks

@@ -1,6 +1,6 @@
 -- One task more was tried.
 use Rattle.std.proofs.Common.{sym, subst, ◌∙◌, arith}
-use Rattle.relay_next_hops.specs.Errands.{AreAimed}
+use Rattle.relay_next_hops.specs.Errands.{AreAimed, IsOpenedTo}
 use Rattle.relay_next_hops.proofs.StartLemmas.{step_ends, step_goes_on}
 use Rattle.relay_next_hops.proofs.TurnLemmas.{only_then}
 use Rattle.relay_next_hops.proofs.starting.start_lane.Goals as goal
@@ -9,7 +9,7 @@ pub loop-preserved : goal.loop-preserved
 loop-preserved g c =
     let next = c.in_ok-step.ensures in
     let before = c.loop.invariant in
-    let kept = step_goes_on c.args.now.now c.args.lane c.loop.hops.hops c.start_next.new.hops.hops c.loop.lanes c.start_next.new.lanes c.loop.relay c.start_next.new.relay
+    let kept = step_goes_on g.D.Disk.words (IsOpenedTo g.N.Dial.leads_to g.S.Stream.remaining g.S.Stream.contents) c.args.now.now c.args.lane c.loop.hops.hops c.start_next.new.hops.hops c.loop.lanes c.start_next.new.lanes c.loop.relay c.start_next.new.relay
     c.in_ok-step.step c.end_of.result _ _ next.came c.end_of.ensures (λ last is. c.in_default.not-Some last is) in
     record {
       config = next.config ∙ before.config;
@@ -18,12 +18,12 @@ loop-preserved g c =
           (next.aimed (subst (λ config. AreAimed config.routes.routes c.loop.hops.hops) (sym before.config) (before.aimed aimed)));
       only = only_then c.args.lane c.args.lanes.now c.loop.lanes c.start_next.new.lanes before.only next.only;
       more = omega (arith, before.more, next.more);
-      kept = omega (arith, before.kept, kept.2);
-      tries = omega (arith, before.tries, kept.1);
-      tasks = omega (arith, before.tasks, kept.0);
+      kept = omega (arith, before.kept, kept.2, next.kept);
+      tries = omega (arith, before.tries, kept.1, next.kept);
+      tasks = omega (arith, before.tasks, kept.0, next.kept);
     }
 
 pub returns-in-Some-clause-begun : goal.returns-in-Some-clause-begun
 returns-in-Some-clause-begun g c =
-    step_ends c.args.now.now c.args.lane c.loop.hops.hops c.start_next.new.hops.hops c.loop.lanes c.start_next.new.lanes c.loop.relay c.start_next.new.relay
-    c.in_ok-step.step c.in-Some.begun _ c.args.lanes.now _ c.end_of.new.spares c.in_ok-step.ensures.came c.in-Some.ensures
+    step_ends g.D.Disk.words (IsOpenedTo g.N.Dial.leads_to g.S.Stream.remaining g.S.Stream.contents) c.args.now.now c.args.lane c.loop.hops.hops c.start_next.new.hops.hops c.loop.lanes c.start_next.new.lanes c.loop.relay c.start_next.new.relay
+    c.in_ok-step.step c.in-Some.begun _ c.args.lanes.now _ (g.N.Dial.spares c.end_of.new.dial) c.in_ok-step.ensures.came c.in-Some.ensures

@@ -4,7 +4,6 @@ use Rattle.std.proofs.Common.{◌≡◌, ◌+◌, ◌≤◌, length}
 use Rattle.relay_next_hops.specs.Counts.{CountsMatch, unanswered_of}
 use Rattle.relay_next_hops.specs.Errands.{AreAimed}
 use Rattle.relay_next_hops.specs.Lanes.{OnlyLane, tasks_at}
-use Rattle.relay_next_hops.specs.Spares.{held_of}
 use Rattle.relay_next_hops.proofs.starting.start_lane.Given as goal
 
 abbrev pub invariant-loop : goal.invariant-loop
@@ -15,8 +14,8 @@ invariant-loop g l = record {
       → AreAimed l.initial.relay.node.config.routes.routes l.hops.hops;
   only : OnlyLane l.lane l.initial.lanes l.lanes;
   more : unanswered_of l.initial.hops.hops l.initial.lanes.paces ≤ unanswered_of l.hops.hops l.lanes.paces;
-  kept : held_of l.spares ≤ held_of l.initial.spares;
-  tries : held_of l.initial.spares ≤ held_of l.spares + l.counter;
-  tasks : length (tasks_at l.lanes l.lane) + l.counter + held_of l.spares
-      ≤ length (tasks_at l.initial.lanes l.lane) + held_of l.initial.spares;
+  kept : g.N.Dial.spares l.dial ≤ g.N.Dial.spares l.initial.dial;
+  tries : g.N.Dial.spares l.initial.dial ≤ g.N.Dial.spares l.dial + l.counter;
+  tasks : length (tasks_at l.lanes l.lane) + l.counter + g.N.Dial.spares l.dial
+      ≤ length (tasks_at l.initial.lanes l.lane) + g.N.Dial.spares l.initial.dial;
 }

@@ -2,6 +2,7 @@
 use Rattle.std.proofs.Common.{◌≡◌, ◌+◌, ◌≤◌, List, length, sym, ap, subst, ◌∙◌, add-one, arith}
 use Rattle.relay_limits.specs.declared.pace.Pace.{Pace}
 use Rattle.relay_next_hops.specs.Counts.{CountsMatch, unanswered_of}
+use Rattle.relay_next_hops.specs.Errands.{IsOpenedTo}
 use Rattle.relay_next_hops.specs.Lanes.{tasks_at}
 use Rattle.relay_next_hops.specs.Paces.{HasLane}
 use Rattle.relay_next_hops.specs.Starting.{IsStep}
@@ -12,6 +13,8 @@ use Rattle.relay_next_hops.proofs.starting.start_next.Goals.{else-not-has_answer
 
 pub returns : goal.returns
 returns g c =
+    let words = g.D.Disk.words in
+    let opened = IsOpenedTo g.N.Dial.leads_to g.S.Stream.remaining g.S.Stream.contents in
     let now = c.args.now.now in
     let lane = c.args.lane in
     let old = c.args.lanes.now in
@@ -32,13 +35,14 @@ returns g c =
     let free = c.in-Some.ensures.least.free in
     let longer : length (tasks_at old lane) ≡ length (tasks_at between lane) + 1 = ap length c.in-Some-next.ensures.tasks ∙ sym (add-one (length (tasks_at between lane))) in
     record {
-      counts = λ match_is. tried_counts now lane number task hops_old hops_new between new relay_old relay_new tried comes free low c.in-Some.ensures.few (subst (λ (paces : List Pace). CountsMatch hops_old paces) (sym paces) match_is);
-      aimed = λ aimed. tried_aimed now lane number task hops_old hops_new between new relay_old relay_new tried comes aimed;
+      counts = λ match_is. tried_counts words opened now lane number task hops_old hops_new between new relay_old relay_new tried comes free low c.in-Some.ensures.few (subst (λ (paces : List Pace). CountsMatch hops_old paces) (sym paces) match_is);
+      aimed = λ aimed. tried_aimed words opened now lane number task hops_old hops_new between new relay_old relay_new tried comes aimed;
       only = only_then lane old between new c.in-Some-next.ensures.only c.in_ok-tried.ensures.only;
-      more = subst (λ (paces : List Pace). unanswered_of hops_old paces ≤ unanswered_of hops_new new.paces) paces (tried_unanswered now lane number task hops_old hops_new between new relay_old relay_new tried comes free low c.in_ok-tried.ensures.only);
+      more = subst (λ (paces : List Pace). unanswered_of hops_old paces ≤ unanswered_of hops_new new.paces) paces (tried_unanswered words opened now lane number task hops_old hops_new between new relay_old relay_new tried comes free low c.in_ok-tried.ensures.only);
+      kept = c.in_ok-tried.ensures.kept;
       fewer = omega (arith, c.in_ok-tried.ensures.fewer, longer, back_few tried);
-      came = subst (IsStep now lane hops_old hops_new old new relay_old relay_new) (sym c.step_after.ensures)
-          (step_is now lane hops_old hops_new old new relay_old relay_new tried
+      came = subst (IsStep words opened now lane hops_old hops_new old new relay_old relay_new) (sym c.step_after.ensures)
+          (step_is words opened now lane hops_old hops_new old new relay_old relay_new tried
           (record {
             number = number;
             task = task;

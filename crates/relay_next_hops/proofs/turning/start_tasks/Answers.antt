@@ -3,7 +3,6 @@ use Rattle.std.proofs.Common.{◌+◌, ◌<◌, ◌≤◌, ◌^◌, inl, inr, le
 use Rattle.relay_next_hops.specs.Counts.{unanswered_of}
 use Rattle.relay_next_hops.specs.Errands.{AreAimed}
 use Rattle.relay_next_hops.specs.Lanes.{tasks_at}
-use Rattle.relay_next_hops.specs.Spares.{held_of}
 use Rattle.relay_next_hops.specs.Starting.{IsDone, IsStoppedBy}
 use Rattle.relay_next_hops.specs.Turns.{IsGoneOver}
 use Rattle.relay_next_hops.specs.declared.lanes.Lanes.{Lanes}
@@ -19,8 +18,8 @@ loop-step-preserved g c =
     let began = c.in_ok-begun.ensures in
     let same = lost.config ∙ before.config in
     let tick = c.args.now.now.tick in
-    let spares = held_of c.args.spares.now in
-    let kept = held_of c.loop-step.spares in
+    let spares = g.N.Dial.spares c.args.dial.now in
+    let kept = g.N.Dial.spares c.loop-step.dial in
     let start = c.args.lanes.now in
     let old = c.loop-step.lanes in
     let between = c.lose_once.new.lanes in
@@ -43,13 +42,13 @@ loop-step-preserved g c =
       fewer = fewer_then start old new lane only (omega (arith, began.fewer, lost.fewer)) before.fewer;
       gone = round_next (IsGoneOver tick spares start hops_old old) (IsGoneOver tick spares start hops_new new) (min c.first-first.result c.len-count.result) c.len-count.result lane
           (λ other apart gone. gone_kept tick lane hops_old hops_new old new only more other apart spares start gone)
-          (gone_own tick kept spares lane hops_new start between new c.start_lane.new.spares c.in_ok-begun.begun goes began.begun before.kept few)
+          (gone_own tick kept spares lane hops_new start between new (g.N.Dial.spares c.start_lane.new.dial) c.in_ok-begun.begun goes began.begun before.kept few)
           c.loop-step.step c.visited-lane.ensures short before.gone;
       done = λ none.
           let rest = c.is_more-has_more.ensures none in
           round_next (IsDone tick hops_old old) (IsDone tick hops_new new) (min c.first-first.result c.len-count.result) c.len-count.result lane
           (λ other apart done. done_kept tick lane hops_old hops_new old new only more other apart done)
-          (done_own tick kept spares lane hops_new start between new c.start_lane.new.spares c.in_ok-begun.begun goes rest.1 began.begun)
+          (done_own tick kept spares lane hops_new start between new (g.N.Dial.spares c.start_lane.new.dial) c.in_ok-begun.begun goes rest.1 began.begun)
           c.loop-step.step c.visited-lane.ensures short (before.done rest.0);
     }
 
@@ -68,7 +67,7 @@ returns-then-stops g c =
     let hops_new = c.start_lane.new.hops.hops in
     let lane = c.visited-lane.result in
     let only = only_then lane old between new lost.only began.only in
-    let stop = stopped tick (held_of c.loop-step.spares) 0 lane hops_new start between new c.start_lane.new.spares c.in_ok-begun.begun (subst (IsStoppedBy c.in_ok-begun.begun) c.if-stops.true c.stops.ensures) began.begun in
+    let stop = stopped tick (g.N.Dial.spares c.loop-step.dial) 0 lane hops_new start between new (g.N.Dial.spares c.start_lane.new.dial) c.in_ok-begun.begun (subst (IsStoppedBy c.in_ok-begun.begun) c.if-stops.true c.stops.ensures) began.begun in
     record {
       counts = λ match_is. counts_stay hops_new new.paces c.turn.new.self.paces c.turn.ensures.counts.runs
           (began.counts (counts_stay hops_old old.paces between.paces lost.counts.runs (before.counts match_is)));
@@ -83,7 +82,7 @@ returns-then-stops g c =
 pub returns-then-has_lost-clause-whole : goal.returns-then-has_lost-clause-whole
 returns-then-has_lost-clause-whole g c = λ opened. inr (inr (λ lane low.
     let tick = c.args.now.now.tick in
-    let spares = held_of c.args.spares.now in
+    let spares = g.N.Dial.spares c.args.dial.now in
     let start = c.args.lanes.now in
     let hops = c.loop-step.hops.hops in
     let few : length start.lanes.items < 2 ^ 63 = omega (arith, start.lanes.ok.0, start.lanes.ok.1, start.lanes.small) in
@@ -95,7 +94,7 @@ returns-then-has_lost-clause-whole g c = λ opened. inr (inr (λ lane low.
 pub returns-clause-whole : goal.returns-clause-whole
 returns-clause-whole g c = λ opened. inr (inr (λ lane low.
     let tick = c.args.now.now.tick in
-    let spares = held_of c.args.spares.now in
+    let spares = g.N.Dial.spares c.args.dial.now in
     let start = c.args.lanes.now in
     let hops = c.loop-step.hops.hops in
     let few : length start.lanes.items < 2 ^ 63 = omega (arith, start.lanes.ok.0, start.lanes.ok.1, start.lanes.small) in

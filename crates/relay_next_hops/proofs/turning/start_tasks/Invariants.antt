@@ -4,7 +4,6 @@ use Rattle.std.proofs.Common.{◌≡◌, ◌+◌, ◌<◌, ◌≤◌, ℕ, false
 use Rattle.relay_next_hops.specs.Counts.{CountsMatch}
 use Rattle.relay_next_hops.specs.Errands.{AreAimed}
 use Rattle.relay_next_hops.specs.Lanes.{IsNth, tasks_at}
-use Rattle.relay_next_hops.specs.Spares.{held_of}
 use Rattle.relay_next_hops.specs.Starting.{IsDone}
 use Rattle.relay_next_hops.specs.Turns.{IsGoneOver}
 use Rattle.relay_next_hops.proofs.turning.start_tasks.Given as goal
@@ -16,10 +15,10 @@ invariant-loop-step g l = record {
   aimed : AreAimed l.initial.relay.node.config.routes.routes l.initial.hops.hops
       → AreAimed l.initial.relay.node.config.routes.routes l.hops.hops;
   opened : l.lanes.is_open ≡ l.initial.lanes.is_open;
-  kept : held_of l.spares ≤ held_of l.initial.spares;
+  kept : g.N.Dial.spares l.dial ≤ g.N.Dial.spares l.initial.dial;
   fewer : (lane : ℕ) → length (tasks_at l.lanes lane) ≤ length (tasks_at l.initial.lanes lane);
   gone : (lane past : ℕ) → past + 1 < l.step → lane < l.count → IsNth (min l.first l.count) l.count past lane
-      → IsGoneOver l.now.tick (held_of l.initial.spares) l.initial.lanes l.hops.hops l.lanes lane;
+      → IsGoneOver l.now.tick (g.N.Dial.spares l.initial.dial) l.initial.lanes l.hops.hops l.lanes lane;
   done : l.has_more ≡ false → (lane past : ℕ) → past + 1 < l.step → lane < l.count
       → IsNth (min l.first l.count) l.count past lane → IsDone l.now.tick l.hops.hops l.lanes lane;
 }

@@ -5,6 +5,6 @@ use Rattle.relay_next_hops.specs.Errands.{KeepsErrand}
 use Rattle.relay_next_hops.proofs.hop.Hop.flush.Given as goal
 
 abbrev pub invariant-loop : goal.invariant-loop
-invariant-loop l =
+invariant-loop g l =
     KeepsErrand l.initial.self l.self × (l.self.attempt ≡ l.initial.self.attempt)
     × (unread_of l.self.channel ≡ unread_of l.initial.self.channel) × (l.self.hears ≡ l.initial.self.hears)

@@ -11,7 +11,7 @@ use Rattle.relay_next_hops.proofs.SlotLemmas.{is_none}
 use Rattle.relay_next_hops.proofs.hops.Hops.answer.Goals as goal
 
 pub loop-step-preserved-in_default-hearing_at : goal.loop-step-preserved-in_default-hearing_at
-loop-step-preserved-in_default-hearing_at c = (
+loop-step-preserved-in_default-hearing_at g c = (
   λ new each.
       let tick = c.args.now.now.tick in
       let none = sym c.hearing_at.ensures ∙ is_none c.hearing_at.result c.in_default-hearing_at.not-Some in
@@ -21,7 +21,7 @@ loop-step-preserved-in_default-hearing_at c = (
 )
 
 pub returns-in_default-next-clause-heard : goal.returns-in_default-next-clause-heard
-returns-in_default-next-clause-heard c =
+returns-in_default-next-clause-heard g c =
     let tick = c.args.now.now.tick in
     let count = length c.standing-count.result.now in
     let first = c.first_of-first.result in
@@ -38,7 +38,7 @@ returns-in_default-next-clause-heard c =
     (subst (λ (answers : List (Result Answered NodeFault)). AnswersEach tick (order_of c.args.self.now) answers c.args.self.now.hops hops) c.into_iter-answers.ensures.rest all)
 
 pub loop-step-preserved : goal.loop-step-preserved
-loop-step-preserved c = (
+loop-step-preserved g c = (
   λ new each.
       let tick = c.args.now.now.tick in
       let count = length c.standing-count.result.now in
@@ -54,7 +54,7 @@ loop-step-preserved c = (
 )
 
 pub returns-clause-heard : goal.returns-clause-heard
-returns-clause-heard c =
+returns-clause-heard g c =
     let tick = c.args.now.now.tick in
     let hops = c.loop-step.self.hops in
     let each = c.loop-step.invariant.0 hops (all_over tick (length c.standing-count.result.now) c.first_of-first.result c.loop-step.step c.loop-step.answers.rest.items hops (omega (arith, c.loop-step-test.false))) in

@@ -9,8 +9,8 @@ use Rattle.relay_next_hops.specs.declared.hop.Hop.{Hop}
 use Rattle.relay_next_hops.proofs.hops.Hops.answer.Given as goal
 
 abbrev pub invariant-loop-step : goal.invariant-loop-step
-invariant-loop-step l =
-    ((new : List (Option Hop)) → AnswersEach l.now.tick (turned l.count (l.first + l.step) (l.count - l.step)) l.answers.rest.items l.self.hops new
+invariant-loop-step g l =
+    ((new : List (Option (Hop _))) → AnswersEach l.now.tick (turned l.count (l.first + l.step) (l.count - l.step)) l.answers.rest.items l.self.hops new
     → AnswersEach l.now.tick (turned l.count (l.initial.first + 0) (l.count - 0)) l.initial.answers.rest.items l.initial.self.hops new)
     × (CountsMatch l.initial.self.hops l.initial.lanes.paces → CountsMatch l.self.hops l.lanes.paces)
     × ((routes : List Route) → AreAimed routes l.initial.self.hops → AreAimed routes l.self.hops)

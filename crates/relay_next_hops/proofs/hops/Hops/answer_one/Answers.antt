@@ -5,7 +5,7 @@ use Rattle.relay_next_hops.proofs.SlotLemmas.{out_aim, out_aimed, out_counts, ou
 use Rattle.relay_next_hops.proofs.hops.Hops.answer_one.Goals as goal
 
 pub returns-clause-counts : goal.returns-clause-counts
-returns-clause-counts c = λ match_is.
+returns-clause-counts g c = λ match_is.
     let hops = c.args.self.now.hops in
     c.settle.ensures.counts
     (out_counts hops c.take.new.self c.args.number c.in-Some.taken c.take_answer.new.self c.in-Some.ensures.taken c.take.ensures.rest c.take_answer.ensures.errand c.args.lanes.now.paces c.args.lanes.now.paces (λ lane. refl) match_is)
@@ -13,14 +13,14 @@ returns-clause-counts c = λ match_is.
     (out_low hops c.take.new.self c.args.number c.in-Some.taken c.take_answer.new.self c.in-Some.ensures.taken c.take.ensures.rest c.take_answer.ensures.errand)
 
 pub returns-clause-aimed : goal.returns-clause-aimed
-returns-clause-aimed c = λ routes aimed.
+returns-clause-aimed g c = λ routes aimed.
     let hops = c.args.self.now.hops in
     c.settle.ensures.aimed routes
     (out_aim hops c.take.new.self c.args.number c.in-Some.taken c.take_answer.new.self c.in-Some.ensures.taken c.take.ensures.rest c.take_answer.ensures.errand routes aimed)
     (out_aimed hops c.take.new.self c.args.number c.in-Some.taken c.take_answer.new.self c.in-Some.ensures.taken c.take.ensures.rest c.take_answer.ensures.errand routes aimed)
 
 pub returns-clause-heard : goal.returns-clause-heard
-returns-clause-heard c =
+returns-clause-heard g c =
     let hops = c.args.self.now.hops in
     on_ok _ c.settle.result
     (answered_by c.args.now.now.tick hops c.take.new.self c.settle.new.self.hops c.args.number c.in-Some.taken c.take_answer.new.self c.in_ok-course.course c.args.answer c.in-Some.ensures.taken c.take.ensures.rest

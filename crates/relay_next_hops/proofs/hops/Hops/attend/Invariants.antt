@@ -6,6 +6,6 @@ use Rattle.relay_next_hops.specs.Errands.{AreAimed}
 use Rattle.relay_next_hops.proofs.hops.Hops.attend.Given as goal
 
 abbrev pub invariant-loop-step : goal.invariant-loop-step
-invariant-loop-step l =
+invariant-loop-step g l =
     (CountsMatch l.initial.self.hops l.initial.lanes.paces → CountsMatch l.self.hops l.lanes.paces)
     × ((routes : List Route) → AreAimed routes l.initial.self.hops → AreAimed routes l.self.hops)

@@ -3,7 +3,7 @@ use Rattle.relay_next_hops.proofs.SlotLemmas.{out_aim, out_aimed, out_counts, ou
 use Rattle.relay_next_hops.proofs.hops.Hops.attend_one.Goals as goal
 
 pub returns-clause-counts : goal.returns-clause-counts
-returns-clause-counts c = λ match_is.
+returns-clause-counts g c = λ match_is.
     let hops = c.args.self.now.hops in
     c.settle.ensures.counts
     (out_counts hops c.take.new.self c.args.number c.in-Some.taken c.attend.new.self c.in-Some.ensures.taken c.take.ensures.rest c.attend.ensures.errand c.args.lanes.now.paces c.note_spoken.new.lanes.paces c.note_spoken.ensures.counts.runs match_is)
@@ -11,7 +11,7 @@ returns-clause-counts c = λ match_is.
     (out_low hops c.take.new.self c.args.number c.in-Some.taken c.attend.new.self c.in-Some.ensures.taken c.take.ensures.rest c.attend.ensures.errand)
 
 pub returns-clause-aimed : goal.returns-clause-aimed
-returns-clause-aimed c = λ routes aimed.
+returns-clause-aimed g c = λ routes aimed.
     let hops = c.args.self.now.hops in
     c.settle.ensures.aimed routes
     (out_aim hops c.take.new.self c.args.number c.in-Some.taken c.attend.new.self c.in-Some.ensures.taken c.take.ensures.rest c.attend.ensures.errand routes aimed)

@@ -5,10 +5,10 @@ use Rattle.relay_next_hops.proofs.SlotLemmas.{all_cleared, cleared_more, none_st
 use Rattle.relay_next_hops.proofs.hops.Hops.clear.Goals as goal
 
 pub loop-number-preserved : goal.loop-number-preserved
-loop-number-preserved c = (
+loop-number-preserved g c = (
   cleared_more c.loop-number.self.hops c.take-hop.new.self c.loop-number.number c.take-hop.ensures.rest c.loop-number.invariant.0,
   λ other behind. ap (λ slots. slot_at slots other) c.take-hop.ensures.rest ∙ none_stays c.loop-number.self.hops c.loop-number.number other (c.loop-number.invariant.1 other behind),
 )
 
 pub returns : goal.returns
-returns c = all_cleared c.loop-number.self.hops c.loop-number.number _ c.loop-number-test.false c.loop-number.invariant.0 c.loop-number.invariant.1
+returns g c = all_cleared c.loop-number.self.hops c.loop-number.number _ c.loop-number-test.false c.loop-number.invariant.0 c.loop-number.invariant.1

@@ -8,7 +8,7 @@ use Rattle.relay_next_hops.proofs.hops.Hops.count_unanswered.Goals as goal
 use Rattle.relay_next_hops.proofs.hops.Hops.count_unanswered.Goals.{else-is_unanswered, then-is_unanswered}
 
 pub loop-number-preserved : goal.loop-number-preserved
-loop-number-preserved c =
+loop-number-preserved g c =
     let such = is_unanswered c.args.lanes.now.paces in
     let slots = c.standing-standing.result.now in
     let number = c.loop-number.number in
@@ -21,7 +21,7 @@ loop-number-preserved c =
     ]
 
 pub returns : goal.returns
-returns c =
+returns g c =
     let such = is_unanswered c.args.lanes.now.paces in
     let slots = c.standing-standing.result.now in
     none_left such slots c.loop-number.number c.loop-number.count c.loop-number-test.false c.loop-number.invariant.1

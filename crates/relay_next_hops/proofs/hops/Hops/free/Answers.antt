@@ -3,4 +3,4 @@ use Rattle.relay_next_hops.proofs.SlotLemmas.{few_stand}
 use Rattle.relay_next_hops.proofs.hops.Hops.free.Goals as goal
 
 pub returns-clause-few : goal.returns-clause-few
-returns-clause-few c = few_stand c.args.self.now.hops c.standing.result.now c.standing.ensures.slots c.standing.ensures.within
+returns-clause-few g c = few_stand c.args.self.now.hops c.standing.result.now c.standing.ensures.slots c.standing.ensures.within

@@ -7,10 +7,10 @@ use Rattle.relay_next_hops.proofs.hops.Hops.is_ready.Goals as goal
 use Rattle.relay_next_hops.proofs.hops.Hops.is_ready.Goals.{in-Some+else-is_ready, in_default}
 
 pub loop-slot-init : goal.loop-slot-init
-loop-slot-init c = λ number below left. absurd (omega (arith, below))
+loop-slot-init g c = λ number below left. absurd (omega (arith, below))
 
 pub loop-slot-preserved : goal.loop-slot-preserved
-loop-slot-preserved c =
+loop-slot-preserved g c =
     let there = stands_there c.standing-slot-items.result.now c.loop-slot.slot-index c.slot-item.result c.loop-slot-test.true c.slot-item.is in
     none_more (IsLeftHop c.args.self.now.hops c.args.relay.now) c.loop-slot.slot-index c.loop-slot.invariant (λ left.
     let found : c.slot-item.result ≡ Some left.hop = sym there ∙ c.standing-slot-items.ensures.slots c.loop-slot.slot-index ∙ left.there in
@@ -24,7 +24,7 @@ loop-slot-preserved c =
     ])
 
 pub returns : goal.returns
-returns c = λ number left.
+returns g c = λ number left.
     absurd (none_at_all c.standing-slot-items.result.now (IsLeftHop c.args.self.now.hops c.args.relay.now) c.loop-slot.slot-index c.loop-slot-test.false
     (λ other here. some_there c.standing-slot-items.result.now c.args.self.now.hops other here.hop (c.standing-slot-items.ensures.slots other) here.there)
     c.loop-slot.invariant number left)

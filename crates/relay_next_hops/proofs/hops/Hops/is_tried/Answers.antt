@@ -4,7 +4,7 @@ use Rattle.relay_connections.proofs.Theorems.{stands_there}
 use Rattle.relay_next_hops.proofs.hops.Hops.is_tried.Goals as goal
 
 pub returns-then-is_for : goal.returns-then-is_for
-returns-then-is_for c =
+returns-then-is_for g c =
     let its = c.is_for.ensures c.if-is_for.true in
     λ _. record {
       number = c.loop-slot.slot-index;

@@ -5,11 +5,11 @@ use Rattle.relay_next_hops.specs.declared.hop.Hop.{Hop}
 use Rattle.relay_next_hops.proofs.SlotLemmas.{out_aim, out_aimed, out_counts, out_free, out_low}
 use Rattle.relay_next_hops.proofs.hops.Hops.lose_one.Goals as goal
 
-same : (hop : Hop) → KeepsErrand hop hop
+same : {S : Type 0} (hop : Hop S) → KeepsErrand hop hop
 same hop = record { aim = refl; message = refl; name = refl }
 
 pub returns-clause-counts : goal.returns-clause-counts
-returns-clause-counts c = λ match_is.
+returns-clause-counts g c = λ match_is.
     let hops = c.args.self.now.hops in
     let hop = c.in-Some-take.hop in
     c.in_ok-settle.ensures.counts
@@ -18,7 +18,7 @@ returns-clause-counts c = λ match_is.
     (out_low hops c.take.new.self c.in-Some.number hop hop c.in-Some-take.ensures.taken c.take.ensures.rest (same hop))
 
 pub returns-clause-aimed : goal.returns-clause-aimed
-returns-clause-aimed c = λ routes aimed.
+returns-clause-aimed g c = λ routes aimed.
     let hops = c.args.self.now.hops in
     let hop = c.in-Some-take.hop in
     c.settle.ensures.aimed routes

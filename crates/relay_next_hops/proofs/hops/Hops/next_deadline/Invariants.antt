@@ -3,4 +3,4 @@ use Rattle.std.proofs.Common.{◌≤◌}
 use Rattle.relay_next_hops.proofs.hops.Hops.next_deadline.Given as goal
 
 abbrev pub invariant-loop-slot : goal.invariant-loop-slot
-invariant-loop-slot l = l.next ≤ l.otherwise
+invariant-loop-slot g l = l.next ≤ l.otherwise

@@ -5,11 +5,11 @@ use Rattle.relay_next_hops.proofs.SlotLemmas.{back_aimed, back_counts}
 use Rattle.relay_next_hops.proofs.hops.Hops.note.Goals as goal
 
 pub returns-in-Some-clause-counts : goal.returns-in-Some-clause-counts
-returns-in-Some-clause-counts c = λ paces.
-    let after : Hop = record c.in-Some.taken { channel = c.note.new.self } in
+returns-in-Some-clause-counts g c = λ paces.
+    let after : Hop _ = record c.in-Some.taken { channel = c.note.new.self } in
     back_counts c.args.self.now.hops c.take.new.self c.args.number c.in-Some.taken after c.in-Some.ensures.taken c.take.ensures.rest (record { aim = refl; message = refl; name = refl }) c.put.new.self c.put.ensures.stands paces
 
 pub returns-in-Some-clause-aimed : goal.returns-in-Some-clause-aimed
-returns-in-Some-clause-aimed c = λ routes.
-    let after : Hop = record c.in-Some.taken { channel = c.note.new.self } in
+returns-in-Some-clause-aimed g c = λ routes.
+    let after : Hop _ = record c.in-Some.taken { channel = c.note.new.self } in
     back_aimed c.args.self.now.hops c.take.new.self c.args.number c.in-Some.taken after c.in-Some.ensures.taken c.take.ensures.rest (record { aim = refl; message = refl; name = refl }) c.put.new.self c.put.ensures.stands routes

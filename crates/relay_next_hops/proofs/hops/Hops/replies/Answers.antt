@@ -12,14 +12,14 @@ use Rattle.relay_next_hops.proofs.hops.Hops.replies.Goals as goal
 use Rattle.relay_next_hops.proofs.hops.Hops.replies.Goals.{in-Some+in_ok-push, in_default}
 
 pub loop-step-init : goal.loop-step-init
-loop-step-init c =
+loop-step-init g c =
     let hops = c.args.self.now.hops in
     let standing = c.standing-count.result.now in
     ap (λ (items : List ReplyPiece). map told_of items ++ filter_map (reply_at hops) (turned (length standing) (c.first_of-first.result + 0) (length standing - 0))) c.new-replies.ensures.items
     ∙ round_found c.args.self.now standing c.standing-count.ensures.slots (length standing) c.first_of-first.result refl c.standing-count.ensures.within c.first_of-first.ensures.first c.first_of-first.ensures.over reply_of refl
 
 pub loop-step-preserved : goal.loop-step-preserved
-loop-step-preserved c =
+loop-step-preserved g c =
     let hops = c.args.self.now.hops in
     let count = length c.standing-count.result.now in
     let first = c.first_of-first.result in
@@ -38,4 +38,4 @@ loop-step-preserved c =
     ]
 
 pub returns : goal.returns
-returns c = found_all (reply_at c.args.self.now.hops) (map told_of c.loop-step.replies.items) (replies_of c.args.self.now) (length c.standing-count.result.now) c.first_of-first.result c.loop-step.step c.loop-step-test.false c.loop-step.invariant
+returns g c = found_all (reply_at c.args.self.now.hops) (map told_of c.loop-step.replies.items) (replies_of c.args.self.now) (length c.standing-count.result.now) c.first_of-first.result c.loop-step.step c.loop-step-test.false c.loop-step.invariant

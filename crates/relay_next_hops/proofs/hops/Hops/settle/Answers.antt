@@ -6,15 +6,15 @@ use Rattle.relay_next_hops.proofs.SlotLemmas.{counts_ended, left_none, put_aimed
 use Rattle.relay_next_hops.proofs.hops.Hops.settle.Goals as goal
 
 pub returns-in-Stays-clause-counts : goal.returns-in-Stays-clause-counts
-returns-in-Stays-clause-counts c = λ match_is free low.
+returns-in-Stays-clause-counts g c = λ match_is free low.
     put_counts c.args.self.now.hops c.put.new.self c.args.number c.args.hop c.put.ensures.stands c.put.ensures.behind c.args.lanes.now.paces free low match_is
 
 pub returns-in-Stays-clause-aimed : goal.returns-in-Stays-clause-aimed
-returns-in-Stays-clause-aimed c = λ routes is aimed.
+returns-in-Stays-clause-aimed g c = λ routes is aimed.
     put_aimed c.args.self.now.hops c.put.new.self c.args.number c.args.hop c.put.ensures.stands c.put.ensures.behind routes is aimed
 
 pub returns-in_ok-conclude-in_default : goal.returns-in_ok-conclude-in_default
-returns-in_ok-conclude-in_default c = record {
+returns-in_ok-conclude-in_default g c = record {
   own = λ free low. free ∙ sym (left_none c.args.course c.args.hop c.in_default.not-Stays);
   others = λ other apart. refl;
   first = refl;

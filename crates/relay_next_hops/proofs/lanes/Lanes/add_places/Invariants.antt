@@ -5,7 +5,7 @@ use Rattle.relay_next_hops.specs.Listing.{ArePlacesListed, KeepsListed}
 use Rattle.relay_next_hops.proofs.lanes.Lanes.add_places.Given as goal
 
 abbrev pub invariant-loop-index : goal.invariant-loop-index
-invariant-loop-index l = record {
+invariant-loop-index g l = record {
   more : ListsMore l.initial.self l.self;
   kept : KeepsListed l.initial.self l.self;
   listed : ArePlacesListed l.hops.hops l.now.moment l.routes l.number l.recipients l.places l.index l.self;

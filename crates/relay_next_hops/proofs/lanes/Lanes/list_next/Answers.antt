@@ -5,7 +5,7 @@ use Rattle.relay_next_hops.proofs.ListingLemmas.{get_dropped, kept_then, left_dr
 use Rattle.relay_next_hops.proofs.lanes.Lanes.list_next.Goals as goal
 
 pub returns-in_default-clause-part : goal.returns-in_default-clause-part
-returns-in_default-clause-part c =
+returns-in_default-clause-part g c =
     let rest : c.next.new.self ≡ c.loop.self.queued = c.in_default.ensures.none c.in_default.ensures.next in
     let left : c.next.new.self.left ≡ c.loop.self.queued.left = ap (λ (walk : Walk). walk.left) rest in
     record {
@@ -21,7 +21,7 @@ returns-in_default-clause-part c =
     }
 
 pub loop-preserved : goal.loop-preserved
-loop-preserved c =
+loop-preserved g c =
     let before = c.loop.invariant in
     let split : drop c.loop.counter c.args.self.now.queued.left ≡ c.in-Some.number ∷ c.next.new.self.left = sym before.walk ∙ c.in-Some.ensures.next in
     record {

@@ -6,7 +6,7 @@ use Rattle.relay_next_hops.specs.Listing.{IsListed, KeepsListed}
 use Rattle.relay_next_hops.proofs.lanes.Lanes.list_next.Given as goal
 
 abbrev pub invariant-loop : goal.invariant-loop
-invariant-loop l = record {
+invariant-loop g l = record {
   more : ListsMore l.initial.self l.self;
   kept : KeepsListed l.initial.self l.self;
   walk : l.self.queued.left ≡ drop l.counter l.initial.self.queued.left;

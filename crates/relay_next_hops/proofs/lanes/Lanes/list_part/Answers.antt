@@ -6,7 +6,7 @@ use Rattle.relay_next_hops.proofs.ListingLemmas.{kept_then}
 use Rattle.relay_next_hops.proofs.lanes.Lanes.list_part.Goals as goal
 
 pub returns-clause-part : goal.returns-clause-part
-returns-clause-part c =
+returns-clause-part g c =
     let left : c.let_go.new.self.queued.left ≡ c.args.self.now.queued.left = ap (λ (walk : Walk). walk.left) c.let_go.ensures.walk in
     let part = c.list_next.ensures.part in
     record {

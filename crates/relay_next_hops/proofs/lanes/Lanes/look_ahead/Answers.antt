@@ -3,13 +3,13 @@ use Rattle.relay_next_hops.proofs.ListingLemmas.{kept_then, message_kept, more_o
 use Rattle.relay_next_hops.proofs.lanes.Lanes.look_ahead.Goals as goal
 
 pub returns-then-self-clause-listed : goal.returns-then-self-clause-listed
-returns-then-self-clause-listed c = c.take_new-self.ensures.listed
+returns-then-self-clause-listed g c = c.take_new-self.ensures.listed
 
 pub returns-in-Err-clause-listed : goal.returns-in-Err-clause-listed
-returns-in-Err-clause-listed c = c.take_new-self.ensures.listed
+returns-in-Err-clause-listed g c = c.take_new-self.ensures.listed
 
 pub returns-in-Ok-clause-kept : goal.returns-in-Ok-clause-kept
-returns-in-Ok-clause-kept c = kept_then c.args.self.now c.take_new-self.new.self c.note_next.new.self c.take_new-self.ensures.kept
+returns-in-Ok-clause-kept g c = kept_then c.args.self.now c.take_new-self.new.self c.note_next.new.self c.take_new-self.ensures.kept
     (record {
       tasks = c.note_next.ensures.kept.tasks;
       unroutable = c.note_next.ensures.kept.unroutable;
@@ -17,7 +17,7 @@ returns-in-Ok-clause-kept c = kept_then c.args.self.now c.take_new-self.new.self
     })
 
 pub returns-in-Ok-clause-listed : goal.returns-in-Ok-clause-listed
-returns-in-Ok-clause-listed c = λ known number from below.
+returns-in-Ok-clause-listed g c = λ known number from below.
     message_kept c.take_new-self.new.self c.note_next.new.self
     (more_of c.take_new-self.new.self c.note_next.new.self (record { places = c.note_next.ensures.counts.places; runs = c.note_next.ensures.counts.runs }))
     (record {

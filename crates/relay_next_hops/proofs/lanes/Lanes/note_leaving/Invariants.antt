@@ -3,4 +3,4 @@ use Rattle.relay_next_hops.specs.Lanes.{KeepsCounts}
 use Rattle.relay_next_hops.proofs.lanes.Lanes.note_leaving.Given as goal
 
 abbrev pub invariant-loop-number : goal.invariant-loop-number
-invariant-loop-number l = KeepsCounts l.initial.self l.self
+invariant-loop-number g l = KeepsCounts l.initial.self l.self

@@ -6,7 +6,7 @@ use Rattle.relay_next_hops.proofs.lanes.Lanes.sort_in.Goals as goal
 use Rattle.std.specs.List.{list_any}
 
 pub returns-clause-kept : goal.returns-clause-kept
-returns-clause-kept c = record {
+returns-clause-kept g c = record {
   tasks = λ message lane name waits.
       set_waits (is_for message name) c.number_of.new.self.lanes.items c.in-Some.number c.in-Some-get_mut.lane.now c.push.new.self c.in-Some-get_mut.ensures.value
       (pushed_more (is_for message name) c.push.result c.in-Some-get_mut.lane.now.tasks.items c.push.new.self.tasks.items _ c.push.ensures.pushed (λ failed. (c.push.ensures.failed failed).0))
@@ -16,7 +16,7 @@ returns-clause-kept c = record {
 }
 
 pub returns-clause-turn : goal.returns-clause-turn
-returns-clause-turn c = λ pushed. (
+returns-clause-turn g c = λ pushed. (
   c.in-Some.number,
   c.in-Some.ensures.place,
   inl (set_own (is_for c.args.message c.args.name.now) c.number_of.new.self.lanes.items c.in-Some.number c.push.new.self

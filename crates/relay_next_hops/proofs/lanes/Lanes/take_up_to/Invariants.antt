@@ -5,7 +5,7 @@ use Rattle.relay_next_hops.specs.Listing.{AreListedFrom, KeepsListed}
 use Rattle.relay_next_hops.proofs.lanes.Lanes.take_up_to.Given as goal
 
 abbrev pub invariant-loop-number : goal.invariant-loop-number
-invariant-loop-number l = record {
+invariant-loop-number g l = record {
   more : ListsMore l.initial.self l.self;
   kept : KeepsListed l.initial.self l.self;
   listed : AreListedFrom l.hops.hops l.now.moment l.relay.node l.initial.self.next_number l.number l.self;

@@ -1,0 +1,55 @@
+//! Streams to next hops as the system opens them.
+ghost use Rattle.std.specs.Prelude.{◌≡◌};
+
+use crate::dial::Dial;
+use crate::spares::Spares;
+use mio::net::TcpStream;
+use std::io;
+use std::net::{Net, SocketAddr, SocketAddrV4};
+
+/// What opens the system's streams, and keeps descriptors for them. Nothing is known of where such a stream leads.
+pub struct Sockets<'a, N> {
+    net: &'a N,
+    spares: Spares,
+}
+
+// Written out, so that what drops it calls this, and doesn't look into its files.
+impl<N> Drop for Sockets<'_, N> {
+    fn drop(self) {
+        let Sockets {
+            net: _,
+            spares: _spares,
+        } = self;
+    }
+}
+
+impl<'a, N: Net> Sockets<'a, N> {
+    /// What opens streams of this system, with these descriptors.
+    pub fn new(net: &'a N, spares: Spares) -> Self
+        ensures { result.spares ≡ spares }
+    {
+        Sockets { net, spares }
+    }
+}
+
+impl<N: Net> Dial for Sockets<'_, N> {
+    ghost use Rattle.relay_next_hops.specs.Spares.{held_of};
+
+    type Stream = TcpStream;
+
+    ghost leads_to = { λ stream at. Unit {0} };
+
+    ghost spares = { λ sockets. held_of sockets.spares };
+
+    fn connect(&mut self, at: SocketAddrV4) -> io::Result<TcpStream> {
+        TcpStream::connect(self.net, SocketAddr::V4(at))
+    }
+
+    fn fill_spares(&mut self) -> bool {
+        self.spares.fill()
+    }
+
+    fn give_spare(&mut self) -> bool {
+        self.spares.give()
+    }
+}
