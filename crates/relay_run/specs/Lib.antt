@@ -1,3 +1,4 @@
+pub mod Found
 pub mod Reopening
 pub mod Room
 pub mod Tidying

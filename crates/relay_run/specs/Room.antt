@@ -6,21 +6,21 @@ use Rattle.relay_room.specs.declared.standing.Standing.TheVariants.{Roomy, Short
 use Rattle.relay_run.specs.declared.room.Room.{Room}
 
 -- how many octets a spool of so many has more than when the room was tested last
-abbrev pub grown_since : Room → ℕ → ℕ
+abbrev pub grown_since : {F : Type 0} → Room F → ℕ → ℕ
 grown_since room size = size - room.tested_size
 
 -- Attempts may begin: the room that was tested holds what comes of them, and the spool isn't about to be opened anew.
-pub record MayStart (room : Room) (size : ℕ) : Type 0 where
+pub record MayStart {F : Type 0} (room : Room F) (size : ℕ) : Type 0 where
   pub stays : room.renewal ≡ 2 ^ 64 - 1
   pub holds : MayBegin room.standing (grown_since room size)
 
 -- the room was tested, unless the ballast is there: the relay stands as the room that was found says
-abbrev pub IsTested : Room → Room → Type 0
+abbrev pub IsTested : {F : Type 0} → Room F → Room F → Type 0
 IsTested old new =
     (room : ℕ) × (new.standing ≡ standing_at_test old.standing room old.size)
 
 -- the tick at which the room is looked at again: that of the next test while the relay is short of it, and else that at
 -- which the spool is opened under its configured limit
-abbrev pub next_look : Standing → Room → ℕ
+abbrev pub next_look : {F : Type 0} → Standing → Room F → ℕ
 next_look Roomy room = room.renewal
 next_look (Short found need) room = room.next_test

@@ -1,7 +1,6 @@
 -- The spool of a relay is written anew while it serves: where that is worth it, and nothing but its files changes.
 use Rattle.std.specs.Prelude.{◌≡◌, ◌+◌, ◌-◌, ◌^◌, ℕ, min, Bool, length}
-use Rattle.relay_disk.specs.File.{file_words}
-use Rattle.relay_disk.specs.declared.file.FileDisk.{FileDisk}
+use Rattle.relay_disk.specs.Device.{DiskWords}
 use Rattle.relay_book.specs.Snapshot.{snapshot}
 use Rattle.relay_records.specs.Records.{Compacts}
 use Rattle.relay_spool.specs.Trim.{IsTrimmed}
@@ -9,16 +8,16 @@ use Rattle.relay_limits.specs.Compacting.{IsWorthIt}
 use Rattle.relay_loop.specs.Relay.{RelayState}
 
 -- how many octets the spool has once it is written anew, of which 2^64 - 1 stand for as many and more
-abbrev pub compacted_size_of : RelayState FileDisk → ℕ
+abbrev pub compacted_size_of : {D : Type 0} → RelayState D → ℕ
 compacted_size_of relay = min (23 + length (snapshot relay.node.records.queue)) (2 ^ 64 - 1)
 
 -- it is worth it to write the spool anew, where mail was refused because it was full, or wasn't
-abbrev pub MayShrink : Bool → RelayState FileDisk → Type 0
+abbrev pub MayShrink : {D : Type 0} → Bool → RelayState D → Type 0
 MayShrink was_full relay =
     IsWorthIt relay.node.records.spool.size (compacted_size_of relay) relay.node.config.spool_limit was_full
 
 -- the queue, the note, the configuration, the sessions, the attempts and all connections are the same
-pub record KeepsRest (old new : RelayState FileDisk) : Type 0 where
+pub record KeepsRest {D : Type 0} (old new : RelayState D) : Type 0 where
   pub queue : new.node.records.queue ≡ old.node.records.queue
   pub noted : new.node.records.noted ≡ old.node.records.noted
   pub config : new.node.config ≡ old.node.config
@@ -28,19 +27,20 @@ pub record KeepsRest (old new : RelayState FileDisk) : Type 0 where
   pub hops : new.hops ≡ old.hops
 
 -- the spool was written anew, which was worth it, and nothing else changes
-pub record IsCompacted (was_full : Bool) (old new : RelayState FileDisk) : Type 0 where
+pub record IsCompacted {D : Type 0} (honest : Type 0) (words : DiskWords D) (was_full : Bool) (old new : RelayState D)
+    : Type 0 where
   pub worth : MayShrink was_full old
-  pub compacts : Compacts ⊥ file_words old.node.records new.node.records
+  pub compacts : Compacts honest words old.node.records new.node.records
   pub rest : KeepsRest old new
 
 -- one turn made the other file shorter, by so many octets at most, and nothing else changes
-pub record MayBeTrimmed (old new : RelayState FileDisk) : Type 0 where
+pub record MayBeTrimmed {D : Type 0} (honest : Type 0) (words : DiskWords D) (old new : RelayState D) : Type 0 where
   pub most : ℕ
   pub more : Bool
-  pub trimmed : IsTrimmed ⊥ file_words most old.node.records.spool new.node.records.spool more
+  pub trimmed : IsTrimmed honest words most old.node.records.spool new.node.records.spool more
   pub rest : KeepsRest old new
 
 -- it was to be written anew, which was worth it, and failed; nothing else changes
-pub record FailsToCompact (was_full : Bool) (old new : RelayState FileDisk) : Type 0 where
+pub record FailsToCompact {D : Type 0} (was_full : Bool) (old new : RelayState D) : Type 0 where
   pub worth : MayShrink was_full old
   pub rest : KeepsRest old new

@@ -1,19 +1,20 @@
 //! The listener, and the clients that come by it.
 ghost use Rattle.std.specs.Prelude.{◌≤◌};
 
-use mio::net::{TcpListener, TcpStream};
-use mio::{Interest, Registry, Token};
-use relay_connections::{Arrivals, Arrived, Channel, Clients, Leaving, Now, Readiness, Refusals};
-use relay_disk::FileDisk;
+use crate::listen::{Found, Listen};
+use mio::net::TcpStream;
+use relay_connections::{
+    Arrivals, Arrived, Channel, Clients, Leaving, Now, Readiness, Refusals, Stream,
+};
+use relay_disk::Disk;
 use relay_files::Fault;
 use relay_limits::Balancers;
 use relay_log::Log;
 use relay_loop::{Closing, Outbox, Relay, closing_line};
 use relay_next_hops::Dial;
 use relay_slots::SLOT_COUNT;
-use std::alloc::Global;
-use std::io::{self, ErrorKind, Write};
-use std::net::{Net, Shutdown, SocketAddr, SocketAddrV4};
+use std::alloc::{AllocError, Global};
+use std::net::SocketAddrV4;
 
 /// How many milliseconds no client is taken after one that couldn't be had.
 const WANT_PAUSE: u64 = 1_000;
@@ -21,10 +22,9 @@ const WANT_PAUSE: u64 = 1_000;
 /// The most clients that are taken at a turn.
 const MOST_AT_ONCE: usize = 64;
 
-/// The listener.
-pub(crate) struct Door {
+/// When clients are taken, those whose header is waited for, and whom it was told that there is no room.
+pub(crate) struct Door<S = TcpStream> {
     alloc: Global,
-    listener: TcpListener,
     /// Clients may be waiting.
     is_ready: bool,
     /// The tick before which none is taken.
@@ -34,15 +34,14 @@ pub(crate) struct Door {
     /// From where connections begin with a header of the PROXY protocol.
     balancers: Balancers,
     /// Those whose header is waited for.
-    arrivals: Arrivals,
+    arrivals: Arrivals<S>,
 }
 
-// Written out, so that what drops it calls this, and doesn't look into its listener.
-impl Drop for Door {
+// Written out, so that what drops it calls this, and doesn't look into its parts.
+impl<S: Drop> Drop for Door<S> {
     fn drop(self) {
         let Door {
             alloc: _,
-            listener: _listener,
             is_ready: _,
             paused_until: _,
             refusals: _refusals,
@@ -52,63 +51,22 @@ impl Drop for Door {
     }
 }
 
-/// What has come of a client that was to be taken.
-#[derive(Drop)]
-enum Found {
-    /// A client, and its place.
-    Client(TcpStream, SocketAddrV4),
-    /// It went away again, or has no address of four octets.
-    Missed,
-    /// None is waiting.
-    Nobody,
-    /// The system has no descriptor, or no memory, left for it.
-    Want,
-}
-
 impl Door {
     /// The token of the listener.
     pub(crate) const TOKEN: usize = Arrivals::FIRST_TOKEN + SLOT_COUNT;
+}
 
-    /// A listener at this place, of which the system tells, without balancers.
-    pub(crate) fn open<N: Net>(
-        alloc: Global,
-        net: &N,
-        registry: &Registry,
-        at: SocketAddrV4,
-    ) -> io::Result<Self> {
-        let mut listener = TcpListener::bind(net, SocketAddr::V4(at))?;
-        registry.register(&mut listener, Token(Door::TOKEN), Interest::READABLE)?;
+impl<S: Stream + Drop> Door<S> {
+    /// Clients may be waiting, and connections of these balancers begin with a header. It fails where memory runs out.
+    pub(crate) fn new(alloc: Global, balancers: Balancers) -> Result<Self, AllocError> {
         Ok(Door {
             alloc,
-            listener,
             is_ready: true,
             paused_until: 0,
             refusals: Refusals::new(alloc)?,
-            balancers: Balancers::none(alloc),
+            balancers,
             arrivals: Arrivals::new(alloc)?,
         })
-    }
-
-    /// The same listener, where connections of these balancers begin with a header.
-    pub(crate) fn with(self, balancers: Balancers) -> Self {
-        let Door {
-            alloc,
-            listener,
-            is_ready,
-            paused_until,
-            refusals,
-            balancers: _none,
-            arrivals,
-        } = self;
-        Door {
-            alloc,
-            listener,
-            is_ready,
-            paused_until,
-            refusals,
-            balancers,
-            arrivals,
-        }
     }
 
     /// The system tells that clients may be waiting.
@@ -161,13 +119,14 @@ impl Door {
 
     /// Takes the clients that are waiting, while the descriptors are kept that are for attempts, and then those whose
     /// headers are whole. One for which there is no room is told so and closed.
-    pub(crate) fn admit<N: Dial>(
+    pub(crate) fn admit<L: Listen<Stream = S>, N: Dial, D: Disk>(
         &mut self,
-        registry: &Registry,
-        relay: &mut Relay<FileDisk>,
-        clients: &mut Clients,
-        leaving: &mut Leaving,
+        listener: &mut L,
         dial: &mut N,
+        registry: &S::Registry,
+        relay: &mut Relay<D>,
+        clients: &mut Clients<S>,
+        leaving: &mut Leaving<S>,
         now: &Now,
         log: &mut Log<'_, Vec<u8>>,
     ) -> Result<(), Fault> {
@@ -180,7 +139,7 @@ impl Door {
                 self.pause(now);
                 break;
             }
-            match accept(&self.listener) {
+            match listener.accept() {
                 Found::Client(stream, peer) => {
                     if self.balancers.contains(*peer.ip()) {
                         if !self.arrivals.take(registry, stream, peer, now) {
@@ -199,12 +158,12 @@ impl Door {
     }
 
     /// Takes the clients of balancers whose headers are whole. A connection without one is closed.
-    fn admit_arrived(
+    fn admit_arrived<D: Disk>(
         &mut self,
-        registry: &Registry,
-        relay: &mut Relay<FileDisk>,
-        clients: &mut Clients,
-        leaving: &mut Leaving,
+        registry: &S::Registry,
+        relay: &mut Relay<D>,
+        clients: &mut Clients<S>,
+        leaving: &mut Leaving<S>,
         now: &Now,
         log: &mut Log<'_, Vec<u8>>,
     ) -> Result<(), Fault> {
@@ -224,13 +183,13 @@ impl Door {
     }
 
     /// Opens a session for a client, or tells it that there is no room.
-    fn welcome(
+    fn welcome<D: Disk>(
         &mut self,
-        registry: &Registry,
-        relay: &mut Relay<FileDisk>,
-        clients: &mut Clients,
-        leaving: &mut Leaving,
-        stream: TcpStream,
+        registry: &S::Registry,
+        relay: &mut Relay<D>,
+        clients: &mut Clients<S>,
+        leaving: &mut Leaving<S>,
+        stream: S,
         peer: SocketAddrV4,
         now: &Now,
         log: &mut Log<'_, Vec<u8>>,
@@ -244,40 +203,26 @@ impl Door {
         }
         Ok(())
     }
+}
 
-    /// Tells those that are waiting by this line why they aren't served, and closes their connections.
-    pub(crate) fn refuse_all(&mut self, line: &[u8]) {
-        for _ in 0..MOST_AT_ONCE {
-            match accept(&self.listener) {
-                Found::Client(stream, _peer) => dismiss(&stream, line),
-                Found::Missed => {}
-                Found::Nobody | Found::Want => return,
-            }
+/// Tells those that are waiting by this line why they aren't served, and closes their connections.
+pub(crate) fn refuse_all<S: Stream + Drop, L: Listen<Stream = S>>(listener: &mut L, line: &[u8]) {
+    for _ in 0..MOST_AT_ONCE {
+        match listener.accept() {
+            Found::Client(stream, _peer) => dismiss(stream, line),
+            Found::Missed => {}
+            Found::Nobody | Found::Want => return,
         }
     }
 }
 
-/// The next client of a listener.
-fn accept(listener: &TcpListener) -> Found {
-    match listener.accept() {
-        Ok((stream, SocketAddr::V4(peer))) => Found::Client(stream, peer),
-        // A listener at four octets has no such client.
-        Ok((_stream, SocketAddr::V6(_))) => Found::Missed,
-        Err(error) => match error.kind() {
-            ErrorKind::WouldBlock => Found::Nobody,
-            ErrorKind::ConnectionAborted | ErrorKind::Interrupted => Found::Missed,
-            _ => Found::Want,
-        },
-    }
-}
-
 /// Tells a client that there is no room for it. Where many are told so, its connection is closed at once.
-fn turn_away(
+fn turn_away<S: Stream + Drop, D: Disk>(
     alloc: Global,
-    registry: &Registry,
-    relay: &Relay<FileDisk>,
-    leaving: &mut Leaving,
-    stream: TcpStream,
+    registry: &S::Registry,
+    relay: &Relay<D>,
+    leaving: &mut Leaving<S>,
+    stream: S,
     now: &Now,
 ) {
     let Ok(line) = closing_line(alloc, &relay.node().config().host, Closing::TooMany) else {
@@ -292,16 +237,13 @@ fn turn_away(
             now,
         );
     } else {
-        dismiss(&stream, line.as_slice());
+        dismiss(stream, line.as_slice());
     }
 }
 
 /// Writes a line to a client and closes its connection. One that doesn't hear it finds the connection closed.
-fn dismiss(stream: &TcpStream, line: &[u8]) {
-    let _ = write(stream, line);
-    let _ = stream.shutdown(Shutdown::Write);
-}
-
-fn write(mut stream: &TcpStream, octets: &[u8]) -> io::Result<usize> {
-    stream.write(octets)
+fn dismiss<S: Stream + Drop>(stream: S, line: &[u8]) {
+    let mut stream = stream;
+    let _ = stream.try_write(line);
+    stream.shut_down();
 }

@@ -2,7 +2,7 @@
 ghost use Rattle.std.specs.Prelude.{◌≡◌, ◌↔◌, IsTrue, None, Some};
 ghost use Rattle.relay_run.specs.Reopening.{HasAll, IsEither, IsWhole};
 
-use relay_disk::FileDisk;
+use relay_disk::Disk;
 use relay_loop::Relay;
 
 /// What was known of a spool after the last turn that went well. What a failed call was to add counts as added in the
@@ -19,7 +19,7 @@ pub(crate) struct Known {
 
 impl Known {
     /// What a relay knows of its spool.
-    pub(crate) fn of(relay: &Relay<FileDisk>) -> Self
+    pub(crate) fn of<D: Disk>(relay: &Relay<D>) -> Self
         ensures number { result.next_number ≡ relay.now.node.records.queue.next }
         ensures size { result.size ≡ relay.now.node.records.spool.size }
         ensures compacted { result.compacted ≡ None }

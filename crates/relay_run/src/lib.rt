@@ -5,6 +5,7 @@
 mod door;
 mod failures;
 mod known;
+mod listen;
 mod reopening;
 mod reporter;
 mod room;

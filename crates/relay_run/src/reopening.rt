@@ -3,11 +3,13 @@ ghost use Rattle.std.specs.Prelude.{ℕ, ◌≡◌, IfErr, IfOk, IsErr};
 ghost use Rattle.relay_run.specs.Reopening.{HasFailedToSync, IsWhole, next_pause};
 ghost use Rattle.relay_run.specs.Room.{MayStart};
 
-use crate::door::Door;
+use crate::door::refuse_all;
 use crate::failures::Failures;
 use crate::known::Known;
+use crate::listen::Listen;
 use crate::reporter::Reporter;
 use crate::room::Room;
+use relay_connections::Stream;
 use relay_disk::{Disk, Disks, FileDisk};
 use relay_files::Fault;
 use relay_loop::Relay;
@@ -109,12 +111,12 @@ pub(crate) enum Why {
 
 /// Opens the spool of a relay again, which has to be what was known of it: where its device has failed, when a test
 /// finds room, and else at once. All connections are dropped. A sync that has failed is a fault.
-pub(crate) fn reopen<C: Clock, E: Write>(
+pub(crate) fn reopen<C: Clock, E: Write, S: Stream + Drop, L: Listen<Stream = S>>(
     reporter: &mut Reporter<'_, C, E>,
     relay: Relay<FileDisk>,
     known: Known,
     why: Why,
-    door: &mut Door,
+    listener: &mut L,
     room: &mut Room,
     pauses: &mut Pauses,
 ) -> Result<Relay<FileDisk>, Fault>
@@ -124,7 +126,7 @@ pub(crate) fn reopen<C: Clock, E: Write>(
     ensures tested { why ≡ Why.Failed → IfOk result (λ _. MayStart room.new known.size) }
 {
     match why {
-        Why::Failed => open_again(reporter, relay, known, door, room, pauses),
+        Why::Failed => open_again(reporter, relay, known, listener, room, pauses),
         Why::Renewed => open_bounded(reporter.alloc, relay, known, room),
     }
 }
@@ -134,11 +136,11 @@ pub(crate) fn reopen<C: Clock, E: Write>(
 /// again. All connections of the relay are dropped, and who comes meanwhile is told so. A sync that has failed is a
 /// fault at once, since octets may be lost then that were written; so is a spool that holds something else than it did,
 /// or less.
-fn open_again<C: Clock, E: Write>(
+fn open_again<C: Clock, E: Write, S: Stream + Drop, L: Listen<Stream = S>>(
     reporter: &mut Reporter<'_, C, E>,
     relay: Relay<FileDisk>,
     known: Known,
-    door: &mut Door,
+    listener: &mut L,
     room: &mut Room,
     pauses: &mut Pauses,
 ) -> Result<Relay<FileDisk>, Fault>
@@ -153,7 +155,7 @@ fn open_again<C: Clock, E: Write>(
     sync(&mut closed.disks)?;
     let reason = room.fail();
     reporter.device_failed(reason, failed, &closed.config, pauses.seconds);
-    wait_for_room(reporter, closed, known, door, room, pauses)
+    wait_for_room(reporter, closed, known, listener, room, pauses)
 }
 
 /// Opens the spool of a relay under the limit that the room sets it. All connections are dropped. A sync that has
@@ -192,11 +194,11 @@ fn open_at_once(
 }
 
 /// Opens a spool as soon as its device doesn't fail and there is room.
-fn wait_for_room<C: Clock, E: Write>(
+fn wait_for_room<C: Clock, E: Write, S: Stream + Drop, L: Listen<Stream = S>>(
     reporter: &mut Reporter<'_, C, E>,
     closed: Closed,
     known: Known,
-    door: &mut Door,
+    listener: &mut L,
     room: &mut Room,
     pauses: &mut Pauses,
 ) -> Result<Relay<FileDisk>, Fault>
@@ -208,7 +210,7 @@ fn wait_for_room<C: Clock, E: Write>(
     let mut closed = closed;
     let line = refusal(reporter.alloc, &closed.config)?;
     for _ in 0..u64::MAX {
-        pause(reporter.clock, pauses.next(), door, line.as_slice());
+        pause(reporter.clock, pauses.next(), listener, line.as_slice());
         room.test(known.size());
         if room.may_start(known.size()) {
             closed.bound(room)?;
@@ -245,10 +247,15 @@ fn unless_less(
 }
 
 /// Lets so many seconds pass, in which those that come are told why they aren't served.
-fn pause<C: Clock>(clock: &C, seconds: u64, door: &mut Door, line: &[u8]) {
+fn pause<C: Clock, S: Stream + Drop, L: Listen<Stream = S>>(
+    clock: &C,
+    seconds: u64,
+    listener: &mut L,
+    line: &[u8],
+) {
     for _ in 0..seconds.saturating_mul(TELLINGS) {
         clock.sleep(Duration::from_millis(TELLING_PAUSE));
-        door.refuse_all(line);
+        refuse_all(listener, line);
     }
 }
 

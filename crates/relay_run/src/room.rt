@@ -2,7 +2,7 @@
 ghost use Rattle.std.specs.Prelude.{ℕ, ◌≡◌, ◌≤◌, ◌↔◌, IsTrue};
 
 use relay_connections::Now;
-use relay_disk::DiskFault;
+use relay_disk::{Disk, DiskFault};
 use relay_files::Fault;
 use relay_room::{RoomFile, Standing, ballast_size, give_up, test_room};
 use relay_routes::Config;
@@ -18,8 +18,8 @@ const TEST_SECONDS: u64 = 5;
 const DRAIN_SECONDS: u64 = 5;
 
 /// The room on the disk of a spool. A fault of its file ends nothing: it counts as no ballast, and as no room.
-pub(crate) struct Room {
-    file: RoomFile,
+pub(crate) struct Room<F = RoomFile> {
+    file: F,
     /// How many octets the ballast has.
     size: u32,
     /// The limit of the spool, as it is configured.
@@ -35,7 +35,7 @@ pub(crate) struct Room {
 }
 
 // Written out, so that what drops it calls this, and doesn't look into its file.
-impl Drop for Room {
+impl<F: Drop> Drop for Room<F> {
     fn drop(self) {
         let Room {
             file: _file,
@@ -51,13 +51,13 @@ impl Drop for Room {
 
 impl Room {
     ghost use Rattle.relay_room.specs.Standing.{standing_at_failure};
-    ghost use Rattle.relay_run.specs.Room.{IsTested, MayStart, grown_since, next_look};
+    ghost use Rattle.relay_run.specs.Room.{MayStart};
 
     /// The room beside the spool of this configuration, in the file with its name and `.room` after that. Nothing was
     /// tested yet.
-    pub(crate) fn open<F: Files<File = File>>(
+    pub(crate) fn open<R: Files<File = File>>(
         alloc: Global,
-        files: &F,
+        files: &R,
         config: &Config,
     ) -> Result<Self, Fault> {
         let path = format!(in alloc; "{}.room", config.spool.as_str())?;
@@ -89,6 +89,10 @@ impl Room {
         let _ = give_up(&mut self.file);
         reason
     }
+}
+
+impl<F: Disk> Room<F> {
+    ghost use Rattle.relay_run.specs.Room.{IsTested, MayStart, grown_since, next_look};
 
     /// Tests the room beside a spool of so many octets, where the relay is short of it. A fault of the file counts as
     /// no room.

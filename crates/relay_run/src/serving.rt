@@ -1,9 +1,12 @@
 ghost use Rattle.std.specs.Prelude.{IfOk};
 
-use crate::shell::Shell;
-use crate::start::{kept_file, locked_relay, log_form, open_door, open_page, say_ready, settings};
+use crate::door::Door;
+use crate::shell::{Shell, SystemShell};
+use crate::start::{
+    kept_file, locked_relay, log_form, open_listener, open_page, say_ready, settings,
+};
 use crate::status_page::StatusPage;
-use crate::turns::serve;
+use crate::turns::{System, serve};
 use mio::{Events, Poll};
 use relay_files::Fault;
 use relay_next_hops::{Sockets, Spares};
@@ -45,15 +48,24 @@ pub fn run<
     let at = config.listen;
     let form = log_form(quiet, &limits);
     let (relay, room) = locked_relay(alloc, rt, config)?;
-    let mut sockets = Sockets::new(rt, Spares::new(alloc, kept_file(rt, path)?)?);
+    let dial = Sockets::new(rt, Spares::new(alloc, kept_file(rt, path)?)?);
     let Ok(poll) = Poll::new(rt) else {
         return Err(Fault::Socket);
     };
-    let door = open_door(alloc, rt, poll.registry(), at, form, errors)?.with(balancers);
+    let listener = open_listener(alloc, rt, poll.registry(), at, form, errors)?;
     let page = open_page(alloc, rt, poll.registry(), &limits, &relay)?;
-    let mut shell = Shell::new(alloc, relay, door, room, page, &limits)?;
+    let door = Door::new(alloc, balancers)?;
+    let mut shell: SystemShell = Shell::new(alloc, relay, door, room, &limits)?;
     shell.next_hops.prepare(&shell.relay)?;
     let events = Events::with_capacity(alloc, EVENT_COUNT)?;
     say_ready(alloc, &shell.relay, at, writer)?;
-    serve(alloc, rt, &mut sockets, poll, events, shell, form, errors)
+    let system = System {
+        clock: rt,
+        listener,
+        dial,
+        poll,
+        events,
+        page,
+    };
+    serve(alloc, system, shell, form, errors)
 }

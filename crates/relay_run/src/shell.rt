@@ -5,42 +5,44 @@ ghost use Rattle.relay_run.specs.Tidying.{FailsToCompact, IsCompacted, KeepsRest
 
 use crate::door::Door;
 use crate::known::Known;
+use crate::listen::Listen;
 use crate::reopening::{Pauses, Why, reopen};
 use crate::reporter::Reporter;
 use crate::room::Room;
-use crate::status_page::StatusPage;
-use crate::status_texts::Busy;
 use crate::tidying::Tidying;
-use mio::Registry;
 use mio::net::TcpStream;
-use relay_connections::{Clients, Intake, Leaving, Now, Replied};
-use relay_disk::FileDisk;
+use relay_connections::{Clients, Intake, Leaving, Now, Replied, Stream};
+use relay_disk::{Disk, FileDisk};
 use relay_files::Fault;
 use relay_limits::Limits;
-use relay_log::{Counters, Log};
+use relay_log::Log;
 use relay_loop::Relay;
 use relay_next_hops::{Dial, NextHops};
 use relay_node::NodeFault;
+use relay_room::RoomFile;
 use std::alloc::{AllocError, Global};
 use std::io::Write;
 use std::rt::Clock;
 
-/// All connections of a relay, and what is due.
-pub(crate) struct Shell {
-    pub(crate) relay: Relay<FileDisk>,
-    pub(crate) door: Door,
-    pub(crate) clients: Clients,
-    pub(crate) next_hops: NextHops,
-    pub(crate) leaving: Leaving,
+/// All connections of a relay, and what is due: over streams of any kind, on any disk, beside any file that keeps room.
+/// What opens the streams, and what tells of their readiness, is lent to each turn.
+pub(crate) struct Shell<S, D: Disk, F> {
+    pub(crate) relay: Relay<D>,
+    pub(crate) door: Door<S>,
+    pub(crate) clients: Clients<S>,
+    pub(crate) next_hops: NextHops<S>,
+    pub(crate) leaving: Leaving<S>,
     pub(crate) tidying: Tidying,
     pauses: Pauses,
-    pub(crate) room: Room,
+    pub(crate) room: Room<F>,
     known: Known,
-    pub(crate) page: StatusPage,
 }
 
+/// That of `run`, over the system's streams and files.
+pub(crate) type SystemShell = Shell<TcpStream, FileDisk, RoomFile>;
+
 // Written out, so that what drops it calls this, and doesn't look into its parts.
-impl Drop for Shell {
+impl<S: Drop, D: Disk + Drop, F: Drop> Drop for Shell<S, D, F> {
     fn drop(self) {
         let Shell {
             relay: _relay,
@@ -52,20 +54,17 @@ impl Drop for Shell {
             pauses: _,
             room: _room,
             known: _,
-            page: _page,
         } = self;
     }
 }
 
-impl Shell {
-    /// A relay without a connection, at this listener, with this page and within these limits. It fails where memory
-    /// runs out.
+impl<S: Stream + Drop, D: Disk + Drop, F: Disk + Drop> Shell<S, D, F> {
+    /// A relay without a connection, within these limits. It fails where memory runs out.
     pub(crate) fn new(
         alloc: Global,
-        relay: Relay<FileDisk>,
-        door: Door,
-        room: Room,
-        page: StatusPage,
+        relay: Relay<D>,
+        door: Door<S>,
+        room: Room<F>,
         limits: &Limits,
     ) -> Result<Self, AllocError> {
         let clients = Clients::new(alloc, limits)?;
@@ -83,61 +82,6 @@ impl Shell {
             pauses,
             room,
             known,
-            page,
-        })
-    }
-
-    /// The same relay with its spool opened again: once its device, where that has failed, has room, or else at once,
-    /// under its configured limit. All connections are closed but the listener, at which clients are told so meanwhile.
-    /// A sync that has failed is a fault, and so is a spool that isn't the one from before.
-    pub(crate) fn reopened<C: Clock, E: Write>(
-        mut self,
-        reporter: &mut Reporter<'_, C, E>,
-        why: Why,
-    ) -> Result<Self, Fault>
-        ensures synced { HasFailedToSync self.relay.node.records.spool.disk → IsErr result }
-        ensures whole { IfOk result (λ shell. IsWhole self.known shell.relay.node.records.queue.next
-            shell.relay.node.records.spool.size) }
-        ensures tested { why ≡ Why.Failed → IfOk result (λ shell. MayStart shell.room self.known.size) }
-    {
-        self.clients.clear();
-        self.leaving.clear();
-        self.door.clear();
-        let Shell {
-            relay,
-            door,
-            clients,
-            next_hops,
-            leaving,
-            tidying: _,
-            pauses,
-            room,
-            known,
-            page,
-        } = self;
-        let mut door = door;
-        let mut pauses = pauses;
-        let mut room = room;
-        let relay = reopen(
-            reporter,
-            relay,
-            known,
-            why,
-            &mut door,
-            &mut room,
-            &mut pauses,
-        )?;
-        Ok(Shell {
-            known: Known::of(&relay),
-            relay,
-            door,
-            clients,
-            next_hops: next_hops.renewed(),
-            leaving,
-            tidying: Tidying::new(),
-            pauses,
-            room,
-            page,
         })
     }
 
@@ -155,20 +99,6 @@ impl Shell {
         self.room.is_renewed(now)
     }
 
-    /// Serves the page, and nothing else.
-    pub(crate) fn show(&mut self, registry: &Registry, counters: &Counters, now: &Now)
-        ensures mail { (self.new.relay ≡ self.old.relay) × (self.new.clients ≡ self.old.clients)
-            × (self.new.next_hops ≡ self.old.next_hops) × (self.new.leaving ≡ self.old.leaving)
-            × (self.new.door ≡ self.old.door) }
-        ensures known { self.new.known ≡ self.old.known }
-    {
-        let busy = Busy {
-            sessions: self.clients.count() as u64,
-            attempts: self.next_hops.running() as u64,
-        };
-        self.page.turn(registry, &self.relay, busy, counters, now);
-    }
-
     /// Whether attempts may begin.
     pub(crate) fn may_start(&self) -> bool
         ensures { IsTrue result ↔ MayStart self.now.room self.now.relay.node.records.spool.size }
@@ -178,11 +108,12 @@ impl Shell {
 
     /// Does for each connection what can be done at once, one thing each, and begins what is due. While the relay is
     /// short of room that is tested first, where that is due.
-    pub(crate) fn turn<C: Clock, N: Dial<Stream = TcpStream>>(
+    pub(crate) fn turn<C: Clock, L: Listen<Stream = S>, N: Dial<Stream = S>>(
         &mut self,
         clock: &C,
+        listener: &mut L,
         dial: &mut N,
-        registry: &Registry,
+        registry: &S::Registry,
         now: &Now,
         log: &mut Log<'_, Vec<u8>>,
     ) -> Result<(), Fault> {
@@ -191,11 +122,12 @@ impl Shell {
             log.shortage_ended();
         }
         self.door.admit(
+            listener,
+            dial,
             registry,
             &mut self.relay,
             &mut self.clients,
             &mut self.leaving,
-            dial,
             now,
             log,
         )?;
@@ -212,7 +144,7 @@ impl Shell {
     /// compaction alone, whose size is known then.
     pub(crate) fn tidy(&mut self, now: &Now, log: &mut Log<'_, Vec<u8>>) -> Result<(), Fault>
         ensures tidies { OnOk result ((self.new.relay ≡ self.old.relay)
-            ⊎ IsCompacted self.old.tidying.was_full self.old.relay self.new.relay) }
+            ⊎ IsCompacted D.honest D.words self.old.tidying.was_full self.old.relay self.new.relay) }
         ensures failed { IfErr result (λ fault. (fault ≡ Fault.Device)
             × FailsToCompact self.old.tidying.was_full self.old.relay self.new.relay
             × (self.new.known.compacted ≡ Some (compacted_size_of self.old.relay))) }
@@ -248,7 +180,7 @@ impl Shell {
     /// Drops some octets of the spool's other file after a turn, where it may have any.
     pub(crate) fn trim(&mut self) -> Result<(), Fault>
         ensures trimmed { OnOk result ((self.new.relay ≡ self.old.relay)
-            ⊎ MayBeTrimmed self.old.relay self.new.relay) }
+            ⊎ MayBeTrimmed D.honest D.words self.old.relay self.new.relay) }
         ensures failed { IfErr result (λ fault. (fault ≡ Fault.Device) × KeepsRest self.old.relay self.new.relay) }
         ensures rest { (self.new.clients ≡ self.old.clients) × (self.new.next_hops ≡ self.old.next_hops)
             × (self.new.leaving ≡ self.old.leaving) × (self.new.door ≡ self.old.door)
@@ -260,7 +192,7 @@ impl Shell {
     /// Makes connections to next hops, and reads of those that reply.
     fn attend_to_next_hops(
         &mut self,
-        registry: &Registry,
+        registry: &S::Registry,
         now: &Now,
         log: &mut Log<'_, Vec<u8>>,
     ) -> Result<(), Fault> {
@@ -275,7 +207,7 @@ impl Shell {
     /// and outcomes share their syncs.
     fn exchange(
         &mut self,
-        registry: &Registry,
+        registry: &S::Registry,
         now: &Now,
         log: &mut Log<'_, Vec<u8>>,
     ) -> Result<(), Fault> {
@@ -302,7 +234,7 @@ impl Shell {
     /// is lost where nobody else was heard.
     fn hear(
         &mut self,
-        registry: &Registry,
+        registry: &S::Registry,
         now: &Now,
         log: &mut Log<'_, Vec<u8>>,
     ) -> Result<(Intake, Option<Replied>), NodeFault> {
@@ -335,11 +267,11 @@ impl Shell {
     }
 
     /// Begins what is due, and nothing while the room for what comes of it isn't there.
-    fn begin<C: Clock, N: Dial<Stream = TcpStream>>(
+    fn begin<C: Clock, N: Dial<Stream = S>>(
         &mut self,
         clock: &C,
         dial: &mut N,
-        registry: &Registry,
+        registry: &S::Registry,
         now: &Now,
         log: &mut Log<'_, Vec<u8>>,
     ) -> Result<(), Fault>
@@ -356,5 +288,59 @@ impl Shell {
             self.tidying.note_shrunk();
         }
         Ok(())
+    }
+}
+
+impl<S: Stream + Drop> Shell<S, FileDisk, RoomFile> {
+    /// The same relay with its spool opened again: once its device, where that has failed, has room, or else at once,
+    /// under its configured limit. All connections are closed but the listener, at which clients are told so meanwhile.
+    /// A sync that has failed is a fault, and so is a spool that isn't the one from before.
+    pub(crate) fn reopened<C: Clock, E: Write, L: Listen<Stream = S>>(
+        mut self,
+        reporter: &mut Reporter<'_, C, E>,
+        listener: &mut L,
+        why: Why,
+    ) -> Result<Self, Fault>
+        ensures synced { HasFailedToSync self.relay.node.records.spool.disk → IsErr result }
+        ensures whole { IfOk result (λ shell. IsWhole self.known shell.relay.node.records.queue.next
+            shell.relay.node.records.spool.size) }
+        ensures tested { why ≡ Why.Failed → IfOk result (λ shell. MayStart shell.room self.known.size) }
+    {
+        self.clients.clear();
+        self.leaving.clear();
+        self.door.clear();
+        let Shell {
+            relay,
+            door,
+            clients,
+            next_hops,
+            leaving,
+            tidying: _,
+            pauses,
+            room,
+            known,
+        } = self;
+        let mut pauses = pauses;
+        let mut room = room;
+        let relay = reopen(
+            reporter,
+            relay,
+            known,
+            why,
+            listener,
+            &mut room,
+            &mut pauses,
+        )?;
+        Ok(Shell {
+            known: Known::of(&relay),
+            relay,
+            door,
+            clients,
+            next_hops: next_hops.renewed(),
+            leaving,
+            tidying: Tidying::new(),
+            pauses,
+            room,
+        })
     }
 }

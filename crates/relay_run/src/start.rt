@@ -1,10 +1,11 @@
 //! What a relay begins with.
-use crate::door::Door;
 use crate::known::Known;
+use crate::listen::listener_at;
 use crate::reopening::open_bounded;
 use crate::room::Room;
 use crate::status_page::StatusPage;
 use mio::Registry;
+use mio::net::TcpListener;
 use relay_disk::FileDisk;
 use relay_files::{Fault, configuration_text, locked_node};
 use relay_limits::{Balancers, Limit, Limits, LogForm};
@@ -89,17 +90,17 @@ pub(crate) fn locked_relay<F: Files<File = File>>(
 }
 
 /// The listener at the configured place. A line of the log says that its address is waited for.
-pub(crate) fn open_door<R: Clock + Net, E: Write>(
+pub(crate) fn open_listener<R: Clock + Net, E: Write>(
     alloc: Global,
     rt: &R,
     registry: &Registry,
     at: SocketAddrV4,
     form: Option<Form>,
     errors: &mut E,
-) -> Result<Door, Fault> {
+) -> Result<TcpListener, Fault> {
     for second in 0..ADDRESS_SECONDS {
-        match Door::open(alloc, rt, registry, at) {
-            Ok(door) => return Ok(door),
+        match listener_at(rt, registry, at) {
+            Ok(listener) => return Ok(listener),
             Err(error) if error.kind() == ErrorKind::AddrNotAvailable => {
                 if second == 0 {
                     let mut counters = Counters::new();

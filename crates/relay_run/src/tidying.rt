@@ -1,13 +1,12 @@
 //! The spool is written anew where much of it has gone: in a quiet moment, or at once where it is more than half full,
 //! or was full.
 ghost use Rattle.std.specs.Prelude.{◌≡◌, ◌≤◌, ◌⊎◌, IfErr, List, MatchResult, None, Ok, OnOk, false, true};
-ghost use Rattle.relay_disk.specs.File.{file_words};
 ghost use Rattle.relay_book.specs.declared.change.Change.{Change};
 ghost use Rattle.relay_records.specs.Records.{Compacts, Halted, Keeps};
 ghost use Rattle.relay_run.specs.Tidying.{FailsToCompact, IsCompacted, KeepsRest, MayBeTrimmed, compacted_size_of};
 
 use relay_connections::Now;
-use relay_disk::FileDisk;
+use relay_disk::Disk;
 use relay_files::Fault;
 use relay_limits::is_worth_compacting;
 use relay_log::Log;
@@ -76,7 +75,7 @@ impl Tidying {
 
     /// Whether the spool is to be looked at now: it was full, or something has left it, and nothing else is to be done
     /// or it is more than half full.
-    pub(crate) fn is_due(&self, relay: &Relay<FileDisk>, is_quiet: bool, now: &Now) -> bool {
+    pub(crate) fn is_due<D: Disk>(&self, relay: &Relay<D>, is_quiet: bool, now: &Now) -> bool {
         let node = relay.node();
         self.may_be_due(now)
             && (self.was_full || is_quiet || node.config().spool_limit / 2 < node.size() as u64)
@@ -104,9 +103,9 @@ impl Tidying {
     /// Compacts the spool, of which so many octets would be left, where that is worth it and costs others no more than
     /// they may wait for, and returns whether it did. A spool without a second file, one that holds too much, and want
     /// of memory leave it as it is. Then it isn't due again for a second.
-    pub(crate) fn tidy(
+    pub(crate) fn tidy<D: Disk>(
         &mut self,
-        relay: &mut Relay<FileDisk>,
+        relay: &mut Relay<D>,
         left: usize,
         is_quiet: bool,
         now: &Now,
@@ -114,12 +113,12 @@ impl Tidying {
     ) -> Result<bool, Fault>
         requires { left ≡ compacted_size_of relay.old }
         ensures unchanged { result ≡ Ok false → relay.new ≡ relay.old }
-        ensures compacted { result ≡ Ok true → IsCompacted self.old.was_full relay.old relay.new }
+        ensures compacted { result ≡ Ok true → IsCompacted D.honest D.words self.old.was_full relay.old relay.new }
         ensures failed { IfErr result (λ fault. (fault ≡ Fault.Device)
             × FailsToCompact self.old.was_full relay.old relay.new) }
-        ensures kept { (changes : List Change) → Keeps ⊥ file_words relay.old.node.records changes
-            → MatchResult result (λ _. Keeps ⊥ file_words relay.new.node.records changes)
-            (λ _. Halted ⊥ file_words relay.new.node.records changes None) }
+        ensures kept { (changes : List Change) → Keeps D.honest D.words relay.old.node.records changes
+            → MatchResult result (λ _. Keeps D.honest D.words relay.new.node.records changes)
+            (λ _. Halted D.honest D.words relay.new.node.records changes None) }
     {
         let was_full = self.was_full;
         self.has_shrunk = false;
@@ -141,12 +140,12 @@ impl Tidying {
 
     /// Drops some octets of the spool's other file, where it may have any: they count for nothing, and the next
     /// compaction would begin with all of them.
-    pub(crate) fn trim(&mut self, relay: &mut Relay<FileDisk>) -> Result<(), Fault>
-        ensures trimmed { OnOk result ((relay.new ≡ relay.old) ⊎ MayBeTrimmed relay.old relay.new) }
+    pub(crate) fn trim<D: Disk>(&mut self, relay: &mut Relay<D>) -> Result<(), Fault>
+        ensures trimmed { OnOk result ((relay.new ≡ relay.old) ⊎ MayBeTrimmed D.honest D.words relay.old relay.new) }
         ensures failed { IfErr result (λ fault. (fault ≡ Fault.Device) × KeepsRest relay.old relay.new) }
-        ensures kept { (changes : List Change) → Keeps ⊥ file_words relay.old.node.records changes
-            → MatchResult result (λ _. Keeps ⊥ file_words relay.new.node.records changes)
-            (λ _. Halted ⊥ file_words relay.new.node.records changes None) }
+        ensures kept { (changes : List Change) → Keeps D.honest D.words relay.old.node.records changes
+            → MatchResult result (λ _. Keeps D.honest D.words relay.new.node.records changes)
+            (λ _. Halted D.honest D.words relay.new.node.records changes None) }
     {
         if !self.has_spare {
             return Ok(());
@@ -162,14 +161,14 @@ impl Tidying {
 }
 
 /// Compacts the spool of a relay, tells so, and returns whether it did.
-fn compact(relay: &mut Relay<FileDisk>, log: &mut Log<'_, Vec<u8>>) -> Result<bool, Fault>
+fn compact<D: Disk>(relay: &mut Relay<D>, log: &mut Log<'_, Vec<u8>>) -> Result<bool, Fault>
     ensures unchanged { result ≡ Ok false → relay.new ≡ relay.old }
-    ensures compacted { result ≡ Ok true → Compacts ⊥ file_words relay.old.node.records relay.new.node.records }
+    ensures compacted { result ≡ Ok true → Compacts D.honest D.words relay.old.node.records relay.new.node.records }
     ensures failed { IfErr result (λ fault. fault ≡ Fault.Device) }
     ensures rest { KeepsRest relay.old relay.new }
-    ensures kept { (changes : List Change) → Keeps ⊥ file_words relay.old.node.records changes
-        → MatchResult result (λ _. Keeps ⊥ file_words relay.new.node.records changes)
-        (λ _. Halted ⊥ file_words relay.new.node.records changes None) }
+    ensures kept { (changes : List Change) → Keeps D.honest D.words relay.old.node.records changes
+        → MatchResult result (λ _. Keeps D.honest D.words relay.new.node.records changes)
+        (λ _. Halted D.honest D.words relay.new.node.records changes None) }
 {
     match relay.compact() {
         Ok((before, behind)) => {

@@ -1,79 +1,132 @@
 //! The turns of a relay: each waits for what the system tells, and does at once what can be done then.
-ghost use Rattle.std.specs.Prelude.{IfOk};
+ghost use Rattle.std.specs.Prelude.{◌≡◌, ◌≤◌, ◌-◌, ℕ, IfOk};
+ghost use Rattle.relay_connections.specs.Readiness.{IsLeftClient, clients_of};
+ghost use Rattle.relay_next_hops.specs.Lanes.{next_due_of};
+ghost use Rattle.relay_next_hops.specs.Readiness.{IsLeftHop, hops_of};
+ghost use Rattle.relay_run.specs.Room.{MayStart, next_look};
+ghost use Rattle.relay_run.specs.declared.waiting.TheConstants.{LONGEST_WAIT};
 
 use crate::reopening::Why;
 use crate::reporter::Reporter;
-use crate::shell::Shell;
-use mio::net::TcpStream;
+use crate::shell::SystemShell;
+use crate::status_page::StatusPage;
+use crate::status_texts::Busy;
+use mio::net::TcpListener;
 use mio::{Events, Poll};
-use relay_connections::Now;
+use relay_connections::{Now, Readiness};
 use relay_files::Fault;
 use relay_log::{Counters, Form, Log};
-use relay_next_hops::Dial;
+use relay_next_hops::Sockets;
 use relay_trace::clock_moment;
 use std::alloc::Global;
 use std::io::Write;
+use std::net::Net;
 use std::rt::Clock;
 use std::time::Duration;
 
+/// What a relay has of its system beside files: the clocks, its listener, what opens streams to next hops, what tells
+/// of readiness, and the page.
+pub(crate) struct System<'a, R> {
+    pub(crate) clock: &'a R,
+    pub(crate) listener: TcpListener,
+    pub(crate) dial: Sockets<'a, R>,
+    pub(crate) poll: Poll,
+    pub(crate) events: Events,
+    pub(crate) page: StatusPage,
+}
+
+// Written out, so that what drops it calls this, and doesn't look into its parts.
+impl<R> Drop for System<'_, R> {
+    fn drop(self) {
+        let System {
+            clock: _,
+            listener: _listener,
+            dial: _dial,
+            poll: _poll,
+            events: _events,
+            page: _page,
+        } = self;
+    }
+}
+
 /// Serves without an end.
-pub(crate) fn serve<C: Clock, N: Dial<Stream = TcpStream>, E: Write>(
+pub(crate) fn serve<R: Clock + Net, E: Write>(
     alloc: Global,
-    rt: &C,
-    dial: &mut N,
-    poll: Poll,
-    events: Events,
-    shell: Shell,
+    system: System<'_, R>,
+    shell: SystemShell,
     form: Option<Form>,
     errors: &mut E,
 ) -> Result<(), Fault>
     ensures { IfOk result (λ _. ⊥) }
 {
-    let mut poll = poll;
-    let mut events = events;
+    let mut system = system;
     let mut shell = shell;
     let mut lines = Vec::new(alloc);
     let mut counters = Counters::new();
     for _ in 0..u64::MAX {
-        wait(rt, &mut poll, &mut events, &mut shell);
+        wait(&mut system, &mut shell);
         let end = take_turn(
             alloc,
-            rt,
-            dial,
-            &poll,
+            &mut system,
             &mut shell,
             form,
             &mut counters,
             &mut lines,
             errors,
         );
-        shell = behind_turn(alloc, rt, shell, end, form, &mut counters, errors)?;
+        shell = behind_turn(alloc, &mut system, shell, end, form, &mut counters, errors)?;
     }
     // So many turns are never done.
     Err(Fault::Socket)
 }
 
 /// Waits for the system to tell of something, no longer than there is nothing else to be done.
-fn wait<R: Clock>(rt: &R, poll: &mut Poll, events: &mut Events, shell: &mut Shell) {
-    let wait = Duration::from_millis(shell.wait(&Now::of(rt)));
+fn wait<R: Clock>(system: &mut System<'_, R>, shell: &mut SystemShell) {
+    let wait = next_wait(shell, &system.page, &Now::of(system.clock));
     // A wait that fails tells of nothing, and the clocks go on.
-    let _ = poll.poll(events, Some(wait));
-    shell.note_events(events);
+    let _ = system
+        .poll
+        .poll(&mut system.events, Some(Duration::from_millis(wait)));
+    for event in system.events.iter() {
+        let (token, ready) = (event.token().0, Readiness::of(event));
+        if token < StatusPage::TOKEN {
+            shell.note(token, ready);
+        } else {
+            system.page.note(token - StatusPage::TOKEN, ready);
+        }
+    }
+}
+
+/// How many milliseconds may be waited, where the page waits too.
+fn next_wait(shell: &SystemShell, page: &StatusPage, now: &Now) -> u64
+    ensures client { (number : ℕ) → IsLeftClient (clients_of shell.now.clients) shell.now.relay number
+        → result ≡ 0 }
+    ensures hop { (number : ℕ) → IsLeftHop (hops_of shell.now.next_hops) shell.now.relay number → result ≡ 0 }
+    ensures due { MayStart shell.now.room shell.now.relay.node.records.spool.size
+        → result ≤ next_due_of shell.now.next_hops - now.now.tick }
+    ensures look { result ≤ next_look shell.now.room.standing shell.now.room - now.now.tick }
+    ensures longest { result ≤ LONGEST_WAIT }
+{
+    if page.is_ready(now) {
+        return 0;
+    }
+    let wait = shell.wait(now);
+    wait.min(page.next_deadline(u64::MAX).saturating_sub(now.tick))
 }
 
 /// The relay after a turn that has come to this end. A fault that ends it is logged.
 fn behind_turn<R: Clock, E: Write>(
     alloc: Global,
-    rt: &R,
-    shell: Shell,
+    system: &mut System<'_, R>,
+    shell: SystemShell,
     end: Result<(), Fault>,
     form: Option<Form>,
     counters: &mut Counters,
     errors: &mut E,
-) -> Result<Shell, Fault> {
-    let behind = kept_or_reopened(alloc, rt, shell, end, form, counters, errors);
+) -> Result<SystemShell, Fault> {
+    let behind = kept_or_reopened(alloc, system, shell, end, form, counters, errors);
     if let Err(fault) = &behind {
-        let mut log = Log::stamped(alloc, errors, form, clock_moment(rt), counters);
+        let mut log = Log::stamped(alloc, errors, form, clock_moment(system.clock), counters);
         log.stopping(fault);
     }
     behind
@@ -83,44 +136,42 @@ fn behind_turn<R: Clock, E: Write>(
 /// opened again.
 fn kept_or_reopened<R: Clock, E: Write>(
     alloc: Global,
-    rt: &R,
-    shell: Shell,
+    system: &mut System<'_, R>,
+    shell: SystemShell,
     end: Result<(), Fault>,
     form: Option<Form>,
     counters: &mut Counters,
     errors: &mut E,
-) -> Result<Shell, Fault> {
+) -> Result<SystemShell, Fault> {
     let why = match end {
-        Ok(()) if shell.is_renewed(&Now::of(rt)) => Why::Renewed,
+        Ok(()) if shell.is_renewed(&Now::of(system.clock)) => Why::Renewed,
         Ok(()) => return Ok(shell),
         Err(Fault::Device) => Why::Failed,
         Err(fault) => return Err(fault),
     };
     let mut reporter = Reporter {
         alloc,
-        clock: rt,
+        clock: system.clock,
         form,
         counters,
         errors,
     };
-    shell.reopened(&mut reporter, why)
+    shell.reopened(&mut reporter, &mut system.listener, why)
 }
 
 /// A turn, whose lines of the log are written then; and what keeps the spool small after it, which may take a while,
 /// and so comes when those lines are out. The page is served last.
-fn take_turn<C: Clock, N: Dial<Stream = TcpStream>, E: Write>(
+fn take_turn<R: Clock + Net, E: Write>(
     alloc: Global,
-    rt: &C,
-    dial: &mut N,
-    poll: &Poll,
-    shell: &mut Shell,
+    system: &mut System<'_, R>,
+    shell: &mut SystemShell,
     form: Option<Form>,
     counters: &mut Counters,
     lines: &mut Vec<u8>,
     errors: &mut E,
 ) -> Result<(), Fault> {
-    let now = Now::of(rt);
-    let end = serve_all(alloc, rt, dial, poll, shell, &now, form, counters, lines);
+    let now = Now::of(system.clock);
+    let end = serve_all(alloc, system, shell, &now, form, counters, lines);
     hand_out(lines, errors);
     end?;
     shell.note_known();
@@ -128,30 +179,46 @@ fn take_turn<C: Clock, N: Dial<Stream = TcpStream>, E: Write>(
     hand_out(lines, errors);
     end?;
     shell.note_known();
-    shell.show(poll.registry(), counters, &now);
+    show(system, shell, counters, &now);
     shell.trim()
 }
 
+/// Serves the page, and nothing else.
+fn show<R>(system: &mut System<'_, R>, shell: &SystemShell, counters: &Counters, now: &Now) {
+    let busy = Busy {
+        sessions: shell.clients.count() as u64,
+        attempts: shell.next_hops.running() as u64,
+    };
+    system
+        .page
+        .turn(system.poll.registry(), &shell.relay, busy, counters, now);
+}
+
 /// Serves all connections once, and gathers the lines of the log.
-fn serve_all<C: Clock, N: Dial<Stream = TcpStream>>(
+fn serve_all<R: Clock + Net>(
     alloc: Global,
-    rt: &C,
-    dial: &mut N,
-    poll: &Poll,
-    shell: &mut Shell,
+    system: &mut System<'_, R>,
+    shell: &mut SystemShell,
     now: &Now,
     form: Option<Form>,
     counters: &mut Counters,
     lines: &mut Vec<u8>,
 ) -> Result<(), Fault> {
     let mut log = Log::stamped(alloc, lines, form, now.moment, counters);
-    shell.turn(rt, dial, poll.registry(), now, &mut log)
+    shell.turn(
+        system.clock,
+        &mut system.listener,
+        &mut system.dial,
+        system.poll.registry(),
+        now,
+        &mut log,
+    )
 }
 
 /// Writes the spool anew where that is due, and gathers the lines of the log.
 fn tidy(
     alloc: Global,
-    shell: &mut Shell,
+    shell: &mut SystemShell,
     now: &Now,
     form: Option<Form>,
     counters: &mut Counters,

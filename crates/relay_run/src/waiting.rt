@@ -8,26 +8,16 @@ ghost use Rattle.relay_run.specs.declared.waiting.TheConstants.{LONGEST_WAIT};
 
 use crate::door::Door;
 use crate::shell::Shell;
-use crate::status_page::StatusPage;
-use mio::Events;
-use mio::event::Event;
-use relay_connections::{Arrivals, Leaving, Now, Readiness};
+use relay_connections::{Arrivals, Leaving, Now, Readiness, Stream};
+use relay_disk::Disk;
 use relay_next_hops::NextHops;
 
 /// The most milliseconds that a wait lasts.
 const LONGEST_WAIT: u64 = 60_000;
 
-impl Shell {
-    /// The system tells what connections may be ready for.
-    pub(crate) fn note_events(&mut self, events: &Events) {
-        for event in events.iter() {
-            self.note_event(event);
-        }
-    }
-
-    fn note_event(&mut self, event: &Event) {
-        let token = event.token().0;
-        let ready = Readiness::of(event);
+impl<S: Stream + Drop, D: Disk + Drop, F: Disk + Drop> Shell<S, D, F> {
+    /// The system tells what the connection of a token, or the listener, may be ready for.
+    pub(crate) fn note(&mut self, token: usize, ready: Readiness) {
         if token < NextHops::FIRST_TOKEN {
             self.clients.note(token, ready);
         } else if token < Leaving::FIRST_TOKEN {
@@ -37,10 +27,8 @@ impl Shell {
         } else if token < Door::TOKEN {
             let number = token - Arrivals::FIRST_TOKEN;
             self.door.note_arrival(number, ready);
-        } else if token < StatusPage::TOKEN {
-            self.door.note();
         } else {
-            self.page.note(token - StatusPage::TOKEN, ready);
+            self.door.note();
         }
     }
 
@@ -57,7 +45,7 @@ impl Shell {
         if self.next_hops.is_ready(&self.relay, self.may_start()) {
             return true;
         }
-        self.door.is_ready(now) || self.leaving.is_ready() || self.page.is_ready(now)
+        self.door.is_ready(now) || self.leaving.is_ready()
     }
 
     /// How many milliseconds may be waited for the system to tell of something, a minute at most: none while a
@@ -82,7 +70,6 @@ impl Shell {
         next = self.leaving.next_deadline(next);
         next = self.tidying.next_deadline(next);
         next = self.room.next_deadline(next);
-        next = self.page.next_deadline(next);
         next = self.next_hops.next_deadline(self.may_start(), next);
         next.saturating_sub(now.tick)
     }

@@ -1,0 +1,11 @@
+-- What has come of a client that was to be taken.
+use Rattle.std.specs.declared.net.socket_addr.SocketAddrV4.{SocketAddrV4}
+use Rattle.relay_run.specs.declared.listen.Found.{Found}
+use Rattle.relay_run.specs.declared.listen.Found.TheVariants.{Client, Missed, Nobody, Want}
+
+-- where it is a client, its stream comes from the place that is told
+abbrev pub IsFound : {S : Type 0} → (S → SocketAddrV4 → Type 0) → Found S → Type 0
+IsFound comes_from (Client stream peer) = comes_from stream peer
+IsFound comes_from Missed = Unit {0}
+IsFound comes_from Nobody = Unit {0}
+IsFound comes_from Want = Unit {0}
