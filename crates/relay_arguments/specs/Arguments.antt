@@ -33,7 +33,7 @@ without_subcommands = record {
 abbrev pub option_rule : Text → Rule
 option_rule name = record (new_rule name) { long = Some name; action = Some Set; value_names = 1 }
 
--- `--config FILE`, which has to be given
+-- `--config FILE`, which must be given
 abbrev pub config_rule : Rule
 config_rule = record (option_rule (codes "config")) { required = true }
 
@@ -73,7 +73,7 @@ quiet_rule = record (new_rule (codes "quiet")) { long = Some (codes "quiet"); ac
 abbrev pub switch_rule : Text → Rule
 switch_rule name = record (new_rule name) { long = Some name; action = Some SetTrue }
 
--- profile: `NUMBER`, which has to be given, from 1 to 2^64 - 1
+-- profile: `NUMBER`, which must be given, from 1 to 2^64 - 1
 abbrev pub number_rule : Rule
 number_rule =
     record (new_rule (codes "number"))
@@ -125,7 +125,7 @@ over_files =
 abbrev pub with_queue : App
 with_queue = with_subcommand (with_subcommand over_files showing.top) reporting.top
 
--- and with the one that writes a spool anew
+-- and with the one that compacts a spool
 abbrev pub with_compact : App
 with_compact = with_subcommand with_queue (configured (codes "compact")).top
 
@@ -141,7 +141,7 @@ with_run = with_subcommand with_check running.top
 abbrev pub relayd : App
 relayd = with_subcommand (with_subcommand with_run serving.top) pushing.top
 
--- the kinds of error that the words may have; none where they name a subcommand as it is to be named
+-- the kinds of error that the words may have; none if they name a subcommand as it is to be named
 abbrev pub faults_in : List Text → Kinds
 faults_in words = fault_of relayd words
 
@@ -177,7 +177,7 @@ config_in rows = unwrap_or (first_of (codes "config") rows) []
 abbrev pub config_or_default_in : List Row → Text
 config_or_default_in rows = unwrap_or (first_of (codes "config") rows) (codes "/etc/relayd.toml")
 
--- the number that a text says, where it is one from 1 to the most; the argument reader refuses other texts
+-- the number that a text says, if it is one from 1 to the most; the argument reader refuses other texts
 abbrev pub number_of : ℕ → Text → ℕ
 number_of most text = if is_unsigned_in 1 most text then digits_value 10 (without_leading_plus text) else 1
 

@@ -16,11 +16,11 @@ use std::alloc::{AllocError, Global};
 /// The version of the program.
 const VERSION: &str = "1.0.0";
 
-/// What the argument reader is told of the program. It fails where memory runs out.
+/// What the argument reader is told of the program. Fails if memory runs out.
 pub(crate) fn program<'a>(alloc: Global) -> Result<Command<'a>, AllocError>
     ensures { IfOk result (λ command. app_of command ≡ relayd) }
 {
-    // Each subcommand is made when it is added, so that few are at hand where memory runs out.
+    // Each subcommand is made when it is added, so that few are at hand if memory runs out.
     let with_run = with_run(alloc)?;
     let serve = serve(alloc)?;
     let with_serve = with_run.subcommand(serve)?;
@@ -28,7 +28,7 @@ pub(crate) fn program<'a>(alloc: Global) -> Result<Command<'a>, AllocError>
     with_serve.subcommand(push)
 }
 
-/// The program with its subcommands but `serve` and `push`. It fails where memory runs out.
+/// Returns the program with its subcommands but `serve` and `push`. Fails if memory runs out.
 fn with_run<'a>(alloc: Global) -> Result<Command<'a>, AllocError>
     ensures { IfOk result (λ command. app_of command ≡ with_run) }
 {
@@ -37,7 +37,7 @@ fn with_run<'a>(alloc: Global) -> Result<Command<'a>, AllocError>
     with_check.subcommand(run)
 }
 
-/// The program with its subcommands that need no socket. It fails where memory runs out.
+/// Returns the program with its subcommands that need no socket. Fails if memory runs out.
 fn with_check<'a>(alloc: Global) -> Result<Command<'a>, AllocError>
     ensures { IfOk result (λ command. app_of command ≡ with_check) }
 {
@@ -46,7 +46,7 @@ fn with_check<'a>(alloc: Global) -> Result<Command<'a>, AllocError>
     with_compact.subcommand(check)
 }
 
-/// The program with its subcommands over a spool without sockets. It fails where memory runs out.
+/// Returns the program with its subcommands over a spool without sockets. Fails if memory runs out.
 fn with_compact<'a>(alloc: Global) -> Result<Command<'a>, AllocError>
     ensures { IfOk result (λ command. app_of command ≡ with_compact) }
 {
@@ -60,7 +60,7 @@ fn with_compact<'a>(alloc: Global) -> Result<Command<'a>, AllocError>
     with_queue.subcommand(compact)
 }
 
-/// The program with its subcommands that make a spool and look at it. It fails where memory runs out.
+/// Returns the program with its subcommands that make a spool and look at it. Fails if memory runs out.
 fn with_queue<'a>(alloc: Global) -> Result<Command<'a>, AllocError>
     ensures { IfOk result (λ command. app_of command ≡ with_queue) }
 {
@@ -71,7 +71,7 @@ fn with_queue<'a>(alloc: Global) -> Result<Command<'a>, AllocError>
     with_show.subcommand(status)
 }
 
-/// The program with its subcommands that make and list a spool. It fails where memory runs out.
+/// Returns the program with its subcommands that make and list a spool. Fails if memory runs out.
 fn over_files<'a>(alloc: Global) -> Result<Command<'a>, AllocError>
     ensures { IfOk result (λ command. app_of command ≡ over_files) }
 {
@@ -87,7 +87,7 @@ fn over_files<'a>(alloc: Global) -> Result<Command<'a>, AllocError>
     with_init.subcommand(list)
 }
 
-/// The program with its subcommands that need no file. It fails where memory runs out.
+/// Returns the program with its subcommands that need no file. Fails if memory runs out.
 fn without_files<'a>(alloc: Global) -> Result<Command<'a>, AllocError>
     ensures { IfOk result (λ command. app_of command ≡ without_files) }
 {
@@ -97,7 +97,7 @@ fn without_files<'a>(alloc: Global) -> Result<Command<'a>, AllocError>
     with_session.subcommand(play)
 }
 
-/// The program without its subcommands, of which one has to be entered.
+/// Returns the program without its subcommands, of which one must be entered.
 fn without_subcommands<'a>(alloc: Global) -> Command<'a>
     ensures { app_of result ≡ without_subcommands }
 {
@@ -128,7 +128,7 @@ fn play<'a>(alloc: Global) -> Command<'a>
         .after_help("Example: relayd play < docs/plays/lost_reply.play")
 }
 
-/// A subcommand of this name with a configuration file. It fails where memory runs out.
+/// Returns a subcommand of this name with a configuration file. Fails if memory runs out.
 pub(crate) fn with_file<'a>(
     alloc: Global,
     name: &'a str,
@@ -143,7 +143,7 @@ pub(crate) fn with_file<'a>(
         .arg(file_argument(alloc))
 }
 
-/// A subcommand of this name whose configuration file is the default one where none is given. It fails where memory
+/// Returns a subcommand of this name whose configuration file is the default one where none is given. Fails if memory
 /// runs out.
 pub(crate) fn with_default_file<'a>(
     alloc: Global,
@@ -159,7 +159,7 @@ pub(crate) fn with_default_file<'a>(
         .arg(optional_file_argument(alloc))
 }
 
-/// `check [--config FILE] [--route ADDRESS]`. It fails where memory runs out.
+/// `check [--config FILE] [--route ADDRESS]`. Fails if memory runs out.
 fn check<'a>(alloc: Global) -> Result<Command<'a>, AllocError>
     ensures { IfOk result (λ command. app_of command ≡ checking) }
 {
@@ -172,7 +172,7 @@ fn check<'a>(alloc: Global) -> Result<Command<'a>, AllocError>
     .arg(route_argument(alloc))
 }
 
-/// `run [--config FILE] [--quiet]`. It fails where memory runs out.
+/// `run [--config FILE] [--quiet]`. Fails if memory runs out.
 fn run<'a>(alloc: Global) -> Result<Command<'a>, AllocError>
     ensures { IfOk result (λ command. app_of command ≡ running) }
 {
@@ -185,7 +185,7 @@ fn run<'a>(alloc: Global) -> Result<Command<'a>, AllocError>
     .arg(quiet_argument(alloc))
 }
 
-/// `serve --config FILE [--rounds N] [--workers W] [--log]`. It fails where memory runs out.
+/// `serve --config FILE [--rounds N] [--workers W] [--log]`. Fails if memory runs out.
 fn serve<'a>(alloc: Global) -> Result<Command<'a>, AllocError>
     ensures { IfOk result (λ command. app_of command ≡ serving) }
 {
@@ -200,7 +200,7 @@ fn serve<'a>(alloc: Global) -> Result<Command<'a>, AllocError>
     .arg(log_argument(alloc))
 }
 
-/// `push --config FILE [--log]`. It fails where memory runs out.
+/// `push --config FILE [--log]`. Fails if memory runs out.
 fn push<'a>(alloc: Global) -> Result<Command<'a>, AllocError>
     ensures { IfOk result (λ command. app_of command ≡ pushing) }
 {

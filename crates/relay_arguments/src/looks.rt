@@ -27,7 +27,7 @@ pub struct Listing<'a> {
     pub older: Option<&'a str>,
 }
 
-/// What `list` asks for: with one of its options, a listing.
+/// Returns what `list` asks for: with one of its options, a listing.
 pub(crate) fn list_asked<'a>(matches: &ArgMatches<'a>) -> Subcommand<'a>
     ensures { asked result ≡ list_asked (rows_of (found_of matches.now)) }
 {
@@ -40,7 +40,7 @@ pub(crate) fn list_asked<'a>(matches: &ArgMatches<'a>) -> Subcommand<'a>
     }
 }
 
-/// What `show` asks for.
+/// Returns what `show` asks for.
 pub(crate) fn show_asked<'a>(matches: &ArgMatches<'a>) -> Subcommand<'a>
     ensures { asked result ≡ show_asked (rows_of (found_of matches.now)) }
 {
@@ -51,7 +51,7 @@ pub(crate) fn show_asked<'a>(matches: &ArgMatches<'a>) -> Subcommand<'a>
     }
 }
 
-/// What `status` asks for.
+/// Returns what `status` asks for.
 pub(crate) fn status_asked<'a>(matches: &ArgMatches<'a>) -> Subcommand<'a>
     ensures { asked result ≡ status_asked (rows_of (found_of matches.now)) }
 {
@@ -61,7 +61,7 @@ pub(crate) fn status_asked<'a>(matches: &ArgMatches<'a>) -> Subcommand<'a>
     }
 }
 
-/// Which recipients are listed, and how.
+/// Returns which recipients are listed, and how.
 fn rows_asked<'a>(matches: &ArgMatches<'a>) -> Listing<'a>
     ensures { rows_value result ≡ rows_asked_in (rows_of (found_of matches.now)) }
 {
@@ -74,7 +74,7 @@ fn rows_asked<'a>(matches: &ArgMatches<'a>) -> Listing<'a>
     }
 }
 
-/// Whether a listing asks for nothing.
+/// Returns whether a listing asks for nothing.
 fn is_plain(listing: &Listing<'_>) -> bool
     ensures { result ≡ is_plain (rows_value listing.now) }
 {
@@ -85,14 +85,14 @@ fn is_plain(listing: &Listing<'_>) -> bool
         && listing.older.is_none()
 }
 
-/// The text of an option, where it was given.
+/// Returns the text of an option, if it was given.
 fn text_of<'a>(matches: &ArgMatches<'a>, option: &str) -> Option<&'a str>
     ensures { option_copied result ≡ first_of option.now (rows_of (found_of matches.now)) }
 {
     matches.get_str(option)
 }
 
-/// The number of the message that is asked for; the argument reader refuses words without one.
+/// Returns the number of the message that is asked for; the argument reader refuses words without one.
 fn message_number(matches: &ArgMatches<'_>) -> u64
     ensures { result ≡ message_number_in (rows_of (found_of matches.now)) }
 {
@@ -102,8 +102,8 @@ fn message_number(matches: &ArgMatches<'_>) -> u64
     }
 }
 
-/// `list --config FILE [--long] [--json] [--hop NAME] [--from PATH] [--to PATH] [--older AGE]`. It fails where memory
-/// runs out.
+/// `list --config FILE [--long] [--json] [--hop NAME] [--from PATH] [--to PATH] [--older AGE]`. Fails if memory runs
+/// out.
 pub(crate) fn list<'a>(alloc: Global) -> Result<Command<'a>, AllocError>
     ensures { IfOk result (λ command. app_of command ≡ listing) }
 {
@@ -118,7 +118,7 @@ pub(crate) fn list<'a>(alloc: Global) -> Result<Command<'a>, AllocError>
     with_filters(alloc, with_forms)
 }
 
-/// `list` with the options that choose recipients. It fails where memory runs out.
+/// `list` with the options that choose recipients. Fails if memory runs out.
 fn with_filters<'a>(alloc: Global, list: Command<'a>) -> Result<Command<'a>, AllocError>
     requires { app_of list ≡ with_forms }
     ensures { IfOk result (λ command. app_of command ≡ listing) }
@@ -139,7 +139,7 @@ fn with_filters<'a>(alloc: Global, list: Command<'a>) -> Result<Command<'a>, All
         ))
 }
 
-/// `show [--config FILE] [--raw] NUMBER`. It fails where memory runs out.
+/// `show [--config FILE] [--raw] NUMBER`. Fails if memory runs out.
 pub(crate) fn show<'a>(alloc: Global) -> Result<Command<'a>, AllocError>
     ensures { IfOk result (λ command. app_of command ≡ showing) }
 {
@@ -153,7 +153,7 @@ pub(crate) fn show<'a>(alloc: Global) -> Result<Command<'a>, AllocError>
     .arg(switch(alloc, "raw", "Write the text alone, octet by octet"))
 }
 
-/// `status [--config FILE] [--prometheus]`. It fails where memory runs out.
+/// `status [--config FILE] [--prometheus]`. Fails if memory runs out.
 pub(crate) fn status<'a>(alloc: Global) -> Result<Command<'a>, AllocError>
     ensures { IfOk result (λ command. app_of command ≡ reporting) }
 {
@@ -170,7 +170,7 @@ pub(crate) fn status<'a>(alloc: Global) -> Result<Command<'a>, AllocError>
     ))
 }
 
-/// A switch of this name.
+/// Returns a switch of this name.
 fn switch<'a>(alloc: Global, name: &'a str, help: &'a str) -> Arg<'a>
     ensures rule { rule_of result ≡ switch_rule name.now }
     ensures local { result.global ≡ false }
@@ -181,7 +181,7 @@ fn switch<'a>(alloc: Global, name: &'a str, help: &'a str) -> Arg<'a>
         .help(help)
 }
 
-/// An option of this name, which takes any text; help calls it `value`.
+/// Returns an option of this name, which takes any text; help calls it `value`.
 fn option<'a>(alloc: Global, name: &'a str, value: &'a str, help: &'a str) -> Arg<'a>
     ensures rule { rule_of result ≡ option_rule name.now }
     ensures local { result.global ≡ false }

@@ -45,7 +45,7 @@ pub enum Subcommand<'a> {
         /// Whether it is written as metrics for Prometheus.
         prometheus: bool,
     },
-    /// The spool is written anew, by the configuration in this file.
+    /// The spool is compacted, by the configuration in this file.
     Compact(&'a str),
     /// The configuration in this file is checked.
     Check {
@@ -100,7 +100,7 @@ pub fn arguments<'a, S: AsStr>(alloc: Global, words: &'a [S]) -> Result<Subcomma
     Ok(asked_for(&matches))
 }
 
-/// The subcommand that was entered.
+/// Returns the subcommand that was entered.
 fn asked_for<'a>(matches: &ArgMatches<'a>) -> Subcommand<'a>
     ensures { asked result ≡ asked_of (subcommand_rows_of matches.now) }
 {
@@ -110,7 +110,7 @@ fn asked_for<'a>(matches: &ArgMatches<'a>) -> Subcommand<'a>
     }
 }
 
-/// The subcommand of this name.
+/// Returns the subcommand of this name.
 fn named<'a>(name: &str, matches: &ArgMatches<'a>) -> Subcommand<'a>
     ensures { asked result ≡ asked_by name.now (rows_of (found_of matches.now)) }
 {
@@ -139,7 +139,7 @@ fn named<'a>(name: &str, matches: &ArgMatches<'a>) -> Subcommand<'a>
     }
 }
 
-/// What `check` asks for.
+/// Returns what `check` asks for.
 fn check_asked<'a>(matches: &ArgMatches<'a>) -> Subcommand<'a>
     ensures { asked result ≡ check_asked (rows_of (found_of matches.now)) }
 {
@@ -149,7 +149,7 @@ fn check_asked<'a>(matches: &ArgMatches<'a>) -> Subcommand<'a>
     }
 }
 
-/// What `run` asks for.
+/// Returns what `run` asks for.
 fn run_asked<'a>(matches: &ArgMatches<'a>) -> Subcommand<'a>
     ensures { asked result ≡ run_asked (rows_of (found_of matches.now)) }
 {
@@ -159,7 +159,7 @@ fn run_asked<'a>(matches: &ArgMatches<'a>) -> Subcommand<'a>
     }
 }
 
-/// What `serve` asks for.
+/// Returns what `serve` asks for.
 fn serve_asked<'a>(matches: &ArgMatches<'a>) -> Subcommand<'a>
     ensures { asked result ≡ serve_asked (rows_of (found_of matches.now)) }
 {
@@ -171,7 +171,7 @@ fn serve_asked<'a>(matches: &ArgMatches<'a>) -> Subcommand<'a>
     }
 }
 
-/// What `push` asks for.
+/// Returns what `push` asks for.
 fn push_asked<'a>(matches: &ArgMatches<'a>) -> Subcommand<'a>
     ensures { asked result ≡ push_asked (rows_of (found_of matches.now)) }
 {
@@ -181,21 +181,21 @@ fn push_asked<'a>(matches: &ArgMatches<'a>) -> Subcommand<'a>
     }
 }
 
-/// The file of `--config`, which the argument reader requires.
+/// Returns the file of `--config`, which the argument reader requires.
 pub(crate) fn config<'a>(matches: &ArgMatches<'a>) -> &'a str
     ensures { result.now ≡ config_in (rows_of (found_of matches.now)) }
 {
     matches.get_str("config").unwrap_or("")
 }
 
-/// The file of `--config`, or the default one.
+/// Returns the file of `--config`, or the default one.
 pub(crate) fn config_or_default<'a>(matches: &ArgMatches<'a>) -> &'a str
     ensures { result.now ≡ config_or_default_in (rows_of (found_of matches.now)) }
 {
     matches.get_str("config").unwrap_or(DEFAULT_CONFIG)
 }
 
-/// The address of `--route`, where it was given.
+/// Returns the address of `--route`, if it was given.
 fn route<'a>(matches: &ArgMatches<'a>) -> Option<&'a str>
     ensures { option_map (λ address. address.now) result
         ≡ first_of (codes "route") (rows_of (found_of matches.now)) }
@@ -203,7 +203,7 @@ fn route<'a>(matches: &ArgMatches<'a>) -> Option<&'a str>
     matches.get_str("route")
 }
 
-/// How many rounds `--rounds` asks for: 1 where it isn't given.
+/// Returns how many rounds `--rounds` asks for: 1 where it isn't given.
 fn rounds(matches: &ArgMatches<'_>) -> u32
     ensures { result ≡ rounds_in (rows_of (found_of matches.now)) }
 {
@@ -213,7 +213,7 @@ fn rounds(matches: &ArgMatches<'_>) -> u32
     }
 }
 
-/// How many connections a round takes by `--workers`: 1 where it isn't given.
+/// Returns how many connections a round takes by `--workers`: 1 where it isn't given.
 fn workers(matches: &ArgMatches<'_>) -> u8
     ensures { result ≡ workers_in (rows_of (found_of matches.now)) }
 {
@@ -223,7 +223,7 @@ fn workers(matches: &ArgMatches<'_>) -> u8
     }
 }
 
-/// The number that a text says, where it is one from 1 to the most; the argument reader refuses other texts.
+/// Returns the number that a text says, if it is one from 1 to the most; the argument reader refuses other texts.
 pub(crate) fn number_of(text: &str, most: u64) -> u64
     requires { 1 ≤ most }
     ensures number { result ≡ number_of most text.now }
@@ -243,7 +243,7 @@ pub(crate) fn number_of(text: &str, most: u64) -> u64
     }
 }
 
-/// Whether the switch of this name was given.
+/// Returns whether the switch of this name was given.
 pub(crate) fn is_given(matches: &ArgMatches<'_>, switch: &str) -> bool
     ensures { result ≡ is_given_in switch.now (rows_of (found_of matches.now)) }
 {

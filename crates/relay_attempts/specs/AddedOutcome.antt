@@ -1,5 +1,4 @@
--- An outcome in the list of changes: it is added with the report that is due of it, in one change (RFC 3461, section
--- 5.2).
+-- An outcome in the list of changes: it is added with the report that is owed, in one change (RFC 3461, section 5.2).
 use Rattle.std.specs.Prelude.{◌≡◌, ◌↔◌, ℕ, ◌+◌, ◌<◌, ◌≤◌, ◌^◌, List, [], length, MatchOption}
 use Rattle.std.specs.List.{AllByRecursion}
 use Rattle.relay_disk.specs.Device.{DiskWords}
@@ -35,14 +34,14 @@ pub record MayCome (queue : Queue) (outcome : Outcome) : Type 0 where
   pub within : length outcome.rulings ≤ 100
   pub rulings : AllByRecursion IsRuling outcome.rulings
 
--- the change is the outcome with the report that is due of it, and fits the queue
+-- the change is the outcome with the report that is owed, and fits the queue
 pub record IsReported (reporter : Reporter) (queue : Queue) (outcome : Outcome) (change : Change) : Type 0 where
   pub report : List ℕ
   pub change_is : change ≡ reported_as outcome report
   pub reported : ReportedFrom reporter queue change
   pub fits : FitsQueue queue change
 
--- what an outcome that was added, with the report that is due of it, did to the records, whatever list they keep
+-- what an outcome that was added, with the report that is owed, did to the records, whatever list they keep
 pub record GrowsBy {D : Type 0} (words : DiskWords D) (reporter : Reporter) (outcome : Outcome) (old new : Kept D)
     (number : ℕ)
     : Type 0 where
@@ -53,7 +52,7 @@ pub record GrowsBy {D : Type 0} (words : DiskWords D) (reporter : Reporter) (out
 module _ {D : Type 0} (honest : Type 0) (words : DiskWords D) (reporter : Reporter) (changes : List Change)
     (outcome : Outcome)
     (used : ℕ) where
-  -- the outcome was added with the report that is due of it, and is the change of this number
+  -- the outcome was added with the report that is owed, and is the change of this number
   pub record AddsOutcome (new : Kept D) (number : ℕ) : Type 0 where
     pub number_is : number ≡ length changes + 1
     pub report : List ℕ
@@ -66,7 +65,8 @@ module _ {D : Type 0} (honest : Type 0) (words : DiskWords D) (reporter : Report
     pub reported : Reported reporter changes (reported_as outcome report)
     pub cuts : Cuts honest words new changes (reported_as outcome report) used
 
--- changes have no numbers any more, or the outcome, with the report that is due, would bring the spool past 2^40 octets
+-- changes have no numbers any more, or the outcome, with the report that is owed, would bring the spool past 2^40
+-- octets
 pub data HasNoRoom {D : Type 0} (reporter : Reporter) (outcome : Outcome) (old : Kept D) : Type 0 where
   NoNumber : 2 ^ 62 < old.queue.next → HasNoRoom reporter outcome old
   TooLarge : (report : List ℕ) → ReportedFrom reporter old.queue (reported_as outcome report)

@@ -1,4 +1,4 @@
--- What callers see of the attempts of a node, and what they have to do with its queue.
+-- What callers see of the attempts of a node, and what they must do with its queue.
 use Rattle.std.specs.Prelude.{◌≡◌, ◌≢◌, ℕ, true, false, List, [], Option, Some, None, slice_set}
 use Rattle.relay_slots.specs.Slots.{IsFull, IsLeastFree, slot_at}
 use Rattle.relay_envelope.specs.declared.envelope.Envelope.{Envelope}
@@ -38,7 +38,7 @@ pub record Begun (host : List ℕ) (number : ℕ) (hop places : List ℕ) (run :
   pub its_places : run.places.items ≡ places
   pub follows : (envelope : Envelope) (text : List ℕ) → Follows run.client host envelope text places [] []
 
--- The words below are of an attempt for a message and a hop that is to start at a moment, for at most so many places.
+-- The words below are of an attempt for a message and a hop that is to start at a time, for at most this many places.
 module _ (host : List ℕ) (table : RouteTable) (number : ℕ) (hop : List ℕ) (most : Option ℕ) (now : ℕ) where
   -- an attempt for these places, which are due, has begun under the least free number, and none was running for message
   -- and hop
@@ -61,7 +61,7 @@ module _ (host : List ℕ) (table : RouteTable) (number : ℕ) (hop : List ℕ) 
     pub least : ℕ
     pub free : IsLeastFree runs least
 
-  -- why none starts: the first of these, and want of memory after them all
+  -- why none starts: the first of these, and lack of memory after them all
   abbrev pub RefusesToStartAtMost : {D : Type 0} → Kept D → List (Option Run) → NodeFault → Type 0
   RefusesToStartAtMost records runs Stopped = records.spool.live ≡ false
   RefusesToStartAtMost records runs Unknown =

@@ -13,7 +13,7 @@ use Rattle.relay_attempts.specs.Attempts.{AttemptTable}
 use Rattle.relay_attempts.specs.Outcomes.{outcome_of, rulings_of}
 use Rattle.relay_attempts.specs.Reply.{IsItsCourse, TellsAt, Told, outcome_at, told_more}
 
--- The words below are of the attempt of a number, which at a moment has heard a piece, beside this queue.
+-- The words below are of the attempt of a number, which at a time has heard a piece, beside this queue.
 module _ (host : List ℕ) (queue : Queue) (now number : ℕ) (piece : List ℕ) (old new : AttemptTable)
     (hearing : Hearing) where
   -- what was told of it, with what was used of the piece and what goes to the next hop
@@ -45,7 +45,7 @@ module _ (host : List ℕ) (queue : Queue) (now number : ℕ) (piece : List ℕ)
   GoesOnOrHasEnded None = GoesOn
   GoesOnOrHasEnded (Some outcome) = HasEnded outcome
 
--- where it heard nothing, it is gone for want of memory, or there was none
+-- where it heard nothing, it is gone for lack of memory, or there was none
 abbrev pub HearsNothing : ℕ → AttemptTable → AttemptTable → NodeFault → Type 0
 HearsNothing number old new NoMemory = (slot_at old.runs number ≢ None) × (slot_at new.runs number ≡ None)
 HearsNothing number old new Unknown = (slot_at old.runs number ≡ None) × (new ≡ old)

@@ -28,7 +28,7 @@ goes_to table recipients hop place =
 abbrev pub is_stranded : RouteTable → List Recipient → ℕ → Place → Bool
 is_stranded table recipients n place = place.held && not (is_some (hop_of_place table recipients n))
 
--- it is held, due at this moment or before, and goes to this hop
+-- it is held, due at this time or before, and goes to this hop
 abbrev pub is_due_for : RouteTable → List Recipient → List ℕ → ℕ → ℕ → Place → Bool
 is_due_for table recipients hop now n place = is_due_at now place && goes_to table recipients hop n
 

@@ -1,4 +1,4 @@
--- The next moment at which a node has work.
+-- The next time at which a node has work.
 use Rattle.std.specs.Prelude.{◌≡◌, ◌≢◌, ℕ, ◌<◌, ◌≤◌, Bool, false, not, List, [], Option, None, Some}
 use Rattle.std.specs.Option.{option_map_or}
 use Rattle.relay_trace.specs.DateTime.{last_second}
@@ -18,13 +18,13 @@ is_untried table runs number message place =
 
 -- The words below are of a queue, where mail goes by this table and these attempts are running.
 module _ (table : RouteTable) (runs : List (Option Run)) (queue : Queue) where
-  -- there is work at a moment, and none from now on until then
+  -- there is work at a time, and none from now on until then
   pub record IsNext (now due : ℕ) : Type 0 where
     pub later : now ≤ due
     pub works : works_of table runs due queue ≢ []
     pub idle : (sooner : ℕ) → now ≤ sooner → sooner < due → works_of table runs sooner queue ≡ []
 
-  -- the least moment from now on at which there is work, and none where there is none at any moment
+  -- the least time from now on at which there is work, and none if there is none at any time
   abbrev pub IsNextDue : ℕ → Option ℕ → Type 0
   IsNextDue now None = (moment : ℕ) → moment ≤ last_second → works_of table runs moment queue ≡ []
   IsNextDue now (Some due) = IsNext now due

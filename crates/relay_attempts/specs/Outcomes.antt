@@ -44,11 +44,11 @@ outcome_of message at hop rulings = record {
 abbrev pub unroutable : RouteTable → ℕ → ℕ → Message → Outcome
 unroutable table number at message = outcome_of number at [] (unrouted (stranded_places table message))
 
--- The words below are of the message of a number, which is given up at a moment.
+-- The words below are of the message of a number, which is given up at a time.
 module _ {D : Type 0} (honest : Type 0) (words : DiskWords D) (reporter : Reporter) (table : RouteTable)
     (number at : ℕ) where
-  -- exactly its held places without a hop have ended, in the one change that was added, with the report that is due of
-  -- it, by four calls of the device
+  -- exactly its held places without a hop have ended, in the one change that was added, with the report that is owed,
+  -- by four calls of the device
   pub record AddsUnroutable (changes : List Change) (old new : Kept D) (added : ℕ) : Type 0 where
     pub message : Message
     pub found : message_of old.queue.messages number ≡ Some message
@@ -63,7 +63,7 @@ module _ {D : Type 0} (honest : Type 0) (words : DiskWords D) (reporter : Report
 
 -- What its end did to the records, whatever list they keep, and why none has ended.
 module _ {D : Type 0} (words : DiskWords D) (reporter : Reporter) (table : RouteTable) (number at : ℕ) where
-  -- exactly its held places without a hop have ended, with the report that is due of them, by the change of this number
+  -- exactly its held places without a hop have ended, with the report that is owed, by the change of this number
   pub record EndsUnroutable (old new : Kept D) (added : ℕ) : Type 0 where
     pub message : Message
     pub found : message_of old.queue.messages number ≡ Some message
@@ -88,7 +88,7 @@ module _ {D : Type 0} (words : DiskWords D) (reporter : Reporter) (table : Route
     pub some : stranded_places table message ≢ []
     pub room : HasNoRoom reporter (unroutable table number at message) old
 
-  -- why none has ended: the first of these, and want of memory or of room after them
+  -- why none has ended: the first of these, and lack of memory or of room after them
   abbrev pub RefusesToGiveUp : Kept D → Kept D → NodeFault → Type 0
   RefusesToGiveUp old new NoMemory = (old.spool.live ≡ true) × HasStranded old × (new ≡ old)
   RefusesToGiveUp old new Stopped = ((old.spool.live ≡ false) × (new ≡ old)) ⊎ IsStopped words old new

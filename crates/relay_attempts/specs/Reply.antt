@@ -22,8 +22,8 @@ use Rattle.relay_attempts.specs.declared.reply.Replied.{Replied}
 use Rattle.relay_attempts.specs.Attempts.{AttemptTable}
 use Rattle.relay_attempts.specs.Outcomes.{outcome_of, rulings_of}
 
--- of an attempt: its message, hop and places, the envelope and stored text that it hands on, and what it has
--- read and written
+-- of an attempt: its message, hop and places, the envelope and stored text that it relays, and what it has read and
+-- written
 pub record Told : Type 0 where
   pub message : ℕ
   pub hop : List ℕ
@@ -55,11 +55,11 @@ abbrev pub IsItsCourse : List ℕ → Told → Bool → List Verdict → Type 0
 IsItsCourse host told broken verdicts =
     IsCourse host told.envelope told.text told.places told.input broken told.output (Some verdicts)
 
--- the outcome at a moment: exactly its places, each with its verdict
+-- the outcome at a time: exactly its places, each with its verdict
 abbrev pub outcome_at : ℕ → Told → List Verdict → Outcome
 outcome_at now told verdicts = outcome_of told.message now told.hop (rulings_of told.places verdicts)
 
--- after so many octets of a piece, and with this written, it has ended with these verdicts
+-- after this many octets of a piece, and with this written, it has ended with these verdicts
 pub record ReadsToEnd (host : List ℕ) (told : Told) (piece : List ℕ) : Type 0 where
   pub used : ℕ
   pub within : used ≤ length piece
@@ -67,8 +67,8 @@ pub record ReadsToEnd (host : List ℕ) (told : Told) (piece : List ℕ) : Type 
   pub verdicts : List Verdict
   pub course : IsItsCourse host (told_more told (take used piece) out) false verdicts
 
--- The words below are of a call at a moment, for the attempt of a number, of which this is told; the records
--- keep these changes.
+-- The words below are of a call at a time, for the attempt of a number, of which this is told; the records keep these
+-- changes.
 module _ {D : Type 0} (honest : Type 0) (words : DiskWords D) (reporter : Reporter) (now : ℕ) (changes : List Change)
     (number : ℕ) (told : Told) where
   -- it goes on after the whole piece, and nothing was added
@@ -78,8 +78,8 @@ module _ {D : Type 0} (honest : Type 0) (words : DiskWords D) (reporter : Report
     pub same : new ≡ old
     pub tells : TellsAt reporter.host new.queue runs number (told_more told (take replied.used piece) replied.out.items)
 
-  -- it has ended, and its outcome was added, with the report that is due of it, as the change of this number, by four
-  -- calls of the device
+  -- it has ended, and its outcome was added, with the report that is owed, as the change of this number, by four calls
+  -- of the device
   pub record AttemptHasEnded (piece : List ℕ) (old new : Kept D) (runs : List (Option Run)) (replied : Replied)
       (change : ℕ) : Type 0 where
     pub verdicts : List Verdict

@@ -31,7 +31,7 @@ abbrev pub AllGoTo : RouteTable → List ℕ → Message → List ℕ → Type 0
 AllGoTo table hop message numbers =
     AllByRecursion (λ number. goes_to table message.accept.envelope.recipients hop number ≡ true) numbers
 
--- the attempt hands on a queued message for some of its held places, which go to its hop: of what was said on its
+-- the attempt relays a queued message for some of its held places, which go to its hop: of what was said on its
 -- connection there is a history
 pub record RunsFor (host : List ℕ) (table : RouteTable) (queue : Queue) (run : Run) : Type 0 where
   pub message : Message
@@ -43,7 +43,7 @@ pub record RunsFor (host : List ℕ) (table : RouteTable) (queue : Queue) (run :
   pub output : List ℕ
   pub follows : Follows run.client host message.accept.envelope message.accept.stored_text run.places.items input output
 
--- each attempt hands on what is queued
+-- each attempt relays what is queued
 abbrev pub EachRuns : List ℕ → RouteTable → Queue → List (Option Run) → Type 0
 EachRuns host table queue runs =
     (number : ℕ) (run : Run) → slot_at runs number ≡ Some run → RunsFor host table queue run

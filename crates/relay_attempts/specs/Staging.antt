@@ -1,5 +1,5 @@
 -- What replies to attempts do to records that await changes, where the outcomes of several attempts come into the spool
--- together: each is staged with the report that is due of it, in one change (RFC 3461, section 5.2).
+-- together: each is staged with the report that is owed, in one change (RFC 3461, section 5.2).
 use Rattle.std.specs.Prelude.{◌≡◌, ◌≢◌, ◌≤◌, ℕ, ◌+◌, ◌<◌, ◌^◌, false, List, [], ◌∷◌, ◌++◌, length, take, Option, None}
 use Rattle.std.specs.Prelude.{Some}
 use Rattle.relay_disk.specs.Device.{DiskWords}
@@ -26,7 +26,7 @@ use Rattle.relay_attempts.specs.Reply.{IsItsCourse, ReadsToEnd, TellsAt, Told, o
 -- The words below are of a row of changes that are pending, after those that records keep.
 module _ {D : Type 0} (honest : Type 0) (words : DiskWords D) (reporter : Reporter) (changes pending : List Change)
     (row : Row) where
-  -- the outcome is staged after the row with the report that is due of it, as the change of this number
+  -- the outcome is staged after the row with the report that is owed, as the change of this number
   pub record StagesOutcome (outcome : Outcome) (used : ℕ) (new : Kept D) (left : Row) (number : ℕ) : Type 0 where
     pub number_is : number ≡ length changes + length pending + 1
     pub report : List ℕ
@@ -36,7 +36,7 @@ module _ {D : Type 0} (honest : Type 0) (words : DiskWords D) (reporter : Report
     pub noted : left.notes ≡ row.notes ++ note ∷ []
     pub used_is : note.used ≡ used
 
-  -- The words below are of a call at a moment, for the attempt of a number, of which this is told.
+  -- The words below are of a call at a time, for the attempt of a number, of which this is told.
   module _ (now number : ℕ) (told : Told) where
     -- it goes on after the whole piece, and nothing was staged
     pub record GoesOnBehind (piece : List ℕ) (old new : Kept D) (left : Row) (runs : List (Option Run))
@@ -60,7 +60,7 @@ module _ {D : Type 0} (honest : Type 0) (words : DiskWords D) (reporter : Report
     RepliesBehind piece old new left runs replied None = GoesOnBehind piece old new left runs replied
     RepliesBehind piece old new left runs replied (Some change) = HasEndedBehind piece new left runs replied change
 
--- what an outcome that was staged, with the report that is due of it, did to records and row, whatever they keep
+-- what an outcome that was staged, with the report that is owed, did to records and row, whatever they keep
 pub record GrowsRowBy {D : Type 0} (reporter : Reporter) (outcome : Outcome) (used : ℕ) (old new : Kept D)
     (row left : Row) (number : ℕ) : Type 0 where
   pub report : List ℕ
@@ -68,8 +68,8 @@ pub record GrowsRowBy {D : Type 0} (reporter : Reporter) (outcome : Outcome) (us
   pub fits : FitsQueue old.queue (reported_as outcome report)
   pub stages : Stages old new row left (reported_as outcome report) used number
 
--- changes have no numbers any more, or the outcome, with the report that is due, would bring the spool past 2^40 octets
--- with the row before it
+-- changes have no numbers any more, or the outcome, with the report that is owed, would bring the spool past 2^40
+-- octets with the row before it
 pub data HasNoRoomBehind {D : Type 0} (reporter : Reporter) (outcome : Outcome) (old : Kept D) (row : Row)
     : Type 0 where
   NoNumber : 2 ^ 62 < old.queue.next → HasNoRoomBehind reporter outcome old row

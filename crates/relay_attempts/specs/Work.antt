@@ -1,4 +1,4 @@
--- The work of a node: what there is to do for its queue at a moment.
+-- The work of a node: what there is to do for its queue at a time.
 use Rattle.std.specs.Prelude.{ℕ, Bool, false, not, ◌&&◌, bytes_eq, List, [], ◌∷◌, ◌++◌, map, Option, if◌then◌else◌}
 use Rattle.std.specs.List.{filter, flat_map, list_any}
 use Rattle.relay_routes.specs.Routes.{RouteTable}

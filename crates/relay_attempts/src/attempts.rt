@@ -26,7 +26,7 @@ pub struct Attempts {
     pub(crate) stranded: Vec<u64>,
 }
 
-// Written out, so that what drops the attempts of a node calls this, and doesn't look into each of them.
+// Written out, so that the proof of a caller that drops the attempts of a node stops at this function.
 impl Drop for Attempts {
     fn drop(self) {
         let Attempts {
@@ -50,7 +50,7 @@ impl Model for Attempts {
 }
 
 impl Attempts {
-    /// No attempt, for a node without messages. It fails where memory runs out.
+    /// No attempt, for a node without messages. Fails if memory runs out.
     pub fn idle(alloc: Global) -> Result<Self, AllocError>
         ensures idle { IfOk result (λ attempts. AreFree attempts.runs × HasPlaces attempts.runs) }
         ensures serves { IfOk result (λ attempts. (host : List ℕ) (table : RouteTable) (queue : Queue)
@@ -62,8 +62,7 @@ impl Attempts {
         })
     }
 
-    /// No attempt, beside the messages of these records that have a held place without a hop. It fails where memory
-    /// runs out.
+    /// No attempt, beside the messages of these records that have a held place without a hop. Fails if memory runs out.
     pub fn new<D: Disk>(
         alloc: Global,
         table: &Table,
@@ -80,15 +79,15 @@ impl Attempts {
         })
     }
 
-    /// Whether 64 attempts are running, so that none can be started.
+    /// Returns whether 64 attempts are running, so that none can be started.
     pub fn is_full(&self) -> bool
         ensures { IsTrue result ↔ IsFull self.now.runs }
     {
         self.runs.free().is_none()
     }
 
-    /// What there is to do at a moment, in order of the messages' numbers: that a held place has no hop, and then each
-    /// hop with a due place for which no attempt is running, in the order of their first due places. It fails where
+    /// Returns what there is to do at a time, in order of the messages' numbers: that a held place has no hop, and then
+    /// each hop with a due place for which no attempt is running, in the order of their first due places. Fails if
     /// memory runs out.
     pub fn due<D: Disk>(
         &self,

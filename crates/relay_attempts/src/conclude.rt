@@ -17,7 +17,7 @@ use relay_routes::Config;
 use std::alloc::Global;
 
 impl Attempts {
-    /// Adds an outcome of a queued message, with the report that is due of it, in one change; then it is known which
+    /// Adds an outcome of a queued message, with the report that is owed, in one change; then it is known which
     /// messages are stranded by it, or by the report, and which are no more. All growths come before the append.
     pub(crate) fn conclude<D: Disk>(
         &mut self,
@@ -46,7 +46,14 @@ impl Attempts {
         };
         records.numbers_rise();
         let message = outcome.message;
-        match add_outcome(alloc, config.host.as_slice(), config.reports, records, outcome, used) {
+        match add_outcome(
+            alloc,
+            config.host.as_slice(),
+            config.reports,
+            records,
+            outcome,
+            used,
+        ) {
             Ok(number) => {
                 self.forget(&config.routes, records, message);
                 self.note(&config.routes, records, number);
@@ -56,9 +63,9 @@ impl Attempts {
         }
     }
 
-    /// Stages an outcome of a queued message after the changes of a row, with the report that is due of it, in one
-    /// change; then it is known which messages are stranded by it, or by the report, and which are no more. No device
-    /// is called.
+    /// Stages an outcome of a queued message after the changes of a row, with the report that is owed, in one change;
+    /// then it is known which messages are stranded by it, or by the report, and which are no more. No device is
+    /// called.
     pub(crate) fn conclude_into<D: Disk>(
         &mut self,
         alloc: Global,
@@ -86,7 +93,15 @@ impl Attempts {
         };
         records.numbers_rise();
         let message = outcome.message;
-        match stage_outcome(alloc, config.host.as_slice(), config.reports, records, row, outcome, used) {
+        match stage_outcome(
+            alloc,
+            config.host.as_slice(),
+            config.reports,
+            records,
+            row,
+            outcome,
+            used,
+        ) {
             Ok(number) => {
                 self.forget(&config.routes, records, message);
                 self.note(&config.routes, records, number);

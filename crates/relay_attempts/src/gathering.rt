@@ -7,7 +7,7 @@ ghost use Rattle.relay_attempts.specs.Gathering.{AreGathered};
 use std::alloc::{AllocError, Global};
 use std::collections::BTreeSet;
 
-/// The numbers of these places' messages, and these numbers. It fails where memory runs out.
+/// Returns the numbers of these places' messages together with the given numbers. Fails if memory runs out.
 pub(crate) fn gathered(
     alloc: Global,
     marks: &[(u64, u8)],

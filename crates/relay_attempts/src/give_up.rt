@@ -1,4 +1,4 @@
-//! Messages that have nowhere to go.
+//! Messages with recipients that have no next hop.
 ghost use Rattle.std.specs.Prelude.{◌≡◌, ◌≤◌, List, Err, IfErr, IfOk, length};
 ghost use Rattle.relay_report.specs.Report.{reporter_of};
 ghost use Rattle.relay_attempts.specs.Attempts.{Serves};
@@ -19,9 +19,9 @@ use std::alloc::{AllocError, Global};
 
 impl Attempts {
     /// Ends the held places of a message that have no hop (RFC 5321, section 6.1), all in one change with the report
-    /// that is due of them, whose number is the answer. The first fault in this order is answered: `Stopped`, `Unknown`
-    /// where no such message is queued, `NotDue` where each held place has a hop; then `NoMemory` and `Full`, for want
-    /// of memory or of room. Nothing is changed then; the attempts go on at every answer.
+    /// that is owed, whose number is the answer. The first fault in this order is answered: `Stopped`, `Unknown` where
+    /// no such message is queued, `NotDue` where each held place has a hop; then `NoMemory` and `Full`, for lack of
+    /// memory or of room. Nothing is changed then; the attempts go on at every answer.
     pub fn give_up_unroutable<D: Disk>(
         &mut self,
         alloc: Global,
@@ -64,7 +64,7 @@ impl Attempts {
     }
 }
 
-/// The outcome of the held places of a message that have no hop. It fails where memory runs out.
+/// Returns the outcome of the held places of a message that have no hop. Fails if memory runs out.
 fn unroutable(
     alloc: Global,
     table: &Table,
@@ -85,7 +85,7 @@ fn unroutable(
     })
 }
 
-/// The verdict for each of these places that it has no hop. It fails where memory runs out.
+/// Returns the verdict for each of these places that it has no hop. Fails if memory runs out.
 fn unrouted(alloc: Global, places: &[u8]) -> Result<Rulings, AllocError>
     ensures { IfOk result (λ rulings. rulings ≡ unrouted places.now) }
 {

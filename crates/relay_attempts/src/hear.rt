@@ -1,4 +1,4 @@
-//! What the octets of a next hop make of an attempt.
+//! Octets of a next hop, heard by its attempt.
 ghost use Rattle.std.specs.Prelude.{◌≡◌, ℕ, List, IfErr, IfOk};
 ghost use Rattle.relay_attempts.specs.Attempts.{Serves};
 ghost use Rattle.relay_attempts.specs.Hearing.{GoesOnOrHasEnded, HearsNothing};
@@ -13,21 +13,21 @@ use relay_records::{NodeFault, Records};
 use relay_trace::Moment;
 use std::alloc::Global;
 
-/// What the octets of a next hop have led to.
+/// The result of octets of a next hop.
 #[derive(Drop)]
 pub(crate) struct Hearing {
     /// How many octets of the piece were used: all, unless the attempt has ended.
     pub(crate) used: usize,
-    /// What goes to the next hop.
+    /// The octets for the next hop.
     pub(crate) out: Vec<u8>,
-    /// The outcome of the attempt, where it has ended. Its report isn't written yet.
+    /// The outcome of the attempt, if it has ended. Its report isn't written yet.
     pub(crate) outcome: Option<Outcome>,
 }
 
 impl Attempts {
-    /// Lets an attempt hear octets that its next hop wrote, all of them or up to its end. Where it has ended it is
-    /// gone, and its outcome is left to be recorded. `Unknown` is answered where there is no such attempt, and nothing
-    /// is changed then; at `NoMemory` it is gone.
+    /// Lets an attempt hear octets that its next hop wrote, all of them or up to its end. If it has ended it is gone,
+    /// and its outcome is left to be recorded. `Unknown` is answered if there is no such attempt, and nothing is
+    /// changed then; at `NoMemory` it is gone.
     pub(crate) fn hear<D: Disk>(
         &mut self,
         alloc: Global,

@@ -11,7 +11,7 @@ use relay_routes::{HostName, Table};
 use relay_trace::Moment;
 use std::alloc::{AllocError, Global};
 
-/// The name of the next hop of a path.
+/// Returns the name of the next hop of a path.
 #[tactic(auto, unfolding(crate::specs::Hops::hop_name))]
 fn hop_name<'a>(table: &'a Table, path: &PathBuf) -> Option<&'a HostName>
     ensures { option_copied result ≡ hop_name table.now path.now }
@@ -22,7 +22,7 @@ fn hop_name<'a>(table: &'a Table, path: &PathBuf) -> Option<&'a HostName>
     }
 }
 
-/// The name of the hop of this place.
+/// Returns the name of the hop of this place.
 pub(crate) fn hop_of_place<'a>(
     table: &'a Table,
     recipients: &Recipients,
@@ -36,7 +36,7 @@ pub(crate) fn hop_of_place<'a>(
     }
 }
 
-/// Whether a place goes to the hop of this name.
+/// Returns whether a place goes to the hop of this name.
 pub(crate) fn goes_to(table: &Table, recipients: &Recipients, hop: &HostName, place: usize) -> bool
     ensures { result ≡ goes_to table.now recipients.now hop.now place }
 {
@@ -46,7 +46,7 @@ pub(crate) fn goes_to(table: &Table, recipients: &Recipients, hop: &HostName, pl
     }
 }
 
-/// Whether a held place has no hop.
+/// Returns whether a held place has no hop.
 pub(crate) fn is_stranded(
     table: &Table,
     recipients: &Recipients,
@@ -58,7 +58,7 @@ pub(crate) fn is_stranded(
     place.held && hop_of_place(table, recipients, index).is_none()
 }
 
-/// Whether a held place is due and goes to this hop.
+/// Returns whether a held place is due and goes to this hop.
 pub(crate) fn is_due_for(
     table: &Table,
     recipients: &Recipients,
@@ -72,14 +72,14 @@ pub(crate) fn is_due_for(
     is_due(place, now) && goes_to(table, recipients, hop, index)
 }
 
-/// Whether a held place is due.
+/// Returns whether a held place is due.
 pub(crate) fn is_due(place: Place, now: Moment) -> bool
     ensures { result ≡ is_due_at now place }
 {
     place.held && place.due <= now.seconds()
 }
 
-/// Whether a held place of a message has no hop.
+/// Returns whether a held place of a message has no hop.
 pub(crate) fn has_stranded(table: &Table, message: &Message) -> bool
     ensures stranded { result ≡ is_any (stranded_places table.now message.now) }
     ensures within { length message.now.places ≤ 100 }
@@ -93,7 +93,7 @@ pub(crate) fn has_stranded(table: &Table, message: &Message) -> bool
     false
 }
 
-/// Whether a place of a message is due and goes to this hop.
+/// Returns whether a place of a message is due and goes to this hop.
 pub(crate) fn has_due(table: &Table, message: &Message, hop: &HostName, now: Moment) -> bool
     ensures { result ≡ is_any (due_places_in table.now hop.now now message.now) }
 {
@@ -106,7 +106,7 @@ pub(crate) fn has_due(table: &Table, message: &Message, hop: &HostName, now: Mom
     false
 }
 
-/// The places of a message that are due and go to this hop, in order. It fails where memory runs out.
+/// Returns the places of a message that are due and go to this hop, in order. Fails if memory runs out.
 pub(crate) fn due_places(
     alloc: Global,
     table: &Table,
@@ -126,7 +126,7 @@ pub(crate) fn due_places(
     Ok(places)
 }
 
-/// The held places of a message that have no hop, in order. It fails where memory runs out.
+/// Returns the held places of a message that have no hop, in order. Fails if memory runs out.
 pub(crate) fn stranded_places(
     alloc: Global,
     table: &Table,

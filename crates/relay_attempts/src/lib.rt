@@ -1,5 +1,5 @@
-//! The attempts of a node to pass its mail on (RFC 5321, sections 4.5.4.1 and 6.1): which work there is, and the
-//! attempts that are running.
+//! The attempts of a node to relay its mail (RFC 5321, sections 4.5.4.1 and 6.1): which work there is, and the attempts
+//! that are running.
 #![tactic(auto)]
 
 mod attempts;

@@ -1,4 +1,4 @@
-//! The next moment at which there is work.
+//! The next time at which there is work.
 ghost use Rattle.std.specs.Prelude.{◌≡◌, ◌<◌, ◌≤◌, max, MatchOption};
 ghost use Rattle.relay_attempts.specs.Attempts.{KnowsStranded};
 ghost use Rattle.relay_attempts.specs.Next.{IsNextDue};
@@ -15,10 +15,10 @@ use relay_slots::Slots;
 use relay_trace::Moment;
 
 impl Attempts {
-    /// The least moment, from this one on, at which [`Attempts::due`] has work: this one where a held place has no
-    /// hop, and else the first at which a place is due that has one, and for whose message and hop no attempt is
-    /// running. None where there is no work at any moment. It looks at the places in the order of their moments, at
-    /// none after the first that is to be tried, and takes no memory.
+    /// Returns the least time, from this one on, at which [`Attempts::due`] has work: this one where a held place has
+    /// no hop, and else the first at which a place is due that has one, and for whose message and hop no attempt is
+    /// running. None if there is no work at any time. It checks the places in the order of their times, at none after
+    /// the first that is to be tried, and takes no memory.
     pub fn next_due<D: Disk>(
         &self,
         table: &Table,
@@ -64,7 +64,7 @@ impl PlaceQuestion for Untried<'_> {
     }
 }
 
-/// The later of a moment and of the one that is so many seconds from 1970; none past the greatest moment.
+/// Returns the later of a time and of the one that is this many seconds from 1970; none past the last time.
 fn moment_from(now: Moment, seconds: u64) -> Option<Moment>
     ensures { MatchOption result (last_second < seconds)
         (λ moment. (seconds ≤ last_second) × (moment ≡ max now seconds)) }

@@ -1,4 +1,4 @@
-//! An outcome with the report that is due of it.
+//! An outcome with the report that is owed.
 ghost use Rattle.std.specs.Prelude.{◌≡◌, ◌≤◌, ◌<◌, ◌^◌, List, Err, IfErr, IfOk, IsTrue};
 ghost use Rattle.relay_book.specs.declared.change.Change.{Change};
 ghost use Rattle.relay_envelope.specs.HostName.{IsHostName};
@@ -19,13 +19,12 @@ use relay_routes::ReportForm;
 use relay_trace::LAST_SECOND;
 use std::alloc::{AllocError, Global};
 
-/// Adds an outcome of a queued message, with the report that is due of it by this host in this form, in one change;
-/// what its report says doesn't count. The answer is its number, and `used` is how many octets of its piece the call
-/// had used. All growths come before the append.
+/// Adds an outcome of a queued message, with the report that is owed by this host in this form, in one change; what its
+/// report says doesn't count. The answer is its number, and `used` is how many octets of its piece the call had used.
+/// All growths come before the append.
 ///
-/// `NoMemory` leaves everything as it was, and so does `Full`, where changes have no numbers any more or the spool
-/// would pass 2^40 octets. At `Stopped` the device failed: a stop leaves the changes as they were or with this one, and
-/// it is noted.
+/// `NoMemory` changes nothing, and so does `Full`, where changes have no numbers any more or the spool would pass 2^40
+/// octets. At `Stopped` the device failed: a stop leaves the changes as they were or with this one, and it is noted.
 pub(crate) fn add_outcome<D: Disk>(
     alloc: Global,
     host: &[u8],
@@ -54,9 +53,9 @@ pub(crate) fn add_outcome<D: Disk>(
     records.add(alloc, change, octets, used)
 }
 
-/// Stages an outcome of a queued message after the changes of a row, with the report that is due of it by this host in
-/// this form, in one change; what its report says doesn't count. The answer is its number, and `used` is how many
-/// octets of its piece the call had used. No device is called.
+/// Stages an outcome of a queued message after the changes of a row, with the report that is owed by this host in this
+/// form, in one change; what its report says doesn't count. The answer is its number, and `used` is how many octets of
+/// its piece the call had used. No device is called.
 ///
 /// `NoMemory` leaves records and row as they were, and so does `Full`, where changes have no numbers any more or the
 /// spool would pass 2^40 octets with the row.
@@ -88,7 +87,7 @@ pub(crate) fn stage_outcome<D: Disk>(
     records.stage(alloc, row, change, octets, used)
 }
 
-/// The outcome as a change, with the report that is due. It fails where memory runs out.
+/// Returns the outcome as a change, with the report that is owed. Fails if memory runs out.
 fn reported<D: Disk>(
     alloc: Global,
     host: &[u8],
@@ -122,7 +121,7 @@ fn reported<D: Disk>(
     Ok(with_report(outcome, report))
 }
 
-/// The outcome with another report.
+/// Returns the outcome with another report.
 fn with_report(mut outcome: Outcome, report: Octets) -> Change
     ensures { result ≡ reported_as outcome report }
 {

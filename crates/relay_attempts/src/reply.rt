@@ -20,25 +20,24 @@ use relay_routes::Config;
 use relay_trace::Moment;
 use std::alloc::Global;
 
-/// What a reply to an attempt has done.
+/// The result of a reply to an attempt.
 #[derive(Debug, Drop)]
 pub struct Replied {
     /// How many octets of the piece were used: all, unless the attempt has ended.
     pub used: usize,
-    /// What goes to the server.
+    /// The octets for the next hop.
     pub out: Vec<u8>,
     /// The number of the change that was made, where the attempt has ended.
     pub change: Option<u64>,
 }
 
 impl Attempts {
-    /// Uses octets that the server of an attempt wrote, all of them or up to the attempt's end. At its end
-    /// one outcome is added, of exactly its places, each with its verdict, in one change with the report that
-    /// is due of it.
+    /// Uses octets that the server of an attempt wrote, all of them or up to the attempt's end. At its end one outcome
+    /// is added, of exactly its places, each with its verdict, in one change with the report that is owed.
     ///
-    /// `Stopped` is answered first, and then `Unknown`, where there is no such attempt; nothing is changed
-    /// then. At `NoMemory` and `Full` the attempt is gone, and the records are as they were. It is gone too
-    /// where the device fails now: then a stop leaves the changes as they were, or with the outcome.
+    /// `Stopped` is answered first, and then `Unknown`, if there is no such attempt; nothing is changed then. At
+    /// `NoMemory` and `Full` the attempt is gone, and the records are as they were. It is gone too where the device
+    /// fails now: then a stop leaves the changes as they were, or with the outcome.
     pub fn reply<D: Disk>(
         &mut self,
         alloc: Global,
@@ -88,11 +87,11 @@ impl Attempts {
     }
 
     /// Uses octets that the server of an attempt wrote, as [`Attempts::reply`] does, but puts the outcome at the
-    /// attempt's end after the changes of a row, in one change with the report that is due of it. No device is
-    /// called: until the row has come into the spool, a stop leaves nothing of the outcome.
+    /// attempt's end after the changes of a row, in one change with the report that is owed. No device is called: until
+    /// the row has come into the spool, a stop leaves nothing of the outcome.
     ///
-    /// `Unknown` is answered where there is no such attempt, and nothing is changed then. At `NoMemory` and `Full`
-    /// the attempt is gone, and records and row are as they were.
+    /// `Unknown` is answered if there is no such attempt, and nothing is changed then. At `NoMemory` and `Full` the
+    /// attempt is gone, and records and row are as they were.
     pub fn reply_into<D: Disk>(
         &mut self,
         alloc: Global,
@@ -137,9 +136,9 @@ impl Attempts {
         }
     }
 
-    /// Ends an attempt whose connection is lost: each of its places may be tried again, or has failed where it
-    /// was tried for too long. One outcome says so, in one change with the report that is due of it, whose
-    /// number is the answer. The faults are those of [`Attempts::reply`], and leave the same.
+    /// Ends an attempt whose connection is lost: each of its places may be tried again, or has failed where it was
+    /// tried for too long. One outcome says so, in one change with the report that is owed, whose number is the answer.
+    /// The faults are those of [`Attempts::reply`], and leave the same.
     pub fn lost<D: Disk>(
         &mut self,
         alloc: Global,

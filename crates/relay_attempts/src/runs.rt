@@ -29,7 +29,7 @@ pub(crate) struct Run {
     pub(crate) client: Attempt,
 }
 
-// Written out, so that what drops an attempt calls this, and doesn't look into its client.
+// Written out, so that the proof of a caller that drops an attempt stops at this function.
 impl Drop for Run {
     fn drop(self) {
         let Run {
@@ -42,7 +42,7 @@ impl Drop for Run {
 }
 
 impl Run {
-    /// Uses the next piece of what the server wrote. It fails where memory runs out.
+    /// Uses the next piece of what the server wrote. Fails if memory runs out.
     pub(crate) fn hear<D: Disk>(
         &mut self,
         records: &Records<D>,
@@ -70,7 +70,7 @@ impl Run {
         self.client.feed(&mail, piece)
     }
 
-    /// Tells that the message of the attempt has at most 100 places. It does nothing.
+    /// States that the message of the attempt has at most 100 places. Does nothing.
     pub(crate) fn has_few_places<D: Disk>(&self, records: &Records<D>)
         ensures { (message : Message) → message_of records.now.queue.messages self.now.message ≡ Some message
             → length message.places ≤ 100 }
@@ -80,8 +80,8 @@ impl Run {
         }
     }
 
-    /// The outcome of the attempt where it has ended with these verdicts; its report isn't written yet. It
-    /// fails where memory runs out.
+    /// Returns the outcome of the attempt where it has ended with these verdicts; its report isn't written yet. Fails
+    /// if memory runs out.
     pub(crate) fn outcome(
         self,
         alloc: Global,
@@ -104,7 +104,7 @@ impl Run {
     }
 }
 
-/// The places, each with its verdict. It fails where memory runs out.
+/// Returns the places, each with its verdict. Fails if memory runs out.
 fn rulings_of(alloc: Global, places: &[u8], verdicts: Verdicts) -> Result<Rulings, AllocError>
     ensures { IfOk result (λ rulings. rulings ≡ rulings_of places.now verdicts) }
 {
@@ -122,7 +122,7 @@ fn rulings_of(alloc: Global, places: &[u8], verdicts: Verdicts) -> Result<Ruling
     Ok(rulings)
 }
 
-/// Whether an attempt for this message and hop is running.
+/// Returns whether an attempt for this message and hop is running.
 pub(crate) fn is_running(runs: &Slots<Run>, message: u64, hop: &HostName) -> bool
     ensures { result ≡ is_running runs.now message hop.now }
 {
@@ -131,7 +131,7 @@ pub(crate) fn is_running(runs: &Slots<Run>, message: u64, hop: &HostName) -> boo
         .any(|run| is_run_for(run, message, hop))
 }
 
-/// Whether an attempt is for this message and hop.
+/// Returns whether an attempt is for this message and hop.
 fn is_run_for(run: &Option<Run>, message: u64, hop: &HostName) -> bool
     ensures { result ≡ is_run_for message hop.now run.now }
 {

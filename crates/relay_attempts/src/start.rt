@@ -27,7 +27,7 @@ impl Attempts {
     /// Begins an attempt for the places of a message that are due and go to this hop, under the least free number. The
     /// first fault in this order is answered, and nothing is changed then: `Stopped`, `Unknown` where no such message
     /// is queued, `TooMany` where 64 attempts are running, `Busy` where one for this message and hop is, `NotDue` where
-    /// no place is; then want of memory.
+    /// no place is; then lack of memory.
     pub fn start<D: Disk>(
         &mut self,
         alloc: Global,
@@ -76,7 +76,7 @@ impl Attempts {
         self.start_at_most(alloc, config, records, message, hop, Some(most), now)
     }
 
-    /// Begins an attempt for the first of the places that are due and go to this hop, all where no most is said.
+    /// Begins an attempt for the first of the places that are due and go to this hop, all if no most is said.
     fn start_at_most<D: Disk>(
         &mut self,
         alloc: Global,
@@ -123,7 +123,7 @@ impl Attempts {
     }
 }
 
-/// Whether such a place is due for which an attempt may begin.
+/// Returns whether such a place is due for which an attempt may begin.
 fn has_first_due(
     table: &Table,
     message: &Message,
@@ -139,8 +139,8 @@ fn has_first_due(
     }
 }
 
-/// The first of the places of a message that are due and go to this hop, in order; all where no most is said. It fails
-/// where memory runs out.
+/// Returns the first of the places of a message that are due and go to this hop, in order; all if no most is said.
+/// Fails if memory runs out.
 fn first_due_places(
     alloc: Global,
     table: &Table,
@@ -159,7 +159,7 @@ fn first_due_places(
     Ok(places)
 }
 
-/// An attempt of this host that begins. It fails where memory runs out.
+/// Returns an attempt of this host that begins. Fails if memory runs out.
 fn begun(
     alloc: Global,
     host: &HostName,

@@ -24,7 +24,7 @@ impl Attempts {
         self.stranded.reserve(1)
     }
 
-    /// Notes the message that was accepted under this number, the last change of these records. It takes no memory.
+    /// Notes the message that was accepted under this number, the last change of these records. Allocates nothing.
     pub fn accepted<D: Disk>(&mut self, table: &Table, records: &Records<D>, number: u64)
         requires { 0 < self.old.room }
         ensures serves { (host : List ℕ) (queue : Queue) (accept : Accept) → Rise 0 queue.next queue.messages
@@ -35,7 +35,7 @@ impl Attempts {
         self.note(table, records, number);
     }
 
-    /// Notes the message that was added under this number, where a held place of it has no hop. It takes no memory.
+    /// Notes the message that was added under this number, where a held place of it has no hop. Allocates nothing.
     pub(crate) fn note<D: Disk>(&mut self, table: &Table, records: &Records<D>, number: u64)
         requires { 0 < self.old.room }
         ensures stranded { self.new.stranded ≡ self.old.stranded
@@ -47,7 +47,7 @@ impl Attempts {
         }
     }
 
-    /// Forgets the message of this number, where none of its held places is without a hop. It takes no memory.
+    /// Forgets the message of this number, if none of its held places is without a hop. Allocates nothing.
     pub(crate) fn forget<D: Disk>(&mut self, table: &Table, records: &Records<D>, number: u64)
         ensures stranded { self.new.stranded
             ≡ (if is_stranded_at table.now records.now.queue.messages number then self.old.stranded
@@ -77,7 +77,7 @@ impl Question for Stranded<'_> {
     }
 }
 
-/// Whether a held place of the message of this number has no hop.
+/// Returns whether a held place of the message of this number has no hop.
 fn is_stranded_at<D: Disk>(table: &Table, records: &Records<D>, number: u64) -> bool
     ensures { result ≡ is_stranded_at table.now records.now.queue.messages number }
 {

@@ -18,7 +18,7 @@ use relay_trace::Moment;
 use std::alloc::{AllocError, Global};
 use std::collections::BTreeSet;
 
-/// What there is to do for a message.
+/// Work for a message.
 #[derive(Debug, Drop)]
 pub enum Work {
     /// A held place of the message of this number has no hop.
@@ -36,12 +36,12 @@ pub(crate) struct Finder<'a> {
     pub(crate) table: &'a Table,
     /// The running attempts.
     pub(crate) runs: &'a Slots<Run>,
-    /// The moment at which places are due.
+    /// The time at which places are due.
     pub(crate) at: Moment,
 }
 
 impl<'a> Finder<'a> {
-    /// The work of the messages of these numbers.
+    /// Returns the work of the messages of these numbers.
     pub(crate) fn works<D: Disk>(
         &self,
         records: &Records<D>,
@@ -115,7 +115,7 @@ impl<'a> Finder<'a> {
         Ok(())
     }
 
-    /// The hop of a place that is due.
+    /// Returns the hop of a place that is due.
     fn due_hop(&self, recipients: &Recipients, index: usize, place: Place) -> Option<&'a HostName>
         ensures { option_copied result
             ≡ due_hop self.now.table.now self.now.at recipients.now index place }
@@ -127,7 +127,7 @@ impl<'a> Finder<'a> {
         }
     }
 
-    /// Adds a try of a hop that is there, unless an attempt is running for it, or one stands after the first works.
+    /// Adds a try of a hop that is there, unless an attempt is running for it, or one is after the first works.
     fn push_try(
         &self,
         works: &mut Vec<Work>,
@@ -150,14 +150,14 @@ impl<'a> Finder<'a> {
     }
 }
 
-/// Whether a hop is tried.
+/// Returns whether a hop is tried.
 fn has_try(works: &[Work], hop: &HostName) -> bool
     ensures { result ≡ list_any (is_try_of hop.now) works.now }
 {
     works.iter().any(|work| is_try_of(work, hop))
 }
 
-/// Whether this is a try of a hop.
+/// Returns whether this is a try of a hop.
 fn is_try_of(work: &Work, hop: &HostName) -> bool
     ensures { result ≡ is_try_of hop.now work.now }
 {

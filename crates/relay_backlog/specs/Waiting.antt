@@ -15,7 +15,7 @@ nothing = record { lines = []; dropped = 0 }
 abbrev pub fits : Waiting → List ℕ → Bool
 fits waiting line = (waiting.dropped == 0) && nat_le (length line) (2 ^ 20 - length waiting.lines)
 
--- a line more waits, where it fits, and is dropped else
+-- a line more waits, if it fits, and is dropped else
 abbrev pub with_line_if : Bool → Waiting → List ℕ → Waiting
 with_line_if true waiting line = record { lines = waiting.lines ++ line; dropped = waiting.dropped }
 with_line_if false waiting line = record { lines = waiting.lines; dropped = min (waiting.dropped + 1) (2 ^ 64 - 1) }
@@ -29,7 +29,7 @@ abbrev pub with_lines : Waiting → List (List ℕ) → Waiting
 with_lines waiting [] = waiting
 with_lines waiting (line ∷ lines) = with_lines (with_line waiting line) lines
 
--- how many octets the first line has, with its LF; all where there is none
+-- how many octets the first line has, with its LF; all if there is none
 abbrev pub line_length : List ℕ → ℕ
 line_length [] = 0
 line_length (octet ∷ octets) = if octet == 10 then 1 else suc (line_length octets)

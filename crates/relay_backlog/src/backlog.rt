@@ -16,7 +16,7 @@ pub struct Backlog {
     dropped: u64,
 }
 
-// Written out, so that what drops it calls this, and doesn't look into its lines.
+// Written out, so that the proof of a caller that drops it stops at this function.
 impl Drop for Backlog {
     fn drop(self) {
         let Backlog {
@@ -38,7 +38,7 @@ impl Model for Backlog {
 }
 
 impl Backlog {
-    /// Nothing waits yet. All memory that lines take later is taken now; it fails where there is none.
+    /// Nothing waits yet. All memory that lines take later is taken now; it fails if there is none.
     pub fn new(alloc: Global) -> Result<Self, AllocError>
         ensures { IfOk result (λ backlog. backlog ≡ nothing) }
     {
@@ -46,28 +46,28 @@ impl Backlog {
         Ok(Backlog { lines, dropped: 0 })
     }
 
-    /// The lines that wait.
+    /// Returns the lines that wait.
     pub fn lines(&self) -> &[u8]
         ensures { result.now ≡ self.now.lines }
     {
         self.lines.as_slice()
     }
 
-    /// How many lines were dropped after those that wait, up to 2^64 - 1.
+    /// Returns how many lines were dropped after those that wait, up to 2^64 - 1.
     pub fn dropped(&self) -> u64
         ensures { result ≡ self.now.dropped }
     {
         self.dropped
     }
 
-    /// Whether there is nothing to tell of.
+    /// Returns whether there is nothing to tell of.
     pub fn is_empty(&self) -> bool
         ensures { IsTrue result ↔ (self.now ≡ nothing) }
     {
         self.lines.is_empty() && self.dropped == 0
     }
 
-    /// Takes a line in, or drops it. It takes no memory.
+    /// Takes a line in, or drops it. Allocates nothing.
     pub fn put(&mut self, line: &[u8])
         ensures { self.new ≡ with_line self.old line.now }
     {
@@ -78,7 +78,7 @@ impl Backlog {
         }
     }
 
-    /// Whether a line is taken in.
+    /// Returns whether a line is taken in.
     fn fits(&self, line: &[u8]) -> bool
         ensures { result ≡ fits self.now line.now }
     {
@@ -116,7 +116,7 @@ impl Backlog {
     }
 }
 
-/// How many octets the first line has, with its LF; all where there is none.
+/// Returns how many octets the first line has, with its LF; all if there is none.
 fn line_length(octets: &[u8]) -> usize
     ensures line { result ≡ length_of_line octets.now }
     ensures some { 0 < length octets.now → 0 < result }

@@ -35,7 +35,7 @@ pub struct LogLine {
     octets: Vec<u8>,
 }
 
-// Written out, so that what drops it calls this, and doesn't look into its octets.
+// Written out, so that the proof of a caller that drops it stops at this function.
 impl Drop for LogLine {
     fn drop(self) {
         let LogLine {
@@ -47,7 +47,8 @@ impl Drop for LogLine {
 }
 
 impl LogLine {
-    /// A line of this event, which a word names, with the time before it if there is one. It fails if memory runs out.
+    /// Makes a line of this event, which a word names, with the time before it if there is one. It fails if memory runs
+    /// out.
     pub fn new(
         alloc: Global,
         form: Form,
@@ -103,7 +104,7 @@ impl LogLine {
     }
 }
 
-/// Returns as much of a value as stands in a line.
+/// Returns as much of a value as is in a line.
 fn cut(value: &[u8]) -> &[u8]
     ensures { result.now ≡ cut value.now }
 {
@@ -114,7 +115,7 @@ fn cut(value: &[u8]) -> &[u8]
     }
 }
 
-/// Leaves out what was added after this place, where it is not whole or makes the line too long.
+/// Leaves out what was added after this place, if it is not whole or makes the line too long.
 fn keep_whole(
     line: &mut Vec<u8>,
     start: usize,
@@ -133,7 +134,7 @@ fn keep_whole(
     pushed
 }
 
-/// Leaves out what was added after this place, where it makes the line too long.
+/// Leaves out what was added after this place, if it makes the line too long.
 #[tactic(auto, using(crate::proofs::FieldLemmas::field_fits, crate::proofs::FieldLemmas::field_left_out))]
 fn leave_out_long(line: &mut Vec<u8>, start: usize)
     ensures { (before field : List ℕ) → line.old.items ≡ before ++ field → start ≡ length before
@@ -217,7 +218,7 @@ fn push_number(
     }
 }
 
-/// Adds what stands before a value.
+/// Adds what is before a value.
 fn push_key(line: &mut Vec<u8>, form: Form, key: &[u8]) -> Result<(), AllocError>
     ensures ok { OnOk result (line.new.items ≡ line.old.items ++ key_text form key.now) }
     ensures err { OnErr result (Begins line.old.items line.new.items) }
@@ -246,7 +247,7 @@ fn push_quoted(line: &mut Vec<u8>, form: Form, octets: &[u8]) -> Result<(), Allo
     line.extend_from_slice(b"\"")
 }
 
-/// Adds each octet as it stands in quotes.
+/// Adds each octet as it is in quotes.
 fn push_each(line: &mut Vec<u8>, form: Form, octets: &[u8]) -> Result<(), AllocError>
     ensures ok { OnOk result (line.new.items ≡ line.old.items ++ flat_map (quoted_octet form) octets.now) }
     ensures err { OnErr result (Begins line.old.items line.new.items) }
@@ -257,7 +258,7 @@ fn push_each(line: &mut Vec<u8>, form: Form, octets: &[u8]) -> Result<(), AllocE
     Ok(())
 }
 
-/// Adds an octet as it stands in quotes. If memory runs out, nothing is added.
+/// Adds an octet as it is in quotes. If memory runs out, nothing is added.
 fn push_octet(line: &mut Vec<u8>, form: Form, octet: u8) -> Result<(), AllocError>
     ensures ok { OnOk result (line.new.items ≡ line.old.items ++ quoted_octet form octet) }
     ensures err { OnErr result (line.new.items ≡ line.old.items) }
@@ -269,7 +270,7 @@ fn push_octet(line: &mut Vec<u8>, form: Form, octet: u8) -> Result<(), AllocErro
     }
 }
 
-/// Adds a printable octet as it stands in quotes. If memory runs out, nothing is added.
+/// Adds a printable octet as it is in quotes. If memory runs out, nothing is added.
 fn push_shown(line: &mut Vec<u8>, octet: u8) -> Result<(), AllocError>
     ensures ok { OnOk result (line.new.items ≡ line.old.items ++ shown_octet octet) }
     ensures err { OnErr result (line.new.items ≡ line.old.items) }
@@ -293,7 +294,7 @@ fn push_hex(line: &mut Vec<u8>, form: Form, octet: u8) -> Result<(), AllocError>
     }
 }
 
-/// The hexadecimal digit of a value below 16.
+/// Returns the hexadecimal digit of a value below 16.
 fn hex_digit(value: u8) -> u8
     requires { value < 16 }
     ensures { result ≡ hex_digit value }
@@ -305,7 +306,7 @@ fn hex_digit(value: u8) -> u8
     }
 }
 
-/// Whether octets need no quotes in text.
+/// Returns whether octets need no quotes in text.
 fn is_bare(octets: &[u8]) -> bool
     ensures { result ≡ is_bare octets.now }
 {

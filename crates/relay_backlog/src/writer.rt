@@ -10,7 +10,7 @@ use std::thread::{self, Threads};
 use std::time::Duration;
 
 /// A writer of whole lines that waits for no reader: another thread writes them, and what that one hasn't taken waits
-/// in a backlog. Where lines were dropped from that, a line with a timestamp tells how many, once there is room, in the
+/// in a backlog. If lines were dropped from that, a line with a timestamp tells how many, once there is room, in the
 /// form of the lines before it: `relayd: log-dropped lines=17`.
 #[derive(Drop)]
 pub struct LogWriter<R: Wait + Clock> {
@@ -166,7 +166,7 @@ fn write_notice<E: Write>(
     errors.write_all(octets.as_slice())
 }
 
-/// The form of lines.
+/// Returns the form of lines.
 fn form_of(lines: &[u8]) -> Form {
     match lines.first() {
         Some(b'{') => Form::Json,

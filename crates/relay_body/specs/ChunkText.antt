@@ -53,13 +53,13 @@ IsBetweenChunks reader = reader.stage ≡ Awaits 0
 abbrev pub HasNoMemory : ChunkReader → Type 0
 HasNoMemory reader = reader.stage ≡ Failed
 
--- the reader was given these chunks whole, and stands after them
+-- the reader was given these chunks whole, and is after them
 pub record HasChunks (reader : ChunkReader) (limit : ℕ) (chunks : List Chunk) : Type 0 where
   pub each : AreWhole chunks
   pub between : IsBetweenChunks reader
   pub gathers : Gathers reader limit (content_of_chunks chunks)
 
--- the reader was given these chunks whole, and of a further chunk what has come of it
+-- the reader was given these chunks whole, and a part of a further chunk
 pub record IsInChunk (reader : ChunkReader) (limit : ℕ) (chunks : List Chunk) (chunk : Chunk) : Type 0 where
   pub missing : ℕ
   pub each : AreWhole chunks
@@ -99,7 +99,7 @@ IsFed old (piece ∷ pieces) new =
 abbrev pub joined : List (List ℕ) → List ℕ
 joined pieces = flat_map (λ piece. piece) pieces
 
--- A chunk in hand has come whole exactly where its reader stands between chunks.
+-- A chunk in hand has come whole exactly if its reader is between chunks.
 abbrev pub WholeIsBetween : Type 0
 WholeIsBetween =
     (reader : ChunkReader) (limit : ℕ) (chunks : List Chunk)
@@ -140,15 +140,14 @@ CuttingSaysNothing =
 abbrev pub ChunksWithinLimit : Type 0
 ChunksWithinLimit = (reader : ChunkReader) → chunks_held_by reader ≤ chunk_limit_of reader
 
--- A reader of chunks has met no want of memory.
+-- A reader of chunks has met no lack of memory.
 abbrev pub ChunksHaveMemory : Type 0
 ChunksHaveMemory =
     (reader : ChunkReader) (limit : ℕ) (chunks : List Chunk)
     → (HasChunks reader limit chunks → ¬ HasNoMemory reader)
     × ((chunk : Chunk) → IsInChunk reader limit chunks chunk → ¬ HasNoMemory reader)
 
--- Each reader that has met no want of memory was given chunks, so that what is promised of them is
--- promised of it.
+-- Each reader that has met no lack of memory was given chunks, so that what is promised of them is promised of it.
 abbrev pub EachReaderWasGivenChunks : Type 0
 EachReaderWasGivenChunks =
     (reader : ChunkReader) → ¬ HasNoMemory reader

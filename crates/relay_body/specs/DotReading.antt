@@ -56,8 +56,7 @@ abbrev pub HasUsed : Bool → DotReader → ℕ → List ℕ → Type 0
 HasUsed done reader limit octets =
     MatchBool done ((content : List ℕ) × HasRead reader limit octets content) (IsReading reader limit octets)
 
--- whatever the reader had used before, it has used these octets after it, and is done exactly
--- where a dot text ends
+-- whatever the reader had used before, it has used these octets after it, and is done exactly if a dot text ends
 pub record Uses (old new : DotReader) (octets : List ℕ) (done : Bool) : Type 0 where
   pub stands : (limit : ℕ) (before : List ℕ) → IsReading old limit before
       → HasUsed done new limit (before ++ octets)

@@ -14,8 +14,7 @@ ends_in_line_end (octet ∷ []) = false
 ends_in_line_end (octet ∷ next ∷ []) = octet == 13 && next == 10
 ends_in_line_end (octet ∷ next ∷ third ∷ more) = ends_in_line_end (next ∷ third ∷ more)
 
--- a line of mail text as it is received: no CR LF stands in it, and it isn't composed of a single
--- period
+-- a line of mail text as it is received: no CR LF is in it, and it isn't composed of a single period
 pub record IsTextLine (line : List ℕ) : Type 0 where
   pub no_crlf : HasNoCrlf line
   pub not_end : line ≢ 46 ∷ []
@@ -55,7 +54,7 @@ pub record WritesDotText (content text : List ℕ) : Type 0 where
   pub content_is : content ≡ lines_text lines
   pub text_is : text ≡ lines_text (map with_period lines) ++ end_of_data
 
--- the dot text of the content stands after what stood there
+-- the dot text of the content is after what stood there
 pub record AddsDotText (content old new : List ℕ) : Type 0 where
   pub text : List ℕ
   pub writes : WritesDotText content text

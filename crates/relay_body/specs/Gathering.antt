@@ -4,11 +4,11 @@ use Rattle.relay_body.specs.declared.gathered.Gathered.{Gathered}
 use Rattle.relay_body.specs.declared.gathered.Gathered.TheVariants.{Whole, TooLarge}
 use Rattle.relay_body.specs.declared.gathered.Gathering.{Gathering}
 
--- of a content all is kept, or nothing where it passes the limit
+-- of a content all is kept, or nothing if it passes the limit
 abbrev pub kept_of : ℕ → List ℕ → Option (List ℕ)
 kept_of limit content = if nat_le (length content) limit then Some content else None
 
--- a content as it is handed on: whole, or too large where it passes the limit
+-- a content as it is returned: whole, or too large if it passes the limit
 abbrev pub gathered_of : ℕ → List ℕ → Gathered
 gathered_of limit content = if nat_le (length content) limit then Whole content else TooLarge
 
@@ -17,7 +17,7 @@ pub record KeepsContent (gathering : Gathering) (limit : ℕ) (content : List �
   pub limit_is : gathering.limit ≡ limit
   pub kept_is : gathering.kept ≡ kept_of limit content
 
--- a content that is handed on whole is within the limit
+-- a content that is returned whole is within the limit
 abbrev pub IsWithin : ℕ → Gathered → Type 0
 IsWithin limit (Whole content) = length content ≤ limit
 IsWithin limit TooLarge = Unit {0}

@@ -1,10 +1,10 @@
-//! Bare line ends: a CR or an LF that stands alone.
+//! Bare line ends: a CR or an LF that isn't part of a CR LF.
 ghost use Rattle.std.specs.Prelude.{◌≡◌, ◌≤◌, IsTrue, length};
 ghost use Rattle.relay_body.specs.BareEnds.{begins_with_crlf, has_bare_end};
 
 use memchr::memchr2;
 
-/// Whether a CR or an LF stands alone (RFC 5321, section 2.3.8), by one search from line end to line end.
+/// Returns whether the octets have a bare CR or LF (RFC 5321, section 2.3.8).
 pub fn has_bare_end(octets: &[u8]) -> bool
     ensures { result ≡ has_bare_end octets.now }
 {
@@ -19,7 +19,7 @@ pub fn has_bare_end(octets: &[u8]) -> bool
     false
 }
 
-/// Whether CR LF are the first octets.
+/// Returns whether CR LF are the first octets.
 fn begins_with_crlf(octets: &[u8]) -> bool
     ensures test { result ≡ begins_with_crlf octets.now }
     ensures two { IsTrue result → 2 ≤ length octets.now }

@@ -1,9 +1,9 @@
-//! What is true of chunks, whoever reads them.
+//! Laws of chunks, whoever reads them.
 ghost use Rattle.relay_body.specs.ChunkText.{ChunksHaveMemory, ChunksWithinLimit, CuttingSaysNothing};
 ghost use Rattle.relay_body.specs.ChunkText.{EachReaderWasGivenChunks, NoMoreThanItsSize, SizesCutOnce, WholeIsBetween};
 ghost use Rattle.relay_body.specs.ChunkText.{WholeIsOneMore};
 
-/// A chunk in hand has come whole exactly where its reader stands between chunks.
+/// A chunk in hand has come whole exactly if its reader is between chunks.
 pub fn whole_is_between()
     ensures { WholeIsBetween }
 {}
@@ -33,12 +33,12 @@ pub fn chunks_within_limit()
     ensures { ChunksWithinLimit }
 {}
 
-/// A reader of chunks has met no want of memory.
+/// A reader of chunks has met no lack of memory.
 pub fn chunks_have_memory()
     ensures { ChunksHaveMemory }
 {}
 
-/// Each reader that has met no want of memory was given chunks.
+/// Each reader that has met no lack of memory was given chunks.
 pub fn each_reader_was_given_chunks()
     ensures { EachReaderWasGivenChunks }
 {}

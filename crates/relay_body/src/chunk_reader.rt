@@ -10,7 +10,7 @@ use std::alloc::Global;
 /// What a reader of chunks waits for.
 #[derive(Clone, Copy, Debug, PartialEq, Eq)]
 enum Stage {
-    /// So many octets of the chunk in hand. At 0 it has come whole.
+    /// This many octets of the current chunk. At 0 it is whole.
     Awaits(u32),
     /// Memory ran out.
     Failed,
@@ -32,7 +32,7 @@ pub struct ChunkReader {
     gathering: Gathering,
 }
 
-// Written out, so that what drops a reader calls this, and doesn't look into its parts.
+// Written out, so that the proof of a caller that drops a reader stops at this function.
 impl Drop for ChunkReader {
     fn drop(self) {
         let ChunkReader {
@@ -43,8 +43,8 @@ impl Drop for ChunkReader {
 }
 
 impl ChunkReader {
-    /// A reader that awaits no chunk yet. The limit is the greatest length of the content in
-    /// octets, all chunks together. It takes no memory.
+    /// Makes a reader that awaits no chunk yet. `limit` is the most octets of the content, all chunks together.
+    /// Allocates nothing.
     pub fn new(alloc: Global, limit: usize) -> Self
         ensures { HasChunks result limit [] }
     {
@@ -54,14 +54,14 @@ impl ChunkReader {
         }
     }
 
-    /// Whether each chunk that was begun has come whole.
+    /// Returns whether each chunk that was begun has come whole.
     pub fn is_done(&self) -> bool
         ensures { IsTrue result ↔ IsBetweenChunks self.now }
     {
         self.stage == Stage::Awaits(0)
     }
 
-    /// Whether the octets that have come pass the limit.
+    /// Returns whether the octets that have come pass the limit.
     pub fn is_too_large(&self) -> bool
         ensures passes { (limit : ℕ) (content : List ℕ)
             → Gathers self.now limit content → result ≡ nat_lt limit (length content) }
@@ -70,7 +70,7 @@ impl ChunkReader {
         self.gathering.is_too_large()
     }
 
-    /// Begins a chunk of this many octets. It takes no memory, whatever the size.
+    /// Begins a chunk of this many octets. Allocates nothing, whatever the size.
     pub fn begin(&mut self, size: u32)
         requires { IsBetweenChunks self.old }
         ensures begins { BeginsChunk self.old self.new size }
@@ -79,9 +79,9 @@ impl ChunkReader {
         self.stage = Stage::Awaits(size);
     }
 
-    /// Uses the next piece up to the end of the chunk, and nothing where no chunk is awaited. Where
-    /// the content passes the limit, what was kept is dropped, and the chunk is read on all the
-    /// same. Where memory runs out, the reader fails and answers that from then on.
+    /// Uses the next piece up to the end of the chunk, or nothing if no chunk is awaited. If the content passes the
+    /// limit, it is dropped, and the rest of the chunk is discarded. If memory runs out, this call fails and every
+    /// later one.
     pub fn feed(&mut self, piece: &[u8]) -> Result<ChunkCut, BodyFault>
         ensures feeds { IfOk result (FeedsChunk self.old self.new piece.now) }
         ensures within { IfOk result (λ cut. cut.used ≤ length piece.now) }
@@ -103,7 +103,7 @@ impl ChunkReader {
         }
     }
 
-    /// The content of the chunks, or that it was too large. It takes no memory.
+    /// Returns the content of the chunks, or that it was too large.
     pub fn finish(self) -> Gathered
         requires { IsBetweenChunks self }
         ensures content { (limit : ℕ) (chunks : List Chunk)

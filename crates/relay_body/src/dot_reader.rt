@@ -10,7 +10,7 @@ use crate::gathered::{BodyFault, Gathered, Gathering};
 use crate::run::run_len;
 use std::alloc::{AllocError, Global};
 
-/// Where a reader stands in a line of mail text.
+/// Where in a line of mail text a reader is.
 #[derive(Clone, Copy, Debug, PartialEq, Eq)]
 pub(crate) enum Phase {
     LineStart,
@@ -27,7 +27,7 @@ pub(crate) enum Phase {
 }
 
 impl Phase {
-    /// The phase within a line after this octet.
+    /// Returns the phase within a line after this octet.
     pub(crate) fn behind(octet: u8) -> Phase
         ensures { result ≡ phase_behind octet }
     {
@@ -37,7 +37,7 @@ impl Phase {
         }
     }
 
-    /// The phase after a run, of which there is an octet.
+    /// Returns the phase after a run that isn't empty.
     fn behind_run(run: &[u8]) -> Phase
         requires { 0 < length run.now }
         ensures line { ends_in_line_end run.now ≡ true → result ≡ Phase.LineStart }
@@ -63,7 +63,7 @@ pub struct DotCut {
 }
 
 impl DotCut {
-    /// So many octets, with which no text ends.
+    /// Returns a cut after this many octets, with which no text ends.
     fn open(used: usize) -> DotCut
         ensures { result ≡ record { used = used; done = false } }
     {
@@ -78,7 +78,7 @@ pub struct DotReader {
     pub(crate) gathering: Gathering,
 }
 
-// Written out, so that what drops a reader calls this, and doesn't look into its parts.
+// Written out, so that the proof of a caller that drops a reader stops at this function.
 impl Drop for DotReader {
     fn drop(self) {
         let DotReader {
@@ -89,8 +89,8 @@ impl Drop for DotReader {
 }
 
 impl DotReader {
-    /// A reader of one text. The limit is the greatest length of its content in octets, counted
-    /// without the periods that are taken off. It takes no memory.
+    /// Makes a reader of one text. `limit` is the most octets of its content, without the periods that are removed.
+    /// Allocates nothing.
     pub fn new(alloc: Global, limit: usize) -> Self
         ensures { IsReading result limit [] }
     {
@@ -100,16 +100,15 @@ impl DotReader {
         }
     }
 
-    /// Whether a text has been used whole.
+    /// Returns whether a text has been used whole.
     pub fn is_done(&self) -> bool
         ensures { IsTrue result ↔ IsDone self.now }
     {
         self.phase == Phase::Done
     }
 
-    /// Uses the next piece up to the end of the text. Where the content passes the limit, what was
-    /// kept is dropped, and the text is read on all the same. Where memory runs out, the reader
-    /// fails and answers that from then on.
+    /// Uses the next piece up to the end of the text. If the content passes the limit, it is dropped, and the rest of
+    /// the text is discarded. If memory runs out, this call fails and every later one.
     pub fn feed(&mut self, piece: &[u8]) -> Result<DotCut, BodyFault>
         ensures feeds { IfOk result (Feeds self.old self.new piece.now) }
         ensures within { IfOk result (λ cut. cut.used ≤ length piece.now) }
@@ -132,7 +131,7 @@ impl DotReader {
         }
     }
 
-    /// The content of the text, or that it was too large. It takes no memory.
+    /// Returns the content of the text, or that it was too large.
     pub fn finish(self) -> Gathered
         requires { IsDone self }
         ensures content { (limit : ℕ) (text content : List ℕ)
@@ -146,7 +145,7 @@ impl DotReader {
         gathering.finish()
     }
 
-    /// Reads on, and fails where memory runs out.
+    /// Reads on, and fails if memory runs out.
     fn feed_open(&mut self, piece: &[u8]) -> Result<DotCut, BodyFault>
         requires { IsOpen self.old.phase }
         ensures feeds { IfOk result (Feeds self.old self.new piece.now) }
@@ -230,7 +229,7 @@ impl DotReader {
         }
     }
 
-    /// Uses what comes up to the next line that begins with a period, or all where none does. It is kept as one.
+    /// Uses the octets up to the next line that begins with a period, or all. They are copied as one run.
     fn take_run(&mut self, rest: &[u8]) -> Result<usize, AllocError>
         requires runs { RunsOn self.old.phase rest.now }
         requires some { 0 < length rest.now }
@@ -263,8 +262,8 @@ impl DotReader {
         }
     }
 
-    /// Uses the octet after a period and a CR that a line begins with. The CR was held back, and
-    /// is content where no LF comes.
+    /// Uses the octet after a period and a CR that a line begins with. The CR was held back, and is content unless an
+    /// LF follows.
     fn behind_period_cr(&mut self, octet: u8) -> Result<bool, AllocError>
         requires { self.old.phase ≡ Phase.PeriodCr }
         ensures uses { IfOk result (λ done. Uses self.old self.new (octet ∷ []) done) }

@@ -6,14 +6,14 @@ ghost use Rattle.relay_body.specs.DotSteps.{period_for};
 use crate::run::run_end;
 use std::alloc::{AllocError, Global};
 
-/// Whether a content is empty or ends in CR LF, so that it can be written as a dot text.
+/// Returns whether a content is empty or ends in CR LF, so that it can be written as a dot text.
 pub fn ends_in_line_end(content: &[u8]) -> bool
     ensures { result ≡ ends_in_line_end content.now }
 {
     content.is_empty() || content.ends_with(b"\r\n")
 }
 
-/// The dot text of a content (RFC 5321, section 4.5.2). It fails where memory runs out.
+/// Returns the dot text of a content (RFC 5321, section 4.5.2). Fails if memory runs out.
 pub fn write_dots(alloc: Global, content: &[u8]) -> Result<Vec<u8>, AllocError>
     requires { IsTrue (ends_in_line_end content.now) }
     ensures { IfOk result (λ text. WritesDotText content.now text.items) }
@@ -23,9 +23,8 @@ pub fn write_dots(alloc: Global, content: &[u8]) -> Result<Vec<u8>, AllocError>
     Ok(text)
 }
 
-/// Puts the dot text of a content after what stands in `out` (RFC 5321, section 4.5.2). It grows
-/// once where at most one line begins with a period. It fails where memory runs out, and then `out`
-/// stays as it was.
+/// Appends the dot text of a content to `out` (RFC 5321, section 4.5.2). `out` grows once if at most one line begins
+/// with a period. Fails if memory runs out, and then `out` is unchanged.
 pub fn push_dots(out: &mut Vec<u8>, content: &[u8]) -> Result<(), AllocError>
     requires { IsTrue (ends_in_line_end content.now) }
     ensures ok { OnOk result (AddsDotText content.now out.old.items out.new.items) }
@@ -39,8 +38,8 @@ pub fn push_dots(out: &mut Vec<u8>, content: &[u8]) -> Result<(), AllocError>
     pushed
 }
 
-/// Puts the dot text of a content after what stands in `out`, or a beginning of it. What stands
-/// between two periods to be put is copied as one run.
+/// Appends the dot text of a content to `out`, or a prefix of it. The octets between two inserted periods are copied as
+/// one run.
 fn push_runs(out: &mut Vec<u8>, content: &[u8]) -> Result<(), AllocError>
     requires { IsTrue (ends_in_line_end content.now) }
     ensures ok { OnOk result (AddsDotText content.now out.old.items out.new.items) }
@@ -59,7 +58,7 @@ fn push_runs(out: &mut Vec<u8>, content: &[u8]) -> Result<(), AllocError>
     Ok(())
 }
 
-/// Puts a period after what stands in `out` where these lines begin with one.
+/// Appends a period to `out` if these lines begin with one.
 fn push_period(out: &mut Vec<u8>, lines: &[u8]) -> Result<(), AllocError>
     ensures ok { OnOk result (out.new.items ≡ out.old.items ++ period_for lines.now) }
     ensures err { OnErr result (out.new.items ≡ out.old.items) }

@@ -5,7 +5,7 @@ use relay_octets::Octets;
 use std::alloc::{AllocError, Global};
 use thiserror::Error;
 
-/// A content that has come whole.
+/// The result of a content that has come whole.
 #[derive(Debug, Drop)]
 pub enum Gathered {
     /// The content, which is within the limit.
@@ -14,10 +14,10 @@ pub enum Gathered {
     TooLarge,
 }
 
-/// Why a reader of a body gives no answer.
+/// Why a reader of a body fails.
 #[derive(Clone, Copy, Debug, PartialEq, Eq, Error)]
 pub enum BodyFault {
-    /// Memory ran out. The reader answers this from then on.
+    /// Memory ran out. Every later call of the reader returns this.
     #[error("no memory")]
     NoMemory,
 }
@@ -33,17 +33,17 @@ impl From<AllocError> for BodyFault {
     }
 }
 
-/// A content on its way: kept up to a limit, and not at all once it has passed that.
+/// A content that is coming in: kept up to a limit, and dropped once it passes that.
 #[derive(Debug)]
 pub(crate) struct Gathering {
     /// The greatest length, in octets, of a content that is kept.
     limit: usize,
-    /// All of the content so far, or none where it has passed the limit.
+    /// The content so far, or `None` if it has passed the limit.
     kept: Option<Octets>,
     ghost within_limit: { ForSome kept (λ octets. length octets ≤ limit) },
 }
 
-// Written out, so that what drops a content on its way calls this, and doesn't look into what was kept.
+// Written out, so that the proof of a caller that drops a content on its way stops at this function.
 impl Drop for Gathering {
     fn drop(self) {
         let Gathering {
@@ -57,7 +57,7 @@ impl Gathering {
     ghost use Rattle.std.specs.Prelude.{◌≡◌, ℕ, List, [], ◌++◌, false, nat_lt, IsSome, OnOk};
     ghost use Rattle.relay_body.specs.Gathering.{IsWithin, KeepsContent, gathered_of};
 
-    /// Nothing of a content yet. It takes no memory.
+    /// Begins a content. Allocates nothing.
     pub(crate) fn new(alloc: Global, limit: usize) -> Self
         ensures { KeepsContent result limit [] }
     {
@@ -67,7 +67,7 @@ impl Gathering {
         }
     }
 
-    /// Takes more of the content. What was kept is given up where the limit is passed.
+    /// Adds octets to the content, or drops it if they pass the limit.
     pub(crate) fn keep(&mut self, more: &[u8]) -> Result<(), AllocError>
         ensures keeps { OnOk result ((limit : ℕ) (content : List ℕ)
             → KeepsContent self.old limit content
@@ -88,7 +88,7 @@ impl Gathering {
         }
     }
 
-    /// Whether the content so far passes the limit.
+    /// Returns whether the content so far passes the limit.
     pub(crate) fn is_too_large(&self) -> bool
         ensures passes { (limit : ℕ) (content : List ℕ)
             → KeepsContent self.now limit content → result ≡ nat_lt limit (length content) }
@@ -97,7 +97,7 @@ impl Gathering {
         self.kept.is_none()
     }
 
-    /// The content, once it has come whole. It takes no memory.
+    /// Returns the content, once it has come whole. Allocates nothing.
     pub(crate) fn finish(self) -> Gathered
         ensures content { (limit : ℕ) (content : List ℕ)
             → KeepsContent self limit content → result ≡ gathered_of limit content }

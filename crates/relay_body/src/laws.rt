@@ -1,4 +1,4 @@
-//! What is true of dot texts and of bare line ends, whoever reads or writes them.
+//! Laws of dot texts and of bare line ends, whoever reads or writes them.
 ghost use Rattle.relay_body.specs.BareEnds.{BareEndIsSeen};
 ghost use Rattle.relay_body.specs.DotLaws.{ContentEndsInLineEnd, EachContentIsWritten, HoldsWithinLimit, LineEndIsSeen};
 ghost use Rattle.relay_body.specs.DotLaws.{NoTextBeginsAnother, NoTextIsEmpty, OneContent, OneText};
@@ -34,12 +34,12 @@ pub fn content_ends_in_line_end()
     ensures { ContentEndsInLineEnd }
 {}
 
-/// A reader that reads on has used no whole dot text.
+/// A reader that isn't done has used no whole dot text.
 pub fn reading_has_no_dot_text()
     ensures { ReadingHasNoDotText }
 {}
 
-/// A reader that reads on is neither done nor failed.
+/// A reader that reads on is neither done nor has it failed.
 pub fn reading_is_open()
     ensures { ReadingIsOpen }
 {}
@@ -49,12 +49,12 @@ pub fn no_text_is_empty()
     ensures { NoTextIsEmpty }
 {}
 
-/// The test of line ends is true of no octets and of octets with CR LF after them.
+/// The test for a final CR LF passes for no octets, and for octets that end in CR LF.
 pub fn line_end_is_seen()
     ensures { LineEndIsSeen }
 {}
 
-/// The test of line ends is true of nothing else.
+/// The test for a final CR LF passes for nothing else.
 pub fn seen_is_line_end()
     ensures { SeenIsLineEnd }
 {}
@@ -64,7 +64,7 @@ pub fn holds_within_limit()
     ensures { HoldsWithinLimit }
 {}
 
-/// No CR and no LF stands alone exactly in what is lines with CR LF, and a rest.
+/// Octets have no bare CR or LF exactly if they are lines that each end in CR LF, and a rest with neither.
 pub fn bare_end_is_seen()
     ensures { BareEndIsSeen }
 {}

@@ -1,5 +1,5 @@
-//! The body of a mail: dot texts, read in any pieces and written (RFC 5321, section 4.5.2), and
-//! chunks (RFC 3030).
+//! The body of a mail: dot texts (RFC 5321, section 4.5.2), read in any pieces and written, and chunks (RFC 3030), read
+//! in any pieces.
 #![tactic(auto)]
 
 mod bare_ends;

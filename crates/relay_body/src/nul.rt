@@ -4,7 +4,7 @@ ghost use Rattle.relay_body.specs.Nul.{has_nul};
 
 use memchr::memchr;
 
-/// Whether NUL is among the octets (RFC 5321, section 4.1.1.4), by one search. It takes no memory.
+/// Returns whether NUL is among the octets (RFC 5321, section 4.1.1.4), by one search. Allocates nothing.
 pub fn has_nul(octets: &[u8]) -> bool
     ensures { result ≡ has_nul octets.now }
 {

@@ -1,5 +1,5 @@
-//! The reader and the writer of dot texts once more, octet by octet: slow, and each rule stands in
-//! one place. They keep the contracts of the fast ones, for tests that run both.
+//! A second reader and writer of dot texts, octet by octet, with the contracts of the fast ones, for tests that run
+//! both.
 ghost use Rattle.std.specs.Prelude.{◌≡◌, ◌<◌, ◌≤◌, ◌↔◌, ◌++◌, ℕ, List, [], ◌∷◌, true, false, Ok, length, IfOk, OnErr};
 ghost use Rattle.std.specs.Prelude.{OnOk, IsErr, IsTrue, MatchBool, if◌then◌else◌};
 ghost use Rattle.relay_body.specs.DotSteps.{IsOpen, StandsForItself};
@@ -27,8 +27,8 @@ impl Model for DotReader {
 }
 
 impl DotReader {
-    /// A reader of one text. The limit is the greatest length of its content in octets, counted
-    /// without the periods that are taken off. It takes no memory.
+    /// Makes a reader of one text. The limit is the greatest length of its content in octets, counted without the
+    /// periods that are taken off. Allocates nothing.
     pub fn new(alloc: Global, limit: usize) -> Self
         ensures { IsReading result limit [] }
     {
@@ -37,16 +37,15 @@ impl DotReader {
         }
     }
 
-    /// Whether a text has been used whole.
+    /// Returns whether a text has been used whole.
     pub fn is_done(&self) -> bool
         ensures { IsTrue result ↔ IsDone self.now }
     {
         self.reader.is_done()
     }
 
-    /// Uses the next piece up to the end of the text, octet by octet. Where the content passes the
-    /// limit, what was kept is dropped, and the text is read on all the same. Where memory runs
-    /// out, the reader fails and answers that from then on.
+    /// Uses the next piece up to the end of the text, octet by octet. If the content passes the limit, it is dropped,
+    /// and the rest of the text is discarded. If memory runs out, this call fails and every later one.
     pub fn feed(&mut self, piece: &[u8]) -> Result<DotCut, BodyFault>
         ensures feeds { IfOk result (Feeds self.old self.new piece.now) }
         ensures within { IfOk result (λ cut. cut.used ≤ length piece.now) }
@@ -61,7 +60,7 @@ impl DotReader {
         feed(&mut self.reader, piece)
     }
 
-    /// The content of the text, or that it was too large. It takes no memory.
+    /// Returns the content of the text, or that it was too large. Allocates nothing.
     pub fn finish(self) -> Gathered
         requires { IsDone self }
         ensures content { (limit : ℕ) (text content : List ℕ)
@@ -96,7 +95,7 @@ fn feed(reader: &mut dot_reader::DotReader, piece: &[u8]) -> Result<DotCut, Body
     }
 }
 
-/// Reads on, and fails where memory runs out.
+/// Reads on, and fails if memory runs out.
 fn feed_open(reader: &mut dot_reader::DotReader, piece: &[u8]) -> Result<DotCut, BodyFault>
     requires { IsOpen reader.old.phase }
     ensures feeds { IfOk result (Feeds reader.old reader.new piece.now) }
@@ -133,7 +132,7 @@ fn read(reader: &mut dot_reader::DotReader, piece: &[u8]) -> Result<DotCut, Body
     Ok(DotCut { used, done: false })
 }
 
-/// Uses one octet, and says whether the text ends with it.
+/// Uses one octet, and returns whether the text ends with it.
 fn step(reader: &mut dot_reader::DotReader, octet: u8) -> Result<bool, AllocError>
     requires { IsOpen reader.old.phase }
     ensures uses { IfOk result (λ done. Uses reader.old reader.new (octet ∷ []) done) }
@@ -184,8 +183,7 @@ fn stay(reader: &mut dot_reader::DotReader, octet: u8) -> Result<(), AllocError>
     Ok(())
 }
 
-/// The dot text of a content (RFC 5321, section 4.5.2), octet by octet. It fails where memory runs
-/// out.
+/// Returns the dot text of a content (RFC 5321, section 4.5.2), octet by octet. Fails if memory runs out.
 pub fn write_dots(alloc: Global, content: &[u8]) -> Result<Vec<u8>, AllocError>
     requires { IsTrue (ends_in_line_end content.now) }
     ensures { IfOk result (λ text. WritesDotText content.now text.items) }
@@ -205,7 +203,7 @@ pub fn write_dots(alloc: Global, content: &[u8]) -> Result<Vec<u8>, AllocError>
     Ok(text)
 }
 
-/// Writes an octet, and a period before it where it is one that begins a line.
+/// Writes an octet, and a period before it if it is a period that begins a line.
 fn write_octet(text: &mut Vec<u8>, begins_line: bool, octet: u8) -> Result<(), AllocError>
     ensures { OnOk result (text.new.items ≡ text.old.items
         ++ (if begins_line then with_period (octet ∷ []) else octet ∷ [])) }

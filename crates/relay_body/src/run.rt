@@ -1,4 +1,4 @@
-//! Runs of lines of which no other than the first begins with a period: they are sent and kept as they are.
+//! Runs of lines of which only the first may begin with a period: they are sent and kept unchanged.
 ghost use Rattle.std.specs.Prelude.{◌<◌, ◌≤◌, length, take, MatchOption};
 ghost use Rattle.relay_body.specs.DotSteps.{EndsRun, HasNoPeriodLine};
 
@@ -7,7 +7,7 @@ use memchr::memmem;
 /// A line end, and the period that begins the next line.
 const PERIOD_LINE: &[u8; 3] = b"\r\n.";
 
-/// The place after the first line end that a period follows.
+/// Returns the index after the first line end that a period follows.
 pub(crate) fn run_end(octets: &[u8]) -> Option<usize>
     ensures ends { MatchOption result (HasNoPeriodLine octets.now) (λ end. EndsRun octets.now end) }
 {
@@ -17,7 +17,7 @@ pub(crate) fn run_end(octets: &[u8]) -> Option<usize>
     }
 }
 
-/// How many octets the first run has: all of them where no line but the first begins with a period.
+/// Returns the length of the first run: all octets if no later line begins with a period.
 pub(crate) fn run_len(octets: &[u8]) -> usize
     requires { 0 < length octets.now }
     ensures some { 0 < result }

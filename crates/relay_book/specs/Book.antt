@@ -81,6 +81,6 @@ AllTold keys entries = AllByRecursion (λ entry. AreTold keys entry.0 entry.1.pl
 abbrev pub is_held_until : ℕ → Place → Bool
 is_held_until due place = place.held && place.due == due
 
--- the numbers of the keys up to a moment are among these
+-- the numbers of the keys up to a time are among these
 abbrev pub HasNumbers : List (ℕ × ℕ) → ℕ → List ℕ → Type 0
 HasNumbers keys latest numbers = (key : ℕ × ℕ) → key.0 ≤ latest → Contains keys key → Contains numbers key.1

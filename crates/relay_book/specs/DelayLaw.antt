@@ -23,7 +23,7 @@ asks_of_delay accept place =
     not (is_null accept.envelope.reverse_path)
     && option_map_or (λ recipient. wants_delay recipient.notify) (slice_get accept.envelope.recipients place) false
 
--- by this version and at this moment a delay of the place is to be told
+-- by this version and at this time a delay of the place is to be told
 abbrev pub is_delay : Version → AcceptFields → ℕ → ℕ → Bool
 is_delay version accept at place =
     reports_delay version && (nat_le (accept.at + lateness) at && asks_of_delay accept place)
@@ -35,7 +35,7 @@ delays_with accept number place (Outcome outcome) =
     outcome.message == number
     && (waits_in place outcome.rulings && is_delay outcome.version accept outcome.at place)
 
--- A held place was reported as delayed exactly where a change has put it off so.
+-- A held place was reported as delayed exactly if a change has put it off so.
 abbrev pub FoldDelays : Type 0
 FoldDelays =
     (changes : List Change) → Fitting changes → (number place : ℕ) (message : Message) (held : Place)
@@ -50,8 +50,8 @@ is_delayed made.Delayed = true
 abbrev pub tells_of : ℕ → List (ℕ × PlaceStep) → Bool
 tells_of place steps = list_any (λ one. one.0 == place && is_delayed one.1) steps
 
--- An outcome tells of a place as delayed exactly where it puts it off when it is late, and not so late that it fails,
--- its sender asked to be told, and no change before has put it off so: once, that is.
+-- An outcome tells of a place as delayed exactly if it puts it off when it is late, and not so late that it fails, its
+-- sender asked to be told, and no change before has put it off so: once, that is.
 abbrev pub DelayIsTold : Type 0
 DelayIsTold =
     (changes : List Change) → Fitting changes → (outcome : OutcomeFields) (message : Message)

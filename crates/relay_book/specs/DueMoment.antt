@@ -20,7 +20,7 @@ longest_wait = 14400
 abbrev pub wait_after : ℕ → ℕ
 wait_after laters = min (first_wait * 2 ^ (laters - 1)) longest_wait
 
--- by the moment of acceptance and those of the Later verdicts, the last first
+-- by the time of acceptance and those of the Later verdicts, the last first
 abbrev pub due_moment_of : ℕ → List ℕ → ℕ
 due_moment_of accepted [] = accepted
 due_moment_of accepted (last ∷ before) = last + wait_after (length (last ∷ before))
@@ -38,12 +38,12 @@ waits_in place [] = false
 waits_in place (ruling ∷ rulings) =
     (ruling.place == place && is_later ruling.verdict) || waits_in place rulings
 
--- an outcome for this message that has Later for this place adds its moment
+-- an outcome for this message that has Later for this place adds its time
 abbrev pub laters_with : ℕ → ℕ → List ℕ → Change → List ℕ
 laters_with number place before (Accept accept) = before
 laters_with number place before (Outcome outcome) =
     if outcome.message == number && waits_in place outcome.rulings then outcome.at ∷ before else before
 
--- the moments of a place's Later verdicts, the last first
+-- the times of a place's Later verdicts, the last first
 abbrev pub laters_of : List Change → ℕ → ℕ → List ℕ
 laters_of changes number place = fold (laters_with number place) [] changes

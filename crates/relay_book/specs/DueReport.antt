@@ -32,7 +32,7 @@ abbrev pub fate_of_later : ℕ → ℕ → Fate
 fate_of_later accepted at =
     if nat_le (accepted + patience) at then Failed else (if nat_le (accepted + lateness) at then Late else Waits)
 
--- what a verdict at one moment makes of a place accepted at another
+-- what a verdict at one time makes of a place accepted at another
 abbrev pub fate_of : ℕ → ℕ → Verdict → Fate
 fate_of accepted at (Taken dsn) = Relayed dsn
 fate_of accepted at (Refused code text) = Failed
@@ -88,7 +88,7 @@ abbrev pub due_report_of : Version → List ℕ → Option Notify → Place → 
 due_report_of version reverse_path notify place fate =
     if is_null reverse_path then None else report_of_fate version notify place fate
 
--- which report is due of a place of a message by a verdict at a moment: none of a place without a recipient
+-- which report is due of a place of a message by a verdict at a time: none of a place without a recipient
 abbrev pub due_for : Version → AcceptFields → ℕ → Place → Ruling → Option DueReport
 due_for version accept at place ruling =
     option_and_then

@@ -45,12 +45,12 @@ pub record IsNoRecipient (path : List ℕ) (number : ℕ) (orcpt : List ℕ) : T
 pub record HasNone {A : Type 0} (Valid : A → Type 0) (octets_of : A → List ℕ) (text : List ℕ) : Type 0 where
   pub none : (value : A) (rest : List ℕ) → Valid value → text ≢ octets_of value ++ rest
 
--- so many values
+-- this many values
 pub record AreSoMany {A : Type 0} (Valid : A → Type 0) (count : ℕ) (values : List A) : Type 0 where
   pub so_many : length values ≡ count
   pub valid : AllByRecursion Valid values
 
--- so many valid values do not begin the text
+-- this many valid values do not begin the text
 pub record HasNoRow {A : Type 0} (Valid : A → Type 0) (octets_of : A → List ℕ) (count : ℕ)
     (text : List ℕ) : Type 0 where
   pub none : (values : List A) (rest : List ℕ) → AreSoMany Valid count values
@@ -106,20 +106,20 @@ pub record IsNoMail (path : List ℕ) (ret : ℕ) (envid : List ℕ) : Type 0 wh
 pub record SpellsNoAccept (text : List ℕ) : Type 0 where
   pub none : (accept : AcceptFields) → IsAccept accept → text ≢ accept_octets accept
 
--- so many octets say an accept's moment and envelope, and the others are its stored text
+-- this many octets say an accept's time and envelope, and the others are its stored text
 pub record BeginsAccept (text : List ℕ) (at : ℕ) (envelope : Envelope) (head : ℕ) : Type 0 where
   pub within : head ≤ length text
   pub valid : IsAccept (record { at = at; envelope = envelope; stored_text = drop head text })
   pub text_is : text ≡ accept_octets (record { at = at; envelope = envelope; stored_text = drop head text })
 
--- so many octets of a record say that it is an accept's, its moment and its envelope, and the others are its stored
+-- this many octets of a record say that it is an accept's, its time and its envelope, and the others are its stored
 -- text
 pub record BeginsRecord (text : List ℕ) (at : ℕ) (envelope : Envelope) (head : ℕ) : Type 0 where
   pub within : head ≤ length text
   pub valid : IsAccept (record { at = at; envelope = envelope; stored_text = drop head text })
   pub text_is : text ≡ 1 ∷ accept_octets (record { at = at; envelope = envelope; stored_text = drop head text })
 
--- an outcome up to its hop: its message, its moment, the hop
+-- an outcome up to its hop: its message, its time, the hop
 pub record SpellsHead (text : List ℕ) (message at : ℕ) (hop rest : List ℕ) : Type 0 where
   pub text_is : text ≡ octets_8 message ++ (octets_8 at ++ (sized_2 hop ++ rest))
   pub message_fits : message < 2 ^ 64
@@ -152,7 +152,7 @@ pub record HasCount (text : List ℕ) : Type 0 where
   pub some : 1 ≤ count
   pub within : count ≤ 100
 
--- an accept's moment, what MAIL said, and how many recipients
+-- an accept's time, what MAIL said, and how many recipients
 pub record BeginsWithMail (text : List ℕ) : Type 0 where
   pub at : ℕ
   pub said : List ℕ
@@ -165,7 +165,7 @@ pub record BeginsWithMail (text : List ℕ) : Type 0 where
   pub mail : SpellsFields said path ret envid recipients
   pub counts : HasCount recipients
 
--- an outcome's message, moment and hop, and how many verdicts
+-- an outcome's message, time and hop, and how many verdicts
 pub record BeginsWithHop (text : List ℕ) : Type 0 where
   pub message : ℕ
   pub at : ℕ

@@ -12,7 +12,7 @@ holds_place queue number place =
     option_map_or (λ message. holds_at message.places place) (message_of queue.messages number)
     false
 
--- A place is held exactly where the queued message of its number holds it.
+-- A place is held exactly if the queued message of its number holds it.
 abbrev pub FoldFinds : Type 0
 FoldFinds =
     (changes : List Change) → Fitting changes → (number place : ℕ)

@@ -31,7 +31,7 @@ abbrev pub own_accept : Change → Option AcceptFields
 own_accept (Accept accept) = Some accept
 own_accept (Outcome outcome) = None
 
--- the report of an outcome for a message, where it has one
+-- the report of an outcome for a message, if it has one
 abbrev pub report_for : OutcomeFields → List ℕ → Option AcceptFields → Option AcceptFields
 report_for outcome [] message = None
 report_for outcome (octet ∷ report) None = None
@@ -48,7 +48,7 @@ made_by changes (Some (Outcome outcome)) =
 abbrev pub message_at : List Change → ℕ → Option AcceptFields
 message_at changes number = made_by changes (change_at changes number)
 
--- the place was added: its message has so many recipients
+-- the place was added: its message has this many recipients
 abbrev pub Added : List Change → ℕ → ℕ → Type 0
 Added changes number place =
     (accept : AcceptFields) × (message_at changes number ≡ Some accept)
@@ -171,7 +171,7 @@ QueueLeaves =
     (changes : List Change) (change : Change) → Fitting changes → FitsQueue (queue_of changes) change
     → leaving_of (queue_of changes) change ≡ leaving changes change
 
--- A place leaves by the last change exactly where that rules on its message, and lists the place and its way.
+-- A place leaves by the last change exactly if that rules on its message, and lists the place and its way.
 abbrev pub LeavingIsListed : Type 0
 LeavingIsListed =
     (changes : List Change) (change : Change) → Fitting (changes ++ change ∷ [])

@@ -1,4 +1,4 @@
--- When the held places of messages are due of which something holds, and the first of these moments.
+-- When the held places of messages are due of which something holds, and the first of these times.
 use Rattle.std.specs.Prelude.{◌≡◌, ℕ, suc, ◌≤◌, Bool, false, ◌&&◌, ◌||◌, List, [], ◌∷◌, ◌++◌, Option, None, Some}
 use Rattle.std.specs.Prelude.{if◌then◌else◌}
 use Rattle.std.specs.List.{Contains, flat_map}
@@ -26,7 +26,7 @@ abbrev pub waits_of : (ℕ → Message → ℕ → Bool) → ℕ → ℕ → Opt
 waits_of test due number None = false
 waits_of test due number (Some message) = waits_from (test number message) due 0 message.places
 
--- the least of these numbers, and none where there is none
+-- the least of these numbers, and none if there is none
 abbrev pub IsLeastOf : List ℕ → Option ℕ → Type 0
 IsLeastOf numbers None = numbers ≡ []
 IsLeastOf numbers (Some least) = Contains numbers least × ((other : ℕ) → Contains numbers other → least ≤ other)

@@ -33,8 +33,8 @@ pub record Queue : Type 0 where
 abbrev pub left_place : Place
 left_place = record { held = false; laters = 0; delayed = false; due = 0 }
 
--- a place that is due at a moment, after as many Later verdicts, of which four and more are one, and that was reported
--- as delayed or not
+-- a place that is due at a time, after as many Later verdicts, of which four and more are one, and that was reported as
+-- delayed or not
 abbrev pub held_place : ℕ → Bool → ℕ → Place
 held_place laters delayed due = record { held = true; laters = laters; delayed = delayed; due = due }
 
@@ -121,7 +121,7 @@ abbrev pub message_of : List (ℕ × Message) → ℕ → Option Message
 message_of [] number = None
 message_of (entry ∷ entries) number = if entry.0 == number then Some entry.1 else message_of entries number
 
--- the report that an outcome queues, where it has one
+-- the report that an outcome queues, if it has one
 abbrev pub reported : ℕ → OutcomeFields → List ℕ → Option Message → List (ℕ × Message)
 reported number outcome [] message = []
 reported number outcome (octet ∷ report) None = []
@@ -158,7 +158,7 @@ AreRulings places least (ruling ∷ rulings) =
     (least ≤ ruling.place) × (holds_at places ruling.place ≡ true)
     × AreRulings places (ruling.place + 1) rulings
 
--- which report is due of a place of a message by a verdict at a moment
+-- which report is due of a place of a message by a verdict at a time
 abbrev pub due_report_at : Version → Message → ℕ → Ruling → Option DueReport
 due_report_at version message at ruling =
     option_and_then (λ place. due_for version message.accept at place ruling)
@@ -179,8 +179,7 @@ is_no_route NoRoute = true
 abbrev pub AllNoRoute : List Ruling → Type 0
 AllNoRoute rulings = AllByRecursion (λ ruling. is_no_route ruling.verdict ≡ true) rulings
 
--- an outcome fits a message: a hop's name is empty exactly where no place had a hop, a report exactly where
--- none is due
+-- an outcome fits a message: a hop's name is empty exactly if no place had a hop, a report exactly if none is due
 pub record FitsMessage (message : Message) (outcome : OutcomeFields) : Type 0 where
   pub rulings : AreRulings message.places 0 outcome.rulings
   pub hop : (outcome.hop ≡ []) ↔ AllNoRoute outcome.rulings

@@ -12,7 +12,7 @@ pub record ReadyShown : Type 0 where
   pub change : Change
   pub message : Option Message
 
--- the change; a report's text stands in its message
+-- the change; a report's text is in its message
 abbrev pub change_of : Made → Change
 change_of (Accepted message) = Accept message.accept
 change_of (Ruled outcome) = Outcome outcome

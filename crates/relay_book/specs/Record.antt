@@ -69,7 +69,7 @@ recipient_octets recipient =
 abbrev pub counted : {A : Type 0} → (A → List ℕ) → List A → List ℕ
 counted octets_of elements = length elements ∷ flat_map octets_of elements
 
--- an accept: its moment, what MAIL said, the recipients and the stored text
+-- an accept: its time, what MAIL said, the recipients and the stored text
 abbrev pub accept_octets : AcceptFields → List ℕ
 accept_octets accept =
     octets_8 accept.at
@@ -91,7 +91,7 @@ verdict_octets NoRoute = 6 ∷ []
 abbrev pub ruling_octets : Ruling → List ℕ
 ruling_octets ruling = ruling.place ∷ verdict_octets ruling.verdict
 
--- the fields of an outcome: its message, its moment, the hop, the verdicts and the report
+-- the fields of an outcome: its message, its time, the hop, the verdicts and the report
 abbrev pub outcome_octets : OutcomeFields → List ℕ
 outcome_octets outcome =
     octets_8 outcome.message
@@ -132,8 +132,8 @@ pub record IsAccept (accept : AcceptFields) : Type 0 where
   pub envelope : IsEnvelope accept.envelope
   pub text : length accept.stored_text ≤ text_limit accept.envelope.reverse_path
 
--- a refusal's code is one that a reply may have: three digits, the first 2 to 5 (RFC 5321, section
--- 4.2); profile: of its text so many octets are kept at most, each printable
+-- a refusal's code is one that a reply may have: three digits, the first 2 to 5 (RFC 5321, section 4.2); profile: of
+-- its text this many octets are kept at most, each printable
 pub record IsRefusal (code : ℕ) (text : List ℕ) : Type 0 where
   pub low : 200 ≤ code
   pub high : code < 600

@@ -61,7 +61,7 @@ pub record IsPlacedBy (version : Version) (placed : Recipient × Place) : Type 0
   pub recipient : IsRecipient placed.0
   pub place : IsPlaceBy version placed.1
 
--- so many recipients and their places are read from the text, up to the rest
+-- this many recipients and their places are read from the text, up to the rest
 pub record ReadsRow (version : Version) (count : ℕ) (text : List ℕ) (recipients : List Recipient)
     (places : List Place) (rest : List ℕ) : Type 0 where
   pub as_many : length places ≡ length recipients
@@ -108,7 +108,7 @@ abbrev pub next_behind : ℕ → List (ℕ × Message) → ℕ
 next_behind least [] = least
 next_behind least (entry ∷ entries) = next_behind (suc entry.0) entries
 
--- so many messages are read from the text into a queue, up to the rest
+-- this many messages are read from the text into a queue, up to the rest
 pub record ReadsEntries (version : Version) (count next : ℕ) (text : List ℕ) (queue : Queue) (rest : List ℕ)
     : Type 0 where
   pub are : AreSoMany (IsQueuedBy version) count queue.messages
@@ -117,7 +117,7 @@ pub record ReadsEntries (version : Version) (count next : ℕ) (text : List ℕ)
   pub below : queue.next ≤ next
   pub text_is : text ≡ flat_map (entry_octets version) queue.messages ++ rest
 
--- the text is so many messages of a queue with this next number
+-- the text is this many messages of a queue with this next number
 pub record AreEntries (version : Version) (count next : ℕ) (text : List ℕ) (messages : List (ℕ × Message))
     : Type 0 where
   pub are : AreSoMany (IsQueuedBy version) count messages
@@ -154,7 +154,7 @@ pub record SpellsNoSnapshot (octets : List ℕ) : Type 0 where
   pub none : (version : Version) (next count : ℕ) (rest : List ℕ) → SpellsSnapshot version octets next count rest
       → ⊥
 
--- what stands before the messages can be read at once, if the text has so much, and else the whole text
+-- what is before the messages can be read at once, if the text has so much, and else the whole text
 abbrev pub HoldsHead : InPieces → Type 0
 HoldsHead octets = length octets.front < 13 → octets.left ≡ 0
 

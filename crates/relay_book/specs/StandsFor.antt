@@ -1,8 +1,8 @@
 -- What the bodies of a spool stand for: the snapshot of a queue, if the first is one, and the encodings of changes,
 -- each of which fits what those before it leave. They stand for each list of changes that leaves the same queue: the
 -- same next number, and the same messages with held places, their stored texts, held places, which of these were
--- reported as delayed, Later verdicts up to four, and due moments. Snapshots and outcomes of both versions may stand
--- in one spool.
+-- reported as delayed, Later verdicts up to four, and due times. Snapshots and outcomes of both versions may stand in
+-- one spool.
 use Rattle.std.specs.Prelude.{◌≡◌, ◌⊎◌, ◌↔◌, ℕ, ◌<◌, ◌^◌, List, [], ◌∷◌, ◌++◌, length, map, Some}
 use Rattle.relay_book.specs.declared.change.Change.{Change}
 use Rattle.relay_book.specs.declared.message.Message.{Message}
@@ -86,7 +86,7 @@ FoundIsQueued =
     (queue : Queue) (number : ℕ) (message : Message) → IsQueue queue
     → message_of queue.messages number ≡ Some message → IsQueued (number, message)
 
--- The snapshot of a queue that may be stored reads as that queue, where it is short enough to be a body.
+-- The snapshot of a queue that may be stored reads as that queue, if it is short enough to be a body.
 abbrev pub SnapshotIsRead : Type 0
 SnapshotIsRead =
     (queue : Queue) → IsQueue queue → length (snapshot queue) < 2 ^ 32 → ReadsAll (snapshot queue ∷ []) queue

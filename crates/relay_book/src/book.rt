@@ -51,7 +51,7 @@ pub struct Book {
     /// places themselves: those of a change that was made ready and isn't committed stay until the next
     /// `prepare`, and for good where another change is committed in between.
     waiting: BTreeSet<(u64, u64), Global>,
-    /// What was told for a change that isn't committed. Where it never is, the next one makes it forgotten.
+    /// The due times noted for a change that isn't committed. If it never is, the next change drops them.
     fresh: Vec<(u64, u64)>,
 }
 
@@ -68,7 +68,7 @@ impl Model for Book {
 }
 
 impl Book {
-    /// A book without a message. It takes no memory.
+    /// Makes a book without a message. Allocates nothing.
     pub fn new(alloc: Global) -> Self
         ensures { result.queue ≡ empty_queue }
     {
@@ -81,21 +81,21 @@ impl Book {
         }
     }
 
-    /// The number of the next change. It takes no memory.
+    /// Returns the number of the next change. Allocates nothing.
     pub fn next_number(&self) -> u64
         ensures { result ≡ self.now.queue.next }
     {
         self.next
     }
 
-    /// Tells that the numbers of the messages rise, and are below the next. It does nothing.
+    /// States that the numbers of the messages rise, and are below the next. Does nothing.
     pub fn numbers_rise(&self)
         ensures { Rise 0 self.now.queue.next self.now.queue.messages }
     {
         let _next = self.next;
     }
 
-    /// The message of a number, while a place of it is held. It takes no memory.
+    /// Returns the message of a number, while a place of it is held. Allocates nothing.
     #[tactic(auto, using(crate::proofs::LiveLemmas::live_lookup))]
     pub fn message(&self, number: u64) -> Option<&Message>
         ensures { option_copied result ≡ message_of self.now.queue.messages number }
@@ -106,15 +106,15 @@ impl Book {
         }
     }
 
-    /// All held places, each with the number of its message, in order. It fails where memory runs out.
+    /// Returns all held places, each with the number of its message, in order. Fails if memory runs out.
     pub fn held(&self, alloc: Global) -> Result<Vec<(u64, u8)>, AllocError>
         ensures { IfOk result (λ marks. marks.items ≡ held_of self.now.queue) }
     {
         held_places(alloc, &self.messages)
     }
 
-    /// The held places that are due at a moment or before, each with the number of its message, in order. It
-    /// fails where memory runs out.
+    /// Returns the held places that are due at a time or before, each with the number of its message, in order. Fails
+    /// if memory runs out.
     pub fn due(&self, alloc: Global, now: Moment) -> Result<Vec<(u64, u8)>, AllocError>
         ensures { IfOk result (λ marks. marks.items ≡ due_of now self.now.queue) }
     {
@@ -123,8 +123,8 @@ impl Book {
         self.due_among(alloc, &numbers, latest)
     }
 
-    /// What a change makes of places: each that leaves, with its way, and each that is reported as delayed, in order.
-    /// It fails where memory runs out.
+    /// Returns what a change makes of places: each that leaves, with its way, and each that is reported as delayed, in
+    /// order. Fails if memory runs out.
     pub fn place_steps(
         &self,
         alloc: Global,
@@ -141,9 +141,9 @@ impl Book {
         }
     }
 
-    /// Makes room for a change and makes ready what it queues, so that `commit` can't fail. It answers
-    /// `BadRecord` exactly where the change doesn't fit, however little memory there is, and fails
-    /// with `NoMemory` where a change that fits finds no memory. The queue is unchanged.
+    /// Makes room for a change and makes ready what it queues, so that `commit` can't fail. Returns `BadRecord` exactly
+    /// if the change doesn't fit, however little memory there is, and fails with `NoMemory` where a change that fits
+    /// finds no memory. The queue is unchanged.
     pub fn prepare(&mut self, alloc: Global, change: Change) -> Result<Ready, BookFault>
         ensures queue { self.new.queue ≡ self.old.queue }
         ensures ready { IfOk result (λ ready. IsReady self.new ready) }
@@ -158,7 +158,7 @@ impl Book {
         }
     }
 
-    /// Applies a change that is ready, to the book as `prepare` left it. It takes no memory.
+    /// Applies a change that is ready, to the book as `prepare` left it. Allocates nothing.
     pub fn commit(&mut self, ready: Ready)
         requires { IsReady self.old ready }
         ensures { self.new.queue ≡ step self.old.queue ready.change }
@@ -194,7 +194,7 @@ impl Book {
         Ok(())
     }
 
-    /// The places of these messages that are due by then, in order.
+    /// Returns the places of these messages that are due by then, in order.
     #[tactic(auto, using(crate::proofs::DueLemmas::marks_next))]
     fn due_among(
         &self,
@@ -277,7 +277,7 @@ impl Book {
         Ok(Ready { made, were_due })
     }
 
-    /// Whether an outcome fits the queue.
+    /// Returns whether an outcome fits the queue.
     fn fits(&self, outcome: &Outcome) -> bool
         ensures { IsTrue result ↔ FitsQueue self.now.queue (Change.Outcome outcome.now) }
     {
@@ -305,7 +305,7 @@ impl Book {
         }
     }
 
-    /// Takes a number, for a message or for none. It takes no memory.
+    /// Takes a number, for a message or for none. Allocates nothing.
     fn add(&mut self, message: Option<Message>)
         requires room { 0 < self.old.room }
         requires few { self.old.queue.next ≤ last_number }
@@ -321,7 +321,7 @@ impl Book {
         }
     }
 
-    /// Puts a message after the others. It takes no memory.
+    /// Puts a message after the others. Allocates nothing.
     #[tactic(auto, using(crate::proofs::LiveLemmas::pushed_last, crate::proofs::ToldLemmas::all_told_last))]
     fn push(&mut self, message: Message)
         requires room { 0 < self.old.room }
@@ -335,7 +335,7 @@ impl Book {
         self.next += 1;
     }
 
-    /// Lets a number go by.
+    /// Skips a number.
     #[tactic(auto, using(crate::proofs::LiveLemmas::rise_next))]
     fn pass(&mut self)
         requires few { self.old.queue.next ≤ last_number }
@@ -420,7 +420,7 @@ impl Book {
         Ok(())
     }
 
-    /// Notes what is told for a change that isn't committed.
+    /// Keeps the due times noted for a change that isn't committed.
     fn note_fresh(&mut self, due: u64, number: u64) -> Result<(), AllocError>
         ensures { self.new ≡ self.old }
     {
@@ -435,7 +435,7 @@ impl Book {
         self.fresh.clear();
     }
 
-    /// Forgets what was told for a change that never was committed.
+    /// Drops the due times noted for a change that was never committed.
     fn forget_fresh(&mut self, alloc: Global)
         ensures { self.new.queue ≡ self.old.queue }
     {
@@ -461,7 +461,7 @@ impl Book {
         self.waiting.remove(&(due, number));
     }
 
-    /// Whether a held place of this message is due then.
+    /// Returns whether a held place of this message is due then.
     fn is_due_then(&self, due: u64, number: u64) -> bool
         ensures { result
             ≡ option_map_or (λ message. list_any (is_held_until due) message.places)

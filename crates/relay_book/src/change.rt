@@ -18,7 +18,7 @@ pub struct Accept {
     pub stored_text: Octets,
 }
 
-// Written out, so that what drops an accept calls this, and doesn't look into each part of it.
+// Written out, so that the proof of a caller that drops an accept stops at this function.
 impl Drop for Accept {
     fn drop(self) {
         let Accept {
@@ -29,15 +29,15 @@ impl Drop for Accept {
     }
 }
 
-/// What an attempt says of a place.
+/// The verdict of an attempt on a place.
 #[derive(Debug, Drop)]
 pub enum Verdict {
-    /// The hop has it.
+    /// The next hop accepted it.
     Taken {
-        /// The hop offers DSN, so it makes the reports.
+        /// Whether the next hop offers DSN, and so makes the reports.
         dsn: bool,
     },
-    /// The hop refused it for good.
+    /// The next hop refused it for good.
     Refused {
         /// The reply's code: 200 to 599.
         code: u16,
@@ -46,7 +46,7 @@ pub enum Verdict {
     },
     /// It may be tried again.
     Later,
-    /// The hop can't take this content.
+    /// The next hop can't take this content.
     CantSend,
     /// There is no hop for it.
     NoRoute,
@@ -57,7 +57,7 @@ pub enum Verdict {
 pub struct Ruling {
     /// The place, from 0.
     pub place: u8,
-    /// What was said of it.
+    /// Its verdict.
     pub verdict: Verdict,
 }
 
@@ -77,7 +77,7 @@ impl Model for Rulings {
 }
 
 impl Rulings {
-    /// No verdict. It takes no memory.
+    /// No verdict. Allocates nothing.
     pub fn new(alloc: Global) -> Self
         ensures { result ≡ [] }
     {
@@ -86,21 +86,21 @@ impl Rulings {
         }
     }
 
-    /// How many there are.
+    /// Returns how many there are.
     pub fn len(&self) -> usize
         ensures { result ≡ length self.now }
     {
         self.items.len()
     }
 
-    /// The verdicts.
+    /// Returns the verdicts.
     pub fn as_slice(&self) -> &[Ruling]
         ensures { result.now ≡ self.now }
     {
         self.items.as_slice()
     }
 
-    /// Adds a verdict at the end. Where memory runs out, none is added.
+    /// Adds a verdict at the end. If memory runs out, none is added.
     pub fn push(&mut self, ruling: Ruling) -> Result<(), AllocError>
         ensures ok { OnOk result (self.new ≡ self.old ++ ruling ∷ []) }
         ensures err { OnErr result (self.new ≡ self.old) }
@@ -113,17 +113,17 @@ impl Rulings {
 /// How an attempt ended.
 #[derive(Debug)]
 pub struct Outcome {
-    /// By which version it is judged which report is due, and it is written.
+    /// The version by which it is written, and which decides what report is owed.
     pub version: Version,
     /// The number of its message.
     pub message: u64,
     /// When it ended.
     pub at: Moment,
-    /// The name of the hop; empty exactly where no place had one.
+    /// The name of the hop; empty exactly if no place had one.
     pub hop: Octets,
-    /// What was said of the places, at least of one.
+    /// The verdicts, at least one.
     pub rulings: Rulings,
-    /// The text of the report that is due, and empty where none is.
+    /// The text of the report that is owed; empty if none is.
     pub report: Octets,
 }
 

@@ -1,4 +1,4 @@
-//! What is true of the custody of each recipient, by the list of changes.
+//! Laws of the custody of each recipient, by the list of changes.
 ghost use Rattle.relay_book.specs.DelayLaw.{DelayIsTold, FoldDelays};
 ghost use Rattle.relay_book.specs.DueLaw.{FoldDue, QueueListsDue, QueueTellsDue};
 ghost use Rattle.relay_book.specs.HeldLaw.{FoldFinds, QueuedIsHeld};
@@ -10,7 +10,7 @@ pub fn fold_holds()
     ensures { FoldHolds }
 {}
 
-/// A place is held exactly where the queued message of its number holds it.
+/// A place is held exactly if the queued message of its number holds it.
 pub fn fold_finds()
     ensures { FoldFinds }
 {}
@@ -30,7 +30,7 @@ pub fn queue_leaves()
     ensures { QueueLeaves }
 {}
 
-/// A place leaves by a change exactly where the change lists it.
+/// A place leaves by a change exactly if the change lists it.
 pub fn leaving_is_listed()
     ensures { LeavingIsListed }
 {}
@@ -40,19 +40,17 @@ pub fn fold_knows()
     ensures { FoldKnows }
 {}
 
-/// The due moment of each held place is by its acceptance and its Later verdicts.
+/// The due time of each held place is by its acceptance and its Later verdicts.
 pub fn fold_due()
     ensures { FoldDue }
 {}
 
-/// The queue of a list has a place due at a moment exactly where the place is held and the list has it
-/// due then.
+/// The queue of a list has a place due at a time exactly if the place is held and the list has it due then.
 pub fn queue_tells_due()
     ensures { QueueTellsDue }
 {}
 
-/// What the queue of a list has due by a moment are the held places that the list has due then, in
-/// order.
+/// What the queue of a list has due by a time are the held places that the list has due then, in order.
 pub fn queue_lists_due()
     ensures { QueueListsDue }
 {}
@@ -82,13 +80,13 @@ pub fn steps_leave()
     ensures { StepsLeave }
 {}
 
-/// A held place was reported as delayed exactly where one of the changes has put it off when it was late, and its
-/// sender had asked to be told.
+/// A held place was reported as delayed exactly if one of the changes has put it off when it was late, and its sender
+/// had asked to be told.
 pub fn fold_delays()
     ensures { FoldDelays }
 {}
 
-/// An outcome tells of a place as delayed exactly where it puts the place off when it is late, and not so late that it
+/// An outcome tells of a place as delayed exactly if it puts the place off when it is late, and not so late that it
 /// fails, its sender had asked to be told, and no change before has put it off so.
 pub fn delay_is_told()
     ensures { DelayIsTold }

@@ -30,11 +30,11 @@ use ruling::read_rulings;
 use std::alloc::Global;
 use tail::behind;
 
-/// The change of which these octets are the record, with one copy of each text. It fails with `BadRecord`
-/// exactly where they are no record of a change, and where memory runs out. Memory is wanted first for
-/// the recipients or the verdicts: what stands before them, and how many they are, is read first, and
-/// octets that spell no such fields are refused however little memory there is. What is after, and
-/// whether the fields are valid, may be left unjudged where memory runs out.
+/// Returns the change of which these octets are the record, with one copy of each text. It fails with `BadRecord`
+/// exactly if they are no record of a change, and if memory runs out. Memory is wanted first for the recipients or the
+/// verdicts: what is before them, and how many they are, is read first, and octets that spell no such fields are
+/// refused however little memory there is. What is after, and whether the fields are valid, may be left unjudged if
+/// memory runs out.
 #[tactic(auto, using(crate::proofs::ChangeFieldLemmas::refused_changes, crate::proofs::BeginLemmas::begun_changes))]
 pub fn decode_change(alloc: Global, text: &[u8]) -> Result<Change, BookFault>
     ensures change { IfOk result (λ change. IsChange change × (text.now ≡ encode change)) }
@@ -55,7 +55,7 @@ pub fn decode_change(alloc: Global, text: &[u8]) -> Result<Change, BookFault>
     }
 }
 
-/// The outcome of a version whose fields these are.
+/// Returns the outcome of a version whose fields these are.
 fn decode_outcome(alloc: Global, version: Version, fields: &[u8]) -> Result<Change, BookFault>
     ensures change { IfOk result (λ change.
         IsChange change × (outcome_kind version ∷ fields.now ≡ encode change)) }
@@ -66,7 +66,8 @@ fn decode_outcome(alloc: Global, version: Version, fields: &[u8]) -> Result<Chan
     Ok(Change::Outcome(outcome))
 }
 
-/// The same change, where the octets are to be had. The stored text of an accept keeps their memory, and isn't copied.
+/// Returns the same change, where the octets are to be had. The stored text of an accept keeps their memory, and isn't
+/// copied.
 #[tactic(auto, using(crate::proofs::AcceptLemmas::record_is_accept, crate::proofs::AcceptLemmas::record_is_text))]
 pub fn decode_record(alloc: Global, octets: Vec<u8>) -> Result<Change, BookFault>
     ensures change { IfOk result (λ change. IsChange change × (octets.items ≡ encode change)) }
@@ -83,7 +84,7 @@ pub fn decode_record(alloc: Global, octets: Vec<u8>) -> Result<Change, BookFault
     }
 }
 
-/// What the record of an accept says before its stored text, and none for another record.
+/// Returns what the record of an accept says before its stored text, and none for another record.
 #[tactic(auto, using(crate::proofs::BeginLemmas::accept_records))]
 fn head_of(alloc: Global, octets: &[u8]) -> Result<Option<AcceptHead>, BookFault>
     ensures accept { IfOk result (λ found. IfSome found
@@ -101,7 +102,7 @@ fn head_of(alloc: Global, octets: &[u8]) -> Result<Option<AcceptHead>, BookFault
     Ok(Some((at, envelope, head + 1)))
 }
 
-/// The text after its length of four octets that the whole text is.
+/// Returns the text after its length of four octets that the whole text is.
 #[tactic(auto, using(crate::proofs::AcceptLemmas::no_last_short, crate::proofs::AcceptLemmas::no_last_other))]
 fn read_last(text: &[u8]) -> Option<&[u8]>
     ensures { MatchOption result (IsNoSized text.now)
@@ -115,7 +116,7 @@ fn read_last(text: &[u8]) -> Option<&[u8]>
     }
 }
 
-/// The fields of an accept: its moment, the three of MAIL, the recipients and the stored text.
+/// The fields of an accept: its time, the three of MAIL, the recipients and the stored text.
 type AcceptFields<'a> = (u64, &'a [u8], u8, &'a [u8], Recipients, &'a [u8]);
 
 /// Cuts an accept into its fields.
@@ -138,10 +139,10 @@ fn split_accept(alloc: Global, text: &[u8]) -> Result<AcceptFields<'_>, BookFaul
     }
 }
 
-/// What an accept says before its stored text: its moment and its envelope, and how many octets that takes.
+/// What an accept says before its stored text: its time and its envelope, and how many octets that takes.
 type AcceptHead = (Moment, Envelope, usize);
 
-/// What the accept says before its stored text that the text spells.
+/// Returns what the accept says before its stored text that the text spells.
 fn read_accept_head(alloc: Global, text: &[u8]) -> Result<AcceptHead, BookFault>
     ensures accept { IfOk result (λ parts. BeginsAccept text.now parts.0 parts.1 parts.2) }
     ensures bad { IsErrOf result BookFault.BadRecord → SpellsNoAccept text.now }
@@ -163,7 +164,7 @@ fn read_accept_head(alloc: Global, text: &[u8]) -> Result<AcceptHead, BookFault>
     Ok((at, envelope, head))
 }
 
-/// The accept that the text spells.
+/// Returns the accept that the text spells.
 fn read_accept(alloc: Global, text: &[u8]) -> Result<Accept, BookFault>
     ensures accept { IfOk result (λ accept. IsAccept accept × (text.now ≡ accept_octets accept)) }
     ensures bad { IsErrOf result BookFault.BadRecord → SpellsNoAccept text.now }
@@ -177,10 +178,10 @@ fn read_accept(alloc: Global, text: &[u8]) -> Result<Accept, BookFault>
     })
 }
 
-/// The fields of an outcome: its message, its moment, the hop, the verdicts and the report.
+/// The fields of an outcome: its message, its time, the hop, the verdicts and the report.
 type OutcomeFields<'a> = (u64, u64, &'a [u8], Rulings, &'a [u8]);
 
-/// An outcome's message, its moment and its hop, and what follows them.
+/// Returns an outcome's message, its time and its hop, and what follows them.
 #[tactic(auto, using(crate::proofs::OutcomeLemmas::outcome_heads))]
 fn read_head(text: &[u8]) -> Option<(u64, u64, &[u8], &[u8])>
     ensures { MatchOption result (HasNoHead text.now)
@@ -209,7 +210,7 @@ fn split_outcome(alloc: Global, text: &[u8]) -> Result<OutcomeFields<'_>, BookFa
     }
 }
 
-/// The outcome of a version that the text spells.
+/// Returns the outcome of a version that the text spells.
 #[tactic(auto, using(crate::proofs::OutcomeLemmas::judged_outcomes, crate::proofs::BeginLemmas::spelled_with_hop))]
 fn read_outcome(alloc: Global, version: Version, text: &[u8]) -> Result<Outcome, BookFault>
     ensures outcome { IfOk result (λ outcome. IsOutcome outcome × (text.now ≡ outcome_octets outcome)) }

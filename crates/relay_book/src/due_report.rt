@@ -9,18 +9,18 @@ use crate::version::Version;
 use relay_envelope::Notify;
 use relay_trace::Moment;
 
-/// What a report says of a place.
+/// The kind of a report on a place.
 #[derive(Clone, Copy, Debug)]
 pub enum DueReport {
-    /// That it failed.
+    /// Delivery failed.
     OfFailure,
-    /// That a hop took it which makes no reports itself.
+    /// It was relayed to a next hop that makes no reports itself.
     OfRelay,
-    /// That it is late, and is tried again.
+    /// It is delayed, and is tried again.
     OfDelay,
 }
 
-/// Which report is due by a verdict at a moment of this place of a message, which has this index: none of a place
+/// Returns which report is due by a verdict at a time of this place of a message, which has this index: none of a place
 /// without a recipient.
 pub(crate) fn due_for(
     version: Version,
@@ -48,8 +48,8 @@ pub(crate) fn due_for(
     }
 }
 
-/// Which report is due of a place (RFC 3461, section 5.2): none to the null reverse path, and else by the version of
-/// the outcome, by what became of the place and was known of it, and by its NOTIFY.
+/// Returns which report is due of a place (RFC 3461, section 5.2): none to the null reverse path, and else by the
+/// version of the outcome, by what became of the place and was known of it, and by its NOTIFY.
 fn due_report_of(
     version: Version,
     reverse_path: &[u8],
@@ -83,7 +83,7 @@ fn report_of_fate(
     }
 }
 
-/// The report of a delay, once: of a place that wasn't reported as delayed before.
+/// Returns the report of a delay, once: of a place that wasn't reported as delayed before.
 fn report_of_delay(version: Version, notify: Option<Notify>, place: Place) -> Option<DueReport>
     ensures { result ≡ report_of_delay version notify place }
 {
@@ -91,7 +91,7 @@ fn report_of_delay(version: Version, notify: Option<Notify>, place: Place) -> Op
     is_due.then_some(DueReport::OfDelay)
 }
 
-/// Whether outcomes of this version report a delay.
+/// Returns whether outcomes of this version report a delay.
 fn reports_delay(version: Version) -> bool
     ensures { result ≡ reports_delay version }
 {
@@ -101,7 +101,7 @@ fn reports_delay(version: Version) -> bool
     }
 }
 
-/// A failure is reported where NOTIFY wasn't given, or names it.
+/// Returns whether a failure is reported where NOTIFY wasn't given, or names it.
 fn wants_failure(notify: Option<Notify>) -> bool
     ensures { result ≡ wants_failure notify }
 {
@@ -112,7 +112,7 @@ fn wants_failure(notify: Option<Notify>) -> bool
     }
 }
 
-/// A success is reported where NOTIFY names it.
+/// Returns whether a success is reported where NOTIFY names it.
 fn wants_success(notify: Option<Notify>) -> bool
     ensures { result ≡ wants_success notify }
 {
@@ -123,7 +123,7 @@ fn wants_success(notify: Option<Notify>) -> bool
     }
 }
 
-/// A delay is reported where NOTIFY names it.
+/// Returns whether a delay is reported where NOTIFY names it.
 fn wants_delay(notify: Option<Notify>) -> bool
     ensures { result ≡ wants_delay notify }
 {

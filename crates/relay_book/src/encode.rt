@@ -15,7 +15,7 @@ use crate::version::Version;
 use relay_envelope::{Notify, Recipient, Ret};
 use std::alloc::{AllocError, Global};
 
-/// The one record of a change that may be stored. It fails where memory runs out.
+/// Returns the one record of a change that may be stored. Fails if memory runs out.
 pub fn encode_change(alloc: Global, change: &Change) -> Result<Vec<u8>, AllocError>
     requires { IsChange change.now }
     ensures { IfOk result (λ octets. octets.items ≡ encode change.now) }
@@ -45,7 +45,7 @@ fn push_accept(out: &mut Vec<u8>, accept: &Accept) -> Result<(), AllocError>
     push_sized_4(out, accept.stored_text.as_slice())
 }
 
-/// Adds what an accept says before its recipients: its moment, and the three of MAIL.
+/// Adds what an accept says before its recipients: its time, and the three of MAIL.
 #[tactic(auto, using(crate::proofs::FitLemmas::fields_fit))]
 fn push_mail(out: &mut Vec<u8>, accept: &Accept) -> Result<(), AllocError>
     requires { IsAccept accept.now }
@@ -115,7 +115,7 @@ fn number_of_notify(notify: Option<Notify>) -> u8
     }
 }
 
-/// The first octet of an outcome.
+/// Returns the first octet of an outcome.
 fn outcome_kind(version: Version) -> u8
     ensures { result ≡ outcome_kind version }
 {

@@ -18,10 +18,10 @@ pub enum Fate {
     Relayed(bool),
 }
 
-/// How a place leaves the queue.
+/// How a place left the queue.
 #[derive(Clone, Copy, Debug)]
 pub enum Way {
-    /// The next hop has it.
+    /// The next hop accepted it.
     ByTransfer,
     /// It failed.
     ByEnd,
@@ -36,7 +36,7 @@ pub enum PlaceStep {
     Delayed,
 }
 
-/// What a verdict at a moment makes of a place that was accepted at another. It takes no memory.
+/// Returns what a verdict at a time makes of a place that was accepted at another. Allocates nothing.
 pub fn fate_of(accepted: Moment, at: Moment, verdict: &Verdict) -> Fate
     ensures { result ≡ fate_of accepted at verdict.now }
 {
@@ -49,7 +49,7 @@ pub fn fate_of(accepted: Moment, at: Moment, verdict: &Verdict) -> Fate
     }
 }
 
-/// What becomes of a place that is to be tried again.
+/// Returns what becomes of a place that is to be tried again.
 fn fate_of_later(accepted: Moment, at: Moment) -> Fate
     ensures { result ≡ fate_of_later accepted at }
 {
@@ -63,7 +63,7 @@ fn fate_of_later(accepted: Moment, at: Moment) -> Fate
 }
 
 impl Fate {
-    /// How the place leaves, if it does. It takes no memory.
+    /// How the place leaves, if it does. Allocates nothing.
     pub fn way(self) -> Option<Way>
         ensures { result ≡ way_of self }
     {

@@ -1,7 +1,7 @@
 use std::alloc::AllocError;
 use thiserror::Error;
 
-/// Why a call on records or a book gives no answer.
+/// Why a call on records or a book fails.
 #[derive(Clone, Copy, Debug, PartialEq, Eq, Error)]
 pub enum BookFault {
     /// The octets are no record, or the change doesn't fit.

@@ -6,7 +6,7 @@ ghost use Rattle.relay_book.specs.SnapshotFields.{HasNoLong};
 
 use std::alloc::AllocError;
 
-/// A number of two octets, and what follows it.
+/// Returns a number of two octets, and what follows it.
 #[tactic(auto, unfolding(crate::specs::Record::octets_2))]
 pub(crate) fn read_2(text: &[u8]) -> Option<(u16, &[u8])>
     ensures { MatchOption result (length text.now < 2)
@@ -18,7 +18,7 @@ pub(crate) fn read_2(text: &[u8]) -> Option<(u16, &[u8])>
     }
 }
 
-/// A number of four octets, and what follows it.
+/// Returns a number of four octets, and what follows it.
 #[tactic(auto, unfolding(crate::specs::Record::octets_4))]
 pub(crate) fn read_4(text: &[u8]) -> Option<(u32, &[u8])>
     ensures { MatchOption result (length text.now < 4)
@@ -30,7 +30,7 @@ pub(crate) fn read_4(text: &[u8]) -> Option<(u32, &[u8])>
     }
 }
 
-/// A text after its length of two octets, and what follows it.
+/// Returns a text after its length of two octets, and what follows it.
 pub(crate) fn read_sized_2(text: &[u8]) -> Option<(&[u8], &[u8])>
     ensures { MatchOption result
         (HasNoSized text.now)
@@ -45,7 +45,7 @@ pub(crate) fn read_sized_2(text: &[u8]) -> Option<(&[u8], &[u8])>
     }
 }
 
-/// A text after its length of four octets, and what follows it.
+/// Returns a text after its length of four octets, and what follows it.
 pub(crate) fn read_sized_4(text: &[u8]) -> Option<(&[u8], &[u8])>
     ensures { MatchOption result
         (HasNoLong text.now)
@@ -60,7 +60,7 @@ pub(crate) fn read_sized_4(text: &[u8]) -> Option<(&[u8], &[u8])>
     }
 }
 
-/// A number of eight octets, and what follows it.
+/// Returns a number of eight octets, and what follows it.
 #[tactic(auto, unfolding(crate::specs::Record::octets_8))]
 pub(crate) fn read_8(text: &[u8]) -> Option<(u64, &[u8])>
     ensures { MatchOption result (length text.now < 8)

@@ -17,7 +17,7 @@ use relay_trace::{LAST_SECOND, Moment};
 /// The most verdicts of an outcome.
 const RULING_LIMIT: usize = 100;
 
-/// Whether an accept may be stored.
+/// Returns whether an accept may be stored.
 pub(crate) fn is_accept(accept: &Accept) -> bool
     ensures { IsTrue result ↔ IsAccept accept.now }
 {
@@ -26,7 +26,7 @@ pub(crate) fn is_accept(accept: &Accept) -> bool
         && accept.stored_text.len() <= text_limit(accept.envelope.reverse_path.as_slice())
 }
 
-/// Whether an outcome may be stored, by its fields alone.
+/// Returns whether an outcome may be stored, by its fields alone.
 pub(crate) fn is_outcome(outcome: &Outcome) -> bool
     ensures { IsTrue result ↔ IsOutcome outcome.now }
 {
@@ -47,7 +47,7 @@ fn is_outcome_for(_message: u64, outcome: &Outcome) -> bool
     outcome.report.len() <= REPORT_LIMIT
 }
 
-/// Whether there are 1 to 100 verdicts that may be stored.
+/// Returns whether there are 1 to 100 verdicts that may be stored.
 fn are_some(rulings: &[Ruling]) -> bool
     ensures { IsTrue result ↔ AreSome IsRuling rulings.now }
 {
@@ -93,8 +93,8 @@ fn is_refusal(code: u16, text: &[u8]) -> bool
     is_reply_code(code) && text.len() <= REFUSAL_LIMIT && is_printable(text)
 }
 
-/// Whether an outcome fits its message: it rules on held places, which rise, names a hop unless no place had
-/// one, and has a report exactly where one is due.
+/// Returns whether an outcome fits its message: it rules on held places, which rise, names a hop unless no place had
+/// one, and has a report exactly if one is due.
 pub(crate) fn fits_message(message: &Message, outcome: &Outcome) -> bool
     ensures { IsTrue result ↔ FitsMessage message.now outcome.now }
 {
@@ -103,7 +103,7 @@ pub(crate) fn fits_message(message: &Message, outcome: &Outcome) -> bool
         && report_fits(message, outcome)
 }
 
-/// Whether the places rise, from a least one, and each is held.
+/// Returns whether the places rise, from a least one, and each is held.
 fn are_held(places: &[Place], least: u16, rulings: &[Ruling]) -> bool
     ensures { IsTrue result ↔ AreRulings places.now least rulings.now }
 {
@@ -126,7 +126,7 @@ fn holds_at(places: &[Place], index: usize) -> bool
     }
 }
 
-/// Whether a hop is named exactly where a place had one.
+/// Returns whether a hop is named exactly if a place had one.
 fn hop_fits(outcome: &Outcome) -> bool
     ensures { IsTrue result ↔ ((outcome.now.hop ≡ []) ↔ AllNoRoute outcome.now.rulings) }
 {
@@ -150,7 +150,7 @@ fn is_no_route(verdict: &Verdict) -> bool
     matches!(verdict, Verdict::NoRoute)
 }
 
-/// Whether there is a report exactly where one is due.
+/// Returns whether there is a report exactly if one is due.
 fn report_fits(message: &Message, outcome: &Outcome) -> bool
     ensures { IsTrue result
         ↔ ((outcome.now.report ≡ [])
@@ -161,7 +161,7 @@ fn report_fits(message: &Message, outcome: &Outcome) -> bool
     unreported == none_due
 }
 
-/// Whether no report is due.
+/// Returns whether no report is due.
 fn is_none_due(message: &Message, outcome: &Outcome) -> bool
     ensures { IsTrue result
         ↔ (list_any (reports_at outcome.now.version message.now outcome.now.at) outcome.now.rulings ≡ false) }
@@ -177,7 +177,7 @@ fn any_due(message: &Message, outcome: &Outcome) -> bool
     rulings.iter().any(|ruling| reports_at(message, outcome.version, outcome.at, ruling))
 }
 
-/// Whether a report is due for a place.
+/// Returns whether a report is due for a place.
 fn reports_at(message: &Message, version: Version, at: Moment, ruling: &Ruling) -> bool
     ensures { result ≡ reports_at version message.now at ruling.now }
 {

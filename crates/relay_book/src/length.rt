@@ -6,14 +6,14 @@ ghost use Rattle.relay_book.specs.SnapshotFields.{entry_length, row_length};
 use crate::message::Message;
 use relay_envelope::Recipient;
 
-/// The octets of a message besides its texts and its recipients: its number, its moment, RET, how many recipients, and
+/// The octets of a message besides its texts and its recipients: its number, its time, RET, how many recipients, and
 /// the lengths of three texts.
 pub(crate) const ENTRY_HEAD: usize = 26;
 
 /// The octets of a recipient and its place besides its texts.
 const PLACED_HEAD: usize = 16;
 
-/// A message's.
+/// Returns the octets that a message takes.
 pub(crate) fn entry_length(message: &Message) -> usize
     ensures { result ≡ min (entry_length message.now) (2 ^ 64 - 1) }
 {
@@ -29,7 +29,7 @@ pub(crate) fn entry_length(message: &Message) -> usize
         .saturating_add(message.accept.stored_text.len())
 }
 
-/// Those of recipients, each with its place.
+/// Returns the octets that recipients take, each with its place.
 fn row_length(recipients: &[Recipient]) -> usize
     ensures { result ≡ min (row_length recipients.now) (2 ^ 64 - 1) }
 {
@@ -39,7 +39,7 @@ fn row_length(recipients: &[Recipient]) -> usize
     }
 }
 
-/// Those of a recipient with its place.
+/// Returns the octets that a recipient takes with its place.
 fn placed_length(recipient: &Recipient) -> usize
     ensures { result
         ≡ min (16 + length recipient.now.path + length (written recipient.now.orcpt)) (2 ^ 64 - 1) }

@@ -1,4 +1,4 @@
-//! Records and the book: which changes there are, how they are written, and what they leave in the queue.
+//! Changes of the queue, the records that they are written as, and the queue in memory (the book).
 #![tactic(auto)]
 
 mod book;

@@ -31,7 +31,7 @@ pub const FIRST_WAIT: u64 = 1_800;
 /// The longest wait after a Later verdict, in seconds.
 pub const LONGEST_WAIT: u64 = 14_400;
 
-/// The most octets of a stored text: a report may have more.
+/// Returns the most octets of a stored text: a report may have more.
 pub(crate) fn text_limit(reverse_path: &[u8]) -> usize
     ensures { result ≡ text_limit reverse_path.now }
 {
@@ -42,7 +42,7 @@ pub(crate) fn text_limit(reverse_path: &[u8]) -> usize
     }
 }
 
-/// Whether the text may be the name of a hop: one of a host, or nothing.
+/// Returns whether the text may be the name of a hop: one of a host, or nothing.
 pub(crate) fn may_be_hop(text: &[u8]) -> bool
     ensures { IsTrue result ↔ MayBeHop text.now }
 {
@@ -52,14 +52,14 @@ pub(crate) fn may_be_hop(text: &[u8]) -> bool
     }
 }
 
-/// Whether a reply may have this code: three digits, the first 2 to 5 (RFC 5321, section 4.2).
+/// Returns whether a reply may have this code: three digits, the first 2 to 5 (RFC 5321, section 4.2).
 pub(crate) fn is_reply_code(code: u16) -> bool
     ensures { IsTrue result ↔ ((200 ≤ code) × (code < 600)) }
 {
     200 <= code && code < 600
 }
 
-/// Whether each octet is printable.
+/// Returns whether each octet is printable.
 pub(crate) fn is_printable(text: &[u8]) -> bool
     ensures { IsTrue result ↔ AllPass (is_in_range 32 126) text.now }
 {

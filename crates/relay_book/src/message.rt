@@ -16,13 +16,13 @@ use std::marker::Model;
 /// A recipient's place in the queue.
 #[derive(Clone, Copy, Debug)]
 pub struct Place {
-    /// It is neither transferred nor ended.
+    /// It is held: neither transferred nor ended.
     pub held: bool,
     /// How many Later verdicts it had, of which four and more are one; 0 where it isn't held.
     pub laters: u8,
     /// It was reported as delayed; false where it isn't held.
     pub delayed: bool,
-    /// When it is due, in seconds from 1970; 0 where it isn't held. It may pass the greatest moment.
+    /// When it is due, in seconds from 1970; 0 where it isn't held. It may pass the last time.
     pub due: u64,
 }
 
@@ -51,7 +51,7 @@ impl Places {
         Places { items }
     }
 
-    /// The places.
+    /// Returns the places.
     pub fn as_slice(&self) -> &[Place]
         ensures value { result.now ≡ self.now }
         ensures within { length result.now ≤ 100 }
@@ -72,7 +72,7 @@ impl Places {
         self.items[index] = place;
     }
 
-    /// A copy of the places. It fails where memory runs out.
+    /// Returns a copy of the places. Fails if memory runs out.
     pub(crate) fn copy(&self, alloc: Global) -> Result<Self, AllocError>
         ensures { IfOk result (λ copy. copy ≡ self.now) }
     {
@@ -99,7 +99,7 @@ impl Places {
         }
     }
 
-    /// Whether a held place is due then.
+    /// Returns whether a held place is due then.
     pub(crate) fn any_held_until(&self, due: u64) -> bool
         ensures { result ≡ list_any (is_held_until due) self.now }
     {
@@ -108,7 +108,7 @@ impl Places {
             .any(|place| place.held && place.due == due)
     }
 
-    /// Whether a place is held.
+    /// Returns whether a place is held.
     pub(crate) fn any_held(&self) -> bool
         ensures { result ≡ list_any is_held self.now }
     {
@@ -116,7 +116,7 @@ impl Places {
     }
 }
 
-/// A place after a verdict.
+/// Returns a place after a verdict.
 fn place_ruled(
     version: Version,
     accept: &Accept,
@@ -142,7 +142,7 @@ pub struct Message {
     pub places: Places,
 }
 
-// Written out, so that what drops a message calls this, and doesn't look into each part of it.
+// Written out, so that the proof of a caller that drops a message stops at this function.
 impl Drop for Message {
     fn drop(self) {
         let Message {
@@ -154,8 +154,8 @@ impl Drop for Message {
 }
 
 impl Message {
-    /// Which report is due of the place of this index by a verdict at a moment (RFC 3461, section 5.2): none of a
-    /// place that the message doesn't have. It takes no memory.
+    /// Returns which report is due of the place of this index by a verdict at a time (RFC 3461, section 5.2): none of a
+    /// place that the message doesn't have. Allocates nothing.
     pub fn due_report_at(
         &self,
         version: Version,

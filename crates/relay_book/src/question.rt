@@ -9,7 +9,7 @@ pub trait Question {
     /// The answer.
     ghost holds: { Self → Message → Bool };
 
-    /// Whether it holds of a message. It takes no memory.
+    /// Returns whether it holds of a message. Allocates nothing.
     fn holds(&self, message: &Message) -> bool
         ensures { result ≡ holds self.now message.now };
 }
@@ -21,7 +21,7 @@ pub trait PlaceQuestion {
     /// The answer, by the number of a message, the message, and the number of its place.
     ghost holds: { Self → ℕ → Message → ℕ → Bool };
 
-    /// Whether it holds of this place of the message of that number. It takes no memory.
+    /// Returns whether it holds of this place of the message of that number. Allocates nothing.
     fn holds(&self, number: u64, message: &Message, place: usize) -> bool
         ensures { result ≡ holds self.now number message.now place };
 }

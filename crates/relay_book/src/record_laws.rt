@@ -1,11 +1,11 @@
-//! What is true of records and snapshots, and of the bodies of a spool.
+//! Laws of records and snapshots, and of the bodies of a spool.
 ghost use Rattle.relay_book.specs.Record.{EncodingIsOne};
 ghost use Rattle.relay_book.specs.Snapshot.{SnapshotIsOne};
 ghost use Rattle.relay_book.specs.StandsFor.{BodiesLeaveOne, EncodingsStand, FoundIsQueued, ListIsQueue};
 ghost use Rattle.relay_book.specs.StandsFor.{NoneStandForNone, OneMoreStands, QueueIsRead, RecordIsShort};
 ghost use Rattle.relay_book.specs.StandsFor.{SnapshotIsRead, SnapshotStands, StepIsQueue};
 
-/// Two changes that may be stored have two encodings.
+/// Two different changes that may be stored have different encodings.
 pub fn encoding_is_one()
     ensures { EncodingIsOne }
 {}

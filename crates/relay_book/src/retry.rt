@@ -8,7 +8,7 @@ use crate::limits::{FIRST_WAIT, LONGEST_WAIT};
 use crate::message::Place;
 use relay_trace::Moment;
 
-/// How long a place waits after as many Later verdicts, in seconds.
+/// Returns how long a place waits after as many Later verdicts, in seconds.
 fn wait_after(laters: u8) -> u64
     requires some { 1 ≤ laters }
     requires few { laters ≤ 4 }
@@ -23,7 +23,7 @@ fn wait_after(laters: u8) -> u64
     }
 }
 
-/// A held place after a verdict at a moment, by which this report was due.
+/// Returns a held place after a verdict at a time, by which this report was due.
 pub(crate) fn place_after(at: Moment, place: Place, fate: Fate, due: Option<DueReport>) -> Place
     ensures { result ≡ place_after at place fate due }
 {
@@ -35,7 +35,7 @@ pub(crate) fn place_after(at: Moment, place: Place, fate: Fate, due: Option<DueR
     }
 }
 
-/// A held place after a Later verdict at a moment, by which this report was due.
+/// Returns a held place after a Later verdict at a time, by which this report was due.
 fn waiting_place(at: Moment, place: Place, due: Option<DueReport>) -> Place
     ensures { result ≡ waiting_place at place due }
 {
@@ -52,7 +52,7 @@ fn waiting_place(at: Moment, place: Place, due: Option<DueReport>) -> Place
     }
 }
 
-/// Whether a report tells of a delay.
+/// Returns whether a report tells of a delay.
 pub(crate) fn tells_delay(due: Option<DueReport>) -> bool
     ensures { result ≡ tells_delay due }
 {

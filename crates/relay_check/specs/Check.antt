@@ -36,8 +36,8 @@ finding_line file finding =
     file ++ codes ":" ++ decimal finding.position.line ++ codes ":" ++ decimal finding.position.column ++ codes ": "
     ++ severity_text finding.severity ++ codes ": " ++ string_bytes finding.message ++ codes "\n"
 
--- each finding was written on a line of its own. The answer is no exactly where one is an error, and a text that says
--- no configuration has one
+-- each finding was written on a line of its own. The answer is no exactly if one is an error, and a text that says no
+-- configuration has one
 pub record IsChecked (file : List ℕ) (passes : Bool) (old new : Option (List ℕ)) : Type 0 where
   pub text : List ℕ
   pub findings : List Finding

@@ -38,7 +38,7 @@ pub fn check<F: Files<File = File>, W: Write>(
 }
 
 /// Writes what `check` finds in the configuration in a file before a relay runs by it: each finding as a warning, and
-/// nothing where no relay can run by it. It fails as `check` does.
+/// nothing if no relay can run by it. It fails as `check` does.
 pub fn warn<F: Files<File = File>, W: Write>(
     alloc: Global,
     files: &F,
@@ -62,7 +62,7 @@ pub fn warn<F: Files<File = File>, W: Write>(
 }
 
 /// Looks for all that is wrong with a text, and for what is risky where that keeps no relay from running. Returns
-/// whether the text says a configuration; where it says none, a finding is an error.
+/// whether the text says a configuration; if it says none, a finding is an error.
 fn check_text<F: Files<File = File>>(
     alloc: Global,
     files: &F,
@@ -99,7 +99,7 @@ fn check_text<F: Files<File = File>>(
     }
 }
 
-/// Sees to it that a text which says no configuration has an error: the fault of the reader, where none of the checks
+/// Sees to it that a text which says no configuration has an error: the fault of the reader, if none of the checks
 /// before has found one.
 fn refuse(alloc: Global, fault: ConfigFault, findings: &mut Findings<'_>) -> Result<(), AllocError>
     ensures { OnOk result (HasError findings.new.found.items) }

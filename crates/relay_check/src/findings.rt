@@ -20,7 +20,7 @@ enum Severity {
 }
 
 impl Severity {
-    /// Whether a text with such a finding fails the check.
+    /// Returns whether a text with such a finding fails the check.
     fn is_severe(self) -> bool
         ensures { result ≡ is_severe self }
     {
@@ -74,7 +74,7 @@ pub(crate) struct Findings<'t> {
 }
 
 impl<'t> Findings<'t> {
-    /// Creates a list without findings for a text. It takes no memory.
+    /// Creates a list without findings for a text. Allocates nothing.
     pub fn new(alloc: Global, text: &'t str) -> Self {
         Findings {
             text,
@@ -82,19 +82,19 @@ impl<'t> Findings<'t> {
         }
     }
 
-    /// Adds an error. It fails where memory runs out.
+    /// Adds an error. Fails if memory runs out.
     pub fn error(&mut self, place: Place<'_>, message: String) -> Result<(), AllocError>
         ensures { OnOk result (HasError self.new.found.items) }
     {
         self.add(Severity::Error, place, message)
     }
 
-    /// Adds what a relay ignores, which is an error until [`Findings::soften`]. It fails where memory runs out.
+    /// Adds what a relay ignores, which is an error until [`Findings::soften`]. Fails if memory runs out.
     pub fn ignored(&mut self, place: Place<'_>, message: String) -> Result<(), AllocError> {
         self.add(Severity::Ignored, place, message)
     }
 
-    /// Adds a warning. It fails where memory runs out.
+    /// Adds a warning. Fails if memory runs out.
     pub fn warning(&mut self, place: Place<'_>, message: String) -> Result<(), AllocError> {
         self.add(Severity::Warning, place, message)
     }
@@ -117,7 +117,7 @@ impl<'t> Findings<'t> {
         Ok(())
     }
 
-    /// Whether one of them is an error.
+    /// Returns whether one of them is an error.
     pub fn has_error(&self) -> bool
         ensures { result ≡ list_any is_error self.now.found.items }
     {

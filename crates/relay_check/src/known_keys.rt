@@ -85,7 +85,7 @@ pub(crate) fn check_hop_keys(
     Ok(())
 }
 
-/// The known key that the fewest edits lead to, where they are few for its length.
+/// Returns the known key that the fewest edits lead to, if they are few for its length.
 fn nearest(
     alloc: Global,
     key: &str,

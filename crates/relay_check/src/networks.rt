@@ -11,7 +11,7 @@ pub(crate) const TRUSTED_CLIENTS: &str = "trusted_clients";
 /// The key of the networks of balancers.
 pub(crate) const BALANCERS: &str = "balancers";
 
-/// The values of the networks at a key, where the document has an array of them.
+/// Returns the values of the networks at a key, where the document has an array of them.
 pub(crate) fn networks_of<'a>(document: &'a Table, key: &str) -> Option<&'a [Value]> {
     match document.get(key) {
         Some(Value::Array(values)) => Some(values.as_slice()),
@@ -64,7 +64,7 @@ fn no_network(alloc: Global, key: &str, text: &str) -> Result<String, AllocError
     )
 }
 
-/// Whether the networks are all addresses, so that every client is trusted.
+/// Returns whether the networks are all addresses, so that every client is trusted.
 pub(crate) fn are_everybody(networks: &[Value]) -> bool {
     networks.iter().any(|value| match value {
         Value::String(text) => match Network::read(text.as_bytes()) {

@@ -1,4 +1,4 @@
-//! Where something stands in a text. The reader of TOML tells the place of a fault of syntax alone, so a key is looked
+//! Where something is in a text. The reader of TOML tells the place of a fault of syntax alone, so a key is searched
 //! for by its name at the beginning of lines.
 
 /// A place in a text: its line, and its column in characters, both from 1.
@@ -32,7 +32,7 @@ enum Section {
     Other,
 }
 
-/// Where a place is in a text, and the text's beginning where it isn't found.
+/// Returns where a place is in a text, and the text's beginning where it isn't found.
 pub(crate) fn position_of(text: &str, place: Place<'_>) -> Position {
     match place {
         Place::Whole => BEGINNING,
@@ -66,7 +66,7 @@ fn position_at(text: &str, index: usize) -> Position {
     position
 }
 
-/// The first line that a place is at.
+/// Returns the first line that a place is at.
 fn find(text: &str, place: Place<'_>) -> Option<Position> {
     let mut section = Section::Document;
     for (index, line) in text.lines().enumerate() {
@@ -85,7 +85,7 @@ fn find(text: &str, place: Place<'_>) -> Option<Position> {
     None
 }
 
-/// Whether a line of this section, without the blanks at its beginning, is where a place is.
+/// Returns whether a line of this section, without the blanks at its beginning, is where a place is.
 fn is_at(line: &str, section: Section, place: Place<'_>) -> bool {
     let (path, section) = match line.strip_prefix('[') {
         Some(header) => (header, Section::Document),
@@ -103,7 +103,7 @@ fn is_at(line: &str, section: Section, place: Place<'_>) -> bool {
     }
 }
 
-/// The section that a header begins.
+/// Returns the section that a header begins.
 fn section_of(header: &str) -> Section {
     match after_key(header, "routes") {
         Some(rest) if rest.starts_with(']') => Section::Routes,
@@ -111,7 +111,7 @@ fn section_of(header: &str) -> Section {
     }
 }
 
-/// Whether a text begins with this key, and with no longer one.
+/// Returns whether a text begins with this key, and with no longer one.
 fn begins_with_key(text: &str, key: &str) -> bool {
     match after_key(text, key) {
         Some(rest) => rest.starts_with('=') || rest.starts_with('.') || rest.starts_with(']'),
@@ -119,7 +119,7 @@ fn begins_with_key(text: &str, key: &str) -> bool {
     }
 }
 
-/// What follows a key, bare or in quotes, at the beginning of a text, without blanks around it.
+/// Returns what follows a key, bare or in quotes, at the beginning of a text, without blanks around it.
 fn after_key<'a>(text: &'a str, key: &str) -> Option<&'a str> {
     let text = text.trim_start();
     let rest = if let Some(quoted) = text.strip_prefix('"') {

@@ -73,7 +73,7 @@ fn check_reach(
     findings.warning(Place::Key("routes"), message)
 }
 
-/// Finds a relay that hands on whatever anybody sends it.
+/// Finds a relay that relays whatever anybody sends it.
 fn check_openness(
     alloc: Global,
     config: &Config,
@@ -116,7 +116,7 @@ fn check_routed_paths(
     findings.warning(Place::Key(place), message)
 }
 
-/// Whether some clients may send to named domains, and to no other.
+/// Returns whether some clients may send to named domains, and to no other.
 fn is_guarded(document: &Table, routes: &Table) -> bool {
     if routes.contains_key("*") {
         routes.len() > 1 && !trusts_everybody(document)
@@ -125,7 +125,7 @@ fn is_guarded(document: &Table, routes: &Table) -> bool {
     }
 }
 
-/// Whether every client may send to every route.
+/// Returns whether every client may send to every route.
 fn trusts_everybody(document: &Table) -> bool {
     match networks_of(document, TRUSTED_CLIENTS) {
         Some(networks) => are_everybody(networks),
@@ -156,8 +156,8 @@ fn check_loops(
     Ok(())
 }
 
-/// Whether what is sent to this address comes to a relay that listens there: also by the loopback addresses, where it
-/// listens at all of them.
+/// Returns whether what is sent to this address comes to a relay that listens there: also by the loopback addresses, if
+/// it listens at all of them.
 fn leads_here(at: &str, listen: SocketAddrV4) -> bool {
     let Ok(at) = at.parse::<SocketAddrV4>() else {
         return false;

@@ -51,7 +51,7 @@ fn check_domain(
     findings.error(Place::Route(domain), message)
 }
 
-/// The hop that a route names, or what is wrong with it.
+/// Returns the hop that a route names, or what is wrong with it.
 fn check_hop(
     alloc: Global,
     domain: &str,
@@ -75,7 +75,7 @@ fn check_hop(
     })
 }
 
-/// The name of a route's hop, or what is wrong with it.
+/// Returns the name of a route's hop, or what is wrong with it.
 fn check_name(
     alloc: Global,
     domain: &str,
@@ -99,7 +99,7 @@ fn check_name(
     Ok(None)
 }
 
-/// Where a route's hop is, or what is wrong with that.
+/// Returns where a route's hop is, or what is wrong with that.
 fn check_address(
     alloc: Global,
     domain: &str,
@@ -121,7 +121,7 @@ fn check_address(
     Ok(None)
 }
 
-/// The address that a text writes as a configuration has it: as `listen` would be read.
+/// Returns the address that a text writes as a configuration has it: as `listen` would be read.
 fn address_of(alloc: Global, text: &str) -> Result<Option<SocketAddrV4>, AllocError> {
     let mut probe = Table::new(alloc);
     add(alloc, &mut probe, "host", "localhost")?;

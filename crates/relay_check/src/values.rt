@@ -45,7 +45,7 @@ impl fmt::Display for Good {
     }
 }
 
-/// What a key's value has to be.
+/// What a key's value must be.
 #[derive(Clone, Copy, Drop)]
 struct Rule {
     key: &'static str,
@@ -54,8 +54,8 @@ struct Rule {
     example: Good,
 }
 
-/// Finds each value that a configuration or its limits refuse, and each key that has to be there and isn't, but for
-/// what is wrong with a single route or a single network.
+/// Finds each value that a configuration or its limits refuse, and each key that must be there and isn't, but for what
+/// is wrong with a single route or a single network.
 pub(crate) fn check_values(
     alloc: Global,
     text: &str,
@@ -78,7 +78,7 @@ pub(crate) fn check_values(
     Ok(())
 }
 
-/// Replaces a table of routes by one without: each route is looked at on its own.
+/// Replaces a table of routes by one without: each route is checked on its own.
 fn set_routes_aside(alloc: Global, document: &mut Table) -> Result<(), AllocError> {
     match document.get("routes") {
         Some(Value::Table(_)) => replace(alloc, document, "routes", Good::NoRoutes),
@@ -86,7 +86,7 @@ fn set_routes_aside(alloc: Global, document: &mut Table) -> Result<(), AllocErro
     }
 }
 
-/// Replaces an array of networks at a key by an empty one: each network is looked at on its own.
+/// Replaces an array of networks at a key by an empty one: each network is checked on its own.
 fn set_networks_aside(alloc: Global, document: &mut Table, key: &str) -> Result<(), AllocError> {
     match document.get(key) {
         Some(Value::Array(_)) => replace(alloc, document, key, Good::NoNetworks),
@@ -106,7 +106,7 @@ fn replace(alloc: Global, document: &mut Table, key: &str, value: Good) -> Resul
     Ok(())
 }
 
-/// The rule of the first key that has a bad value, or isn't there.
+/// Returns the rule of the first key that has a bad value, or isn't there.
 fn broken_rule(alloc: Global, document: &Table) -> Result<Option<Rule>, AllocError> {
     match Config::of_document(alloc, document) {
         Err(ConfigFault::NoMemory) => Err(AllocError),
@@ -148,7 +148,7 @@ fn report(
     }
 }
 
-/// A value in one line: a text with escapes, and of an array or a table only that it is one.
+/// Returns a value in one line: a text with escapes, and of an array or a table only that it is one.
 fn shown(alloc: Global, value: &Value) -> Result<String, AllocError> {
     match value {
         Value::String(text) => format!(in alloc; "\"{}\"", text.as_str().escape_default()),

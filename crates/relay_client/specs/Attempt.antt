@@ -30,8 +30,8 @@ abbrev pub KeepsOn
 KeepsOn reader talk errand input output None = KeepsTo reader talk errand input output
 KeepsOn reader talk errand input output (Some verdicts) = Runs errand input false output (Some verdicts)
 
--- the attempt hands on a message of this envelope and stored text for this host and these places; it has read this
--- input and written this output, and goes on
+-- the attempt relays a message of this envelope and stored text for this host and these places; it has read this input
+-- and written this output, and goes on
 pub record Follows (attempt : Attempt) (host : List ℕ) (envelope : Envelope) (text places input output : List ℕ)
     : Type 0 where
   pub dot_text : List ℕ

@@ -12,7 +12,7 @@ use Rattle.relay_course.specs.Course.{IsSentAs, joined}
 use Rattle.relay_client.specs.declared.mail_object.MailObject.{MailObject}
 use Rattle.relay_client.specs.declared.conversation.Conversation.{Conversation}
 
--- the errand is to hand on this mail object
+-- the errand is to relay this mail object
 pub record IsErrandOf (errand : Errand) (mail : MailObject) : Type 0 where
   pub envelope_is : mail.envelope.now ≡ errand.envelope
   pub text_is : mail.stored_text.now ≡ errand.text

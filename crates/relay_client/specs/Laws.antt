@@ -1,4 +1,4 @@
--- What is true of an attempt between its calls.
+-- Laws of an attempt between its calls.
 use Rattle.std.specs.Prelude.{ℕ, true, false, List, Some, None}
 use Rattle.relay_envelope.specs.declared.envelope.Envelope.{Envelope}
 use Rattle.relay_course.specs.VerdictTable.{all_later}

@@ -10,7 +10,7 @@ use Rattle.relay_client.specs.declared.verdict.RcptAnswer.TheVariants.{Accepts, 
 use Rattle.relay_client.specs.declared.settled.Said.{Said}
 use Rattle.relay_client.specs.declared.settled.Said.TheVariants.{Accepted, Delayed, Rejected}
 
--- the verdict of a place by what the reply to its RCPT does, none where it is accepted
+-- the verdict of a place by what the reply to its RCPT does, none if it is accepted
 abbrev pub verdict_as : RcptAnswer → Reply → Option Verdict
 verdict_as Accepts reply = None
 verdict_as Delays reply = Some Later

@@ -1,4 +1,4 @@
-//! The table of a conversation: what is done after a reply (RFC 5321, sections 3.1 to 3.3 and 4.2).
+//! The table of a conversation: the client's action after each reply (RFC 5321, sections 3.1 to 3.3 and 4.2).
 ghost use Rattle.std.specs.Prelude.{◌≡◌};
 ghost use Rattle.relay_lines.specs.Reply.{Reply};
 ghost use Rattle.relay_course.specs.Progress.{Errand, Progress, behind_answer};
@@ -6,12 +6,12 @@ ghost use Rattle.relay_client.specs.Action.{done_by};
 
 use relay_course::{Awaited, ReplyKind};
 
-/// What is done after a reply.
+/// The client's action after a reply.
 #[derive(Clone, Copy)]
 pub(crate) enum Action {
     /// EHLO.
     Greet,
-    /// What the server offers is kept, and the transaction begins.
+    /// Keep the offered extensions, and begin the transaction.
     TakeOffer,
     /// HELO.
     GreetPlainly,
@@ -29,7 +29,7 @@ pub(crate) enum Action {
     Refuse,
 }
 
-/// The table: by what waited and by the kind of the reply, what is done.
+/// Returns the table: by what waited and by the kind of the reply, what is done.
 pub(crate) fn action_behind(waited: Awaited, kind: ReplyKind) -> Action
     ensures { (errand : Errand) (reply : Reply) (old : Progress)
         → behind_answer errand waited kind reply old ≡ done_by errand result reply old }

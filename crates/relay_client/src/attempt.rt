@@ -19,7 +19,7 @@ use std::alloc::{AllocError, Global};
 pub struct Driven {
     /// How many octets of the piece it has used: all, unless the attempt ends.
     pub used: usize,
-    /// What goes to the server.
+    /// The octets for the server.
     pub out: Vec<u8>,
     /// The verdicts of the places in order, where the attempt has ended.
     pub verdicts: Option<Verdicts>,
@@ -32,7 +32,7 @@ struct Step {
     verdicts: Option<Verdicts>,
 }
 
-/// How far an attempt is.
+/// The state of an attempt.
 #[derive(Clone, Copy)]
 enum Stage {
     /// It waits for replies.
@@ -43,7 +43,7 @@ enum Stage {
     Failed,
 }
 
-/// The client's end of one connection: an attempt to hand a message on for some of its places (RFC 5321, section 3.3).
+/// The client's end of one connection: an attempt to relay a message to some of its recipients (RFC 5321, section 3.3).
 /// It holds nothing of the message, which each feed borrows.
 pub struct Attempt {
     reader: ReplyReader,
@@ -51,7 +51,7 @@ pub struct Attempt {
     stage: Stage,
 }
 
-// Written out, so that what drops an attempt calls this, and doesn't look into its reader and its lists.
+// Written out, so that the proof of a caller that drops an attempt stops at this function.
 impl Drop for Attempt {
     fn drop(self) {
         let Attempt {
@@ -64,7 +64,7 @@ impl Drop for Attempt {
 
 impl Attempt {
     /// An attempt of this host that waits for the greeting of a server, for these places of a message, from 0, each at
-    /// most once. It fails where memory runs out.
+    /// most once. Fails if memory runs out.
     pub fn begin(alloc: Global, host: &[u8], places: Vec<u8>) -> Result<Self, AllocError>
         ensures follows { IfOk result (λ attempt. (envelope : Envelope) (text : List ℕ)
             → Follows attempt host.now envelope text places.items [] []) }
@@ -78,10 +78,10 @@ impl Attempt {
     }
 
     /// Uses the next piece of what the server wrote, to the attempt's end or all of it, and writes what the replies in
-    /// it lead to. The message is the same at each call. Where octets are no reply, all places may be tried again, and
-    /// the whole piece is used. After its end an attempt uses and writes nothing.
+    /// it lead to. The message is the same at each call. If octets are no reply, all places may be tried again, and the
+    /// whole piece is used. After its end an attempt uses and writes nothing.
     ///
-    /// It fails where memory runs out, and from then on each call does.
+    /// Fails if memory runs out, and from then on each call does.
     pub fn feed(&mut self, mail: &MailObject<'_>, piece: &[u8]) -> Result<Driven, AllocError>
         ensures follows { IfOk result (λ driven. (host places input output : List ℕ)
             → Follows self.old host mail.now.envelope.now mail.now.stored_text.now places input output
@@ -107,7 +107,7 @@ impl Attempt {
         }
     }
 
-    /// The verdicts where the connection is lost: each place may be tried again. It fails where memory runs out.
+    /// The verdicts where the connection is lost: each place may be tried again. Fails if memory runs out.
     ///
     /// It asks nothing of the stage. An attempt that has ended, or failed, answers as one that runs: Later
     /// for each of its places, whatever verdicts it has given. So what was given at the end stands, and a
@@ -203,7 +203,7 @@ fn stage_behind(driven: &Driven) -> Stage
     }
 }
 
-/// Whether the fault is that memory ran out.
+/// Returns whether the fault is that memory ran out.
 fn is_no_memory(fault: ReplyFault) -> bool
     ensures { MatchBool result (fault ≡ ReplyFault.NoMemory) (¬ (fault ≡ ReplyFault.NoMemory)) }
 {

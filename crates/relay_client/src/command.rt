@@ -1,5 +1,5 @@
-//! What a client writes (RFC 5321, section 4.1.1; RFC 3030, section 2; RFC 3461, section 4). Where memory runs out,
-//! part of it may have been written.
+//! What a client writes (RFC 5321, section 4.1.1; RFC 3030, section 2; RFC 3461, section 4). If memory runs out, part
+//! of it may have been written.
 ghost use Rattle.std.specs.Prelude.{◌≡◌, ◌++◌, ℕ, List, OnOk, if◌then◌else◌};
 ghost use Rattle.relay_envelope.specs.Envelope.{mail_text, rcpt_text};
 ghost use Rattle.relay_course.specs.Course.{IsSentAs};

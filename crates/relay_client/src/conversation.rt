@@ -20,7 +20,7 @@ use relay_lines::Reply;
 use relay_octets::Octets;
 use std::alloc::{AllocError, Global};
 
-/// An attempt without its reader: what has to be known of the replies that have come. To each reply it writes what the
+/// An attempt without its reader: what must be known of the replies that have come. To each reply it writes what the
 /// table says, and at the end it gives the verdicts.
 pub(crate) struct Conversation {
     pub(crate) alloc: Global,
@@ -36,7 +36,7 @@ pub(crate) struct Conversation {
     pub(crate) settled: Settled,
 }
 
-// Written out, so that what drops a conversation calls this, and doesn't look into each of its lists.
+// Written out, so that the proof of a caller that drops a conversation stops at this function.
 impl Drop for Conversation {
     fn drop(self) {
         let Conversation {
@@ -52,7 +52,7 @@ impl Drop for Conversation {
 }
 
 impl Conversation {
-    /// Nothing is read or written yet, and the greeting is awaited. It fails where memory runs out.
+    /// Nothing is read or written yet, and the greeting is awaited. Fails if memory runs out.
     pub(crate) fn begin(alloc: Global, host: &[u8], places: Vec<u8>) -> Result<Self, AllocError>
         ensures { IfOk result (IsAtGreeting host.now places.items) }
     {
@@ -73,8 +73,7 @@ impl Conversation {
         })
     }
 
-    /// A reply answers what waits first. The verdicts are given where the attempt ends by it. It fails where memory
-    /// runs out.
+    /// A reply answers what waits first. The verdicts are given where the attempt ends by it. Fails if memory runs out.
     pub(crate) fn answer(
         &mut self,
         mail: &MailObject<'_>,
@@ -205,7 +204,7 @@ impl Conversation {
         }
     }
 
-    /// The text, after a server's leave to send it.
+    /// Returns the text, after a server's leave to send it.
     fn send_text(
         &mut self,
         mail: &MailObject<'_>,
@@ -266,7 +265,7 @@ impl Conversation {
             .verdicts(self.alloc, self.places.as_slice(), last)
     }
 
-    /// Later for each place. It fails where memory runs out.
+    /// Later for each place. Fails if memory runs out.
     pub(crate) fn all_later(&self) -> Result<Verdicts, AllocError>
         ensures { IfOk result (λ verdicts. verdicts ≡ all_later self.now.places.items) }
     {

@@ -45,7 +45,7 @@ impl Conversation {
         Ok(())
     }
 
-    /// The RCPTs of the places whose RCPT wasn't written yet.
+    /// Returns the RCPTs of the places whose RCPT wasn't written yet.
     fn ask_rcpts(&mut self, mail: &MailObject<'_>, out: &mut Vec<u8>) -> Result<(), AllocError>
         ensures { OnOk result ((errand : Errand) (old : Progress)
             → Holds self.old errand old → IsErrandOf errand mail.now
@@ -58,7 +58,7 @@ impl Conversation {
         Ok(())
     }
 
-    /// The RCPT of the next place.
+    /// Returns the RCPT of the next place.
     fn ask_rcpt(
         &mut self,
         mail: &MailObject<'_>,

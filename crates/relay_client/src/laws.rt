@@ -1,4 +1,4 @@
-//! What is true of attempts between their calls.
+//! Laws of attempts between their calls.
 ghost use Rattle.relay_client.specs.Laws.{FollowedIsCourse, FollowedMayBeLost};
 
 /// What an attempt has read and written, while it goes on, is a course without verdicts.

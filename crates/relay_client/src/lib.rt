@@ -1,5 +1,5 @@
-//! The client's end of one connection, which hands a message on for some of its places: to the octets of each reply
-//! what goes to the server, and at the end a verdict for each place.
+//! The client's end of one connection, which relays a message to some of its recipients: it reads replies, returns the
+//! octets for the server, and at the end a verdict for each recipient.
 #![tactic(auto)]
 
 mod action;

@@ -11,7 +11,7 @@ use relay_octets::Octets;
 use std::alloc::{AllocError, Global};
 use std::marker::Model;
 
-/// What the reply to a RCPT said. It takes four octets: an attempt that waits may hold one for each of 100 places.
+/// The result of a RCPT by its reply, in four octets: a waiting attempt may hold one for each of 100 places.
 #[derive(Clone, Copy)]
 enum Said {
     /// The RCPT was accepted.
@@ -27,8 +27,7 @@ enum Said {
     },
 }
 
-/// What the replies to RCPTs said, in the order of the places: the verdict of a place, or none where its RCPT was
-/// accepted.
+/// The results of the RCPTs, in the order of the places: the verdict of a place, or none if its RCPT was accepted.
 #[derive(Drop)]
 pub(crate) struct Settled {
     said: Vec<Said>,
@@ -49,7 +48,7 @@ impl Model for Settled {
 }
 
 impl Settled {
-    /// No RCPT is answered. It takes no memory.
+    /// No RCPT is answered. Allocates nothing.
     pub(crate) fn new(alloc: Global) -> Self
         ensures { result ≡ [] }
     {
@@ -59,7 +58,7 @@ impl Settled {
         }
     }
 
-    /// The RCPT of the next place is answered. It fails where memory runs out.
+    /// The RCPT of the next place is answered. Fails if memory runs out.
     pub(crate) fn push(&mut self, alloc: Global, reply: &Reply) -> Result<(), AllocError>
         ensures { OnOk result (self.new ≡ self.old ++ rcpt_verdict reply.now ∷ []) }
     {
@@ -103,7 +102,7 @@ impl Settled {
         Ok(())
     }
 
-    /// Whether a RCPT was accepted.
+    /// Returns whether a RCPT was accepted.
     #[tactic(auto, using(crate::proofs::SettledLemmas::open_accepted))]
     pub(crate) fn has_open(&self) -> bool
         ensures { result ≡ has_open self.now }
@@ -111,7 +110,8 @@ impl Settled {
         has_accepted(self.said.as_slice())
     }
 
-    /// The verdict of each of the places: what its RCPT's reply said, or the last one. It fails where memory runs out.
+    /// Returns the verdict of each of the places: what its RCPT's reply said, or the last one. Fails if memory runs
+    /// out.
     pub(crate) fn verdicts(
         &self,
         alloc: Global,
@@ -130,7 +130,7 @@ impl Settled {
     }
 }
 
-/// Whether one of them was accepted.
+/// Returns whether one of them was accepted.
 fn has_accepted(said: &[Said]) -> bool
     ensures { result ≡ has_accepted said.now }
 {
@@ -142,7 +142,7 @@ fn has_accepted(said: &[Said]) -> bool
     false
 }
 
-/// The verdict of each of the places by what was said of it: the last one where its RCPT was accepted, or isn't
+/// Returns the verdict of each of the places by what was said of it: the last one where its RCPT was accepted, or isn't
 /// answered. The texts are those of the refusals.
 fn verdicts_of(
     alloc: Global,
@@ -164,7 +164,7 @@ fn verdicts_of(
     Ok(verdicts)
 }
 
-/// What was said at this index, if anything.
+/// Returns what was said at this index, if anything.
 #[tactic(auto, using(crate::proofs::SettledLemmas::said_within, crate::proofs::SettledLemmas::said_past))]
 fn said_at(said: &[Said], index: usize) -> Option<Said>
     ensures { result ≡ slice_get said.now index }
@@ -176,7 +176,7 @@ fn said_at(said: &[Said], index: usize) -> Option<Said>
     }
 }
 
-/// The verdict by what was said, whose text begins the texts. It fails where memory runs out.
+/// Returns the verdict by what was said, whose text begins the texts. Fails if memory runs out.
 #[tactic(auto, using(std::proofs::lemmas::List::take_min))]
 fn verdict_by(
     alloc: Global,
@@ -200,7 +200,7 @@ fn verdict_by(
     }
 }
 
-/// The texts after the text of this one.
+/// Returns the texts after the text of this one.
 #[tactic(auto, using(std::proofs::lemmas::List::drop_min))]
 fn behind_text(one: Option<Said>, texts: &[u8]) -> &[u8]
     ensures { result.now ≡ drop (size_by one) texts.now }

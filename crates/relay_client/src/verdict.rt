@@ -1,4 +1,4 @@
-//! What a reply says of a place.
+//! The verdict of a reply on a place.
 ghost use Rattle.std.specs.Prelude.{◌≡◌, ◌≤◌, length, map, take, IfOk};
 ghost use Rattle.relay_lines.specs.Reply.{last_text};
 ghost use Rattle.relay_book.specs.Record.{refusal_limit};
@@ -17,18 +17,18 @@ use std::alloc::{AllocError, Global};
 /// at a RCPT it means that there are too many of them for now.
 const STORAGE_EXCEEDED: u16 = 552;
 
-/// What the reply to a RCPT does with its place.
+/// The effect of a reply to RCPT on its place.
 #[derive(Clone, Copy)]
 pub(crate) enum RcptAnswer {
-    /// It accepts the place: the reply to the content decides.
+    /// The place is accepted: the reply to the content decides.
     Accepts,
     /// The place may be tried again.
     Delays,
-    /// It refuses the place for good.
+    /// The place is refused for good.
     Rejects,
 }
 
-/// What this reply to a RCPT does with its place. It takes no memory.
+/// Returns what this reply to a RCPT does with its place. Allocates nothing.
 pub(crate) fn rcpt_answer(reply: &Reply) -> RcptAnswer
     ensures { verdict_as result reply.now ≡ rcpt_verdict reply.now }
 {
@@ -46,7 +46,7 @@ pub(crate) fn rcpt_answer(reply: &Reply) -> RcptAnswer
     }
 }
 
-/// A copy of a verdict. It fails where memory runs out.
+/// Returns a copy of a verdict. Fails if memory runs out.
 pub(crate) fn copy_of(alloc: Global, verdict: &Verdict) -> Result<Verdict, AllocError>
     ensures { IfOk result (λ copy. copy ≡ verdict.now) }
 {
@@ -62,7 +62,7 @@ pub(crate) fn copy_of(alloc: Global, verdict: &Verdict) -> Result<Verdict, Alloc
     }
 }
 
-/// The refusal that a reply is. It fails where memory runs out.
+/// Returns the refusal that a reply is. Fails if memory runs out.
 pub(crate) fn refusal(alloc: Global, reply: &Reply) -> Result<Verdict, AllocError>
     ensures { IfOk result (λ verdict. verdict ≡ refusal reply.now) }
 {
@@ -73,7 +73,7 @@ pub(crate) fn refusal(alloc: Global, reply: &Reply) -> Result<Verdict, AllocErro
     })
 }
 
-/// The text of a refusal as it is kept. It fails where memory runs out.
+/// The text of a refusal as it is kept. Fails if memory runs out.
 pub(crate) fn kept_text(alloc: Global, reply: &Reply) -> Result<Vec<u8>, AllocError>
     ensures shown { IfOk result (λ text.
         text.items ≡ map shown (take refusal_limit (last_text reply.now.lines))) }
@@ -94,8 +94,8 @@ fn kept_of(text: &[u8]) -> &[u8]
     }
 }
 
-/// What the reply to the content says of the places that are left, at a server that offers DSN or doesn't. It fails
-/// where memory runs out.
+/// Returns what the reply to the content says of the places that are left, at a server that offers DSN or doesn't.
+/// Fails if memory runs out.
 pub(crate) fn content_verdict(
     alloc: Global,
     dsn: bool,

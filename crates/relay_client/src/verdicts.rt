@@ -10,7 +10,7 @@ pub struct Verdicts {
     items: Vec<Verdict>,
 }
 
-// Written out, so that what drops verdicts calls this, and doesn't look into each kind of them.
+// Written out, so that the proof of a caller that drops verdicts stops at this function.
 impl Drop for Verdicts {
     fn drop(self) {
         let Verdicts { items: _items } = self;
@@ -27,7 +27,7 @@ impl Model for Verdicts {
 }
 
 impl Verdicts {
-    /// No verdict yet, and room for so many. It fails where memory runs out.
+    /// No verdict yet, and room for this many. Fails if memory runs out.
     pub(crate) fn with_capacity(alloc: Global, count: usize) -> Result<Self, AllocError>
         ensures { IfOk result (λ verdicts. verdicts ≡ []) }
     {
@@ -36,7 +36,7 @@ impl Verdicts {
         })
     }
 
-    /// Adds the verdict of the next place. It fails where memory runs out.
+    /// Adds the verdict of the next place. Fails if memory runs out.
     pub(crate) fn push(&mut self, verdict: Verdict) -> Result<(), AllocError>
         ensures { OnOk result (self.new ≡ self.old ++ verdict ∷ []) }
     {
@@ -44,14 +44,14 @@ impl Verdicts {
         Ok(())
     }
 
-    /// The verdicts, in the order of the places.
+    /// Returns the verdicts, in the order of the places.
     pub fn as_slice(&self) -> &[Verdict]
         ensures { result.now ≡ self.now }
     {
         self.items.as_slice()
     }
 
-    /// The verdicts as a `Vec`, without memory.
+    /// Returns the verdicts as a `Vec`, without memory.
     pub fn into_vec(self) -> Vec<Verdict>
         ensures { result.items ≡ self }
     {

@@ -5,7 +5,7 @@ use std::alloc::{AllocError, Global};
 use std::collections::VecDeque;
 use std::marker::Model;
 
-/// What waits for a reply, the earliest first (RFC 2920, section 3.1).
+/// The commands that await a reply, the earliest first (RFC 2920, section 3.1).
 #[derive(Drop)]
 pub(crate) struct Waits {
     queue: VecDeque<Awaited>,
@@ -21,7 +21,7 @@ impl Model for Waits {
 }
 
 impl Waits {
-    /// Nothing waits. It takes no memory.
+    /// Nothing waits. Allocates nothing.
     pub(crate) fn new(alloc: Global) -> Self
         ensures { result ≡ [] }
     {
@@ -30,7 +30,7 @@ impl Waits {
         }
     }
 
-    /// A command was written, and waits after the others. It fails where memory runs out.
+    /// A command was written, and waits after the others. Fails if memory runs out.
     pub(crate) fn push(&mut self, waited: Awaited) -> Result<(), AllocError>
         ensures { OnOk result (self.new ≡ self.old ++ waited ∷ []) }
     {
@@ -46,7 +46,7 @@ impl Waits {
         self.queue.pop_front()
     }
 
-    /// Whether nothing waits.
+    /// Returns whether nothing waits.
     pub(crate) fn is_empty(&self) -> bool
         ensures { IsTrue result ↔ (self.now ≡ []) }
     {

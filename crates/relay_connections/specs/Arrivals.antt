@@ -50,13 +50,13 @@ pub record IsNotedArrival {S : Type 0} (reads : Bool) (old new : Arrival S) : Ty
   pub reads_is : new.reads ≡ old.reads || reads
   pub deadline : new.deadline ≡ old.deadline
 
--- so it is of a slot, where a connection stands there
+-- so it is of a slot, where a connection is there
 abbrev pub IsNotedSlot : {S : Type 0} → Bool → Option (Box (Arrival S) Global) → Option (Box (Arrival S) Global) → Type 0
 IsNotedSlot reads None new = new ≡ None
 IsNotedSlot reads (Some arrival) None = ⊥
 IsNotedSlot reads (Some arrival) (Some later) = IsNotedArrival reads arrival.value later.value
 
--- a connection isn't closed before this tick, where one stands in a slot
+-- a connection isn't closed before this tick, where one is in a slot
 abbrev pub Within : {S : Type 0} → ℕ → Option (Box (Arrival S) Global) → Type 0
 Within tick None = Unit {0}
 Within tick (Some arrival) = tick ≤ arrival.value.deadline
@@ -119,7 +119,7 @@ module _ {S : Type 0} (remaining contents : S → Option (List ℕ)) where
     pub fault_is : IsFault tick arrival.deadline octets fault
     pub balancer_is : balancer ≡ arrival.balancer
 
-  -- what has come of a connection
+  -- the outcome of a connection
   abbrev pub HasArrived : ℕ → Arrival S → Arrived S → Type 0
   HasArrived tick arrival (Client stream peer) = IsClientOf arrival stream peer
   HasArrived tick arrival (Refused balancer fault) = IsRefused tick arrival balancer fault
@@ -159,7 +159,7 @@ module _ {S : Type 0} (remaining contents : S → Option (List ℕ)) where
     pub reads : arrival.reads ≡ true
     pub deadline_is : arrival.deadline ≡ deadline_from tick
 
-  -- it stands in the slot that was the first free one
+  -- it is in the slot that was the first free one
   pub record IsTaken (stream : S) (balancer : SocketAddrV4) (tick : ℕ) (old new : List (Option (Box (Arrival S) Global)))
       : Type 0 where
     pub number : ℕ

@@ -47,7 +47,7 @@ module _ {S : Type 0} (remaining contents : S → Option (List ℕ)) where
     output = contents stream;
   }
 
-  -- what is left of the input of a connection, where so many octets of what was read of it were heard already
+  -- what is left of the input of a connection, where this many octets of what was read of it were heard already
   abbrev pub input_after : ℕ → Channel S → Option (List ℕ)
   input_after heard channel = prepend_known (drop heard (unread_of channel)) (remaining channel.stream)
 

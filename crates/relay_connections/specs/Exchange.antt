@@ -58,7 +58,7 @@ module _ {D S : Type 0} (remaining contents : S → Option (List ℕ)) (session 
   IsRead old new before after (Some (Leaves last)) = LeavesBehindEnd old new before after last
   IsRead old new before after (Some Gone) = EndsAlone session old new
 
--- so many octets of what was read are used, and the rest of the input is left
+-- this many octets of what was read are used, and the rest of the input is left
 pub record Uses {S : Type 0} (remaining : S → Option (List ℕ)) (count : ℕ) (before after : Channel S) : Type 0 where
   pub unread : unread_of after ≡ drop count (unread_of before)
   pub left : remaining after.stream ≡ remaining before.stream

@@ -27,7 +27,7 @@ hears (Some client) = client.value.hears
 abbrev pub hears_at : {S : Type 0} → List (Option (Box (Client S) Global)) → ℕ → Bool
 hears_at clients number = hears (slot_at clients number)
 
--- so many numbers of slots, of which there are this many: one after another from this one on, and 0 after the last
+-- this many numbers of slots, of which there are this many: one after another from this one on, and 0 after the last
 abbrev pub turned : ℕ → ℕ → ℕ → List ℕ
 turned slots number zero = []
 turned slots number (suc count) = number % slots ∷ turned slots (number + 1) count
@@ -46,7 +46,7 @@ abbrev pub session_of : Piece → ℕ
 session_of piece = piece.session
 
 -- Each session that has something to hear has heard octets of its own client, all of them in one call, and its answer
--- stands at its place; and so have attempts these replies, in the same call.
+-- is at its place; and so have attempts these replies, in the same call.
 pub record HearOwn {D S : Type 0} (honest : Type 0) (words : DiskWords D)
     (clients : List (Option (Box (Client S) Global))) (first : ℕ) (replies : List ReplyPiece) (at : ℕ)
     (old new : RelayState D) (hearing : Hearing) : Type 0 where

@@ -78,15 +78,15 @@ module _ {S : Type 0} (remaining contents : S → Option (List ℕ)) where
   StaysOrCloses tick (Some leaver) (Some later) =
       GoesOn tick leaver.value later.value × (tick < later.value.deadline)
 
-  -- it is as before; where none stood, this connection may, with these last octets, which goes there
+  -- it is as before; if none stood, this connection may, with these last octets, which goes there
   abbrev pub MayTake
       : Channel S → List ℕ → Option ℕ → Option (Box (Leaver S) Global) → Option (Box (Leaver S) Global) → Type 0
   MayTake channel last place None None = Unit {0}
   MayTake channel last place None (Some leaver) = IsOneOf place (output_with channel last) leaver.value
   MayTake channel last place (Some leaver) new = new ≡ Some leaver
 
-  -- It is as before; where none stood, that of a client may, whose session has ended, and whose peer gets a dialogue
-  -- since its connection began, by what the client's session worked with.
+  -- It is as before; if none stood, that of a client may, whose session has ended, and whose peer gets a dialogue since
+  -- its connection began, by what the client's session worked with.
   abbrev pub MayJoin : Setting → Option (Box (Leaver S) Global) → Option (Box (Leaver S) Global) → Type 0
   MayJoin setting None None = Unit {0}
   MayJoin setting None (Some leaver) =

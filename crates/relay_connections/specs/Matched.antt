@@ -1,5 +1,5 @@
--- The table of clients beside the relay: a client stands under each number under which the relay has a connection and
--- its node a session, and its address is that of the session's peer, which the trace header of its mail tells.
+-- The table of clients beside the relay: a client is under each number under which the relay has a connection and its
+-- node a session, and its address is that of the session's peer, which the trace header of its mail tells.
 use Rattle.std.specs.Prelude.{◌≡◌, ◌≢◌, true, ℕ, List, Option, None, Some, Box, is_some}
 use Rattle.std.specs.Global.{Global}
 use Rattle.std.specs.Net.Addr.{ipv4_octets}
@@ -18,7 +18,7 @@ pub record IsOfPeer (seats : List (Option Seat)) (number : ℕ) (peer : List ℕ
   pub there : slot_at seats number ≡ Some seat
   pub same : seat.peer ≡ peer
 
--- what stands under a number
+-- what is under a number
 pub record IsMatched {S D : Type 0} (clients : List (Option (Box (Client S) Global))) (relay : RelayState D)
     (number : ℕ) : Type 0 where
   pub connection : is_some (slot_at relay.clients number) ≡ is_some (slot_at clients number)
@@ -30,7 +30,7 @@ pub record IsMatched {S D : Type 0} (clients : List (Option (Box (Client S) Glob
 abbrev pub AreMatched : {S D : Type 0} → List (Option (Box (Client S) Global)) → RelayState D → Type 0
 AreMatched clients relay = (number : ℕ) → IsMatched clients relay number
 
--- At most one client more stands after the call, which is this peer; all others are as before.
+-- At most one client more is after the call, which is this peer; all others are as before.
 pub record Opens {S D : Type 0} (peer : SocketAddrV4) (old new : List (Option (Box (Client S) Global)))
     (relay : RelayState D) : Type 0 where
   pub matched : AreMatched new relay

@@ -43,8 +43,7 @@ abbrev pub over_at : ℕ → Option Tally → Option Tally
 over_at tick None = None
 over_at tick (Some tally) = if nat_lt tick tally.until then None else Some tally
 
--- After that it was told of the address just now, where there was something. Else it is as if nothing had been told
--- of it.
+-- After that it was told of the address just now, if there was something. Else it is as if nothing had been told of it.
 abbrev pub renewed : ℕ → Tally → Option Tally
 renewed tick tally = if nat_lt 0 tally.count then Some (told tally.peer tick) else None
 

@@ -54,7 +54,7 @@ pub record WorksWith {D : Type 0} (setups : List ℕ → Setup) (relay : RelaySt
 module _ {D S : Type 0} (remaining contents : S → Option (List ℕ)) (changes : List Change) (setting : Setting)
     (relay : RelayState D) (number : ℕ) where
   -- The relay has a session of the number, whose client is at this address, as when its connection began, and this
-  -- connection carries its dialogue. So many octets of what was read of that were heard already.
+  -- connection carries its dialogue. This many octets of what was read of that were heard already.
   pub record HasSession (heard : ℕ) (address : List ℕ) (channel : Channel S) : Type 0 where
     pub address_is : (setting.beginnings number).address ≡ address
     pub said : Said
@@ -67,7 +67,7 @@ module _ {D S : Type 0} (remaining contents : S → Option (List ℕ)) (changes 
     pub unused : IsUnused relay number
     pub ends : CarriesLast remaining contents (setup_at setting number) (setting.beginnings number) heard channel last
 
-  -- what the relay has under the number, where this client stands under it, or none
+  -- what the relay has under the number, where this client is under it, or none
   abbrev pub Serves : Option (Box (Client S) Global) → Type 0
   Serves None = IsUnused relay number
   Serves (Some client) = HasSession 0 (address_of client.value) client.value.channel
@@ -79,7 +79,7 @@ module _ {D S : Type 0} (remaining contents : S → Option (List ℕ)) (changes 
   HasNext address channel (Leaves last) = HasEnded 0 channel last
   HasNext address channel Gone = IsUnused relay number
 
-  -- so it is by the last octets of a session that has heard so many octets
+  -- so it is by the last octets of a session that has heard this many octets
   abbrev pub HasHeard : Option (Box (Client S) Global) → ℕ → Option (List ℕ) → Type 0
   HasHeard None heard last = IsUnused relay number
   HasHeard (Some client) heard None = HasSession heard (address_of client.value) client.value.channel
@@ -90,7 +90,7 @@ module _ {D S : Type 0} (remaining contents : S → Option (List ℕ)) (changes 
   HasAnswered slot (Ok heard) = HasHeard slot heard.used heard.last
   HasAnswered slot (Err fault) = IsUnused relay number
 
-  -- so it is where there is such an answer, and else the client is served
+  -- so it is if there is such an answer, and else the client is served
   abbrev pub HasAnsweredOr : Option (Box (Client S) Global) → Option (Result Heard NodeFault) → Type 0
   HasAnsweredOr slot None = Serves slot
   HasAnsweredOr slot (Some answer) = HasAnswered slot answer

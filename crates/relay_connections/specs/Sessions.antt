@@ -16,7 +16,7 @@ pub record EndsAlone {D : Type 0} (session : ℕ) (old new : RelayState D) : Typ
   pub only : OnlyClient old new session
   pub records : new.node.records ≡ old.node.records
 
--- At the end of its input a client is still written what waits. It is closed at once only where it isn't known.
+-- At the end of its input a client is still written what waits. It is closed at once only if it isn't known.
 abbrev pub LeavesWithAll : {D : Type 0} → RelayState D → ℕ → Next → Type 0
 LeavesWithAll old session Stays = ⊥
 LeavesWithAll old session (Leaves last) = slot_at old.clients session ≡ Some last
@@ -28,7 +28,7 @@ IsTold host Stays = ⊥
 IsTold host (Leaves last) = last ≡ closing_of host Timeout
 IsTold host Gone = Unit {0}
 
--- it is told so only where nothing waited, so that the line comes after whole replies
+-- it is told so only if nothing waited, so that the line comes after whole replies
 abbrev pub IsCutOff : {D : Type 0} → RelayState D → ℕ → Next → Type 0
 IsCutOff old session Stays = ⊥
 IsCutOff old session (Leaves last) =
@@ -36,7 +36,7 @@ IsCutOff old session (Leaves last) =
 IsCutOff old session Gone = Unit {0}
 
 -- A client whose connection was to become this is left at that; or it was to stay, and is cut off. It is told so only
--- where nothing is held either.
+-- if nothing is held either.
 abbrev pub IsCutOffBehind : {D S : Type 0} → RelayState D → ℕ → Channel S → Next → Type 0
 IsCutOffBehind old session channel Stays = ⊥
 IsCutOffBehind old session channel (Leaves last) = (held_of channel ≡ []) × IsCutOff old session (Leaves last)

@@ -17,7 +17,7 @@ const HEADER_SECONDS: u64 = 5;
 /// The most reads of a header at a turn: each takes an octet at least, and a header has 536 at most.
 const READ_LIMIT: usize = 540;
 
-/// What has come of a balancer's connection.
+/// The outcome of a balancer's connection.
 #[derive(Drop)]
 pub enum Arrived<S> {
     /// A client's connection, of which the octets after its header come next, and the client's address and port.
@@ -39,7 +39,7 @@ pub(crate) struct Arrival<S> {
     pub(crate) deadline: u64,
 }
 
-// Written out, so that what drops it calls this, and doesn't look into its connection.
+// Written out, so that the proof of a caller that drops it stops at this function.
 impl<S: Drop> Drop for Arrival<S> {
     fn drop(self) {
         let Arrival {
@@ -64,7 +64,7 @@ pub(crate) enum Progress {
 }
 
 impl<S: Stream + Drop> Arrival<S> {
-    /// A connection of which nothing was read.
+    /// Makes a connection of which nothing was read.
     pub(crate) fn new(stream: S, balancer: SocketAddrV4, now: &Now) -> Self
         ensures { IsNew S.remaining S.contents stream balancer now.now.tick result }
     {
@@ -77,7 +77,7 @@ impl<S: Stream + Drop> Arrival<S> {
         }
     }
 
-    /// Reads of the header what has come of it, and nothing after it.
+    /// Reads what has come of the header, and nothing after it.
     pub(crate) fn read(&mut self, now: &Now) -> Progress
         ensures reads_on { ReadsOn S.remaining S.contents self.old self.new }
         ensures progress { HasProgressed now.now.tick self.new.deadline self.new.header result }
@@ -130,7 +130,7 @@ impl<S: Stream + Drop> Arrival<S> {
         }
     }
 
-    /// What has come of it by its header. The system tells of the connection no more.
+    /// Returns what its header says of it. The system tells of the connection no more.
     pub(crate) fn arrived(self, registry: &S::Registry, source: Source) -> Arrived<S>
         requires { IsHeader self.header source }
         ensures { (tick : ℕ) → HasArrived S.remaining S.contents tick self result }

@@ -25,7 +25,7 @@ pub struct Arrivals<S = TcpStream> {
     arrivals: Table<Box<Arrival<S>>>,
 }
 
-// Written out, so that what drops them calls this, and doesn't look into each.
+// Written out, so that the proof of a caller that drops them stops at this function.
 impl<S: Drop> Drop for Arrivals<S> {
     fn drop(self) {
         let Arrivals {
@@ -41,7 +41,7 @@ impl Arrivals {
 }
 
 impl<S: Stream + Drop> Arrivals<S> {
-    /// None. It fails where memory runs out.
+    /// None. Fails if memory runs out.
     pub fn new(alloc: Global) -> Result<Self, AllocError>
         ensures { IfOk result (λ arrivals. AreFree (arrivals_of arrivals)) }
     {
@@ -80,7 +80,7 @@ impl<S: Stream + Drop> Arrivals<S> {
         }
     }
 
-    /// Returns the first of them whose header is whole, or of which there will be none; none where all others wait.
+    /// Returns the first of them whose header is whole, or of which there will be none; none if all others wait.
     /// Nothing that follows a header is read.
     pub fn next(&mut self, registry: &S::Registry, now: &Now) -> Option<Arrived<S>>
         ensures { GivesNext S.remaining S.contents now.now.tick (arrivals_of self.old) (arrivals_of self.new) result }
@@ -94,7 +94,7 @@ impl<S: Stream + Drop> Arrivals<S> {
         None
     }
 
-    /// Reads what has come of the header of one of them. Returns what has come of it, where it waits no longer.
+    /// Reads what has come of the header of one of them. Returns its outcome once it no longer waits.
     fn read_one(&mut self, number: usize, registry: &S::Registry, now: &Now) -> Option<Arrived<S>>
         ensures one { IsReadOne S.remaining S.contents now.now.tick number
             (arrivals_of self.old) (arrivals_of self.new) result }
@@ -136,7 +136,7 @@ impl<S: Stream + Drop> Arrivals<S> {
         }
     }
 
-    /// Whether one may have octets that weren't read.
+    /// Returns whether one may have octets that weren't read.
     pub fn is_ready(&self) -> bool
         ensures { IsTrue result ↔ IsOneReadable (arrivals_of self.now) }
     {
@@ -151,7 +151,7 @@ impl<S: Stream + Drop> Arrivals<S> {
         false
     }
 
-    /// The tick at which the next of them is closed, or the given one where that is earlier.
+    /// Returns the tick at which the next of them is closed, or the given one where that is earlier.
     pub fn next_deadline(&self, otherwise: u64) -> u64
         ensures within { result ≤ otherwise }
         ensures each { (number : ℕ) → Within result (slot_at (arrivals_of self.now) number) }

@@ -9,15 +9,15 @@ use std::marker::Model;
 /// How many octets are read of a connection at a time.
 pub(crate) const BLOCK_SIZE: usize = 65_536;
 
-/// The octets that were read of a connection and aren't used yet: one block at most. It takes no memory before the
-/// first is read.
+/// The octets that were read of a connection and aren't used yet: one block at most. Allocates nothing before the first
+/// is read.
 pub(crate) struct Block {
     octets: Vec<u8>,
     start: usize,
     end: usize,
 }
 
-// Written out, so that what drops a block calls this, and doesn't look into its octets.
+// Written out, so that the proof of a caller that drops a block stops at this function.
 impl Drop for Block {
     fn drop(self) {
         let Block {
@@ -50,21 +50,21 @@ impl Block {
         }
     }
 
-    /// What was read and isn't used yet.
+    /// Returns what was read and isn't used yet.
     pub(crate) fn piece(&self) -> &[u8]
         ensures { result.now ≡ self.now }
     {
         &self.octets[self.start..self.end]
     }
 
-    /// Whether all that was read is used.
+    /// Returns whether all that was read is used.
     pub(crate) fn is_empty(&self) -> bool
         ensures { IsTrue result ↔ (self.now ≡ []) }
     {
         self.piece().is_empty()
     }
 
-    /// So many octets more are used; where there are fewer, all.
+    /// This many octets more are used; if there are fewer, all.
     pub(crate) fn used(&mut self, count: usize)
         ensures { self.new ≡ drop count self.old }
     {
@@ -76,7 +76,7 @@ impl Block {
     }
 
     /// Reads the next octets of a stream, where all of those before are used, and tells how many; none are the end of
-    /// its input. It fails as the stream does, and where memory runs out.
+    /// its input. It fails as the stream does, and if memory runs out.
     pub(crate) fn fill<S: Stream>(&mut self, alloc: Global, stream: &mut S) -> io::Result<usize>
         requires { self.old ≡ [] }
         ensures came { Consumes (S.remaining stream.old) (S.remaining stream.new) self.new }
@@ -96,7 +96,7 @@ impl Block {
     }
 }
 
-/// So many zeros.
+/// Returns this many zeros.
 fn zeros(alloc: Global, count: usize) -> Result<Vec<u8>, AllocError>
     ensures { IfOk result (λ zeros. length zeros.items ≡ count) }
 {

@@ -24,7 +24,7 @@ pub struct Readiness {
 }
 
 impl Readiness {
-    /// What an event says.
+    /// Returns what an event says.
     pub fn of(event: &Event) -> Self {
         Readiness {
             reads: event.is_readable() || event.is_read_closed() || event.is_error(),
@@ -61,7 +61,7 @@ pub enum End {
     Broken,
 }
 
-// Written out, so that what drops a connection calls this, and doesn't look into its stream.
+// Written out, so that the proof of a caller that drops a connection stops at this function.
 impl<S: Drop> Drop for Channel<S> {
     fn drop(self) {
         let Channel {
@@ -78,7 +78,7 @@ impl<S: Drop> Drop for Channel<S> {
 }
 
 impl<S: Stream> Channel<S> {
-    /// The connection of this stream. It is written to at once, and read when the system tells that it may be.
+    /// Returns the connection of this stream. It is written to at once, and read when the system tells that it may be.
     pub fn new(alloc: Global, stream: S) -> Self
         ensures stream { result.stream ≡ stream }
         ensures unread { unread_of result ≡ [] }
@@ -122,7 +122,7 @@ impl<S: Stream> Channel<S> {
         Ok(())
     }
 
-    /// Whether the connection that was begun has come about, or why it hasn't.
+    /// Returns whether the connection that was begun has come about, or why it hasn't.
     pub fn has_connected(&self) -> io::Result<bool> {
         self.stream.has_connected()
     }
@@ -147,7 +147,7 @@ impl<S: Stream> Channel<S> {
         self.ready.writes = false;
     }
 
-    /// How it has ended, where it has and all that was read is used.
+    /// How it has ended, if it has and all that was read is used.
     pub fn end(&self) -> Option<End>
         ensures used { result ≡ Some End.Input → unread_of self.now ≡ [] }
         ensures end { (end : End) → result ≡ Some end → self.now.end ≡ Some end }
@@ -160,21 +160,21 @@ impl<S: Stream> Channel<S> {
         }
     }
 
-    /// What was read and isn't used yet.
+    /// Returns what was read and isn't used yet.
     pub fn piece(&self) -> &[u8]
         ensures { result.now ≡ unread_of self.now }
     {
         self.block.piece()
     }
 
-    /// Whether all that was read is used.
+    /// Returns whether all that was read is used.
     pub(crate) fn is_used(&self) -> bool
         ensures { IsTrue result ↔ (unread_of self.now ≡ []) }
     {
         self.block.is_empty()
     }
 
-    /// So many octets of that are used; where there are fewer, all.
+    /// This many octets of that are used; if there are fewer, all.
     pub fn used(&mut self, count: usize)
         ensures used { unread_of self.new ≡ drop count (unread_of self.old) }
         ensures left { self.new.stream ≡ self.old.stream }
@@ -184,7 +184,7 @@ impl<S: Stream> Channel<S> {
         self.block.used(count);
     }
 
-    /// Whether something can be done with it at once, where octets wait to be written to it or don't.
+    /// Returns whether something can be done with it at once, where octets wait to be written to it or don't.
     pub fn is_ready(&self, waits: bool) -> bool
         ensures { unread_of self.now ≢ [] → waits ≡ false → result ≡ true }
     {
@@ -197,14 +197,14 @@ impl<S: Stream> Channel<S> {
         }
     }
 
-    /// Whether it may be ready to be written to.
+    /// Returns whether it may be ready to be written to.
     pub fn may_write(&self) -> bool
         ensures { result ≡ is_writable self.now }
     {
         self.ready.writes
     }
 
-    /// Reads a block of up to 65,536 octets, where all of the last one is used and there may be more. It tells whether
+    /// Reads a block of up to 65,536 octets, where all of the last one is used and there may be more. Returns whether
     /// octets came.
     pub fn fill(&mut self) -> bool
         ensures unread { unread_of self.old ≢ [] → self.new ≡ self.old }
@@ -249,14 +249,14 @@ impl<S: Stream> Channel<S> {
         }
     }
 
-    /// Whether octets are held that are to be written.
+    /// Returns whether octets are held that are to be written.
     pub(crate) fn is_holding(&self) -> bool
         ensures { IsTrue result ↔ (held_of self.now ≢ []) }
     {
         !self.held.is_empty()
     }
 
-    /// Holds octets back, to be written with those that come next, and tells whether: not where they are too many, or
+    /// Holds octets back, to be written with those that come next, and returns whether: not where they are too many, or
     /// memory runs out.
     pub(crate) fn hold(&mut self, octets: &[u8]) -> bool
         ensures held { result ≡ true → held_of self.new ≡ held_of self.old ++ octets.now }
@@ -269,7 +269,7 @@ impl<S: Stream> Channel<S> {
     }
 
     /// Writes what is held, and of these octets after it what goes at once; it tells how many of these are done with:
-    /// they are written, or held. Where the peer was told that nothing more is written, nothing is.
+    /// they are written, or held. If the peer was told that nothing more is written, nothing is.
     pub fn write(&mut self, octets: &[u8]) -> usize
         ensures output { Appends (output_of S.remaining S.contents self.old) (output_of S.remaining S.contents self.new)
             (take result octets.now) }
@@ -307,7 +307,7 @@ impl<S: Stream> Channel<S> {
         self.held.wrote(count);
     }
 
-    /// Writes of these octets what goes at once, and tells how many, where none are held.
+    /// Writes of these octets what goes at once, and tells how many, if none are held.
     fn write_now(&mut self, octets: &[u8]) -> usize
         requires { held_of self.old ≡ [] }
         ensures output { Appends (output_of S.remaining S.contents self.old) (output_of S.remaining S.contents self.new)
@@ -331,7 +331,7 @@ impl<S: Stream> Channel<S> {
         self.ready.writes && !self.is_shut && self.end != Some(End::Broken)
     }
 
-    /// How many octets a write has taken, and whether another may follow.
+    /// Returns how many octets a write has taken, and whether another may follow.
     fn written(&mut self, answer: io::Result<usize>) -> usize
         ensures octets { KeepsOctets self.old self.new }
         ensures end { IsEndTrue S.remaining S.contents self.old → IsEndTrue S.remaining S.contents self.new }

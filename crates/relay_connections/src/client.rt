@@ -32,7 +32,7 @@ const WRITE_LIMIT: usize = 16;
 /// How the reply begins to mail for which the spool has no room.
 const SPOOL_FULL: &[u8] = b"452 spool full";
 
-/// The connection of a client, which stands under its session's number.
+/// The connection of a client, which is under its session's number.
 pub(crate) struct Client<S> {
     pub(crate) channel: Channel<S>,
     pub(crate) peer: SocketAddrV4,
@@ -44,7 +44,7 @@ pub(crate) struct Client<S> {
     has_line_end: bool,
     /// The tick at which it is cut off. It is set anew by the first octet after an answer, by 65,536 octets that lead
     /// to none and have a line end, since they are of a text or a chunk, and by each write of which it takes something:
-    /// so a command line has to stand whole within the timeout of its first octet.
+    /// so a command line must stand whole within the timeout of its first octet.
     idle_deadline: u64,
     /// The tick at which it is cut off while few places are left, unless mail of it was accepted or it has begun to say
     /// something. It is set anew with the deadline before.
@@ -57,7 +57,7 @@ pub(crate) struct Client<S> {
     pub(crate) record: ClientRecord,
 }
 
-// Written out, so that what drops it calls this, and doesn't look into its connection.
+// Written out, so that the proof of a caller that drops it stops at this function.
 impl<S: Drop> Drop for Client<S> {
     fn drop(self) {
         let Client {
@@ -96,7 +96,7 @@ pub struct Intake {
 }
 
 impl<S: Stream> Client<S> {
-    /// A client that has just connected, and may be idle for so many seconds.
+    /// Makes a client that has just connected, and may be idle for this many seconds.
     pub(crate) fn new(channel: Channel<S>, peer: SocketAddrV4, timeout: u64, now: &Now) -> Self
         ensures channel { result.channel ≡ channel }
         ensures peer { result.peer ≡ peer }
@@ -134,7 +134,7 @@ impl<S: Stream> Client<S> {
         channel
     }
 
-    /// The tick at which it is cut off as things stand, while few places are left for others or not.
+    /// Returns the tick at which it is cut off as things stand, while few places are left for others or not.
     pub(crate) fn deadline(&self, is_crowded: bool) -> u64 {
         let deadline = self.idle_deadline.min(self.session_deadline);
         if is_crowded && !self.has_accepted && self.unanswered == 0 {
@@ -172,7 +172,7 @@ impl<S: Stream> Client<S> {
         }
     }
 
-    /// Writes what waits for it once. It tells whether some of that is done with.
+    /// Writes what waits for it once. Returns whether some of that is done with.
     fn write<D: Disk>(
         &mut self,
         relay: &mut Relay<D>,
@@ -193,7 +193,7 @@ impl<S: Stream> Client<S> {
         true
     }
 
-    /// Whether octets wait to be written to it.
+    /// Returns whether octets wait to be written to it.
     fn waits<D: Disk>(&self, relay: &Relay<D>, session: usize) -> bool
         ensures { held_of self.now.channel ≡ [] → unwritten_at relay.now.clients session ≡ []
             → result ≡ false }
@@ -201,7 +201,7 @@ impl<S: Stream> Client<S> {
         self.channel.is_holding() || !relay.to_client(session).is_empty()
     }
 
-    /// Whether something can be done with it at once.
+    /// Returns whether something can be done with it at once.
     pub(crate) fn is_ready<D: Disk>(&self, relay: &Relay<D>, session: usize) -> bool
         ensures { unread_of self.now.channel ≢ [] → held_of self.now.channel ≡ []
             → unwritten_at relay.now.clients session ≡ [] → result ≡ true }
@@ -210,7 +210,7 @@ impl<S: Stream> Client<S> {
     }
 
     /// Holds what waits for it back, where more of what was read is heard at this turn: what that leads to goes in the
-    /// same write. Where it is too much to be held, it is written at once as far as that goes.
+    /// same write. If it is too much to be held, it is written at once as far as that goes.
     fn hold<D: Disk>(&mut self, relay: &mut Relay<D>, session: usize, timeout: u64, now: &Now)
         ensures hands { Hands S.remaining S.contents session relay.old relay.new self.old.channel self.new.channel }
         ensures said { StaysSaid session relay.old relay.new }
@@ -223,7 +223,7 @@ impl<S: Stream> Client<S> {
         }
     }
 
-    /// Holds what waits for it back, and tells whether.
+    /// Holds what waits for it back, and returns whether.
     fn hold_back<D: Disk>(&mut self, relay: &mut Relay<D>, session: usize) -> bool
         ensures hands { Hands S.remaining S.contents session relay.old relay.new self.old.channel self.new.channel }
         ensures said { StaysSaid session relay.old relay.new }
@@ -283,7 +283,7 @@ impl<S: Stream> Client<S> {
         }
     }
 
-    /// Whether it has octets for its session to hear, which may do so.
+    /// Returns whether it has octets for its session to hear, which may do so.
     pub(crate) fn has_more<D: Disk>(&self, relay: &Relay<D>, session: usize) -> bool {
         !self.channel.is_used() && relay.to_client(session).is_empty()
     }
@@ -392,7 +392,7 @@ fn tell_accepted<D: Disk>(
     }
 }
 
-/// Whether a line of these replies says that the spool is full.
+/// Returns whether a line of these replies says that the spool is full.
 fn tells_full(replies: &[u8]) -> bool {
     replies
         .split(|octet| *octet == b'\n')

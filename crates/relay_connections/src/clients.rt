@@ -26,7 +26,7 @@ use relay_slots::SLOT_COUNT;
 use std::alloc::{AllocError, Global};
 use std::net::{Ipv4Addr, SocketAddrV4};
 
-/// Whether the client in a slot is at an address.
+/// Returns whether the client in a slot is at an address.
 fn is_at<S>(slot: &Option<Box<Client<S>>>, address: [u8; 4]) -> bool
     ensures { result ≡ is_such (is_at address) slot.now }
 {
@@ -51,7 +51,7 @@ pub struct Clients<S = TcpStream> {
     pub(crate) first: usize,
 }
 
-// Written out, so that what drops them calls this, and doesn't look into each.
+// Written out, so that the proof of a caller that drops them stops at this function.
 impl<S: Drop> Drop for Clients<S> {
     fn drop(self) {
         let Clients {
@@ -66,7 +66,7 @@ impl<S: Drop> Drop for Clients<S> {
 }
 
 impl<S: Stream + Drop> Clients<S> {
-    /// None, within these limits. It fails where memory runs out.
+    /// None, within these limits. Fails if memory runs out.
     pub fn new(alloc: Global, limits: &Limits) -> Result<Self, AllocError>
         ensures { IfOk result (λ clients. AreFree (clients_of clients)) }
     {
@@ -80,7 +80,8 @@ impl<S: Stream + Drop> Clients<S> {
         })
     }
 
-    /// Whether there is room for one more at this address: fewer than 64 stand, and at this address fewer than may.
+    /// Returns whether there is room for one more at this address: fewer than 64 stand, and at this address fewer than
+    /// may.
     pub fn has_room(&self, address: Ipv4Addr) -> bool
         ensures { IsTrue result ↔ HasRoom (ipv4_octets address) self.now }
     {
@@ -94,7 +95,7 @@ impl<S: Stream + Drop> Clients<S> {
         self.clients.count()
     }
 
-    /// How many clients are at an address.
+    /// Returns how many clients are at an address.
     fn count_at(&self, address: [u8; 4]) -> usize
         ensures { result ≡ count_of_such (is_at address) (clients_of self.now) }
     {
@@ -108,8 +109,8 @@ impl<S: Stream + Drop> Clients<S> {
         count
     }
 
-    /// Opens a session for a client, and greets it. Where the system or the node has no room for it, it is closed
-    /// unheard. Only a device that failed is a fault.
+    /// Opens a session for a client, and greets it. If the system or the node has no room for it, it is closed unheard.
+    /// Only a device that failed is a fault.
     pub fn open<D: Disk>(
         &mut self,
         registry: &S::Registry,
@@ -137,8 +138,8 @@ impl<S: Stream + Drop> Clients<S> {
         Ok(())
     }
 
-    /// Greets the client of a session that was opened for it. Where the system doesn't tell of its connection, or
-    /// memory runs out, the session is ended.
+    /// Greets the client of a session that was opened for it. If the system doesn't tell of its connection, or memory
+    /// runs out, the session is ended.
     fn greet<D: Disk>(
         &self,
         registry: &S::Registry,
@@ -193,7 +194,7 @@ impl<S: Stream + Drop> Clients<S> {
         }
     }
 
-    /// Whether one is left with something to be done at once.
+    /// Returns whether one is left with something to be done at once.
     pub fn is_ready<D: Disk>(&self, relay: &Relay<D>) -> bool
         ensures { (number : ℕ) → IsLeftClient (clients_of self.now) relay.now number → result ≡ true }
     {
@@ -207,7 +208,7 @@ impl<S: Stream + Drop> Clients<S> {
         false
     }
 
-    /// The tick at which the next of them is cut off, or the given one where that is earlier.
+    /// Returns the tick at which the next of them is cut off, or the given one where that is earlier.
     pub fn next_deadline(&self, otherwise: u64) -> u64
         ensures { result ≤ otherwise }
     {

@@ -8,14 +8,14 @@ use std::rt::Clock;
 /// other, which goes on alone.
 #[derive(Debug, Drop)]
 pub struct Now {
-    /// The wall clock's moment, in whole seconds.
+    /// The wall clock's time, in whole seconds.
     pub moment: Moment,
     /// The monotonic clock, in milliseconds.
     pub tick: u64,
 }
 
 impl Now {
-    /// What both clocks show. A wall clock that can't be read shows the first moment, and a monotonic one 0.
+    /// Returns what both clocks show. A wall clock that can't be read shows the first second, and a monotonic one 0.
     pub fn of<C: Clock>(clock: &C) -> Self {
         Now {
             moment: clock_moment(clock),
@@ -23,14 +23,14 @@ impl Now {
         }
     }
 
-    /// The tick that is so many seconds from now, or the last that there is.
+    /// Returns the tick that is this many seconds from now, or the last that there is.
     pub fn behind(&self, seconds: u64) -> u64
         ensures { result ≡ min (self.now.tick + seconds * 1000) (2 ^ 64 - 1) }
     {
         self.tick.saturating_add(seconds.saturating_mul(1_000))
     }
 
-    /// The tick at which the wall clock shows a moment, unless it is set; that of now for one that has passed.
+    /// Returns the tick at which the wall clock shows a time, unless it is set; that of now for one that has passed.
     pub fn tick_at(&self, moment: Moment) -> u64
         ensures { result ≡ min (self.now.tick + (moment - self.now.moment) * 1000) (2 ^ 64 - 1) }
     {
@@ -38,7 +38,7 @@ impl Now {
     }
 }
 
-/// The monotonic clock, in milliseconds. One that can't be read stands at 0, and nobody is cut off by it.
+/// Returns the monotonic clock, in milliseconds. One that can't be read is at 0, and nobody is cut off by it.
 pub fn tick_of<C: Clock>(clock: &C) -> u64 {
     match clock.monotonic() {
         Ok(time) => time

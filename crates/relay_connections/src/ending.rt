@@ -69,7 +69,7 @@ pub(crate) fn cut_off<D: Disk>(
     }
 }
 
-/// The last octets of a client that is late.
+/// Returns the last octets of a client that is late.
 fn farewell<D: Disk>(alloc: Global, relay: &Relay<D>) -> Next
     ensures { IsTold relay.now.node.config.host result }
 {

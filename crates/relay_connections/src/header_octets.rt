@@ -18,7 +18,7 @@ pub(crate) struct HeaderOctets {
     length: usize,
 }
 
-// Written out, so that what drops them calls this, and doesn't look into them.
+// Written out, so that the proof of a caller that drops them stops at this function.
 impl Drop for HeaderOctets {
     fn drop(self) {
         let HeaderOctets {
@@ -50,15 +50,16 @@ impl HeaderOctets {
         }
     }
 
-    /// Whether they are a whole header, none, or the beginning of one.
+    /// Returns whether they are a whole header, none, or the beginning of one.
     pub(crate) fn reading(&self) -> Reading
         ensures { ReadsWhole self.now result }
     {
         read_header(&self.octets[..self.length])
     }
 
-    /// Reads the next octets of a stream, at most `count`, where so many are missing at least: so none after the header
-    /// is read. Returns how many came; none are the end of the input. It fails as the stream does, and then none came.
+    /// Reads the next octets of a stream, at most `count`, where this many are missing at least: so none after the
+    /// header is read. Returns how many came; none are the end of the input. It fails as the stream does, and then none
+    /// came.
     pub(crate) fn fill<S: Stream>(&mut self, stream: &mut S, count: usize) -> io::Result<usize>
         requires { IsBegun self.old count }
         ensures came { Comes (S.remaining stream.old) (S.remaining stream.new) self.old self.new }

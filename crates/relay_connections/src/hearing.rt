@@ -13,11 +13,11 @@ use relay_loop::{Answered, Group, Heard, Piece, Relay, ReplyPiece};
 use relay_node::{NodeFault, Noted};
 use std::alloc::{AllocError, Global};
 
-/// What came of octets of a client.
+/// What came of a client's octets.
 pub(crate) type Answer = Result<Heard, NodeFault>;
 
-/// The sessions that heard something in one call, and what came of that for each, in the same order; and what came of
-/// the replies that were used in the same call.
+/// The sessions that heard something in one call, and the outcome for each, in the same order; and the outcomes of the
+/// replies that were used in the same call.
 #[derive(Drop)]
 pub(crate) struct Hearing {
     pub(crate) sessions: Vec<usize>,
@@ -25,10 +25,10 @@ pub(crate) struct Hearing {
     pub(crate) replies: Replied,
 }
 
-/// What came of the replies of next hops that were used in one call with what clients had sent.
+/// The outcome of the replies of next hops that were used in one call with what clients had sent.
 #[derive(Drop)]
 pub struct Replied {
-    /// What came of each reply, in their order.
+    /// The outcome of each reply, in their order.
     pub answered: Vec<Result<Answered, NodeFault>>,
     /// A note of each change that the call has made, in the order of their numbers.
     pub notes: Vec<Noted>,
@@ -36,7 +36,7 @@ pub struct Replied {
 
 /// Lets all sessions that have something to hear do so in one call, the first of them first, and after them the
 /// attempts of next hops that have replied, so that the mail they bring and the outcomes of attempts come into the
-/// spool after one pair of syncs. It answers nothing where no memory is left for that; nothing was heard then.
+/// spool after one pair of syncs. It answers nothing if no memory is left for that; nothing was heard then.
 pub(crate) fn hear_all<S: Stream, D: Disk>(
     alloc: Global,
     clients: &[Option<Box<Client<S>>>],
@@ -74,7 +74,7 @@ pub(crate) fn hear_all<S: Stream, D: Disk>(
     }
 }
 
-/// The first lines of each client whose session has something to hear, the first of them first.
+/// Returns the first lines of each client whose session has something to hear, the first of them first.
 fn pieces_of<S: Stream>(
     alloc: Global,
     clients: &[Option<Box<Client<S>>>],
@@ -99,7 +99,7 @@ fn pieces_of<S: Stream>(
     Ok(pieces)
 }
 
-/// The client of a number, where there is one.
+/// Returns the client of a number, if there is one.
 pub(crate) fn client_at<S>(
     clients: &[Option<Box<Client<S>>>],
     number: usize,
@@ -114,7 +114,7 @@ pub(crate) fn client_at<S>(
     }
 }
 
-/// The sessions that pieces are of.
+/// Returns the sessions that pieces are of.
 fn sessions_of(alloc: Global, pieces: &[Piece<'_>]) -> Result<Vec<usize>, AllocError>
     ensures { IfOk result (λ sessions. sessions.items ≡ map session_of pieces.now) }
 {

@@ -7,14 +7,14 @@ use std::marker::Model;
 const HELD_SIZE: usize = 4_096;
 
 /// Octets that wait to be written to a connection before all others, so that they go in one write with what comes next.
-/// It takes no memory before some are held.
+/// Allocates nothing before some are held.
 pub(crate) struct Held {
     octets: Vec<u8>,
     /// How many of them are written.
     written: usize,
 }
 
-// Written out, so that what drops them calls this, and doesn't look into them.
+// Written out, so that the proof of a caller that drops them stops at this function.
 impl Drop for Held {
     fn drop(self) {
         let Held {
@@ -45,21 +45,21 @@ impl Held {
         }
     }
 
-    /// Those that wait.
+    /// Returns those that wait.
     pub(crate) fn as_slice(&self) -> &[u8]
         ensures { result.now ≡ self.now }
     {
         &self.octets[self.written..]
     }
 
-    /// Whether none waits.
+    /// Returns whether none waits.
     pub(crate) fn is_empty(&self) -> bool
         ensures { IsTrue result ↔ (self.now ≡ []) }
     {
         self.as_slice().is_empty()
     }
 
-    /// Puts octets after the others, and tells whether: not where they are too many, or memory runs out.
+    /// Puts octets after the others, and returns whether: not where they are too many, or memory runs out.
     pub(crate) fn push(&mut self, octets: &[u8]) -> bool
         ensures held { result ≡ true → self.new ≡ self.old ++ octets.now }
         ensures same { result ≡ false → self.new ≡ self.old }
@@ -72,7 +72,7 @@ impl Held {
             && self.octets.extend_from_slice(octets).is_ok()
     }
 
-    /// So many of them were written; where there are fewer, all.
+    /// This many of them were written; if there are fewer, all.
     pub(crate) fn wrote(&mut self, count: usize)
         ensures { self.new ≡ drop count self.old }
     {

@@ -1,4 +1,4 @@
-//! What is true of the clients of a relay, whatever calls are made.
+//! Laws of the clients of a relay, whatever calls are made.
 ghost use Rattle.relay_connections.specs.Arrivals.{ClientsFollowHeaders, ReadsAreOne};
 ghost use Rattle.relay_connections.specs.Served.{FreeAreServed, NotedAreServed, ServedAreMatched};
 

@@ -1,5 +1,5 @@
-//! Connections whose session or attempt has ended: their last octets are written, and what the peer still sends is
-//! read and dropped for a moment, since the system else resets the connection, and the last octets with it.
+//! Connections whose session or attempt has ended: their last octets are written, and what the peer still sends is read
+//! and dropped for a short time, since the system else resets the connection, and the last octets with it.
 ghost use Rattle.std.specs.Prelude.{◌≡◌, ◌≤◌, ◌<◌, ◌+◌, ◌⊎◌, ◌↔◌, ℕ, None, IfOk, IsTrue, false, true};
 ghost use Rattle.std.specs.Prelude.{if◌then◌else◌};
 ghost use Rattle.relay_slots.specs.Slots.{AreFree, OthersStay, slot_at};
@@ -22,7 +22,7 @@ use std::alloc::{AllocError, Global};
 /// How many seconds a connection is read after its last octets.
 const DRAIN_SECONDS: u64 = 1;
 
-/// Where so many connections are leaving, one that had no session is closed at once.
+/// Where this many connections are leaving, one that had no session is closed at once.
 const MOST_STRANGERS: usize = SLOT_COUNT / 2;
 
 /// The token of the first of them.
@@ -35,13 +35,13 @@ struct Leaver<S> {
     outbox: Outbox,
     /// Whether they are written, and the peer was told that nothing more comes.
     is_shut: bool,
-    /// The number of the place that it goes to, where it goes to a next hop.
+    /// The number of the place that it goes to, if it goes to a next hop.
     place: Option<usize>,
     /// The tick at which the connection is closed.
     deadline: u64,
 }
 
-// Written out, so that what drops it calls this, and doesn't look into its connection.
+// Written out, so that the proof of a caller that drops it stops at this function.
 impl<S: Drop> Drop for Leaver<S> {
     fn drop(self) {
         let Leaver {
@@ -54,7 +54,7 @@ impl<S: Drop> Drop for Leaver<S> {
     }
 }
 
-/// Whether the connection in a slot goes to the place of a number.
+/// Returns whether the connection in a slot goes to the place of a number.
 fn goes_to<S>(slot: &Option<Box<Leaver<S>>>, place: usize) -> bool
     ensures { result ≡ is_such (goes_to place) slot.now }
 {
@@ -72,7 +72,7 @@ pub struct Leaving<S = TcpStream> {
     seconds: u64,
 }
 
-// Written out, so that what drops them calls this, and doesn't look into each.
+// Written out, so that the proof of a caller that drops them stops at this function.
 impl<S: Drop> Drop for Leaving<S> {
     fn drop(self) {
         let Leaving {
@@ -89,7 +89,7 @@ impl Leaving {
 }
 
 impl<S: Stream + Drop> Leaving<S> {
-    /// None, whose last octets will wait for so many seconds at most. It fails where memory runs out.
+    /// None, whose last octets will wait for this many seconds at most. Fails if memory runs out.
     pub fn new(alloc: Global, seconds: u64) -> Result<Self, AllocError>
         ensures { IfOk result (λ leaving. AreFree (leavers_of leaving)) }
     {
@@ -100,9 +100,9 @@ impl<S: Stream + Drop> Leaving<S> {
         })
     }
 
-    /// Takes a connection with its last octets, and the number of the place that it goes to, where it goes to a next
-    /// hop. The octets are written at once as far as they go. Where 64 are leaving already, or no memory is left, it is
-    /// closed after that.
+    /// Takes a connection with its last octets, and the number of the place that it goes to, if it goes to a next hop.
+    /// The octets are written at once as far as they go. If 64 are leaving already, or no memory is left, it is closed
+    /// after that.
     pub fn take(
         &mut self,
         registry: &S::Registry,
@@ -134,14 +134,14 @@ impl<S: Stream + Drop> Leaving<S> {
         }
     }
 
-    /// Whether a connection may be taken that had no session: so many of these at once leave room for others.
+    /// Returns whether a connection may be taken that had no session: this many of these at once leave room for others.
     pub fn has_room_for_strangers(&self) -> bool
         ensures { IsTrue result ↔ (count_of self.now.leavers < MOST_STRANGERS) }
     {
         self.leavers.count() < MOST_STRANGERS
     }
 
-    /// How many are leaving that go to the next hops at the place of a number.
+    /// Returns how many are leaving that go to the next hops at the place of a number.
     pub fn count_to(&self, place: usize) -> usize
         ensures { result ≡ count_of_such (goes_to place) (leavers_of self.now) }
     {
@@ -215,7 +215,7 @@ impl<S: Stream + Drop> Leaving<S> {
         true
     }
 
-    /// Whether one is left with something to be done at once.
+    /// Returns whether one is left with something to be done at once.
     pub fn is_ready(&self) -> bool {
         for slot in self.leavers.standing() {
             if let Some(leaver) = slot {
@@ -227,7 +227,7 @@ impl<S: Stream + Drop> Leaving<S> {
         false
     }
 
-    /// The tick at which the next of them is closed, or the given one where that is earlier.
+    /// Returns the tick at which the next of them is closed, or the given one where that is earlier.
     pub fn next_deadline(&self, otherwise: u64) -> u64
         ensures { result ≤ otherwise }
     {
@@ -291,7 +291,8 @@ impl<S: Stream> Leaver<S> {
         self.channel.used(count);
     }
 
-    /// Whether nothing is left to be done: the connection is broken, or all was written and read, or its time is over.
+    /// Returns whether nothing is left to be done: the connection is broken, or all was written and read, or its time
+    /// is over.
     fn is_over(&self, tick: u64) -> bool
         ensures over { result ≡ true → IsOver tick self.now }
         ensures time { result ≡ false → tick < self.now.deadline }
@@ -306,7 +307,7 @@ impl<S: Stream> Leaver<S> {
         }
     }
 
-    /// Whether its last octets have gone, and nothing is held.
+    /// Returns whether its last octets have gone, and nothing is held.
     fn has_gone(&self) -> bool
         ensures { IsTrue result ↔ HasGone self.now }
     {

@@ -15,7 +15,7 @@ use relay_slots::SLOT_COUNT;
 use std::alloc::{AllocError, Global};
 use std::net::SocketAddrV4;
 
-/// For so many seconds after a line nothing more is told of its address.
+/// For this many seconds after a line nothing more is told of its address.
 const SILENT_SECONDS: u64 = 60;
 
 /// The refusals of an address that aren't told yet.
@@ -60,7 +60,7 @@ impl Tally {
     }
 }
 
-/// Whether the tally in a slot is of an address.
+/// Returns whether the tally in a slot is of an address.
 fn is_of(slot: &Option<Tally>, address: [u8; 4]) -> bool
     ensures { result ≡ is_such (is_of address) slot.now }
 {
@@ -78,7 +78,7 @@ pub struct Refusals {
     dropped: usize,
 }
 
-// Written out, so that what drops them calls this, and doesn't look into each.
+// Written out, so that the proof of a caller that drops them stops at this function.
 impl Drop for Refusals {
     fn drop(self) {
         let Refusals {
@@ -89,7 +89,7 @@ impl Drop for Refusals {
 }
 
 impl Refusals {
-    /// None was refused yet. It fails where memory runs out.
+    /// None was refused yet. Fails if memory runs out.
     pub fn new(alloc: Global) -> Result<Self, AllocError>
         ensures { IfOk result (λ refusals. AreFree (tallies_of refusals)) }
     {
@@ -122,7 +122,7 @@ impl Refusals {
         }
     }
 
-    /// The tick at which it is to be told of one of them, or the given one where that is earlier.
+    /// Returns the tick at which it is to be told of one of them, or the given one where that is earlier.
     pub fn next_deadline(&self, otherwise: u64) -> u64
         ensures { result ≤ otherwise }
     {
@@ -135,7 +135,7 @@ impl Refusals {
         next
     }
 
-    /// Counts the refusal of a client where it was told of its address already. It tells whether it was.
+    /// Counts the refusal of a client where it was told of its address already. Returns whether it was.
     fn count(&mut self, peer: SocketAddrV4) -> bool
         ensures counted { result ≡ true → Counts peer (tallies_of self.old) (tallies_of self.new) }
         ensures unknown { result ≡ false → IsUnknown (ipv4_octets (v4_ip peer)) (tallies_of self.old) }
@@ -150,7 +150,7 @@ impl Refusals {
         true
     }
 
-    /// The number of an address of which it was told already.
+    /// Returns the number of an address of which it was told already.
     fn number_of(&self, address: [u8; 4]) -> Option<usize>
         ensures found { MatchOption result (IsUnknown address (tallies_of self.now))
             (λ number. is_such (is_of address) (slot_at (tallies_of self.now) number) ≡ true) }
@@ -165,8 +165,8 @@ impl Refusals {
         None
     }
 
-    /// A number for one more address. Where 64 have theirs, it is taken from one of them, each time from the next, and
-    /// what wasn't told of that comes with it.
+    /// Returns a number for one more address. If 64 have theirs, it is taken from one of them, each time from the next,
+    /// and what wasn't told of that comes with it.
     fn make_room(&mut self) -> (usize, Option<Tally>)
         ensures taken { result.1 ≡ slot_at (tallies_of self.old) result.0 }
         ensures rest { tallies_of self.new ≡ slice_set (tallies_of self.old) result.0 None }

@@ -5,7 +5,7 @@ use crate::stream::Stream;
 use std::io::{self, Error, ErrorKind, Read, Write};
 
 /// A stream that gives what its reader gives, and writes to its writer. Each read and each write takes the next number
-/// of the script: so many octets go at most, and at a 0 it would have to wait. After the script all go.
+/// of the script: this many octets go at most, and at a 0 it would have to wait. After the script all go.
 #[derive(Drop)]
 pub struct ScriptedStream<R, W> {
     pub reader: R,
@@ -30,7 +30,7 @@ impl<R, W> ScriptedStream<R, W> {
     }
 }
 
-/// How many octets go by the next number of a script, where there is room for so many.
+/// Returns how many octets go by the next number of a script, if there is room for this many.
 fn next(script: &[usize], step: &mut usize, room: usize) -> io::Result<usize>
     ensures within { IfOk result (λ count. count ≤ room) }
     ensures some { IfOk result (λ count. 0 < room → 0 < count) }

@@ -32,11 +32,11 @@ const CROWD: usize = 48;
 
 impl<S: Stream + Drop> Clients<S> {
     /// Serves each of them once, each time beginning with another: first a block is read of each that has nothing to be
-    /// written, and then their sessions hear what was read, all in one call. What stands after a message in the same
-    /// block is heard in a second one, since clients send the commands of the next message with it (RFC 2920), and what
-    /// both lead to goes out in one write. Attempts hear the replies of their next hops in the first of these calls,
-    /// and what came of them comes back, unless no memory was left for that: then nothing was heard. Only a device
-    /// that failed is a fault.
+    /// written, and then their sessions hear what was read, all in one call. What is after a message in the same block
+    /// is heard in a second one, since clients send the commands of the next message with it (RFC 2920), and what both
+    /// lead to goes out in one write. Attempts hear the replies of their next hops in the first of these calls, and
+    /// their outcomes comes back, unless no memory was left for that: then nothing was heard. Only a device that failed
+    /// is a fault.
     pub fn serve<D: Disk>(
         &mut self,
         registry: &S::Registry,
@@ -360,7 +360,7 @@ impl<S: Stream + Drop> Clients<S> {
     }
 }
 
-/// Why the connection of a client has ended, unless something is left to be read of it.
+/// Returns why the connection of a client has ended, unless something is left to be read of it.
 fn read_end<S: Stream>(client: &Client<S>) -> ClientEnd {
     match client.channel.end() {
         Some(End::Broken) => ClientEnd::Reset,

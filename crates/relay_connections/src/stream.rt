@@ -7,8 +7,8 @@ use mio::{Interest, Registry, Token};
 use std::io::{self, Read, Write};
 use std::net::Shutdown;
 
-/// A stream of octets in both directions. No call waits: what would have to is answered by `WouldBlock`. The system is
-/// told of it by a registry of its own kind.
+/// A stream of octets in both directions. No call waits: what would have to wait is answered by `WouldBlock`. The
+/// system is told of it by a registry of its own kind.
 pub trait Stream {
     ghost use Rattle.std.specs.Prelude.{◌≡◌, ℕ, List, Option, None};
     ghost use Rattle.std.specs.Io.{ReadsAtMost, WritesAtMost};
@@ -17,10 +17,10 @@ pub trait Stream {
     /// What tells of its readiness.
     type Registry;
 
-    // the octets that reads will give from here on, where they are known
+    // the octets that reads will give from here on, if they are known
     ghost remaining: { Self → Option (List ℕ) } = { λ _. None };
 
-    // the octets that writes have taken so far, where they are known
+    // the octets that writes have taken so far, if they are known
     ghost contents: { Self → Option (List ℕ) } = { λ _. None };
 
     /// Reads the next octets into this place, and tells how many; none are the end of the input. It fails where it
@@ -30,7 +30,7 @@ pub trait Stream {
         ensures bytes { ReadConsumes (remaining self.old) (remaining self.new) result into.new }
         ensures contents { contents self.new ≡ contents self.old };
 
-    /// Writes a beginning of these octets, and tells how many. It fails where it would have to wait, and where the
+    /// Writes a prefix of these octets, and returns how many. It fails where it would have to wait, and where the
     /// connection is broken.
     fn try_write(&mut self, octets: &[u8]) -> io::Result<usize>
         ensures bound { WritesAtMost result octets.now }
@@ -47,7 +47,7 @@ pub trait Stream {
         ensures remaining { remaining self.new ≡ remaining self.old }
         ensures contents { contents self.new ≡ contents self.old };
 
-    /// Whether the connection that was begun has come about, or why it hasn't.
+    /// Returns whether the connection that was begun has come about, or why it hasn't.
     fn has_connected(&self) -> io::Result<bool>;
 
     /// Has the system tell of it under this token from now on, also of what it is ready for already; `again` where the

@@ -13,11 +13,11 @@ use std::marker::Model;
 /// Up to 64 connections, numbered from 0 to 63. A walk over those that stand touches no slot after the last of them.
 pub struct Table<T> {
     slots: Slots<T>,
-    /// Nothing stands in a slot from this one on.
+    /// Nothing is in a slot from this one on.
     end: usize,
 }
 
-// Written out, so that what drops a table calls this, and doesn't look into what it holds.
+// Written out, so that the proof of a caller that drops a table stops at this function.
 impl<T: Drop> Drop for Table<T> {
     fn drop(self) {
         let Table {
@@ -42,7 +42,7 @@ impl<T> Model for Table<T> {
 }
 
 impl<T: Drop> Table<T> {
-    /// None stands. It fails where memory runs out.
+    /// None stands. Fails if memory runs out.
     pub fn new(alloc: Global) -> Result<Self, AllocError>
         ensures { IfOk result AreFree }
     {
@@ -52,7 +52,7 @@ impl<T: Drop> Table<T> {
         })
     }
 
-    /// The slots up to the last in which something stands, by number.
+    /// Returns the slots up to the last in which something stands, by number.
     pub fn standing(&self) -> &[Option<T>]
         ensures slots { (number : ℕ) → slot_at result.now number ≡ slot_at self.now number }
         ensures within { length result.now ≤ SLOT_COUNT }
@@ -60,7 +60,7 @@ impl<T: Drop> Table<T> {
         &self.slots.as_slice()[..self.end]
     }
 
-    /// The least number of a free slot.
+    /// Returns the least number of a free slot.
     pub fn free(&self) -> Option<usize>
         ensures least { MatchOption result (IsFull self.now) (IsLeastFree self.now) }
         ensures within { MatchOption result (Unit {0}) (λ number. number < length self.now) }
@@ -68,7 +68,7 @@ impl<T: Drop> Table<T> {
         self.slots.free()
     }
 
-    /// How many stand.
+    /// Returns how many stand.
     pub fn count(&self) -> usize
         ensures { result ≡ count_of self.now }
     {
@@ -82,7 +82,7 @@ impl<T: Drop> Table<T> {
         count
     }
 
-    /// Takes what stands under a number out, to be worked on outside of the table.
+    /// Takes what is under a number out, to be worked on outside of the table.
     pub fn take(&mut self, number: usize) -> Option<T>
         ensures taken { result ≡ slot_at self.old number }
         ensures rest { self.new ≡ slice_set self.old number None }
@@ -111,7 +111,7 @@ impl<T: Drop> Table<T> {
     }
 }
 
-/// The number after the last slot in which something stands, where nothing stands from this one on.
+/// Returns the number after the last slot in which something stands, where nothing stands from this one on.
 fn end_of<T>(slots: &[Option<T>], end: usize) -> usize
     requires within { end ≤ length slots.now }
     requires free { AreFreeFrom slots.now end }
@@ -125,14 +125,14 @@ fn end_of<T>(slots: &[Option<T>], end: usize) -> usize
     last
 }
 
-/// Whether a value stands under this number. To take nothing out costs as much as to take a value.
+/// Returns whether a value is under this number. To take nothing out costs as much as to take a value.
 pub fn holds<T>(slots: &[Option<T>], number: usize) -> bool
     ensures { result ≡ is_some (slot_at slots.now number) }
 {
     matches!(slots.get(number), Some(Some(_)))
 }
 
-/// The number that comes so many places after another, of so many, where 0 comes after the last.
+/// Returns the number that comes this many places after another, of this many, where 0 comes after the last.
 pub fn turned(number: usize, step: usize, count: usize) -> usize
     requires { 0 < count }
     ensures place { result ≡ min (number + step) (2 ^ 64 - 1) % count }

@@ -27,9 +27,9 @@ errand_of host envelope text dot_text places =
 abbrev pub IsFaulty : List ℕ → Type 0
 IsFaulty rest = (fault : ReplyFault) × HasFault rest fault
 
--- How the replies and the end of the input decide the verdicts. Where the replies ended the attempt, it has read
--- nothing after them. Else it goes on while more may come; or the caller told that the connection is lost, or what
--- comes is no reply: then each place may be tried again, and the replies read before count for nothing.
+-- How the replies and the end of the input decide the verdicts. If the replies ended the attempt, it has read nothing
+-- after them. Else it goes on while more may come; or the caller told that the connection is lost, or what comes is no
+-- reply: then each place may be tried again, and the replies read before count for nothing.
 abbrev pub Concludes : List ℕ → Bool → List ℕ → Option (List Verdict) → Option (List Verdict) → Type 0
 Concludes places told rest (Some all) verdicts = (told ≡ false) × (rest ≡ []) × (verdicts ≡ Some all)
 Concludes places told rest None verdicts =

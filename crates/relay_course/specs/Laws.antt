@@ -1,4 +1,4 @@
--- What is true of every attempt, whatever the replies.
+-- Laws of every attempt, whatever the replies.
 use Rattle.std.specs.Prelude.{◌≡◌, ◌⊎◌, ◌↔◌, ◌<◌, ◌≤◌, ◌^◌, ℕ, ◌+◌, Bool, true, false, List, [], ◌∷◌, ◌++◌, length, map}
 use Rattle.std.specs.Prelude.{slice_get, Option, None, Some, if◌then◌else◌}
 use Rattle.std.specs.List.{AllByRecursion, Contains, flat_map}
@@ -60,7 +60,7 @@ EndIsEnd =
     (errand : Errand) (replies more : List Reply) → (progress errand replies).waits ≡ []
     → progress errand (replies ++ more) ≡ progress errand replies
 
--- After so many replies as many commands are written, or nothing more is.
+-- After this many replies as many commands are written, or nothing more is.
 abbrev pub CommandsKeepUp : Type 0
 CommandsKeepUp =
     (errand : Errand) (replies more : List Reply)
@@ -112,7 +112,7 @@ RcptsAreInOrder =
     (errand : Errand) (replies : List Reply)
     → Begins (rcpt_places (progress errand replies).answered) errand.places
 
--- the RCPT of this place, which stands there in the row of places, and the content were answered 2yz, by a server that
+-- the RCPT of this place, which is there in the row of places, and the content were answered 2yz, by a server that
 -- offers DSN or doesn't
 pub record WasTaken (end : Progress) (index place : ℕ) (dsn : Bool) : Type 0 where
   pub rcpt : Reply
@@ -123,7 +123,7 @@ pub record WasTaken (end : Progress) (index place : ℕ) (dsn : Bool) : Type 0 w
   pub taken : kind_of content.code ≡ Completion
   pub offered : dsn ≡ end.extensions.dsn
 
--- A place is Taken exactly where its RCPT and the content were answered 2yz.
+-- A place is Taken exactly if its RCPT and the content were answered 2yz.
 abbrev pub TakenWhereAnswered : Type 0
 TakenWhereAnswered =
     (errand : Errand) (replies : List Reply) (verdicts : List Verdict)
@@ -145,7 +145,7 @@ pub record IsErrand (errand : Errand) : Type 0 where
   pub few : length errand.places ≤ 100
   pub within : AreWithin errand.places errand.envelope.recipients
 
--- the text is what stands after the colon of this recipient's RCPT, with its parameters or with none
+-- the text is what is after the colon of this recipient's RCPT, with its parameters or with none
 abbrev pub IsRcptOf : Recipient → List ℕ → Type 0
 IsRcptOf recipient text = (text ≡ rcpt_text recipient) ⊎ (text ≡ recipient.path)
 

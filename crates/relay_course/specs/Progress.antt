@@ -18,7 +18,7 @@ use Rattle.relay_course.specs.WrittenLine.{ehlo_line, helo_line, mail_line, rcpt
 use Rattle.relay_course.specs.WrittenLine.{quit_line}
 use Rattle.relay_course.specs.VerdictTable.{content_verdict_by, kind_of, refusal, some_accepted, verdicts_of}
 
--- what an attempt has to do, which never changes: our host's name, the message's envelope and stored text, that text as
+-- what an attempt must do, which never changes: our host's name, the message's envelope and stored text, that text as
 -- it is sent after DATA, and the places to try, in order
 pub record Errand : Type 0 where
   pub host : List ℕ

@@ -75,7 +75,7 @@ content_answers errand rcpts input content =
     else answer_of awaited.Content content ∷ [])
     else []
 
--- the verdict of the places whose RCPT was accepted; where none was, nobody has it
+-- the verdict of the places whose RCPT was accepted; if none was, nobody has it
 abbrev pub last_verdict : List Reply → Reply → Verdict
 last_verdict rcpts content =
     if some_accepted rcpts then content_verdict_by true (kind_of content.code) content else Later

@@ -1,7 +1,7 @@
 /// What waits for a reply (RFC 5321, section 3.1; RFC 2920, section 3.1): each reply answers the earliest of these.
 #[derive(Clone, Copy, Debug, PartialEq, Eq)]
 pub enum Awaited {
-    /// A connection is there, and the server greets first.
+    /// The greeting: the server speaks first.
     Greeting,
     /// EHLO was written.
     Ehlo,

@@ -5,7 +5,7 @@ use relay_lines::Reply;
 use relay_lines::word::{first_word, is_word};
 use relay_octets::Octets;
 
-/// What a server offers in its reply to EHLO, of what a client may use.
+/// The extensions that a server offers in its reply to EHLO, of those that a client may use.
 #[derive(Clone, Copy, Debug, PartialEq, Eq)]
 pub struct Extensions {
     /// Commands may be written in groups (RFC 2920).
@@ -16,7 +16,7 @@ pub struct Extensions {
     pub dsn: bool,
 }
 
-/// What this reply to EHLO offers (RFC 5321, section 4.1.1.1). It takes no memory.
+/// Returns the extensions that this reply to EHLO offers (RFC 5321, section 4.1.1.1). Allocates nothing.
 pub fn extensions_of(reply: &Reply) -> Extensions
     ensures { result ≡ extensions_of reply.now }
 {
@@ -26,7 +26,7 @@ pub fn extensions_of(reply: &Reply) -> Extensions
     }
 }
 
-/// What these lines offer.
+/// Returns the extensions that these lines offer.
 fn extensions_in(lines: &[Octets]) -> Extensions
     ensures { result ≡ extensions_in lines.now }
 {
@@ -37,7 +37,7 @@ fn extensions_in(lines: &[Octets]) -> Extensions
     }
 }
 
-/// Whether one of the lines begins with this keyword.
+/// Returns whether one of the lines begins with this keyword.
 fn offers(keyword: &[u8], lines: &[Octets]) -> bool
     ensures { result ≡ offers keyword.now lines.now }
 {

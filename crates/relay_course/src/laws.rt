@@ -1,4 +1,4 @@
-//! What is true of every attempt, whatever the replies.
+//! Laws of every attempt, whatever the replies.
 ghost use Rattle.relay_course.specs.Laws.{AnsweredAreFirst, AnswersStay, CommandsKeepUp, CommandsStay, CourseIsOne};
 ghost use Rattle.relay_course.specs.Laws.{CourseMayBeLost, EachCommandIsRead, EachCommandWaits, EachReplyAnswers};
 ghost use Rattle.relay_course.specs.Laws.{EndIsEnd, EndWaitsForNothing, RcptsAreInOrder, ReplyLeadsOn};
@@ -6,7 +6,7 @@ ghost use Rattle.relay_course.specs.Laws.{TakenWhereAnswered, VerdictForEachPlac
 ghost use Rattle.relay_course.specs.Laws.{VerdictsMayBeStored};
 ghost use Rattle.relay_course.specs.RelayLaws.{AllRcptsAnswered, CommandsToARelay, NothingBeforeAllRcpts};
 
-/// A further reply leads on from where the others led.
+/// A further reply goes on from the state that the others led to.
 pub fn reply_leads_on()
     ensures { ReplyLeadsOn }
 {}
@@ -31,12 +31,12 @@ pub fn end_waits_for_nothing()
     ensures { EndWaitsForNothing }
 {}
 
-/// Where nothing waits, replies after change nothing.
+/// If nothing waits for a reply, further replies change nothing.
 pub fn end_is_end()
     ensures { EndIsEnd }
 {}
 
-/// After so many replies as many commands are written, or nothing more is.
+/// After this many replies as many commands are written, or nothing more is.
 pub fn commands_keep_up()
     ensures { CommandsKeepUp }
 {}
@@ -56,7 +56,7 @@ pub fn rcpts_are_in_order()
     ensures { RcptsAreInOrder }
 {}
 
-/// A place is Taken exactly where its RCPT and the content were answered 2yz.
+/// A place is Taken exactly if its RCPT and the content were answered 2yz.
 pub fn taken_where_answered()
     ensures { TakenWhereAnswered }
 {}

@@ -1,5 +1,5 @@
-//! The course of an attempt to send a message on: to each reply what a client writes, and at the end a verdict for each
-//! place. Definitions, and what is true of them; the client that follows them stands above.
+//! The course of an attempt to relay a message: what a client writes after each reply, and at the end a verdict for
+//! each recipient. Definitions and their laws; relay_client follows them.
 #![tactic(auto)]
 
 mod awaited;

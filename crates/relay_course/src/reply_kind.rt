@@ -6,7 +6,7 @@ ghost use Rattle.relay_course.specs.VerdictTable.{kind_of};
 pub enum ReplyKind {
     /// 2yz, positive completion: what was asked is done.
     Completion,
-    /// 3yz, positive intermediate: more has to come.
+    /// 3yz, positive intermediate: more must come.
     Intermediate,
     /// 4yz, transient negative: it may be tried again.
     Transient,
@@ -14,7 +14,7 @@ pub enum ReplyKind {
     Permanent,
 }
 
-/// The kind of a reply with this code. A reply that is read has a code of 200 to 599.
+/// Returns the kind of a reply with this code. A reply that is read has a code of 200 to 599.
 pub fn kind_of(code: u16) -> ReplyKind
     ensures { result ≡ kind_of code }
 {

@@ -1,4 +1,4 @@
--- Disks: what a call does to the octets of a disk, and what a stop at any moment may make of it.
+-- Disks: what a call does to the octets of a disk, and what a stop at any time may make of it.
 use Rattle.std.specs.Prelude.{◌≡◌, ◌⊎◌, ◌↔◌, ℕ, ◌+◌, ◌-◌, ◌^◌, ◌<◌, ◌≤◌, min, max, List, ◌++◌, length, take, drop}
 use Rattle.std.specs.Prelude.{slice_index, Option, Some, Result, OnOk, OnErr, IsErr}
 use Rattle.std.specs.Option.{option_map}
@@ -8,15 +8,15 @@ use Rattle.relay_disk.specs.declared.disk.DiskFault.{DiskFault}
 pub record DiskWords (D : Type 0) : Type 1 where
   -- the octets that a read gives
   pub seen : D → List ℕ
-  -- the images that a stop at this moment may leave
+  -- the images that a stop at this time may leave
   pub may_leave : D → List ℕ → Type 0
-  -- the moment, as a number that doesn't fall
+  -- the time, as a number that doesn't fall
   pub moment : D → ℕ
-  -- the images that a stop at that moment or at one since might have left, during a call or between two
+  -- the images that a stop at that time or at one since might have left, during a call or between two
   pub left_since : D → ℕ → List ℕ → Type 0
   -- how many calls have failed
   pub failed : D → ℕ
-  -- how many calls pass before each one fails; none where no fuse is set
+  -- how many calls pass before each one fails; none if no fuse is set
   pub calls_left : D → Option ℕ
 
 -- the octets of a disk with these written at this place
@@ -35,7 +35,7 @@ pub record Cuts (size : ℕ) (old new : List ℕ) : Type 0 where
   pub no_shorter : min size (length old) ≤ length new
   pub no_longer : length new ≤ length old
 
--- a write that a stop interrupts leaves what stands before its range and after it
+-- a write that a stop interrupts leaves what is before its range and after it
 abbrev pub WritesLeaveTheRest : Type 0
 WritesLeaveTheRest =
     (place count : ℕ) (old new : List ℕ) → Writes place count old new
@@ -68,7 +68,7 @@ module _ {D : Type 0} (words : DiskWords D) where
   abbrev pub EachImage : D → (List ℕ → Type 0) → Type 0
   EachImage disk P = (image : List ℕ) → words.may_leave disk image → P image
 
-  -- Time goes on: what a stop since some moment might have left, it might have left before, or it may leave now.
+  -- Time goes on: what a stop since some time might have left, it might have left before, or it may leave now.
   pub record Elapses (old new : D) : Type 0 where
     pub later : words.moment old ≤ words.moment new
     pub nothing_else : (moment : ℕ) (image : List ℕ) → moment ≤ words.moment old → words.left_since new moment image
@@ -87,7 +87,7 @@ module _ {D : Type 0} (words : DiskWords D) where
     pub images : ImagesWithin old new
     pub time : Elapses old new
 
-  -- each image that a stop at a moment since the old disk might have left has P
+  -- each image that a stop at a time since the old disk might have left has P
   pub record EachImageSince (old new : D) (P : List ℕ → Type 0) : Type 0 where
     pub later : words.moment old ≤ words.moment new
     pub each : (image : List ℕ) → words.left_since new (words.moment old) image → P image
@@ -113,7 +113,7 @@ module _ {D : Type 0} (words : DiskWords D) where
     pub burnt : words.calls_left new ≡ option_map (λ calls. calls - 1) (words.calls_left old)
     pub blown : words.calls_left old ≡ Some 0 → IsErr result
 
--- a fuse was set, or taken away, and nothing else: no call has failed, and no moment has gone by
+-- a fuse was set, or taken away, and nothing else: no call has failed, and no time has gone by
 pub record OnlyFuseChanges {D : Type 0} (honest : Type 0) (words : DiskWords D) (old new : D) : Type 0 where
   pub failures : FailsNot words old new
   pub seen : honest → words.seen new ≡ words.seen old

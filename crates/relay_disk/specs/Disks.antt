@@ -36,7 +36,7 @@ module _ {D : Type 0} (words : DiskWords D) where
   abbrev pub seen_of : Disks D → Images
   seen_of disks = record { first = words.seen disks.first; second = words.seen disks.second }
 
-  -- the images that a stop at this moment may leave
+  -- the images that a stop at this time may leave
   abbrev pub may_leave_of : Disks D → Images → Type 0
   may_leave_of disks images = words.may_leave disks.first images.first × words.may_leave disks.second images.second
 
@@ -60,8 +60,8 @@ module _ {D : Type 0} (words : DiskWords D) where
   abbrev pub EachImage : Disks D → (Images → Type 0) → Type 0
   EachImage disks P = (images : Images) → may_leave_of disks images → P images
 
-  -- All images that a stop at a moment since the old disks might have left have P. The moments of the two disks are
-  -- not told apart: each image of the first since then is taken with each of the second.
+  -- All images that a stop at a time since the old disks might have left have P. The times of the two disks are not
+  -- told apart: each image of the first since then is taken with each of the second.
   abbrev pub EachImageSince : Disks D → Disks D → (Images → Type 0) → Type 0
   EachImageSince old new P =
       (images : Images) → words.left_since new.first (words.moment old.first) images.first

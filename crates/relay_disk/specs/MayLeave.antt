@@ -31,7 +31,7 @@ MayLeave start (FailedWrite place count ∷ earlier) image =
 MayLeave start (Cut size ∷ earlier) image = (old : List ℕ) × MayLeave start earlier old × Cuts size old image
 MayLeave start (Sync ∷ earlier) image = image ≡ seen_after start earlier
 
--- A stop at this moment or at one since might have left this image. A moment is the number of calls before it.
+-- A stop at this time or at one since might have left this image. A time is the number of calls before it.
 abbrev pub LeftSince : List ℕ → List Call → ℕ → List ℕ → Type 0
 LeftSince start [] since image = (since ≤ 0) × MayLeave start [] image
 LeftSince start (call ∷ earlier) since image =

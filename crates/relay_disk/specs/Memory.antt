@@ -31,7 +31,7 @@ images_of disk = MayLeave (start_of disk) (calls_of disk)
 abbrev pub moment_of : MemoryDisk → ℕ
 moment_of disk = length (calls_of disk)
 
--- the images that a stop from that moment on might have left
+-- the images that a stop from that time on might have left
 abbrev pub images_since : MemoryDisk → ℕ → List ℕ → Type 0
 images_since disk = LeftSince (start_of disk) (calls_of disk)
 
@@ -58,11 +58,11 @@ memory_words = record {
 abbrev pub IsBlown : MemoryDisk → Type 0
 IsBlown disk = fuse_of disk ≡ Some 0
 
--- it has to take memory before it can store one more call
+-- it must take memory before it can store one more call
 abbrev pub IsFull : MemoryDisk → Type 0
 IsFull disk = vec_capacity disk.calls ≤ vec_len disk.calls
 
--- it has to take memory to store a write of these octets: it keeps a copy of them
+-- it must take memory to store a write of these octets: it keeps a copy of them
 abbrev pub TakesMemory : MemoryDisk → List ℕ → Type 0
 TakesMemory disk octets = (0 < length octets) ⊎ IsFull disk
 

@@ -79,7 +79,7 @@ pub seen_is_left : (start : List ℕ) (calls : List Call) (image : List ℕ) →
     → MayLeave start calls image
 seen_is_left start calls image is = subst (MayLeave start calls) (sym is) (sees_now start calls)
 
--- this moment is one of those since an earlier one
+-- this time is one of those since an earlier one
 pub counts_now : (start : List ℕ) (calls : List Call) (since : ℕ) (image : List ℕ) → since ≤ length calls
     → MayLeave start calls image → LeftSince start calls since image
 counts_now start [] since image by may = (by, may)
@@ -90,7 +90,7 @@ too_late : (start : List ℕ) (calls : List Call) (since : ℕ) (image : List �
 too_late start [] since image late left = absurd (omega (arith, late, left.0))
 too_late start (call ∷ earlier) since image late left = absurd (omega (arith, late, left.0))
 
--- since this moment there is no other
+-- since this time there is no other
 pub only_now : (start : List ℕ) (calls : List Call) (image : List ℕ) → LeftSince start calls (length calls) image
     → MayLeave start calls image
 only_now start [] image left = left.1
@@ -104,12 +104,12 @@ only_now start (call ∷ earlier) image left =
 pub sees_image : (disk : MemoryDisk) → images_of disk (image_of disk)
 sees_image disk = subst (images_of disk) (sym disk.replayed) (sees_now (start_of disk) (calls_of disk))
 
--- this moment is one of those since an earlier one
+-- this time is one of those since an earlier one
 pub counts_image : (disk : MemoryDisk) (since : ℕ) (image : List ℕ) → since ≤ moment_of disk → images_of disk image
     → images_since disk since image
 counts_image disk = counts_now (start_of disk) (calls_of disk)
 
--- since this moment there is no other
+-- since this time there is no other
 pub leaves_image : (disk : MemoryDisk) (image : List ℕ) → images_since disk (moment_of disk) image
     → images_of disk image
 leaves_image disk = only_now (start_of disk) (calls_of disk)

@@ -4,7 +4,7 @@ use Rattle.relay_disk.specs.declared.disk.DiskFault.{DiskFault}
 use Rattle.relay_disk.specs.declared.once.OnceDisk.{OnceDisk}
 use Rattle.relay_disk.specs.Device.{DiskWords, CountsFailure}
 
--- how many calls pass before the one that fails, after a call; none where it has failed
+-- how many calls pass before the one that fails, after a call; none if it has failed
 abbrev pub left_behind : Option ℕ → Option ℕ
 left_behind None = None
 left_behind (Some zero) = None
@@ -24,7 +24,7 @@ module _ {D : Type 0} (words : DiskWords D) where
     calls_left = λ _. None;
   }
 
-  -- the one call fails and isn't handed on, and each other is the disk's beneath
+  -- the one call fails and isn't relayed, and each other is the disk's beneath
   pub record FailsOnce {T : Type 0} (old new : OnceDisk D) (result : Result T DiskFault) : Type 0 where
     pub struck : old.left ≡ Some 0 → IsErr result × (new.disk ≡ old.disk)
     pub passed : old.left ≢ Some 0 → CountsFailure words old.disk new.disk result

@@ -46,13 +46,13 @@ abbrev pub changed_below : List ℕ → List Call → ℕ → ℕ
 changed_below synced calls zero = 0
 changed_below synced calls (suc at) = changed_below synced calls at + (if is_changed synced calls at then 1 else 0)
 
--- What a stop leaves at a changed place: 1 by pick 2, 255 by pick 3. By a pick p from 4 on, the first p - 4 of
--- them stay as they are, and the others are as they were.
+-- What a stop leaves at a changed place: 1 by pick 2, 255 by pick 3. By a pick p from 4 on, the first p - 4 of them are
+-- unchanged, and the others are as they were.
 abbrev pub changed_octet : ℕ → ℕ → ℕ → ℕ → ℕ
 changed_octet pick below is was =
     if pick == 2 then 1 else (if pick == 3 then 255 else (if nat_lt below (pick - 4) then is else was))
 
--- What it leaves at a place, of which so many changed ones lie below. Past the synced octets a place was 0, and past
+-- What it leaves at a place, of which this many changed ones lie below. Past the synced octets a place was 0, and past
 -- what a read gives it is as it was.
 abbrev pub octet_at : ℕ → List ℕ → List ℕ → ℕ → Bool → ℕ → ℕ
 octet_at pick synced now at changed below =

@@ -3,7 +3,7 @@ ghost use Rattle.relay_disk.specs.Device.{written};
 
 use std::alloc::AllocError;
 
-/// A call that a memory disk has stored.
+/// A stored call of a memory disk.
 #[derive(Drop)]
 pub(crate) enum Call {
     /// A write that was done.
@@ -25,7 +25,7 @@ impl Call {
         matches!(self, Call::Sync)
     }
 
-    /// The place and the count of a write's range. That of another call is empty.
+    /// Returns the place and the count of a write's range. That of another call is empty.
     pub(crate) fn range(&self) -> (usize, usize)
         ensures { result ≡ range_of self.now }
     {
@@ -36,7 +36,7 @@ impl Call {
         }
     }
 
-    /// Does the call to an image.
+    /// Applies the call to an image.
     pub(crate) fn replay(&self, image: &mut Vec<u8>) -> Result<(), AllocError>
         requires { are_within image.old.items (self.now ∷ []) ≡ true }
         ensures { OnOk result (image.new.items ≡ seen_after image.old.items (self.now ∷ [])) }
@@ -52,7 +52,7 @@ impl Call {
     }
 }
 
-/// Writes over what stands at `place`, and past the end.
+/// Overwrites the octets from `place` on, and extends the image if needed.
 pub(crate) fn overwrite(image: &mut Vec<u8>, place: usize, octets: &[u8]) -> Result<(), AllocError>
     requires { place ≤ length image.old.items }
     ensures ok { OnOk result (image.new.items ≡ written image.old.items place octets.now) }

@@ -1,4 +1,4 @@
-// A disk as a spool sees it: what a read gives, and what a stop at any moment may leave.
+// A disk as a spool sees it: the octets that a read gives, and those that a stop at any time may leave.
 ghost use Rattle.std.specs.Prelude.{◌≡◌, ◌+◌, ◌≤◌, ℕ, List, length, take, drop, None, Some, IfOk, OnOk, OnErr};
 ghost use Rattle.std.specs.Prelude.{MatchResult};
 ghost use Rattle.std.specs.Result.{result_ok};
@@ -17,7 +17,7 @@ pub enum DiskFault {
     Device,
 }
 
-/// What a device answered, with a failure counted where it is an error.
+/// Returns what a device answered, with a failure counted where it is an error.
 pub(crate) fn counted<T, E: Drop>(failures: &mut u64, answer: Result<T, E>) -> Result<T, DiskFault>
     ensures value { result_ok result ≡ result_ok answer }
     ensures ok { OnOk result (failures.new ≡ failures.old) }
@@ -45,11 +45,11 @@ pub trait Disk {
     /// What the clauses say of a disk: what a read gives, what a stop may leave, which calls have failed.
     ghost words: { DiskWords Self };
 
-    /// How many calls have failed, up to 2^64 - 1.
+    /// Returns how many calls have failed, up to 2^64 - 1.
     fn failures(&self) -> u64
         ensures { result ≡ words.failed self.now };
 
-    /// How many octets a read gives.
+    /// Returns how many octets a read gives.
     fn size(&mut self) -> Result<usize, DiskFault>
         ensures size { honest → IfOk result (λ size. size ≡ length (words.seen self.old)) }
         ensures seen { honest → words.seen self.new ≡ words.seen self.old }
@@ -67,8 +67,8 @@ pub trait Disk {
         ensures failures { CountsFailure words self.old self.new result }
         ensures fuse { Burns words self.old self.new result };
 
-    /// Writes over what stands at `place`, and past the end.
-    /// A write that failed may have changed its range, as one may that a stop interrupts.
+    /// Overwrites the octets from `place` on, and extends the disk if needed. A failed write may have changed its
+    /// range, like one that a stop interrupts.
     fn write_at(&mut self, place: usize, octets: &[u8]) -> Result<(), DiskFault>
         requires { honest → place ≤ length (words.seen self.old) }
         ensures ok { honest → OnOk result
@@ -98,8 +98,8 @@ pub trait Disk {
         ensures failures { CountsFailure words self.old self.new result }
         ensures fuse { Burns words self.old self.new result };
 
-    /// Exchanges the fuses of two disks, and changes nothing else. It is no call of the device: no fuse
-    /// counts it, and no moment goes by. It takes no memory.
+    /// Exchanges the fuses of two disks, and changes nothing else. It is no call of the device: no fuse counts it, and
+    /// no time goes by. Allocates nothing.
     fn swap_fuse(&mut self, other: &mut Self)
         ensures fuse { words.calls_left self.new ≡ words.calls_left other.old }
         ensures other_fuse { words.calls_left other.new ≡ words.calls_left self.old }
@@ -109,12 +109,12 @@ pub trait Disk {
     /// A stop of the program alone leaves what a read gives, so that is one of the images.
     ghost sees_now: { honest → (disk : Self) → words.may_leave disk (words.seen disk) };
 
-    /// This moment is one of those since an earlier one.
+    /// This time is one of those since an earlier one.
     ghost counts_now: { honest → (disk : Self) (since : ℕ) (image : List ℕ)
         → since ≤ words.moment disk → words.may_leave disk image
         → words.left_since disk since image };
 
-    /// Since this moment there is no other.
+    /// Since this time there is no other.
     ghost only_now: { honest → (disk : Self) (image : List ℕ)
         → words.left_since disk (words.moment disk) image → words.may_leave disk image };
 }
@@ -126,8 +126,8 @@ pub trait Reboot: Disk {
         ensures fuse { Self.Disk.words.calls_left self.new ≡ Some calls }
         ensures same { OnlyFuseChanges Self.Disk.honest Self.Disk.words self.old self.new };
 
-    /// The disk after a stop at this moment, without a fuse. `pick` chooses the image among those
-    /// that a stop may leave. Where memory runs out, the disk comes back.
+    /// Returns the disk after a stop at this time, without a fuse. `pick` chooses the image among those that a stop may
+    /// leave. If memory runs out, the disk comes back.
     fn after_stop(self, pick: u64) -> Result<Self, AllocFailed<Self>>
         ensures left { Self.Disk.honest → IfOk result
             (λ disk. Self.Disk.words.may_leave self (Self.Disk.words.seen disk)) }

@@ -18,7 +18,7 @@ pub enum Side {
 impl Side {
     ghost use Rattle.relay_disk.specs.Disks.{turned};
 
-    /// The other side.
+    /// Returns the other side.
     pub fn turned(self) -> Side
         ensures { result ≡ turned self }
     {
@@ -29,7 +29,7 @@ impl Side {
     }
 }
 
-/// Two disks of one holder. They are no disk: an image of them is a pair, one of each.
+/// Two disks of one spool. An image of them is a pair, one of each.
 #[derive(Debug, Drop)]
 pub struct Disks<D> {
     pub first: D,
@@ -37,8 +37,8 @@ pub struct Disks<D> {
 }
 
 impl<D: Disk> Disks<D> {
-    /// Brings the disk of this side to the front, and the other after it; done twice, it changes
-    /// nothing. The fuse stays in front: so it counts the calls of either disk while that stands there.
+    /// Brings the disk of this side to the front, and the other after it; done twice, it changes nothing. The fuse
+    /// stays in front: so it counts the calls of either disk while that is there.
     pub fn turn(&mut self, side: Side)
         ensures { IsTurned D.honest D.words side self.old self.new }
     {
@@ -53,8 +53,8 @@ impl<D: Disk> Disks<D> {
 }
 
 impl<D: Reboot> Disks<D> {
-    /// Sets the fuse of the first disk, which counts the calls of both where each is brought to the
-    /// front for its own: so many pass, and each later one fails.
+    /// Sets the fuse of the first disk, which counts the calls of both where each is brought to the front for its own:
+    /// this many pass, and each later one fails.
     pub fn fuse(&mut self, calls: u64)
         ensures fuse { calls_left_of D.Disk.words self.new ≡ Some calls }
         ensures first { OnlyFuseChanges D.Disk.honest D.Disk.words self.old.first self.new.first }
@@ -66,8 +66,8 @@ impl<D: Reboot> Disks<D> {
         self.first.fuse(calls);
     }
 
-    /// The disks after a stop at this moment, without fuses: of each the image that `pick` chooses among
-    /// those that a stop may leave. Where memory runs out, both come back; the first may be stopped then.
+    /// Returns the disks after a stop at this time, without fuses: of each the image that `pick` chooses among those
+    /// that a stop may leave. If memory runs out, both come back; the first may be stopped then.
     pub fn after_stop(self, pick: u64) -> Result<Self, AllocFailed<Self>>
         ensures left { D.Disk.honest → IfOk result
             (λ disks. may_leave_of D.Disk.words self (seen_of D.Disk.words disks)) }

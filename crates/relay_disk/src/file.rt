@@ -1,5 +1,4 @@
-// A file of the operating system as a disk. Nothing can be said of what a real file holds, so it is
-// not honest.
+// A file of the operating system as a disk. No contract can say what a real file holds, so it isn't honest.
 ghost use Rattle.std.specs.Prelude.{◌≡◌, false, pos, ◌<ℤ◌, IfOk};
 
 use crate::disk::counted;
@@ -11,8 +10,7 @@ use std::os::unix::fs::{FileExt, MetadataExt, OpenOptionsExt};
 use std::path::Path;
 use std::rt::Files;
 
-/// Who may read and write a file that `FileDisk::open` makes: its owner alone, since the mail of
-/// others stands in it.
+/// Who may read and write a file that `FileDisk::open` makes: its owner alone, since the mail of others is in it.
 const OWNER_ALONE: u32 = 0o600;
 
 /// The greatest descriptor of a standard stream: that of standard error.
@@ -20,9 +18,9 @@ const STANDARD_ERROR: RawFd = 2;
 
 /// An open file. Reads and writes are positioned, and `sync` hands its octets and its length to the device.
 ///
-/// Want of space is a failure like any other: the octets that were there stay. After a failed sync
-/// each later one fails, until the file is opened anew: the system may have dropped octets that it
-/// couldn't write, and would answer the second sync well.
+/// Lack of space is a failure like any other: the octets that were there stay. After a failed sync each later one
+/// fails, until the file is opened again: the system may have dropped octets that it couldn't write, and would answer
+/// the second sync well.
 #[derive(Drop)]
 pub struct FileDisk {
     file: File,
@@ -55,8 +53,8 @@ impl FileDisk {
         Ok(disk)
     }
 
-    /// Opens the file at this path for reading alone: it has to be there, and each write and each cut
-    /// fails. It is refused as by `open` where it has the descriptor of a standard stream.
+    /// Opens the file at this path for reading alone: it must be there, and each write and each cut fails. It is
+    /// refused as by `open` where it has the descriptor of a standard stream.
     pub fn open_to_read<R: Files<File = File>>(rt: &R, path: &str) -> io::Result<FileDisk>
         ensures failures { IfOk result (λ disk. failures_of disk ≡ 0) }
         ensures syncs { IfOk result (λ disk. sync_failed disk ≡ false) }
@@ -82,8 +80,8 @@ impl FileDisk {
         })
     }
 
-    /// Takes the file for this disk alone, until the disk is dropped. It waits for nobody: `false`
-    /// says that another open of the file holds it. Who doesn't ask isn't kept out.
+    /// Locks the file for this disk until the disk is dropped, without waiting. Returns `false` if another open of the
+    /// file has the lock. A program that doesn't ask for the lock isn't kept out.
     pub fn try_lock(&self) -> io::Result<bool> {
         match self.file.try_lock() {
             Ok(()) => Ok(true),
@@ -92,7 +90,7 @@ impl FileDisk {
         }
     }
 
-    /// Reads the file from now on as it was when the octet at this place was its last, and 0. Where that is a gate of a
+    /// Reads the file from now on as it was when the octet at this place was its last, and 0. If that is a gate of a
     /// spool, what was appended after it isn't read. Writes are as before.
     pub fn reads_up_to(&mut self, place: usize)
         ensures failures { failures_of self.new ≡ failures_of self.old }
@@ -101,7 +99,7 @@ impl FileDisk {
         self.last = Some(place);
     }
 
-    /// Whether both are one file under two names, by hard or symbolic links.
+    /// Returns whether both are one file under two names, by hard or symbolic links.
     pub fn is_same_file(&self, other: &FileDisk) -> io::Result<bool> {
         let own = self.file.metadata()?;
         let others = other.file.metadata()?;
@@ -109,7 +107,7 @@ impl FileDisk {
     }
 }
 
-// The folder that the file at this path stands in.
+// The folder that the file at this path is in.
 fn folder_of(path: &str) -> &str {
     match Path::new(path).parent() {
         Some(folder) if !folder.as_str().is_empty() => folder.as_str(),

@@ -1,4 +1,4 @@
-//! Disks: what a read gives, what a stop at any moment may leave, and when a call fails.
+//! Disks: what a read gives, what a stop at any time may leave, and when a call fails.
 #![tactic(auto)]
 
 mod call;

@@ -1,4 +1,4 @@
-// A disk in memory. It stores its calls, so that what a stop may leave of it is known at each moment.
+// A disk in memory. It stores its calls, so that what a stop may leave of it is known at each time.
 ghost use Rattle.std.specs.Prelude.{◌≡◌, ◌⊎◌, ◌↔◌, ◌-◌, ◌<◌, ◌≤◌, true, [], ◌∷◌, length, take, reverse, None, Some};
 ghost use Rattle.std.specs.Prelude.{IsErr, OnOk, OnErr};
 ghost use Rattle.std.specs.Option.{option_map};
@@ -32,7 +32,7 @@ pub struct MemoryDisk {
     ghost within: { are_within start.items (reverse calls.items) ≡ true },
 }
 
-// Written out, so that what drops a disk calls this, and doesn't look into each call that it stored.
+// Written out, so that the proof of a caller that drops a disk stops at this function.
 impl Drop for MemoryDisk {
     fn drop(self) {
         let MemoryDisk {
@@ -50,7 +50,7 @@ impl MemoryDisk {
     ghost use Rattle.relay_disk.specs.Device.{Only};
     ghost use Rattle.relay_disk.specs.Memory.{image_of, images_of, failures_of, IsFresh, LeavesByPick};
 
-    /// A disk of size 0, without a fuse.
+    /// Makes a disk of size 0, without a fuse.
     pub fn new(alloc: Global) -> Self
         ensures fresh { IsFresh [] result }
         ensures settled { Only [] (images_of result) }
@@ -59,7 +59,7 @@ impl MemoryDisk {
         MemoryDisk::fresh(alloc, Vec::new(alloc), Vec::new(alloc))
     }
 
-    /// A disk that holds these octets, all of them synced, without a fuse.
+    /// Returns a disk that holds these octets, all of them synced, without a fuse.
     pub fn with_image(alloc: Global, image: &[u8]) -> Result<Self, AllocError>
         ensures fresh { IfOk result (IsFresh image.now) }
         ensures settled { IfOk result (λ disk. Only image.now (images_of disk)) }
@@ -69,7 +69,7 @@ impl MemoryDisk {
         Ok(MemoryDisk::fresh(alloc, start, Vec::from_slice(alloc, image)?))
     }
 
-    /// The octets that a read gives.
+    /// Returns the octets that a read gives.
     pub fn image(&self) -> &[u8]
         ensures { result.now ≡ image_of self.now }
     {
@@ -131,7 +131,7 @@ fn store(calls: &mut Vec<Call>, call: Call) -> Result<(), AllocError>
     Ok(())
 }
 
-// Stores a write and does it. Where memory runs out, nothing has changed.
+// Stores a write and does it. If memory runs out, nothing has changed.
 fn write(
     calls: &mut Vec<Call>,
     image: &mut Vec<u8>,
@@ -196,7 +196,7 @@ fn note(calls: &mut Vec<Call>, call: Call)
     let _ = store(calls, call);
 }
 
-// Stores a cut and does it. Where memory runs out, nothing has changed.
+// Stores a cut and does it. If memory runs out, nothing has changed.
 fn cut_to(calls: &mut Vec<Call>, image: &mut Vec<u8>, size: usize) -> Result<(), AllocError>
     ensures ok { OnOk result (image.new.items ≡ take size image.old.items) }
     ensures stored { OnOk result (reverse calls.new.items ≡ Cut size ∷ reverse calls.old.items) }
@@ -264,7 +264,7 @@ impl Disk for MemoryDisk {
         ensures stored { OnOk result ((copy : _) × (copy.items ≡ octets.now)
             × Stores (Write place copy) self.old self.new) }
         ensures cause { IsErr result → IsBlown self.old ⊎ TakesMemory self.old octets.now }
-        // Of a write that failed nothing but its range is stored, and that only where memory allows.
+        // Of a write that failed nothing but its range is stored, and that only if memory allows.
         ensures torn { OnErr result
             (Stores (FailedWrite place (length octets.now)) self.old self.new
             ⊎ KeepsAll self.old self.new) }

@@ -7,8 +7,8 @@ use crate::disk::counted;
 use crate::{Disk, DiskFault};
 use std::mem;
 
-/// A disk over another, of which one call of `size`, `read`, `write_at`, `cut` and `sync` fails: it isn't handed on,
-/// and so changes nothing. The calls before it and after it go on, and are what the disk beneath answers.
+/// A disk over another, of which one call of `size`, `read`, `write_at`, `cut` and `sync` fails: it isn't relayed, and
+/// so changes nothing. The calls before it and after it go on, and are what the disk beneath answers.
 #[derive(Debug, Drop)]
 pub struct OnceDisk<D> {
     disk: D,
@@ -37,7 +37,7 @@ fn strike(left: &mut Option<u64>, failures: &mut u64) -> Result<(), DiskFault>
 }
 
 impl<D: Disk> OnceDisk<D> {
-    /// The disk beneath, of which so many calls pass before the one that fails. `failures` counts from 0.
+    /// Returns the disk beneath, of which this many calls pass before the one that fails. `failures` counts from 0.
     pub fn new(disk: D, calls: u64) -> Self
         ensures disk { result.disk ≡ disk }
         ensures left { result.left ≡ Some calls }
@@ -50,7 +50,7 @@ impl<D: Disk> OnceDisk<D> {
         }
     }
 
-    /// The disk beneath.
+    /// Returns the disk beneath.
     pub fn into_inner(self) -> D
         ensures { result ≡ self.disk }
     {

@@ -53,7 +53,7 @@ fn is_written(calls: &[Call], at: usize) -> bool
     false
 }
 
-// The greatest end of the ranges since the last good sync, or none where it is no `usize`.
+// The greatest end of the ranges since the last good sync, or none if it is no `usize`.
 fn reach(calls: &[Call]) -> Option<usize>
     ensures end { IfSome result (λ end. end ≡ reach (reverse calls.now)) }
     ensures too_far { IfNone result (2 ^ 64 ≤ reach (reverse calls.now)) }
@@ -126,7 +126,7 @@ fn torn(
     Ok(image)
 }
 
-/// The image that a stop leaves by this pick.
+/// Returns the image that a stop leaves by this pick.
 pub(crate) fn picked(
     alloc: Global,
     start: &[u8],

@@ -32,7 +32,7 @@ recipient_from rcpt = record {
   orcpt = rcpt.parameters.orcpt;
 }
 
--- SP "RET=" and its value, where it was given
+-- SP "RET=" and its value, if it was given
 abbrev pub ret_text : Option Ret → List ℕ
 ret_text None = []
 ret_text (Some Full) = codes " RET=FULL"
@@ -92,17 +92,17 @@ IsReversePath text = IsWrittenPath is_reverse text
 abbrev pub IsForwardPath : List ℕ → Type 0
 IsForwardPath text = IsWrittenPath is_forward text
 
--- ENVID, where it was given, is as it may be
+-- ENVID, if it was given, is as it may be
 abbrev pub may_be_envid : Option (List ℕ) → Bool
 may_be_envid None = true
 may_be_envid (Some envid) = is_envid envid
 
--- ORCPT, where it was given, is as it may be
+-- ORCPT, if it was given, is as it may be
 abbrev pub may_be_orcpt : Option (List ℕ) → Bool
 may_be_orcpt None = true
 may_be_orcpt (Some orcpt) = is_orcpt orcpt
 
--- a list of outcomes, where it was given, names one at least
+-- a list of outcomes, if it was given, names one at least
 abbrev pub may_be_notify : Option Notify → Bool
 may_be_notify None = true
 may_be_notify (Some Never) = true

@@ -19,6 +19,6 @@ pub record IsHostName (host : List ℕ) : Type 0 where
 abbrev pub HostNameIsHostWord : Type 0
 HostNameIsHostWord = (host : List ℕ) → IsHostName host → IsHostWord host
 
--- No CR LF stands in a word of HELO.
+-- No CR LF is in a word of HELO.
 abbrev pub HostWordHasNoCrlf : Type 0
 HostWordHasNoCrlf = (word : List ℕ) → IsHostWord word → HasNoCrlf word

@@ -1,5 +1,5 @@
--- What stands after the colon of `MAIL FROM:` and of `RCPT TO:` (RFC 5321, sections 4.1.1.2 and 4.1.1.3; RFC 3461,
--- section 4).
+-- What is after the colon of `MAIL FROM:` and of `RCPT TO:` (RFC 5321, sections 4.1.1.2 and 4.1.1.3; RFC 3461, section
+-- 4).
 use Rattle.std.specs.Prelude.{◌≡◌, ℕ, Bool, true, false, ◌⊎◌, List, Result, Ok, Err}
 use Rattle.std.specs.Option.{option_copied}
 use Rattle.relay_envelope.specs.Path.{Path, BeginsWithPath, is_forward, is_reverse, value_of}

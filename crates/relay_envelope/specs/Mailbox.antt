@@ -5,7 +5,7 @@ use Rattle.relay_octets.specs.LetterCase.{IsSameWord}
 use Rattle.relay_lines.specs.Word.{are_domain_octets, IsAddressLiteral}
 use Rattle.relay_envelope.specs.Row.{IsRow}
 
--- what stands between brackets
+-- what is between brackets
 abbrev pub in_brackets : List ℕ → List ℕ
 in_brackets body = 60 ∷ body ++ 62 ∷ []
 
@@ -28,7 +28,7 @@ pub record IsDomainName (domain : List ℕ) : Type 0 where
   pub not_empty : 0 < length domain
   pub octets : are_domain_octets domain ≡ true
 
--- what stands after the `@`: Domain, or address-literal (section 4.1.3)
+-- what is after the `@`: Domain, or address-literal (section 4.1.3)
 abbrev pub IsDomain : List ℕ → Type 0
 IsDomain domain = IsDomainName domain ⊎ IsAddressLiteral domain
 
@@ -38,7 +38,7 @@ pub record IsSourceRoute (route : List ℕ) : Type 0 where
   pub is_row : IsRow 58 row
   pub text_is : route ≡ 64 ∷ row ++ 58 ∷ []
 
--- the route before an address: a source route, or nothing where the address itself begins with no `@`
+-- the route before an address: a source route, or nothing if the address itself begins with no `@`
 abbrev pub IsRoute : List ℕ → List ℕ → Type 0
 IsRoute route address = IsSourceRoute route ⊎ ((route ≡ []) × (begins_with_at address ≡ false))
 
@@ -60,7 +60,7 @@ pub record IsMailbox (route local domain : List ℕ) : Type 0 where
 abbrev pub is_at : ℕ → Bool
 is_at octet = octet == 64
 
--- the octet stands in the text
+-- the octet is in the text
 abbrev pub stands_in : ℕ → List ℕ → Bool
 stands_in octet text = list_any (λ other. other == octet) text
 

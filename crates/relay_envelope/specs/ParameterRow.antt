@@ -8,7 +8,7 @@ use Rattle.relay_envelope.specs.Parameters.{mail_parameters_of, notify_of, rcpt_
 use Rattle.relay_envelope.specs.declared.fault.EnvelopeFault.{EnvelopeFault}
 use Rattle.relay_envelope.specs.declared.fault.EnvelopeFault.TheVariants.{BadPath, BadValue, Repeated, UnknownParameter}
 
--- the text is these words with a space between each two; where two spaces meet, an empty word stands between them
+-- the text is these words with a space between each two; if two spaces meet, an empty word is between them
 pub record IsRowOf (text : List ℕ) (words : List (List ℕ)) : Type 0 where
   pub some : words ≢ []
   pub apart : AllByRecursion (λ word. AllByRecursion (λ octet. octet ≢ 32) word) words
@@ -34,7 +34,7 @@ pub record OneHas {V : Type 0} (keyword : List ℕ) (read : List ℕ → Option 
   pub none_behind : NoneHas keyword behind
   pub value_is : read (value_of_word word) ≡ Some value
 
--- a keyword stands in the row once, with this value, or doesn't stand there
+-- a keyword is in the row once, with this value, or doesn't stand there
 abbrev pub IsGiven : {V : Type 0} → List ℕ → (List ℕ → Option V) → List (List ℕ) → Option V → Type 0
 IsGiven keyword read words None = NoneHas keyword words
 IsGiven keyword read words (Some value) = OneHas keyword read words value
@@ -85,11 +85,11 @@ pub record HasFault {V W : Type 0} (first second : List ℕ) (read_first : List 
   pub gives : Gives first second read_first read_second before one two
   pub is_faulty : IsFaulty first second read_first read_second before word fault
 
--- ENVID as it was written, where it may be
+-- ENVID as it was written, if it may be
 abbrev pub read_envid : List ℕ → Option (List ℕ)
 read_envid value = if is_envid value then Some value else None
 
--- ORCPT as it was written, where it may be
+-- ORCPT as it was written, if it may be
 abbrev pub read_orcpt : List ℕ → Option (List ℕ)
 read_orcpt value = if is_orcpt value then Some value else None
 

@@ -21,11 +21,11 @@ use Rattle.relay_envelope.specs.declared.parameters.RcptParameters.{RcptParamete
 abbrev pub is_octet : ℕ → ℕ → Bool
 is_octet wanted octet = octet == wanted
 
--- esmtp-keyword: what stands before the first "="
+-- esmtp-keyword: what is before the first "="
 unfoldable pub keyword_of : List ℕ → List ℕ
 keyword_of word = before_first (is_octet 61) word
 
--- esmtp-value: what stands after it, and nothing where there is none
+-- esmtp-value: what is after it, and nothing if there is none
 unfoldable pub value_of_word : List ℕ → List ℕ
 value_of_word word = after_first (is_octet 61) word
 
@@ -34,7 +34,7 @@ unfoldable pub ret_of : List ℕ → Option Ret
 ret_of value =
     if is_word value (codes "FULL") then Some Full else (if is_word value (codes "HDRS") then Some Hdrs else None)
 
--- the octets are printable (section 4.4); where there are none they are not
+-- the octets are printable (section 4.4); if there are none they are not
 abbrev pub are_readable : Option (List ℕ) → Bool
 are_readable None = false
 are_readable (Some octets) = list_all is_printable octets
@@ -59,11 +59,11 @@ is_address_type text = nat_lt 0 (length text) && list_all is_type_octet text
 unfoldable pub is_original_address : List ℕ → Bool
 is_original_address text = nat_lt 0 (length text) && is_readable_xtext text
 
--- the type of the address that a value of ORCPT gives: what stands before its first ";"
+-- the type of the address that a value of ORCPT gives: what is before its first ";"
 abbrev pub address_type_of : List ℕ → List ℕ
 address_type_of value = before_first (is_octet 59) value
 
--- that address: what stands after it
+-- that address: what is after it
 abbrev pub address_of : List ℕ → List ℕ
 address_of value = after_first (is_octet 59) value
 
@@ -106,25 +106,25 @@ pub record RcptParameters : Type 0 where
   pub notify : Option Notify
   pub orcpt : Option (List ℕ)
 
--- RET, where it was not given before
+-- RET, if it was not given before
 abbrev pub with_ret : List ℕ → MailParameters → Result MailParameters EnvelopeFault
 with_ret value old =
     if is_some old.ret then Err Repeated
     else ok_or (option_map (λ ret. record old { ret = Some ret }) (ret_of value)) BadValue
 
--- ENVID, where it was not given before
+-- ENVID, if it was not given before
 abbrev pub with_envid : List ℕ → MailParameters → Result MailParameters EnvelopeFault
 with_envid value old =
     if is_some old.envid then Err Repeated
     else (if is_envid value then Ok (record old { envid = Some value }) else Err BadValue)
 
--- NOTIFY, where it was not given before
+-- NOTIFY, if it was not given before
 abbrev pub with_notify : List ℕ → RcptParameters → Result RcptParameters EnvelopeFault
 with_notify value old =
     if is_some old.notify then Err Repeated
     else ok_or (option_map (λ notify. record old { notify = Some notify }) (notify_of value)) BadValue
 
--- ORCPT, where it was not given before
+-- ORCPT, if it was not given before
 abbrev pub with_orcpt : List ℕ → RcptParameters → Result RcptParameters EnvelopeFault
 with_orcpt value old =
     if is_some old.orcpt then Err Repeated
@@ -146,7 +146,7 @@ with_rcpt_parameter word old =
     else (if is_word (keyword_of word) (codes "ORCPT") then with_orcpt (value_of_word word) old
     else Err UnknownParameter))
 
--- what comes of a result
+-- what follows from a result
 abbrev pub and_then : {A : Type 0} → (A → Result A EnvelopeFault) → Result A EnvelopeFault → Result A EnvelopeFault
 and_then next (Ok value) = next value
 and_then next (Err fault) = Err fault
@@ -157,12 +157,12 @@ abbrev pub with_each :
 with_each with_one [] old = Ok old
 with_each with_one (word ∷ words) old = and_then (λ new. with_each with_one words new) (with_one word old)
 
--- what stands after a path of MAIL: parameters with spaces between them
+-- what is after a path of MAIL: parameters with spaces between them
 unfoldable pub mail_parameters_of : List ℕ → Result MailParameters EnvelopeFault
 mail_parameters_of text =
     with_each with_mail_parameter (slice_split (is_octet 32) text) (record { ret = None; envid = None })
 
--- what stands after a path of RCPT
+-- what is after a path of RCPT
 unfoldable pub rcpt_parameters_of : List ℕ → Result RcptParameters EnvelopeFault
 rcpt_parameters_of text =
     with_each with_rcpt_parameter (slice_split (is_octet 32) text) (record { notify = None; orcpt = None })

@@ -15,7 +15,7 @@ pub data Path : Type 0 where
   Postmaster : List ℕ → Path
   Mailbox : List ℕ → List ℕ → List ℕ → Path
 
--- what stands between a path's brackets
+-- what is between a path's brackets
 abbrev pub body_of : Path → List ℕ
 body_of Null = []
 body_of (Postmaster word) = word
@@ -63,7 +63,7 @@ domain_of Null = None
 domain_of (Postmaster word) = None
 domain_of (Mailbox route local domain) = Some domain
 
--- the domain in a path as it is stored: what stands after its last `@`, but for the octet at its end
+-- the domain in a path as it is stored: what is after its last `@`, but for the octet at its end
 abbrev pub domain_in : List ℕ → Option (List ℕ)
 domain_in text = if list_any is_at text then Some (without_last (after_last is_at text)) else None
 

@@ -40,13 +40,13 @@ abbrev pub piece_text : Piece → List ℕ
 piece_text (Plain octet) = octet ∷ []
 piece_text (Quoted contents) = 34 ∷ flat_map content_text contents ++ 34 ∷ []
 
--- the text is a row, in which this octet stands in quoted strings alone
+-- the text is a row, in which this octet is in quoted strings alone
 pub record IsRow (stop : ℕ) (text : List ℕ) : Type 0 where
   pub pieces : List Piece
   pub are_pieces : AllByRecursion (IsPiece stop) pieces
   pub text_is : text ≡ flat_map piece_text pieces
 
--- a row of this length stands before the text's first plain `stop`
+-- a row of this length is before the text's first plain `stop`
 pub record RowBefore (stop : ℕ) (text : List ℕ) (len : ℕ) : Type 0 where
   pub within : len < length text
   pub is_row : IsRow stop (take len text)

@@ -7,7 +7,7 @@ use Rattle.relay_envelope.specs.Row.{is_plain, is_text_octet}
 use Rattle.relay_envelope.specs.declared.row.Place.{Place}
 use Rattle.relay_envelope.specs.declared.row.Place.TheVariants.{Outside, Inside, Escaped}
 
--- the place after an octet, where it may stand here
+-- the place after an octet, if it may stand here
 abbrev pub place_after : Place → ℕ → Option Place
 place_after Outside octet = if octet == 34 then Some Inside else (if is_plain octet then Some Outside else None)
 place_after Inside octet =

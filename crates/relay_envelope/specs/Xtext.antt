@@ -20,7 +20,7 @@ value_of_digit octet = if nat_lt octet 65 then octet - 48 else octet - 55
 abbrev pub digit_of : ℕ → ℕ
 digit_of value = if nat_lt value 10 then 48 + value else 55 + value
 
--- the octet of two digits, where they are digits
+-- the octet of two digits, if they are digits
 abbrev pub octet_of_digits : ℕ → ℕ → Option ℕ
 octet_of_digits high low =
     if is_digit high && is_digit low then Some (value_of_digit high * 16 + value_of_digit low) else None
@@ -66,7 +66,7 @@ abbrev pub onto_octets : Option ℕ → Option (List ℕ) → Option (List ℕ)
 onto_octets None rest = None
 onto_octets (Some octet) rest = joined_octets (octet ∷ []) rest
 
--- the octets that a text stands for, where it is xtext
+-- the octets that a text stands for, if it is xtext
 unfoldable pub decoded : List ℕ → Option (List ℕ)
 decoded [] = Some []
 decoded (octet ∷ []) = onto_octets (octet_of_xchar octet) (Some [])
@@ -89,7 +89,7 @@ encoded_octet octet =
 abbrev pub encoded : List ℕ → List ℕ
 encoded octets = flat_map encoded_octet octets
 
--- A text stands for octets exactly where it spells them.
+-- A text stands for octets exactly if it spells them.
 abbrev pub DecodedIsSpelled : Type 0
 DecodedIsSpelled = (text octets : List ℕ) → (decoded text ≡ Some octets) ↔ SpellsXtext text octets
 

@@ -14,13 +14,13 @@ use relay_octets::Octets;
 use std::alloc::{AllocError, Global};
 use std::marker::Model;
 
-/// A path as it came, with its brackets, in memory of its own.
+/// A copy of a path as it came, with its brackets.
 #[derive(Debug)]
 pub struct PathBuf {
     text: Octets,
 }
 
-// Written out, so that what drops a path calls this, and doesn't look into its text.
+// Written out, so that the proof of a caller that drops a path stops at this function.
 impl Drop for PathBuf {
     fn drop(self) {
         let PathBuf { text: _text } = self;
@@ -38,7 +38,7 @@ impl Model for PathBuf {
 }
 
 impl PathBuf {
-    /// A copy of a path. It fails where memory runs out.
+    /// Copies a path. Fails if memory runs out.
     pub fn new(alloc: Global, path: Path<'_>) -> Result<Self, AllocError>
         ensures { IfOk result (λ copy. copy ≡ path_text (value_of path.entry)) }
     {
@@ -47,7 +47,7 @@ impl PathBuf {
         })
     }
 
-    /// The path with its brackets.
+    /// Returns the path with its brackets.
     pub fn as_slice(&self) -> &[u8]
         ensures value { result.now ≡ self.now }
         ensures within { length self.now ≤ 256 }
@@ -55,7 +55,7 @@ impl PathBuf {
         self.text.as_slice()
     }
 
-    /// Another copy of the path. It fails where memory runs out.
+    /// Returns another copy of the path. Fails if memory runs out.
     pub fn copy(&self, alloc: Global) -> Result<Self, AllocError>
         ensures { IfOk result (λ copy. copy ≡ self.now) }
     {
@@ -71,7 +71,7 @@ pub struct Orcpt {
     written: Octets,
 }
 
-// Written out, so that what drops an ORCPT calls this, and doesn't look into its text.
+// Written out, so that the proof of a caller that drops an ORCPT stops at this function.
 impl Drop for Orcpt {
     fn drop(self) {
         let Orcpt { written: _written } = self;
@@ -87,7 +87,7 @@ impl Model for Orcpt {
 }
 
 impl Orcpt {
-    /// A copy of an ORCPT as it was written. It fails where memory runs out.
+    /// A copy of an ORCPT as it was written. Fails if memory runs out.
     pub fn new(alloc: Global, text: &[u8]) -> Result<Self, AllocError>
         ensures { IfOk result (λ copy. copy ≡ text.now) }
     {
@@ -103,7 +103,7 @@ impl Orcpt {
         self.written.as_slice()
     }
 
-    /// The type of the address: what stands before the first `;`. It takes no memory.
+    /// Returns the type of the address: the text before the first `;`.
     pub fn address_type(&self) -> &[u8]
         ensures { result.now ≡ address_type_of self.now }
     {
@@ -111,7 +111,7 @@ impl Orcpt {
         address_type
     }
 
-    /// The address, which is xtext: what stands after the first `;`. It takes no memory.
+    /// Returns the address, which is xtext: the text after the first `;`.
     pub fn address(&self) -> &[u8]
         ensures { result.now ≡ address_of self.now }
     {
@@ -120,7 +120,7 @@ impl Orcpt {
     }
 }
 
-/// A copy of ENVID, where it was given.
+/// Returns a copy of ENVID, if it was given.
 fn copy_envid(alloc: Global, envid: Option<&[u8]>) -> Result<Option<Xtext>, AllocError>
     ensures { IfOk result (λ copy. copy ≡ option_copied envid.entry) }
 {
@@ -130,7 +130,7 @@ fn copy_envid(alloc: Global, envid: Option<&[u8]>) -> Result<Option<Xtext>, Allo
     }
 }
 
-/// A copy of ORCPT, where it was given.
+/// Returns a copy of ORCPT, if it was given.
 fn copy_orcpt(alloc: Global, orcpt: Option<&[u8]>) -> Result<Option<Orcpt>, AllocError>
     ensures { IfOk result (λ copy. copy ≡ option_copied orcpt.entry) }
 {
@@ -151,7 +151,7 @@ pub struct Recipient {
     pub orcpt: Option<Orcpt>,
 }
 
-// Written out, so that what drops a recipient calls this, and doesn't look into its parts.
+// Written out, so that the proof of a caller that drops a recipient stops at this function.
 impl Drop for Recipient {
     fn drop(self) {
         let Recipient {
@@ -163,7 +163,7 @@ impl Drop for Recipient {
 }
 
 impl Recipient {
-    /// What a RCPT said, in memory of its own. It fails where memory runs out.
+    /// Copies the values of RCPT. Fails if memory runs out.
     pub fn new(alloc: Global, rcpt: Rcpt<'_>) -> Result<Self, AllocError>
         ensures { IfOk result (λ recipient. recipient ≡ recipient_from (rcpt_value rcpt.entry)) }
     {
@@ -174,7 +174,7 @@ impl Recipient {
         })
     }
 
-    /// A copy of the recipient. It fails where memory runs out.
+    /// Returns a copy of the recipient. Fails if memory runs out.
     pub fn copy(&self, alloc: Global) -> Result<Self, AllocError>
         ensures { IfOk result (λ copy. copy ≡ self.now) }
     {
@@ -186,13 +186,13 @@ impl Recipient {
     }
 }
 
-/// The recipients of a message in the order of their RCPT. One given twice is there twice.
+/// The recipients of a message in the order of their RCPTs. One given twice is there twice.
 #[derive(Debug)]
 pub struct Recipients {
     items: Vec<Recipient>,
 }
 
-// Written out, so that what drops recipients calls this, and doesn't look into each of them.
+// Written out, so that the proof of a caller that drops recipients stops at this function.
 impl Drop for Recipients {
     fn drop(self) {
         let Recipients { items: _items } = self;
@@ -209,7 +209,7 @@ impl Model for Recipients {
 }
 
 impl Recipients {
-    /// No recipient. It takes no memory.
+    /// Makes an empty list. Allocates nothing.
     pub fn new(alloc: Global) -> Self
         ensures { result ≡ [] }
     {
@@ -218,7 +218,7 @@ impl Recipients {
         }
     }
 
-    /// No recipient, and room for just as many as are to come. It fails where memory runs out.
+    /// Makes an empty list with room for exactly `count` recipients. Fails if memory runs out.
     pub fn with_capacity(alloc: Global, count: usize) -> Result<Self, AllocError>
         ensures { IfOk result (λ recipients. recipients ≡ []) }
     {
@@ -227,28 +227,28 @@ impl Recipients {
         })
     }
 
-    /// How many recipients there are.
+    /// Returns how many recipients there are.
     pub fn len(&self) -> usize
         ensures { result ≡ length self.now }
     {
         self.items.len()
     }
 
-    /// Whether there is no recipient.
+    /// Returns whether there is no recipient.
     pub fn is_empty(&self) -> bool
         ensures { IsTrue result ↔ (self.now ≡ []) }
     {
         self.items.is_empty()
     }
 
-    /// The recipients.
+    /// Returns the recipients.
     pub fn as_slice(&self) -> &[Recipient]
         ensures { result.now ≡ self.now }
     {
         self.items.as_slice()
     }
 
-    /// Adds a recipient at the end. Where memory runs out, none is added.
+    /// Appends a recipient. If memory runs out, none is added.
     pub fn push(&mut self, recipient: Recipient) -> Result<(), AllocError>
         ensures ok { OnOk result (self.new ≡ self.old ++ recipient ∷ []) }
         ensures err { OnErr result (self.new ≡ self.old) }
@@ -257,7 +257,7 @@ impl Recipients {
         Ok(())
     }
 
-    /// A copy of the recipients. It fails where memory runs out.
+    /// Returns a copy of the recipients. Fails if memory runs out.
     pub fn copy(&self, alloc: Global) -> Result<Self, AllocError>
         ensures { IfOk result (λ copy. copy ≡ self.now) }
     {
@@ -269,7 +269,7 @@ impl Recipients {
     }
 }
 
-/// What a mail transaction has gathered (RFC 5321, section 2.3.1).
+/// The envelope of a mail transaction (RFC 5321, section 2.3.1).
 #[derive(Debug)]
 pub struct Envelope {
     /// Where reports go, `<>` for none.
@@ -282,7 +282,7 @@ pub struct Envelope {
     pub recipients: Recipients,
 }
 
-// Written out, so that what drops an envelope calls this, and doesn't look into its parts.
+// Written out, so that the proof of a caller that drops an envelope stops at this function.
 impl Drop for Envelope {
     fn drop(self) {
         let Envelope {
@@ -295,7 +295,7 @@ impl Drop for Envelope {
 }
 
 impl Envelope {
-    /// What a MAIL said, in memory of its own, without recipients. It fails where memory runs out.
+    /// Copies the values of MAIL into an envelope without recipients. Fails if memory runs out.
     pub fn new(alloc: Global, mail: Mail<'_>) -> Result<Self, AllocError>
         ensures { IfOk result (λ envelope. envelope ≡ envelope_from (mail_value mail.entry)) }
     {
@@ -307,7 +307,7 @@ impl Envelope {
         })
     }
 
-    /// A copy of the envelope. It fails where memory runs out.
+    /// Returns a copy of the envelope. Fails if memory runs out.
     pub fn copy(&self, alloc: Global) -> Result<Self, AllocError>
         ensures { IfOk result (λ copy. copy ≡ self.now) }
     {

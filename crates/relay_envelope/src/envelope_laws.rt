@@ -1,4 +1,4 @@
-//! What is true of envelopes that may be stored, whoever writes and reads them.
+//! Laws of envelopes that may be stored, whoever writes and reads them.
 ghost use Rattle.relay_envelope.specs.Envelope.{ReversePathIsForward, MailIsReadAgain, RcptIsReadAgain};
 ghost use Rattle.relay_envelope.specs.Envelope.{ReadMailIsValid, ReadRcptIsValid, MailIsCommandLine, RcptIsCommandLine};
 

@@ -1,19 +1,19 @@
 use thiserror::Error;
 
-/// Why what stands after the colon of MAIL or RCPT is refused. The first fault from left to right is answered: the
-/// path's, then each parameter's, of which an unknown keyword comes before one given twice, and that before its value.
+/// Why the text after the colon of MAIL or RCPT is refused: the first fault from left to right. In a parameter an
+/// unknown keyword comes before one given twice, and that before a bad value.
 #[derive(Clone, Copy, Debug, Drop, PartialEq, Eq, Error)]
 pub enum EnvelopeFault {
     /// No path that may stand there begins the text, or what follows touches it.
     #[error("bad path")]
     BadPath,
-    /// A parameter's value is none of its keyword.
+    /// A parameter has a value that its keyword doesn't take.
     #[error("bad parameter value")]
     BadValue,
     /// A parameter is given twice.
     #[error("parameter given twice")]
     Repeated,
-    /// A keyword is none of that command's.
+    /// The command doesn't have this keyword.
     #[error("unknown parameter")]
     UnknownParameter,
 }

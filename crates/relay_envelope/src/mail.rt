@@ -1,4 +1,4 @@
-//! What stands after the colon of `MAIL FROM:` (RFC 5321, section 4.1.1.2).
+//! The text after the colon of `MAIL FROM:` (RFC 5321, section 4.1.1.2).
 ghost use Rattle.std.specs.Prelude.{◌≡◌};
 ghost use Rattle.relay_envelope.specs.Path.{value_of, is_reverse as reverse};
 ghost use Rattle.relay_envelope.specs.Parameters.{mail_parameters_of};
@@ -8,7 +8,7 @@ use crate::fault::EnvelopeFault;
 use crate::parameters::{Ret, read_mail_parameters};
 use crate::path::{Path, begin_path};
 
-/// What MAIL says: slices of the text.
+/// The values of MAIL, as slices of the text.
 #[derive(Clone, Copy, Debug)]
 pub struct Mail<'a> {
     /// Where reports go: `<>` for none, or a mailbox.
@@ -19,7 +19,7 @@ pub struct Mail<'a> {
     pub envid: Option<&'a [u8]>,
 }
 
-/// Reads what stands after the colon of `MAIL FROM:`. It takes no memory.
+/// Reads the text after the colon of `MAIL FROM:`. Allocates nothing.
 pub fn read_mail(text: &[u8]) -> Result<Mail<'_>, EnvelopeFault>
     ensures { ReadsMail text.now (mail_reading result) }
 {
@@ -32,7 +32,7 @@ pub fn read_mail(text: &[u8]) -> Result<Mail<'_>, EnvelopeFault>
     behind_path(path, rest)
 }
 
-/// The path with the parameters that follow it.
+/// Returns the path with the parameters that follow it.
 fn behind_path<'a>(path: Path<'a>, rest: &'a [u8]) -> Result<Mail<'a>, EnvelopeFault>
     ensures { mail_reading result ≡ mail_of (value_of path.entry) (mail_parameters_of rest.now) }
 {
@@ -46,7 +46,7 @@ fn behind_path<'a>(path: Path<'a>, rest: &'a [u8]) -> Result<Mail<'a>, EnvelopeF
     }
 }
 
-/// The path may stand in MAIL.
+/// Returns whether MAIL may have this path.
 fn is_reverse(path: &Path<'_>) -> bool
     ensures { result ≡ reverse (value_of path.now) }
 {

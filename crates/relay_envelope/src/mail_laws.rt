@@ -1,4 +1,4 @@
-//! What is true of the texts of MAIL and RCPT, whoever reads them.
+//! Laws of the texts of MAIL and RCPT, whoever reads them.
 ghost use Rattle.relay_envelope.specs.Mail.{MailIsOne, MailIsSome, RcptIsOne, RcptIsSome};
 
 /// A text of MAIL has no two values or faults.

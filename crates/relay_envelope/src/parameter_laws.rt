@@ -1,4 +1,4 @@
-//! What is true of the parameters of MAIL and RCPT, whoever reads them: nothing here speaks of an order of reading.
+//! Laws of the parameters of MAIL and RCPT, whoever reads them: nothing here speaks of an order of reading.
 ghost use Rattle.relay_envelope.specs.ParameterRow.{MailRowIsRead, MailRowSaysOne, RcptRowIsRead, RcptRowSaysOne};
 ghost use Rattle.relay_envelope.specs.ParameterRow.{TextIsRow};
 

@@ -26,7 +26,7 @@ pub enum Ret {
 /// The outcomes that are to be reported.
 #[derive(Clone, Copy, Debug, PartialEq, Eq)]
 pub struct Outcomes {
-    /// The message was delivered, or passed on to where nothing is reported.
+    /// The message was delivered, or relayed to a server that doesn't report.
     pub success: bool,
     /// The message could not be delivered.
     pub failure: bool,
@@ -57,7 +57,7 @@ pub(crate) struct RcptParameters<'a> {
     pub(crate) orcpt: Option<&'a [u8]>,
 }
 
-/// Reads what stands after the path of MAIL.
+/// Reads what is after the path of MAIL.
 #[tactic(auto, unfolding(crate::specs::Parameters::mail_parameters_of))]
 pub(crate) fn read_mail_parameters(text: &[u8]) -> Result<MailParameters<'_>, EnvelopeFault>
     ensures { mail_answer result ≡ mail_parameters_of text.now }
@@ -74,7 +74,7 @@ pub(crate) fn read_mail_parameters(text: &[u8]) -> Result<MailParameters<'_>, En
     with_mail_parameter(given, rest)
 }
 
-/// Reads what stands after the path of RCPT.
+/// Reads what is after the path of RCPT.
 #[tactic(auto, unfolding(crate::specs::Parameters::rcpt_parameters_of))]
 pub(crate) fn read_rcpt_parameters(text: &[u8]) -> Result<RcptParameters<'_>, EnvelopeFault>
     ensures { rcpt_answer result ≡ rcpt_parameters_of text.now }
@@ -91,7 +91,7 @@ pub(crate) fn read_rcpt_parameters(text: &[u8]) -> Result<RcptParameters<'_>, En
     with_rcpt_parameter(given, rest)
 }
 
-/// The parameters of MAIL with a further one.
+/// Returns the parameters of MAIL with a further one.
 #[tactic(auto, unfolding(crate::specs::Parameters::with_mail_parameter))]
 fn with_mail_parameter<'a>(
     old: MailParameters<'a>,
@@ -112,7 +112,7 @@ fn with_mail_parameter<'a>(
     }
 }
 
-/// The parameters of RCPT with a further one.
+/// Returns the parameters of RCPT with a further one.
 #[tactic(auto, unfolding(crate::specs::Parameters::with_rcpt_parameter))]
 fn with_rcpt_parameter<'a>(
     old: RcptParameters<'a>,
@@ -202,7 +202,7 @@ fn with_orcpt<'a>(
     }
 }
 
-/// The value of RET, in any letter case.
+/// Returns the value of RET, in any letter case.
 #[tactic(auto, unfolding(crate::specs::Parameters::ret_of))]
 fn ret_of(value: &[u8]) -> Option<Ret>
     ensures { result ≡ ret_of value.now }
@@ -216,7 +216,7 @@ fn ret_of(value: &[u8]) -> Option<Ret>
     }
 }
 
-/// The value of NOTIFY: NEVER, or a list of outcomes, each at most once.
+/// Returns the value of NOTIFY: NEVER, or a list of outcomes, each at most once.
 #[tactic(auto, unfolding(crate::specs::Parameters::notify_of))]
 fn notify_of(value: &[u8]) -> Option<Notify>
     ensures { result ≡ notify_of value.now }
@@ -230,7 +230,7 @@ fn notify_of(value: &[u8]) -> Option<Notify>
     }
 }
 
-/// The outcomes of a list, each at most once.
+/// Returns the outcomes of a list, each at most once.
 fn outcomes_of(value: &[u8]) -> Option<Outcomes>
     ensures { result ≡ with_outcomes (slice_split (is_octet 44) value.now) no_outcomes }
 {
@@ -247,7 +247,7 @@ fn outcomes_of(value: &[u8]) -> Option<Outcomes>
     with_outcome(outcomes, rest)
 }
 
-/// The outcomes with a further one, which is not among them.
+/// Returns the outcomes with a further one that isn't among them.
 #[tactic(auto, unfolding(crate::specs::Parameters::with_outcome))]
 fn with_outcome(old: Outcomes, word: &[u8]) -> Option<Outcomes>
     ensures { result ≡ with_outcome word.now old }

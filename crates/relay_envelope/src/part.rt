@@ -4,7 +4,7 @@ ghost use Rattle.relay_envelope.specs.Parameters.{FirstPart, OnePart, keyword_of
 
 use memchr::memchr;
 
-/// What stands before the first such octet, and after it.
+/// Returns what is before the first such octet, and after it.
 pub(crate) fn first_part(octet: u8, text: &[u8]) -> Option<(&[u8], &[u8])>
     ensures { MatchOption result (OnePart octet text.now)
         (λ parts. FirstPart octet text.now parts.0.now parts.1.now) }
@@ -13,7 +13,7 @@ pub(crate) fn first_part(octet: u8, text: &[u8]) -> Option<(&[u8], &[u8])>
     Some((&text[..place], &text[place + 1..]))
 }
 
-/// A parameter's keyword, and its value, which is empty where it has no `=`.
+/// Returns a parameter's keyword, and its value, which is empty where it has no `=`.
 #[tactic(auto, unfolding(crate::specs::Parameters::keyword_of, crate::specs::Parameters::value_of_word))]
 pub(crate) fn keyword_and_value(word: &[u8]) -> (&[u8], &[u8])
     ensures keyword { result.0.now ≡ keyword_of word.now }

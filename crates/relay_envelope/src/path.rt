@@ -17,7 +17,7 @@ use mailbox::behind_last_at;
 pub use mailbox::{Mailbox, is_domain};
 pub use postmaster::Postmaster;
 
-/// A path that a reader cut out of a text: slices of that text, which nothing else makes.
+/// A path that a reader found in a text, as slices of it. Nothing else makes one.
 #[derive(Clone, Copy, Debug)]
 pub enum Path<'a> {
     /// `<>`, the reverse path of a report.
@@ -29,7 +29,7 @@ pub enum Path<'a> {
 }
 
 impl<'a> Path<'a> {
-    /// The path that the whole text is. It takes no memory.
+    /// Reads the whole text as a path. Allocates nothing.
     pub fn read(text: &'a [u8]) -> Option<Self>
         ensures { MatchOption result
             ((path : PathText) → IsPath path → text.now ≢ path_text path)
@@ -38,7 +38,7 @@ impl<'a> Path<'a> {
         path_of(text)
     }
 
-    /// The path as it came, with its brackets.
+    /// Returns the path as it came, with its brackets.
     pub fn text(&self) -> &'a [u8]
         ensures value { result.now ≡ path_text (value_of self.now) }
         ensures within { length result.now ≤ 256 }
@@ -51,7 +51,7 @@ impl<'a> Path<'a> {
     }
 }
 
-/// The domain of a mailbox; `<>` and `<Postmaster>` have none.
+/// Returns the domain of a mailbox; `<>` and `<Postmaster>` have none.
 pub fn domain_of<'a>(path: &Path<'a>) -> Option<&'a [u8]>
     ensures { option_copied result ≡ domain_of (value_of path.now) }
 {
@@ -62,7 +62,7 @@ pub fn domain_of<'a>(path: &Path<'a>) -> Option<&'a [u8]>
     }
 }
 
-/// The domain in a path as it is stored, with its brackets; `<>` and `<Postmaster>` have none. It takes no memory.
+/// The domain in a path as it is stored, with its brackets; `<>` and `<Postmaster>` have none. Allocates nothing.
 pub fn domain_in(path: &[u8]) -> Option<&[u8]>
     ensures value { option_copied result ≡ domain_in path.now }
     ensures within { IfSome result (λ domain. length domain.now ≤ length path.now) }
@@ -74,7 +74,7 @@ pub fn domain_in(path: &[u8]) -> Option<&[u8]>
     }
 }
 
-/// The path that the text begins with after spaces, and what follows it.
+/// Reads the path that the text begins with after spaces, and returns it with the rest.
 pub(crate) fn begin_path(text: &[u8]) -> Option<(Path<'_>, &[u8])>
     ensures { MatchOption result
         ((path : PathText) (rest : List ℕ) → ¬ BeginsWithPath text.now path rest)
@@ -89,7 +89,7 @@ pub(crate) fn begin_path(text: &[u8]) -> Option<(Path<'_>, &[u8])>
     }
 }
 
-/// The path that the whole text is.
+/// Reads the whole text as a path.
 fn path_of(text: &[u8]) -> Option<Path<'_>>
     ensures { MatchOption result
         ((path : PathText) → IsPath path → text.now ≢ path_text path)
@@ -104,7 +104,7 @@ fn path_of(text: &[u8]) -> Option<Path<'_>>
     }
 }
 
-/// The text to the first `>` outside a quoted string, and what follows that.
+/// Returns the text to the first `>` outside a quoted string, and what follows that.
 fn split_behind_bracket(text: &[u8]) -> Option<(&[u8], &[u8])>
     ensures { MatchOption result
         ((row : List ℕ) (rest : List ℕ) → IsRow 62 row → text.now ≢ 60 ∷ row ++ 62 ∷ rest)
@@ -119,7 +119,7 @@ fn split_behind_bracket(text: &[u8]) -> Option<(&[u8], &[u8])>
     }
 }
 
-/// What follows the spaces that the text begins with.
+/// Returns what follows the spaces that the text begins with.
 fn skip_spaces(text: &[u8]) -> &[u8]
     ensures { result.now ≡ drop (prefix_len is_space text.now) text.now }
 {
@@ -127,7 +127,7 @@ fn skip_spaces(text: &[u8]) -> &[u8]
     rest
 }
 
-/// How many spaces the text begins with.
+/// Returns how many spaces the text begins with.
 fn space_len(text: &[u8]) -> usize
     ensures value { result ≡ prefix_len is_space text.now }
     ensures within { result ≤ length text.now }
@@ -140,7 +140,7 @@ fn space_len(text: &[u8]) -> usize
     text.len()
 }
 
-/// Nothing follows, or a space does: a text that touches the path's `>` makes it no path.
+/// Returns whether nothing follows, or a space does: a text that touches the path's `>` makes it no path.
 fn is_apart(rest: &[u8]) -> bool
     ensures { result ≡ stands_apart rest.now }
 {

@@ -1,4 +1,4 @@
-//! What is true of paths, whoever reads them.
+//! Laws of paths, whoever reads them.
 ghost use Rattle.relay_envelope.specs.Path.{DomainInIsDomainOf, PathIsOne};
 
 /// A text begins with at most one path, and one rest follows it.

@@ -1,4 +1,4 @@
-//! What stands after the colon of `RCPT TO:` (RFC 5321, section 4.1.1.3).
+//! The text after the colon of `RCPT TO:` (RFC 5321, section 4.1.1.3).
 ghost use Rattle.std.specs.Prelude.{◌≡◌};
 ghost use Rattle.relay_envelope.specs.Path.{value_of, is_forward as forward};
 ghost use Rattle.relay_envelope.specs.Parameters.{rcpt_parameters_of};
@@ -8,7 +8,7 @@ use crate::fault::EnvelopeFault;
 use crate::parameters::{Notify, read_rcpt_parameters};
 use crate::path::{Path, begin_path};
 
-/// What RCPT says: slices of the text.
+/// The values of RCPT, as slices of the text.
 #[derive(Clone, Copy, Debug)]
 pub struct Rcpt<'a> {
     /// The forward path: the postmaster's, or a mailbox.
@@ -19,7 +19,7 @@ pub struct Rcpt<'a> {
     pub orcpt: Option<&'a [u8]>,
 }
 
-/// Reads what stands after the colon of `RCPT TO:`. It takes no memory.
+/// Reads the text after the colon of `RCPT TO:`. Allocates nothing.
 pub fn read_rcpt(text: &[u8]) -> Result<Rcpt<'_>, EnvelopeFault>
     ensures { ReadsRcpt text.now (rcpt_reading result) }
 {
@@ -32,7 +32,7 @@ pub fn read_rcpt(text: &[u8]) -> Result<Rcpt<'_>, EnvelopeFault>
     behind_path(path, rest)
 }
 
-/// The path with the parameters that follow it.
+/// Returns the path with the parameters that follow it.
 fn behind_path<'a>(path: Path<'a>, rest: &'a [u8]) -> Result<Rcpt<'a>, EnvelopeFault>
     ensures { rcpt_reading result ≡ rcpt_of (value_of path.entry) (rcpt_parameters_of rest.now) }
 {
@@ -46,7 +46,7 @@ fn behind_path<'a>(path: Path<'a>, rest: &'a [u8]) -> Result<Rcpt<'a>, EnvelopeF
     }
 }
 
-/// The path may stand in RCPT.
+/// Returns whether RCPT may have this path.
 fn is_forward(path: &Path<'_>) -> bool
     ensures { result ≡ forward (value_of path.now) }
 {

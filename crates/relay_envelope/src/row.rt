@@ -17,7 +17,7 @@ enum Place {
     Escaped,
 }
 
-/// The length of the row that stands before the text's first `stop` outside a quoted string.
+/// Returns the length of the row that is before the text's first `stop` outside a quoted string.
 pub(crate) fn row_before(stop: u8, text: &[u8]) -> Option<usize>
     requires { stop ≢ 34 }
     ensures { MatchOption result
@@ -28,7 +28,7 @@ pub(crate) fn row_before(stop: u8, text: &[u8]) -> Option<usize>
     if len < text.len() { Some(len) } else { None }
 }
 
-/// The whole text is a row.
+/// Returns whether the whole text is a row.
 pub(crate) fn is_row(text: &[u8]) -> bool
     ensures { IsTrue result ↔ IsRow 62 text.now }
 {
@@ -38,7 +38,8 @@ pub(crate) fn is_row(text: &[u8]) -> bool
     }
 }
 
-/// How long the row is that the text begins with, to the first `stop` outside a quoted string or the text's end.
+/// Returns how long the row is that the text begins with, to the first `stop` outside a quoted string or the text's
+/// end.
 fn row_len(stop: u8, text: &[u8]) -> Option<usize>
     ensures value { result ≡ row_len_from stop Place.Outside text.now }
     ensures within { IfSome result (λ len. len ≤ length text.now) }
@@ -58,14 +59,14 @@ fn row_len(stop: u8, text: &[u8]) -> Option<usize>
     }
 }
 
-/// The octet ends a row.
+/// Returns whether the octet ends a row.
 fn is_end(stop: u8, place: Place, octet: u8) -> bool
     ensures { result ≡ is_outside place && (octet == stop) }
 {
     is_outside(place) && octet == stop
 }
 
-/// The place after an octet, where it may stand here.
+/// Returns the state after an octet, if a row may have it here.
 fn place_after(place: Place, octet: u8) -> Option<Place>
     ensures { result ≡ place_after place octet }
 {
@@ -82,7 +83,7 @@ fn place_after(place: Place, octet: u8) -> Option<Place>
     }
 }
 
-/// A row may end here.
+/// Returns whether a row may end here.
 fn is_outside(place: Place) -> bool
     ensures { result ≡ is_outside place }
 {

@@ -1,4 +1,4 @@
-//! Whether what came from elsewhere, as octets of a disk, is what may be stored. Nothing here takes memory.
+//! Tests of octets from elsewhere, such as a disk: whether they may be stored. Nothing here allocates.
 ghost use Rattle.std.specs.Prelude.{◌≡◌, ◌↔◌, IsTrue};
 ghost use Rattle.std.specs.List.{AllByRecursion};
 ghost use Rattle.relay_envelope.specs.Envelope.{IsEnvelope, IsForwardPath, IsRecipient, IsReversePath, may_be_envid};
@@ -12,7 +12,7 @@ use crate::xtext::Xtext;
 /// The most recipients of an envelope (RFC 5321, section 4.5.3.1.8).
 const RECIPIENT_LIMIT: usize = 100;
 
-/// Whether the whole text is a path of MAIL: `<>`, or a mailbox in brackets.
+/// Returns whether the whole text is a path of MAIL: `<>`, or a mailbox in brackets.
 #[tactic(auto, using(crate::proofs::ValidityLemmas::none_other))]
 pub fn is_reverse_path(text: &[u8]) -> bool
     ensures { IsTrue result ↔ IsReversePath text.now }
@@ -25,7 +25,7 @@ pub fn is_reverse_path(text: &[u8]) -> bool
     }
 }
 
-/// Whether the whole text is a path of RCPT: the postmaster's, or a mailbox in brackets.
+/// Returns whether the whole text is a path of RCPT: the postmaster's, or a mailbox in brackets.
 #[tactic(auto, using(crate::proofs::ValidityLemmas::none_other))]
 pub fn is_forward_path(text: &[u8]) -> bool
     ensures { IsTrue result ↔ IsForwardPath text.now }
@@ -38,7 +38,8 @@ pub fn is_forward_path(text: &[u8]) -> bool
     }
 }
 
-/// Whether the recipient may be stored: a forward path, outcomes of which NOTIFY names one at least, and an ORCPT.
+/// Returns whether the recipient may be stored: a forward path, outcomes of which NOTIFY names one at least, and an
+/// ORCPT.
 pub fn is_recipient(recipient: &Recipient) -> bool
     ensures { IsTrue result ↔ IsRecipient recipient.now }
 {
@@ -47,7 +48,7 @@ pub fn is_recipient(recipient: &Recipient) -> bool
         && may_be_orcpt(&recipient.orcpt)
 }
 
-/// Whether the envelope may be stored: a reverse path, an ENVID, and 1 to 100 recipients that may be stored.
+/// Returns whether the envelope may be stored: a reverse path, an ENVID, and 1 to 100 recipients that may be stored.
 pub fn is_envelope(envelope: &Envelope) -> bool
     ensures { IsTrue result ↔ IsEnvelope envelope.now }
 {
@@ -86,7 +87,7 @@ fn may_be_orcpt(orcpt: &Option<Orcpt>) -> bool
     }
 }
 
-/// Whether a list of outcomes, where it was given, names one at least.
+/// Returns whether a list of outcomes, if it was given, names one at least.
 pub fn may_be_notify(notify: Option<Notify>) -> bool
     ensures { result ≡ may_be_notify notify }
 {

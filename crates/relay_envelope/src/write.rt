@@ -10,7 +10,7 @@ use crate::xtext::Xtext;
 use relay_octets::Octets;
 use std::alloc::{AllocError, Global};
 
-/// What stands after the colon of `MAIL FROM:`. It fails where memory runs out.
+/// Writes the text after the colon of `MAIL FROM:`. Fails if memory runs out.
 pub fn write_mail(alloc: Global, envelope: &Envelope) -> Result<Octets, AllocError>
     ensures { IfOk result (λ text. text ≡ mail_text envelope.now) }
 {
@@ -20,7 +20,7 @@ pub fn write_mail(alloc: Global, envelope: &Envelope) -> Result<Octets, AllocErr
     Ok(text)
 }
 
-/// What stands after the colon of `RCPT TO:`. It fails where memory runs out.
+/// Writes the text after the colon of `RCPT TO:`. Fails if memory runs out.
 pub fn write_rcpt(alloc: Global, recipient: &Recipient) -> Result<Octets, AllocError>
     ensures { IfOk result (λ text. text ≡ rcpt_text recipient.now) }
 {
@@ -85,7 +85,7 @@ fn written_notify(notify: Notify) -> &'static [u8]
     }
 }
 
-/// The words in the order SUCCESS, FAILURE, DELAY, in whatever order they came.
+/// Returns the words in the order SUCCESS, FAILURE, DELAY, in whatever order they came.
 fn written_outcomes(outcomes: Outcomes) -> &'static [u8]
     ensures { result.now ≡ join_with_byte 44 (outcome_words outcomes) }
 {

@@ -13,7 +13,7 @@ pub struct Xtext {
     text: Octets,
 }
 
-// Written out, so that what drops an xtext calls this, and doesn't look into its text.
+// Written out, so that the proof of a caller that drops an xtext stops at this function.
 impl Drop for Xtext {
     fn drop(self) {
         let Xtext { text: _text } = self;
@@ -41,7 +41,7 @@ impl Xtext {
     ghost use Rattle.std.specs.Prelude.{◌≡◌, Some, None, IfOk, IsErrOf};
     ghost use Rattle.relay_envelope.specs.Xtext.{decoded, encoded};
 
-    /// The encoding of octets, each by itself where it may be. It fails where memory runs out.
+    /// Encodes octets as xtext. Fails if memory runs out.
     pub fn encode(alloc: Global, octets: &[u8]) -> Result<Self, AllocError>
         ensures { IfOk result (λ text. text ≡ encoded octets.now) }
     {
@@ -54,7 +54,7 @@ impl Xtext {
         })
     }
 
-    /// The octets that an xtext stands for.
+    /// Decodes an xtext.
     pub fn decode(alloc: Global, text: &[u8]) -> Result<Octets, XtextFault>
         ensures decoded { IfOk result (λ octets. decoded text.now ≡ Some octets) }
         ensures refused { IsErrOf result XtextFault.NotXtext → decoded text.now ≡ None }
@@ -72,7 +72,7 @@ impl Xtext {
         }
     }
 
-    /// A copy of an xtext as it was written. It fails where memory runs out.
+    /// A copy of an xtext as it was written. Fails if memory runs out.
     pub fn written(alloc: Global, text: &[u8]) -> Result<Self, AllocError>
         ensures { IfOk result (λ copy. copy ≡ text.now) }
     {
@@ -81,7 +81,7 @@ impl Xtext {
         })
     }
 
-    /// The encoded text.
+    /// Returns the encoded text.
     pub fn as_slice(&self) -> &[u8]
         ensures { result.now ≡ self.now }
     {
@@ -100,7 +100,7 @@ impl From<AllocError> for XtextFault {
     }
 }
 
-/// Adds the encoding of one octet. Where memory runs out, nothing is added.
+/// Adds the encoding of one octet. If memory runs out, nothing is added.
 fn push_encoded(text: &mut Vec<u8>, octet: u8) -> Result<(), AllocError>
     ensures ok { OnOk result (text.new.items ≡ text.old.items ++ encoded_octet octet) }
     ensures err { OnErr result (text.new.items ≡ text.old.items) }
@@ -113,7 +113,7 @@ fn push_encoded(text: &mut Vec<u8>, octet: u8) -> Result<(), AllocError>
     }
 }
 
-/// The octet that the text's first part stands for, and what follows that part.
+/// Returns the octet that the text's first part stands for, and what follows that part.
 #[tactic(auto, using(crate::proofs::XtextLemmas::first_char, crate::proofs::XtextLemmas::no_char))]
 pub(crate) fn first_octet(text: &[u8]) -> Option<(u8, &[u8])>
     ensures { MatchOption result
@@ -130,7 +130,7 @@ pub(crate) fn first_octet(text: &[u8]) -> Option<(u8, &[u8])>
     }
 }
 
-/// The octet of the two digits after a `+`, and what follows them.
+/// Returns the octet of the two digits after a `+`, and what follows them.
 #[tactic(auto, using(crate::proofs::XtextLemmas::decoded_digits))]
 fn behind_plus(digits: &[u8]) -> Option<(u8, &[u8])>
     ensures { MatchOption result
@@ -143,7 +143,7 @@ fn behind_plus(digits: &[u8]) -> Option<(u8, &[u8])>
     Some((octet, behind))
 }
 
-/// The octet of two digits.
+/// Returns the octet of two digits.
 fn octet_of(high: u8, low: u8) -> Option<u8>
     ensures { result ≡ octet_of_digits high low }
 {
@@ -166,7 +166,7 @@ fn is_digit(octet: u8) -> bool
     matches!(octet, b'0'..=b'9' | b'A'..=b'F')
 }
 
-/// The value of a hexadecimal digit in upper case.
+/// Returns the value of a hexadecimal digit in upper case.
 fn value_of_digit(digit: u8) -> u8
     requires { hexadecimal digit ≡ true }
     ensures value { result ≡ digit_value digit }
@@ -179,7 +179,7 @@ fn value_of_digit(digit: u8) -> u8
     }
 }
 
-/// The hexadecimal digit in upper case of a value.
+/// Returns the hexadecimal digit in upper case of a value.
 fn digit_of(value: u8) -> u8
     requires { value < 16 }
     ensures { result ≡ digit value }

@@ -1,7 +1,7 @@
-//! What is true of xtext, whoever reads it.
+//! Laws of xtext, whoever reads it.
 ghost use Rattle.relay_envelope.specs.Xtext.{DecodedIsSpelled, EncodedIsDecoded};
 
-/// A text stands for octets exactly where it spells them.
+/// A text stands for octets exactly if it spells them.
 pub fn decoded_is_spelled()
     ensures { DecodedIsSpelled }
 {}

@@ -57,8 +57,8 @@ stops_by (loss.Ended change) = []
 stops_by (loss.Gone why) = []
 stops_by (loss.Stopped node) = node ∷ []
 
--- A link after replies that were read there: what the node writes stands on it; or, where it writes something, and
--- memory runs out for that, the link is broken.
+-- A link after replies that were read there: what the node writes is on it; or, if it writes something, and memory runs
+-- out for that, the link is broken.
 abbrev pub IsAnswered : Link → Link → Replied → Act → Type 0
 IsAnswered old new replied (act.Shows own) =
     (new ≡ record old { up = old.up ++ replied.out.items; down_read = old.down_read + replied.used })
@@ -68,8 +68,8 @@ IsAnswered old new replied (act.Refuses why) =
     × (0 < length replied.out.items)
 IsAnswered old new replied (act.Stops node) = ⊥
 
--- What an attempt has read is read there, and what its node writes stands on the link, or not. Where that led to a
--- change, the attempt has ended, and what left by the change stands in the ledger.
+-- What an attempt has read is read there, and what its node writes is on the link, or not. If that led to a change, the
+-- attempt has ended, and what left by the change is in the ledger.
 pub record TakesReplies {D : Type 0} (old new : World D) (number place : ℕ) (replied : Replied)
     (recorded : Option Recorded) (did : Act) : Type 0
   where

@@ -18,7 +18,7 @@ use Rattle.relay_hosts.specs.declared.calls.ToldLoss.{ToldLoss}
 use Rattle.relay_events.specs.declared.client_end.ClientEnd.{ClientEnd}
 use Rattle.relay_hosts.specs.Call.{HasAttempt, IsToldLoss, ReadsOrNot}
 
--- so many octets more have come to the client end of a link than it has read
+-- this many octets more have come to the client end of a link than it has read
 pub record HasMore {D : Type 0} (world : World D) (number used : ℕ) : Type 0 where
   pub link : Link
   pub link_is : link_at world.links number ≡ Some link
@@ -28,7 +28,7 @@ pub record HasMore {D : Type 0} (world : World D) (number used : ℕ) : Type 0 w
 abbrev pub its_attempt : ClientEnd → Attempt → Attempt
 its_attempt end attempt = record attempt { node = end.node; message = end.message }
 
--- whichever attempt stands at this place has this fate now, and nothing else has changed
+-- whichever attempt is at this place has this fate now, and nothing else has changed
 abbrev pub SetsFate : {D : Type 0} → World D → World D → ℕ → Fate → Type 0
 SetsFate old new place fate =
     (attempt : Attempt) → slice_get old.attempts place ≡ Some attempt

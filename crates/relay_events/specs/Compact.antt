@@ -1,4 +1,4 @@
--- What becomes of relays when a node is called to write its spool anew.
+-- What becomes of relays when a node is called to compact its spool.
 use Rattle.std.specs.Prelude.{◌≡◌, ℕ, Some, slice_get, slice_set}
 use Rattle.relay_disk.specs.Device.{DiskWords}
 use Rattle.relay_world.specs.World.{Host, World}
@@ -6,7 +6,7 @@ use Rattle.relay_hosts.specs.declared.compact.Compacted.{Compacted}
 use Rattle.relay_hosts.specs.Compact.{RewritesOrNot}
 
 module _ {D : Type 0} (honest : Type 0) (words : DiskWords D) where
-  -- A node was called to write its spool anew. Nothing else has changed yet.
+  -- A node was called to compact its spool. Nothing else has changed yet.
   pub record IsCalledToCompact (old new : World D) (node : ℕ) (result : Compacted) : Type 0 where
     pub was : Host D
     pub was_at : slice_get old.hosts node ≡ Some was

@@ -61,7 +61,7 @@ module _ {D : Type 0} (world : World D) where
   give_fault None = Some fault.Down
   give_fault (Some host) = due_fault host.state
 
-  -- only where it stops now it may be down already
+  -- only if it stops now it may be down already
   abbrev pub stop_fault : ℕ → ℕ → Option PairFault
   stop_fault node zero = if is_some (slice_get world.hosts node) then None else Some fault.Down
   stop_fault node (suc calls) = unless_up node None

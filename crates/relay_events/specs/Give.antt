@@ -20,7 +20,7 @@ use Rattle.relay_events.specs.Told.{running_of}
 use Rattle.relay_hosts.specs.Work.{BeginsAttempt, GivesUpOrNot, GivesUpUnlessFull, HasChanges, LacksRoom, attempts_in}
 use Rattle.relay_hosts.specs.Work.{works_in}
 
--- this is the first work of a node, at the moment of the clock
+-- this is the first work of a node, at the time of the clock
 pub record IsFirstWork {D : Type 0} (world : World D) (node : ℕ) (work : Work) : Type 0 where
   pub host : Host D
   pub host_at : slice_get world.hosts node ≡ Some host
@@ -44,7 +44,7 @@ pub record LeadsOn {D : Type 0} (world : World D) (node : ℕ) (hop : List ℕ) 
   pub host_at : slice_get world.hosts to ≡ Some host
   pub named : host.config.host ≡ hop
 
--- a node has begun an attempt on the link of this number, and it stands after the others
+-- a node has begun an attempt on the link of this number, and it is after the others
 pub record HasBegun {D : Type 0} (honest : Type 0) (words : DiskWords D) (old new : World D) (node message : ℕ)
     (hop : List ℕ) (number place : ℕ) : Type 0 where
   pub was : Host D

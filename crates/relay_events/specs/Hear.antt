@@ -25,7 +25,7 @@ pub record WaitsAt {D : Type 0} (world : World D) (number node : ℕ) : Type 0 w
   pub hears : hears_on link.server ≡ true
   pub waits : waits_up link ≡ true
 
--- a link that is whole, on which so many octets more have come to the server end than it has read
+-- a link that is whole, on which this many octets more have come to the server end than it has read
 pub record MayRead {D : Type 0} (world : World D) (number used : ℕ) : Type 0 where
   pub link : Link
   pub link_is : link_at world.links number ≡ Some link
@@ -48,8 +48,8 @@ world_heard old number node link received recorded = record old {
   ledger = old.ledger ++ accept_lines node number received.change recorded;
 }
 
--- What a node has heard is read, and what it accepted stands in the ledger. What it answers is written, and shown; or
--- there was no memory for it, and the link is broken.
+-- What a node has heard is read, and what it accepted is in the ledger. What it answers is written, and shown; or there
+-- was no memory for it, and the link is broken.
 pub record TakesHeard {D : Type 0} (old new : World D) (number node : ℕ) (received : Received)
     (recorded : Option Recorded) (did : Did) : Type 0
   where

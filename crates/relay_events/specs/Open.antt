@@ -6,7 +6,7 @@ use Rattle.relay_world.specs.Steps.{opened_link}
 use Rattle.relay_world.specs.World.{Host, World}
 use Rattle.relay_hosts.specs.Work.{OpensSession, RefusesSession}
 
--- a node has let a client in, on a link after the others, and has greeted it with so many octets
+-- a node has let a client in, on a link after the others, and has greeted it with this many octets
 pub record LinksTo {D : Type 0} (old new : World D) (node : ℕ) (peer : List ℕ) (greeting : ℕ) : Type 0 where
   pub was : Host D
   pub was_at : slice_get old.hosts node ≡ Some was

@@ -75,7 +75,7 @@ abbrev pub IsReadyToCrash : {D : Type 0} → Type 0 → DiskWords D → World D 
 IsReadyToCrash {D} honest words world node origin free =
     (down : World D) → CrashesAt honest words world down node origin → AreBound honest words down × HasRoom down free
 
--- so many octets more have come to the server end of a link than it has read
+-- this many octets more have come to the server end of a link than it has read
 pub record HasMoreUp (links : List Link) (number used : ℕ) : Type 0 where
   pub link : Link
   pub link_is : link_at links number ≡ Some link

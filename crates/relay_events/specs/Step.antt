@@ -80,20 +80,20 @@ module _ {D : Type 0} (honest : Type 0) (words : DiskWords D) where
     pub stops : CrashesAtRest honest words old down node ⊎ StopsAgain honest words old down node
     pub opened : IsOpened honest words down new node
 
-  -- A stop is set for a node that is up: of its disks so many calls pass, and the next fails.
+  -- A stop is set for a node that is up: of its disks this many calls pass, and the next fails.
   pub record SetsStop (old new : World D) (node calls : ℕ) : Type 0 where
     pub armed : HasArmed honest words old new node
     pub calls_left : calls_left_of words armed.stays.after.records.spool.disk ≡ Some calls
 
-  -- why an attempt is dropped to which octets are carried, or, where none wait, the end of the other side
+  -- why an attempt is dropped to which octets are carried, or, if none wait, the end of the other side
   abbrev pub IsWhyDropped : (old : World D) (number count : ℕ) → AttemptOf old number → Bool → NodeFault → Type 0
   IsWhyDropped old number count of true why =
       IsWhyUnread honest words old.clock of.host.state of.slot (waiting_down count of.link) why
   IsWhyDropped old number count of false why = IsWhyUntold honest words old.clock of.host.state of.slot why
 
-  -- what waits for a node on a link is carried to it: octets are heard or read, or, where none wait, the end of the
-  -- other side; or octets are heard or read, and there is no memory for what the node answers, so that the link breaks;
-  -- or the node has no memory for what it hears or reads, or no number or room for the change that it leads to, and the
+  -- what waits for a node on a link is carried to it: octets are heard or read, or, if none wait, the end of the other
+  -- side; or octets are heard or read, and there is no memory for what the node answers, so that the link breaks; or
+  -- the node has no memory for what it hears or reads, or no number or room for the change that it leads to, and the
   -- link breaks; or the node stops in that call
   pub data Carries (old : World D) (number node count : ℕ) (new : World D) : Did → Type 0 where
     Hears : (heard : HasHeard honest words old new number count) → heard.of.end.node ≡ node
@@ -134,7 +134,7 @@ module _ {D : Type 0} (honest : Type 0) (words : DiskWords D) where
         → IsCarriedTo told.crash.of.link told.crash.of.attempt node false
         → Carries old number node count new (Stops node)
 
-  -- Outside opens a link to a node; or the node refuses it, for want of memory, or where 64 sessions go on there.
+  -- Outside opens a link to a node; or the node refuses it, for lack of memory, or where 64 sessions go on there.
   pub data OpensFromOutside (old : World D) (node : ℕ) (new : World D) : Did → Type 0 where
     OpensLink : (opened : HasOpened old new node outside_address)
         → OpensFromOutside old node new (Shows (seen.Linked (length new.links) (length opened.connected.out.items)))
@@ -142,10 +142,10 @@ module _ {D : Type 0} (honest : Type 0) (words : DiskWords D) where
         → RefusesSession host host why → new ≡ old → OpensFromOutside old node new (Refuses (fault_of why))
 
   -- A node does its first work. It begins an attempt: on a new link to outside, or on one that it has opened to the
-  -- node that the hop is. Or it refuses the attempt, for want of memory, or where 64 of its attempts run, and nothing
-  -- changes. Where fewer run, the other node may refuse it a session; or, after the opened link, it has no memory for
-  -- the attempt, and that link breaks. Or it gives up the places of a message that have no hop, or refuses to, or stops
-  -- in that call.
+  -- node that the hop is. Or it refuses the attempt, for lack of memory, or where 64 of its attempts run, and nothing
+  -- changes. If fewer run, the other node may refuse it a session; or, after the opened link, it has no memory for the
+  -- attempt, and that link breaks. Or it gives up the places of a message that have no hop, or refuses to, or stops in
+  -- that call.
   pub data Gives (old : World D) (node : ℕ) (new : World D) : Did → Type 0 where
     StartsOutside : (message : ℕ) → (hop : List ℕ) → IsFirstWork old node (Try message hop)
         → (begun : HasStarted honest words old new (suc (length old.links)) message hop) → begun.attempt.node ≡ node
@@ -173,7 +173,7 @@ module _ {D : Type 0} (honest : Type 0) (words : DiskWords D) where
         → CrashesGivingUp honest words old down node message → IsOpened honest words down new node
         → Gives old node new (Stops node)
 
-  -- A node writes its spool anew, and its size now is told; or the node refuses to, or stops in that call.
+  -- A node compacts its spool, and its size now is told; or the node refuses to, or stops in that call.
   pub data Rewrites (old : World D) (node : ℕ) (new : World D) : Did → Type 0 where
     CompactsSpool : (compacted : HasCompacted honest words old new node)
         → Rewrites old node new (Shows (seen.Compacted node compacted.stays.after.records.spool.size))
@@ -218,7 +218,7 @@ module _ {D : Type 0} (honest : Type 0) (words : DiskWords D) where
   TakesMemory (Stop node zero pick) = Unit {0}
   TakesMemory (Stop node (suc calls) pick) = ⊥
 
-  -- Where memory runs out before a node is called, nothing changes.
+  -- If memory runs out before a node is called, nothing changes.
   abbrev pub RefusesLate : World D → Event → World D → PairFault → Type 0
   RefusesLate old event new why =
       TakesMemory event × ((first_fault old event ≡ None) ⊎ LooksForWork event) × (why ≡ fault.NoMemory) × (new ≡ old)
@@ -230,8 +230,8 @@ module _ {D : Type 0} (honest : Type 0) (words : DiskWords D) where
       × ((middle : World D) × ((did : Did) × Acts old event middle did
       × ((told : AreTold honest words middle new) × IsSeen did told.stopped answer)))
 
-  -- An event was done, or refused: by its first fault, unchanged, exactly where there is one; for want of memory,
-  -- before a node is called; or by a node.
+  -- An event was done, or refused: by its first fault, unchanged, exactly if there is one; for lack of memory, before a
+  -- node is called; or by a node.
   abbrev pub Steps : World D → Event → World D → Result Seen PairFault → Type 0
   Steps old event new (Ok shown) = Does old event new (Ok shown)
   Steps old event new (Err why) =

@@ -49,7 +49,7 @@ module _ {D : Type 0} (honest : Type 0) (words : DiskWords D) where
     pub opened : IsOpened down new node
 
   -- One end of a broken link was told: the session has ended; or the attempt has its outcome, or is gone without one,
-  -- for want of memory or of room for it; or the node stopped in it.
+  -- for lack of memory or of room for it; or the node stopped in it.
   pub data TellsOne (old new : World D) (number : ℕ) : List ℕ → Type 0 where
     Ends : EndsSession old new number → TellsOne old new number []
     Loses : (change : ℕ) → HasLost honest words old new number change → TellsOne old new number []
@@ -61,7 +61,7 @@ module _ {D : Type 0} (honest : Type 0) (words : DiskWords D) where
   abbrev pub TellsSome : World D → World D → ℕ → List ℕ → List ℕ → Type 0
   TellsSome old new number were are = (one : List ℕ) × TellsOne old new number one × (are ≡ were ++ one)
 
-  -- So many ends were told, one after the other, always that of the least broken link; and these nodes stopped in it.
+  -- This many ends were told, one after the other, always that of the least broken link; and these nodes stopped in it.
   abbrev pub Tell : ℕ → World D → World D → List ℕ → Type 0
   Tell zero old new stopped = (new ≡ old) × (stopped ≡ [])
   Tell (suc turns) old new stopped =

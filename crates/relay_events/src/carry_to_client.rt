@@ -30,7 +30,7 @@ use relay_world::passing::{crashing_happens, runs_keep_all};
 use relay_world::{Fate, Link};
 
 impl<D: Reboot + Drop> Relays<D> {
-    /// What waits at the client end of a link is carried to the attempt there: replies, up to so many octets; or, where
+    /// What waits at the client end of a link is carried to the attempt there: replies, up to this many octets; or, if
     /// none waits, that the other end has closed.
     pub(crate) fn carry_to_client(&mut self, number: usize, count: usize) -> Result<Seen, PairFault>
         requires honest { D.Disk.honest }
@@ -99,7 +99,7 @@ impl<D: Reboot + Drop> Relays<D> {
         }
     }
 
-    /// The attempt at the client end of a link reads replies, up to so many octets of those that wait, by one call of
+    /// The attempt at the client end of a link reads replies, up to this many octets of those that wait, by one call of
     /// its node.
     fn read_replies(&mut self, number: usize, count: usize) -> Act
         requires honest { D.Disk.honest }
@@ -137,7 +137,7 @@ impl<D: Reboot + Drop> Relays<D> {
 }
 
 impl<D: Disk> Relays<D> {
-    /// The node of an attempt is called to read replies that wait for it, up to so many octets. Nothing else is done
+    /// The node of an attempt is called to read replies that wait for it, up to this many octets. Nothing else is done
     /// yet.
     fn call_to_read(&mut self, number: usize, end: ClientEnd, count: usize) -> Read
         requires bound { AreBound D.honest D.words (world_of self.old) }
@@ -150,8 +150,8 @@ impl<D: Disk> Relays<D> {
         self.hosts[end.node].read(end.slot, piece, self.clock)
     }
 
-    /// What an attempt has read is read, and what its node writes stands on the link. Where that led to a change, the
-    /// attempt has ended, and what left by the change stands in the ledger, for which there is room.
+    /// What an attempt has read is read, and what its node writes is on the link. If that led to a change, the attempt
+    /// has ended, and what left by the change is in the ledger, for which there is room.
     fn take_replies(
         &mut self,
         number: usize,
@@ -177,8 +177,8 @@ impl<D: Disk> Relays<D> {
     }
 }
 
-/// Replies were read at the client end of a link, and what the node writes stands on it. Where it writes something, and
-/// memory runs out for that, the link breaks.
+/// Replies were read at the client end of a link, and what the node writes is on it. If it writes something, and memory
+/// runs out for that, the link breaks.
 fn write_replies(link: &mut Link, replied: &Replied) -> Act
     requires { link.old.down_read + replied.now.used ≤ length link.old.down }
     ensures { IsAnswered link.old link.new replied.now result }

@@ -25,8 +25,8 @@ use relay_node::Received;
 use relay_world::passing::{crashing_happens, runs_keep_all};
 
 impl<D: Reboot + Drop> Relays<D> {
-    /// What waits at the server end of a link is carried to the node of its session. Where no octet waits, the client
-    /// end has closed, and the node is told so.
+    /// What waits at the server end of a link is carried to the node of its session. If no octet waits, the client end
+    /// has closed, and the node is told so.
     pub(crate) fn carry_to_server(
         &mut self,
         number: usize,
@@ -81,8 +81,8 @@ impl<D: Reboot + Drop> Relays<D> {
         self.finish(act, stopped)
     }
 
-    /// A node hears octets that wait at the server end of a link, by one call. None where there is no room to note what
-    /// it would do: it isn't called.
+    /// A node hears octets that wait at the server end of a link, by one call. None if there is no room to note what it
+    /// would do: it isn't called.
     fn hear(&mut self, number: usize, node: usize, count: usize) -> Option<Act>
         requires honest { D.Disk.honest }
         requires bound { AreBound D.Disk.honest D.Disk.words (world_of self.old) }
@@ -134,7 +134,7 @@ impl<D: Disk> Relays<D> {
         self.hosts[node].hear(session, piece, self.clock)
     }
 
-    /// What a node has heard is read, what it answers is written, and what it accepted stands in the ledger.
+    /// What a node has heard is read, what it answers is written, and what it accepted is in the ledger.
     fn take_heard(
         &mut self,
         number: usize,

@@ -9,7 +9,7 @@ pub enum Event {
     Connect(usize),
     /// Outside writes octets on the link of a number.
     Send(usize, Octets),
-    /// So many of the octets that wait at a node's end of a link are carried to it, or that the other end has closed.
+    /// This many of the octets that wait at a node's end of a link are carried to it, or that the other end has closed.
     Carry {
         /// The number of the link, from 1.
         link: usize,
@@ -24,7 +24,7 @@ pub enum Event {
     Tick(Moment),
     /// A node does the first work that is due.
     Give(usize),
-    /// A node writes its spool anew.
+    /// A node compacts its spool.
     Compact(usize),
     /// A node stops: now, or at a later call of its disks.
     Stop {

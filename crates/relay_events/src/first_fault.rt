@@ -12,7 +12,7 @@ use relay_hosts::Host;
 use relay_hosts::let_go::{is_tried_for, serves_for};
 use relay_hosts::links::{client_idles, has_outside, server_idles, whole_link};
 
-/// Whether a node is there, and up.
+/// Returns whether a node is there, and up.
 fn is_up<D: Disk>(hosts: &[Host<D>], node: usize) -> bool
     ensures { result ≡ is_up (slice_get hosts.now node) }
 {
@@ -23,7 +23,7 @@ fn is_up<D: Disk>(hosts: &[Host<D>], node: usize) -> bool
 }
 
 impl<D: Disk> Relays<D> {
-    /// The first fault of an octet that outside writes on a link.
+    /// Returns the first fault of an octet that outside writes on a link.
     pub(crate) fn send_fault(&self, number: usize) -> Option<PairFault>
         ensures { result ≡ send_fault (world_of self.now) (whole_link_of self.now.links.items number) }
     {
@@ -36,7 +36,7 @@ impl<D: Disk> Relays<D> {
         Some(PairFault::NotYours)
     }
 
-    /// The first fault of a link that is to break.
+    /// Returns the first fault of a link that is to break.
     pub(crate) fn break_fault(&self, number: usize) -> Option<PairFault>
         ensures { result ≡ break_fault (world_of self.now) (whole_link_of self.now.links.items number) }
     {
@@ -56,7 +56,7 @@ impl<D: Disk> Relays<D> {
         Some(PairFault::Down)
     }
 
-    /// The first fault of what is carried on a link to a node.
+    /// Returns the first fault of what is carried on a link to a node.
     pub(crate) fn carry_fault(&self, number: usize, node: usize, count: usize) -> Option<PairFault>
         ensures { result ≡ carry_fault (world_of self.now) (whole_link_of self.now.links.items number) node count }
     {
@@ -73,7 +73,7 @@ impl<D: Disk> Relays<D> {
         Some(PairFault::NotYours)
     }
 
-    /// The first fault of what is carried to an end that is a node's, and where there is nothing to carry, or
+    /// Returns the first fault of what is carried to an end that is a node's, and if there is nothing to carry, or
     /// something.
     fn carry_to(&self, node: usize, count: usize, idles: bool) -> Option<PairFault>
         ensures { result ≡ unless_up (world_of self.now) node (carry_idles (world_of self.now) count idles) }

@@ -133,7 +133,7 @@ impl<D: Reboot + Drop> Relays<D> {
     }
 
     /// A node begins an attempt on a link that it opens to the node that the hop is, unless 64 of its attempts are
-    /// running. Where it has no memory for the attempt, that link breaks.
+    /// running. If it has no memory for the attempt, that link breaks.
     fn start_at_node(
         &mut self,
         node: usize,
@@ -207,7 +207,7 @@ impl<D: Disk> Relays<D> {
         self.hosts[node].give_up(message, self.clock)
     }
 
-    /// Whether 64 attempts of a node are running.
+    /// Returns whether 64 attempts of a node are running.
     fn is_full_of_attempts(&self, node: usize) -> bool
         requires { node < length self.now.hosts.items }
         ensures { (host : HostOf D) → slice_get self.now.hosts.items node ≡ Some host

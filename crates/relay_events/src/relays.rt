@@ -9,7 +9,7 @@ use relay_trace::Moment;
 use relay_world::{Attempt, Line, Link};
 use std::alloc::Global;
 
-/// Relays, their links and attempts, and the ledger, at a moment of their clock.
+/// Relays, their links and attempts, and the ledger, at a time of their clock.
 pub struct Relays<D: Disk> {
     pub(crate) alloc: Global,
     /// The hosts, each by its place: that of node 0 is the first.
@@ -18,12 +18,12 @@ pub struct Relays<D: Disk> {
     pub links: Vec<Link>,
     /// All attempts to pass mail on, in the order in which they began.
     pub attempts: Vec<Attempt>,
-    /// What has come of mail so far, in order.
+    /// The outcome of mail so far, in order.
     pub ledger: Vec<Line>,
     pub(crate) clock: Moment,
 }
 
-// Written out, so that what drops relays calls this, and doesn't look into their parts.
+// Written out, so that the proof of a caller that drops relays stops at this function.
 impl<D: Disk + Drop> Drop for Relays<D> {
     fn drop(self) {
         let Relays {
@@ -38,7 +38,7 @@ impl<D: Disk + Drop> Drop for Relays<D> {
 }
 
 impl<D: Disk + Drop> Relays<D> {
-    /// Relays without links, at the moment 0. It takes no memory.
+    /// Relays without links, at the time 0. Allocates nothing.
     pub fn of_hosts(alloc: Global, hosts: Vec<Host<D>>) -> Self
         ensures { world_of result ≡ begun_with hosts.items }
     {

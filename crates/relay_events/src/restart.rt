@@ -45,7 +45,7 @@ impl<D: Reboot + Drop> Relays<D> {
         self.let_go(node);
     }
 
-    /// A node that is down is opened, or stays down where its disks are refused. Where it has the change that was
+    /// A node that is down is opened, or stays down where its disks are refused. If it has the change that was
     /// undecided, what that came from is done.
     pub(crate) fn reopen(&mut self, node: usize)
         requires bound { AreBound D.Disk.honest D.Disk.words (world_of self.old) }

@@ -13,7 +13,7 @@ use std::alloc::AllocError;
 const MOST_PLACES: usize = 100;
 
 impl<D: Disk> Relays<D> {
-    /// Keeps room in the ledger for so many lines more than may come to be needed anyway. Nothing else changes.
+    /// Keeps room in the ledger for this many lines more than may come to be needed anyway. Nothing else changes.
     pub(crate) fn keep_lines(&mut self, more: usize) -> Result<(), AllocError>
         ensures world { world_of self.new ≡ world_of self.old }
         ensures room { OnOk result (HasRoomFor (world_of self.new) more (free_lines self.new)) }
@@ -25,7 +25,7 @@ impl<D: Disk> Relays<D> {
         self.ledger.reserve(lines)
     }
 
-    /// So many lines, and those that may come to be needed anyway; none where that is beyond all numbers.
+    /// This many lines, and those that may come to be needed anyway; none if that is beyond all numbers.
     fn lines_needed(&self, more: usize) -> Option<usize>
         ensures { MatchOption result (Unit {0}) (λ lines.
             lines ≡ lines_to_come self.now.attempts.items + lines_left 0 self.now.hosts.items + more) }
@@ -37,8 +37,8 @@ impl<D: Disk> Relays<D> {
 }
 
 impl<D: Disk> Relays<D> {
-    /// Makes room for a link more, an attempt more, and the lines of the ledger that may come, also of its places;
-    /// and an empty list with room for each node that may stop in a step. None where memory runs out.
+    /// Makes room for a link more, an attempt more, and the lines of the ledger that may come, also of its places; and
+    /// an empty list with room for each node that may stop in a step. None if memory runs out.
     pub(crate) fn room_for_work(&mut self) -> Option<Vec<usize>>
         requires { AreInOrder D.honest D.words self.old }
         ensures world { world_of self.new ≡ world_of self.old }

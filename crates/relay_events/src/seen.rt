@@ -5,7 +5,8 @@ ghost use Rattle.relay_events.specs.Step.{IsSeen, Shows};
 /// What is seen of an event that was done.
 #[derive(Debug, Drop)]
 pub enum Seen {
-    /// Outside has opened the link of this number; so many octets, the last that stand there, are the node's greeting.
+    /// Outside has opened the link of this number; this many octets, the last that stand there, are the node's
+    /// greeting.
     Linked(usize, usize),
     /// Outside has written.
     Sent,

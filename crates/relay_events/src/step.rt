@@ -13,10 +13,10 @@ use relay_trace::Moment;
 use relay_world::passing::runs_keep_all;
 
 impl<D: Reboot + Drop> Relays<D> {
-    /// One event happens. Refused by its first fault, or for want of memory before a node is called, it changes
-    /// nothing. A node that refuses its part, for want of memory, of room or of a number, loses the session or the
-    /// attempt by that, and the link breaks. Where memory is wanting for what a node answers, it has heard or read all
-    /// the same, and where it is for an attempt, the link to its hop was opened: that link breaks too.
+    /// One event happens. Refused by its first fault, or for lack of memory before a node is called, it changes
+    /// nothing. A node that refuses its part, for lack of memory, of room or of a number, loses the session or the
+    /// attempt by that, and the link breaks. If memory is wanting for what a node answers, it has heard or read all the
+    /// same, and where it is for an attempt, the link to its hop was opened: that link breaks too.
     pub fn step(&mut self, event: &Event) -> Result<Seen, PairFault>
         requires honest { D.Disk.honest }
         requires order { AreInOrder D.Disk.honest D.Disk.words self.old }

@@ -29,8 +29,8 @@ impl<D: Reboot + Drop> Relays<D> {
         self.arm(node, calls, pick)
     }
 
-    /// A node stops now, or, where it is down, stops again; it is opened, if it can be, and the nodes at the other ends
-    /// of its links are told.
+    /// A node stops now, or, if it is down, stops again; it is opened, if it can be, and the nodes at the other ends of
+    /// its links are told.
     fn stop_now(&mut self, node: usize, pick: u64) -> Result<Seen, PairFault>
         requires honest { D.Disk.honest }
         requires order { AreInOrder D.Disk.honest D.Disk.words self.old }
@@ -52,7 +52,7 @@ impl<D: Reboot + Drop> Relays<D> {
         self.finish(Act::Stops(node), stopped)
     }
 
-    /// A node stops between two calls, or, where it is down, stops again.
+    /// A node stops between two calls, or, if it is down, stops again.
     fn take_down(&mut self, node: usize, pick: u64)
         requires { node < vec_len self.old.hosts }
         ensures world { IsTakenDown D.Disk.honest D.Disk.words (world_of self.old) (world_of self.new) node }

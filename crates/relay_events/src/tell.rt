@@ -27,14 +27,14 @@ use std::alloc::AllocError;
 pub(crate) enum Loss {
     /// It has an outcome, the change of this number.
     Ended(u64),
-    /// It is gone without one, for want of memory or room.
+    /// It is gone without one, for lack of memory or room.
     Gone(NodeFault),
     /// Its node has stopped.
     Stopped(usize),
 }
 
 impl<D: Disk> Relays<D> {
-    /// The number of the first broken link of which a node has still to be told.
+    /// Returns the number of the first broken link of which a node has still to be told.
     fn first_untold(&self) -> Option<usize>
         ensures { MatchOption result (IsToldOfBreaks (world_of self.now)) (IsFirstUntold (world_of self.now)) }
     {
@@ -166,8 +166,8 @@ impl<D: Disk> Relays<D> {
         self.hosts[node].lose(slot, self.clock)
     }
 
-    /// An attempt has ended by the loss of its link, by the change of this number: what left by that stands in the
-    /// ledger, for which there is room.
+    /// An attempt has ended by the loss of its link, by the change of this number: what left by that is in the ledger,
+    /// for which there is room.
     fn end_by_loss(&mut self, number: usize, end: ClientEnd, change: u64, recorded: &Recorded)
         requires there { end.place < length self.old.attempts.items }
         requires room { vec_len self.old.ledger + length recorded.now.left.items ≤ vec_capacity self.old.ledger }

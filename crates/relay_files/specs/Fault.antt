@@ -18,7 +18,7 @@ use Rattle.relay_files.specs.declared.fault.Fault.TheVariants.{Full}
 use Rattle.relay_files.specs.declared.fault.Fault.TheVariants.{NoSecond, BadRecord, Device, Locked, NoMemory, Input}
 use Rattle.relay_files.specs.declared.fault.Fault.TheVariants.{Output}
 
--- want of memory is one fault, wherever it comes
+-- lack of memory is one fault, wherever it comes
 abbrev pub fault_of_config : ConfigFault → Fault
 fault_of_config config_fault.NotToml = Config config_fault.NotToml
 fault_of_config (config_fault.Missing key) = Config (config_fault.Missing key)

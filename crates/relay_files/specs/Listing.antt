@@ -15,7 +15,7 @@ abbrev pub listed_line : ℕ → ℕ → List ℕ × ℕ → List ℕ
 listed_line number place waiting =
     decimal number ++ 32 ∷ decimal place ++ 32 ∷ waiting.0 ++ 32 ∷ decimal waiting.1 ++ 10 ∷ []
 
--- the line of a place, where it is held
+-- the line of a place, if it is held
 abbrev pub line_at : Queue → ℕ × ℕ → List ℕ
 line_at queue mark = option_map_or (listed_line mark.0 mark.1) (waiting_at queue mark.0 mark.1) []
 

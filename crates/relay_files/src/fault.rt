@@ -15,7 +15,7 @@ use thiserror::Error;
 /// Linux's error where all of the system's descriptors are taken. The kit's `libc` has no name for it.
 const ENFILE: i32 = 23;
 
-/// Linux's error where there is no room for a socket's buffers.
+/// Linux's error if there is no room for a socket's buffers.
 const ENOBUFS: i32 = 105;
 
 /// Why a run ends with status 1. Its text follows `relayd: `.
@@ -37,7 +37,7 @@ pub enum Fault {
     #[error("spool NotEmpty")]
     NotEmpty,
     /// The spool would pass 2^40 octets, or changes have no numbers any more; or what it holds is too much to be
-    /// written anew.
+    /// rewritten.
     #[error("spool Full")]
     Full,
     /// The spool's second file is none to write it anew on: it was made before spools had two.
@@ -72,7 +72,7 @@ pub enum Fault {
 }
 
 impl Fault {
-    /// The fault of a file that can't be read.
+    /// Returns the fault of a file that can't be read.
     pub fn of_input(error: &io::Error) -> Self
         ensures memory { error_kind error.now ≡ ErrorKind.OutOfMemory → result ≡ Fault.NoMemory }
         ensures other { error_kind error.now ≢ ErrorKind.OutOfMemory → result ≡ Fault.Input }
@@ -80,7 +80,7 @@ impl Fault {
         Fault::unless_memory(error, Fault::Input)
     }
 
-    /// The fault of a spool's file that can't be opened.
+    /// Returns the fault of a spool's file that can't be opened.
     pub fn of_device(error: &io::Error) -> Self
         ensures memory { error_kind error.now ≡ ErrorKind.OutOfMemory → result ≡ Fault.NoMemory }
         ensures other { error_kind error.now ≢ ErrorKind.OutOfMemory → result ≡ Fault.Device }
@@ -88,7 +88,7 @@ impl Fault {
         Fault::unless_memory(error, Fault::Device)
     }
 
-    /// The fault of a writer.
+    /// Returns the fault of a writer.
     pub fn of_output(error: &io::Error) -> Self
         ensures memory { error_kind error.now ≡ ErrorKind.OutOfMemory → result ≡ Fault.NoMemory }
         ensures other { error_kind error.now ≢ ErrorKind.OutOfMemory → result ≡ Fault.Output }
@@ -117,7 +117,7 @@ impl Fault {
     }
 }
 
-/// Whether a socket couldn't be had since this process or its system has no descriptor, or no memory, left for
+/// Returns whether a socket couldn't be had since this process or its system has no descriptor, or no memory, left for
 /// one: then it isn't for the other side.
 pub fn is_want_of_sockets(error: &io::Error) -> bool
     ensures { IsTrue result ↔ IsWantOfSockets (raw_os_error error.now) }

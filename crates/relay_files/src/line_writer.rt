@@ -8,7 +8,7 @@ use std::alloc::Global;
 use std::io::{self, BufWriter, Write};
 
 /// Returns a writer that gathers up to 8,192 octets, or until it is flushed: a line that is flushed once it is complete
-/// is one write, and needs no memory. It fails where memory runs out.
+/// is one write, and needs no memory. Fails if memory runs out.
 pub fn gathering<W: Write>(alloc: Global, writer: &mut W) -> Result<BufWriter<&mut W>, Fault>
     ensures empty { IfOk result (λ gathering. writer_buffer gathering ≡ []) }
     ensures err { IfErr result (λ fault. fault ≡ Fault.NoMemory) }

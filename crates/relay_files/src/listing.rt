@@ -27,7 +27,7 @@ pub fn init<F: Files<File = File>>(alloc: Global, files: &F, path: &str) -> Resu
 
 /// Writes a line for each recipient that the spool holds, in the order of the queue: the number of its message, its
 /// place in that message, its path, and when it is due, in seconds from 1970. The spool's files are opened for reading
-/// alone, so that a relay may run on them. Faults are looked for in this order: the configuration file, its content,
+/// alone, so that a relay may run on them. Faults are searched for in this order: the configuration file, its content,
 /// the spool, the writer. After a fault of the writer some of the lines may be written.
 pub fn list<F: Files<File = File>, W: Write>(
     alloc: Global,
@@ -44,7 +44,7 @@ pub fn list<F: Files<File = File>, W: Write>(
     Ok(())
 }
 
-/// The lines of all held recipients.
+/// Returns the lines of all held recipients.
 fn listing_of<D: Disk>(alloc: Global, records: &Records<D>) -> Result<Vec<u8>, AllocError>
     ensures { IfOk result (λ lines. lines.items ≡ listing_of records.now.queue) }
 {
@@ -56,7 +56,7 @@ fn listing_of<D: Disk>(alloc: Global, records: &Records<D>) -> Result<Vec<u8>, A
     Ok(lines)
 }
 
-/// Adds the line of a place, where it is held.
+/// Adds the line of a place, if it is held.
 fn push_place<D: Disk>(
     lines: &mut Vec<u8>,
     records: &Records<D>,

@@ -43,9 +43,9 @@ pub fn open_to_read<F: Files<File = File>>(
     Err(Fault::Device)
 }
 
-/// The records of the spool; none where a file of it has another head than before, since a running relay has compacted
-/// it meanwhile. A running relay also appends: a change that it appends while the spool is read may pass the end that
-/// the file had, and then the spool is read as it was before that change.
+/// Returns the records of the spool; none if a file of it has another head than before, since a running relay has
+/// compacted it meanwhile. A running relay also appends: a change that it appends while the spool is read may pass the
+/// end that the file had, and then the spool is read as it was before that change.
 fn open_unless_it_changed<F: Files<File = File>>(
     alloc: Global,
     files: &F,
@@ -73,7 +73,7 @@ fn open_unless_it_changed<F: Files<File = File>>(
 }
 
 /// The records of the spool as it was when the gate at this place was closed, which a running relay has opened since;
-/// none where that relay has compacted the spool.
+/// none if that relay has compacted the spool.
 fn open_up_to<F: Files<File = File>>(
     alloc: Global,
     files: &F,
@@ -93,7 +93,7 @@ fn open_up_to<F: Files<File = File>>(
     }
 }
 
-/// The records, unless a file of their spool has another head than before.
+/// Returns the records, unless a file of their spool has another head than before.
 fn unless_changed<F: Files<File = File>>(
     alloc: Global,
     files: &F,
@@ -111,7 +111,7 @@ fn unless_changed<F: Files<File = File>>(
     }
 }
 
-/// The head and the size of each of two files.
+/// Returns the head and the size of each of two files.
 fn sights_of(disks: &mut Disks<FileDisk>) -> [Sight; 2] {
     [sight_of(&mut disks.first), sight_of(&mut disks.second)]
 }
@@ -131,7 +131,7 @@ fn sight_of(disk: &mut FileDisk) -> Sight {
     }
 }
 
-/// Whether each file has the same head as before: then it wasn't compacted while it was read.
+/// Returns whether each file has the same head as before: then it wasn't compacted while it was read.
 fn have_heads_of(now: &[Sight; 2], before: &[Sight; 2]) -> bool {
     now[0].head == before[0].head && now[1].head == before[1].head
 }

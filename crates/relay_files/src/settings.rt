@@ -13,8 +13,8 @@ use std::io;
 use std::path::Path;
 use std::rt::Files;
 
-/// The configuration in the file at this path: what a text says. Faults are looked for in this order: the file, its
-/// content.
+/// Returns the configuration in the file at this path: what a text says. Faults are searched for in this order: the
+/// file, its content.
 pub fn configuration<F: Files<File = File>>(
     alloc: Global,
     files: &F,
@@ -26,8 +26,8 @@ pub fn configuration<F: Files<File = File>>(
     Ok(Config::read(alloc, text.as_str())?)
 }
 
-/// The configuration in the file at this path, twice over one reading, so that both are what one text says: a node
-/// keeps one for itself. Faults are looked for in that order.
+/// Returns the configuration in the file at this path, twice over one reading, so that both are what one text says: a
+/// node keeps one for itself. Faults are searched for in that order.
 pub fn configurations<F: Files<File = File>>(
     alloc: Global,
     files: &F,
@@ -41,7 +41,7 @@ pub fn configurations<F: Files<File = File>>(
     Ok((first, second))
 }
 
-/// What stands in the configuration file at this path.
+/// Returns what is in the configuration file at this path.
 pub fn configuration_text<F: Files<File = File>>(
     alloc: Global,
     files: &F,
@@ -57,8 +57,8 @@ fn text_of<F: Files<File = File>>(alloc: Global, files: &F, path: &str) -> io::R
     io::read_to_string(alloc, File::open(files, path)?)
 }
 
-/// The two files of the spool that the configuration names. The second has the first's name followed by `.2`. One file
-/// under both names can't be a spool, so that is as if the second couldn't be opened.
+/// Returns the two files of the spool that the configuration names. The second has the first's name followed by `.2`.
+/// One file under both names can't be a spool, so that is as if the second couldn't be opened.
 pub(crate) fn spool_files<F: Files<File = File>>(
     alloc: Global,
     files: &F,
@@ -76,8 +76,8 @@ pub(crate) fn spool_files<F: Files<File = File>>(
     }
 }
 
-/// Those files, for reading alone. The first has to be there. Where the second isn't, the first stands for both: of two
-/// heads that are equal the first file's is taken.
+/// Returns those files, for reading alone. The first must be there. If the second isn't, the first stands for both: of
+/// two heads that are equal the first file's is taken.
 pub(crate) fn spool_files_to_read<F: Files<File = File>>(
     alloc: Global,
     files: &F,
@@ -91,7 +91,7 @@ pub(crate) fn spool_files_to_read<F: Files<File = File>>(
     })
 }
 
-/// The file at this path, for reading alone, or the one at the other path where none is there.
+/// Returns the file at this path, for reading alone, or the one at the other path where none is there.
 fn open_either<F: Files<File = File>>(files: &F, path: &str, other: &str) -> io::Result<FileDisk> {
     match FileDisk::open_to_read(files, path) {
         Err(error) if error.kind() == io::ErrorKind::NotFound => FileDisk::open_to_read(
@@ -101,12 +101,12 @@ fn open_either<F: Files<File = File>>(files: &F, path: &str, other: &str) -> io:
     }
 }
 
-/// The name of the second file.
+/// Returns the name of the second file.
 fn second_name(alloc: Global, config: &Config) -> Result<String, AllocError> {
     format!(in alloc; "{}.2", config.spool.as_str())
 }
 
-/// The file, or the fault of one that can't be opened.
+/// Returns the file, or the fault of one that can't be opened.
 fn unless_device(disk: io::Result<FileDisk>) -> Result<FileDisk, Fault> {
     match disk {
         Ok(disk) => Ok(disk),
@@ -114,8 +114,8 @@ fn unless_device(disk: io::Result<FileDisk>) -> Result<FileDisk, Fault> {
     }
 }
 
-/// The files of the spool, both locked for this process. Where the spool was never made, no file is made either: that
-/// is as if the first were empty.
+/// Returns the files of the spool, both locked for this process. If the spool was never made, no file is made either:
+/// that is as if the first were empty.
 fn locked_spool_files<F: Files<File = File>>(
     alloc: Global,
     files: &F,
@@ -134,15 +134,15 @@ fn locked_spool_files<F: Files<File = File>>(
     Ok(disks)
 }
 
-/// Whether a file is missing from a folder that is there, by what was found at their paths. Where that can't be known,
-/// opening the file tells why.
+/// Returns whether a file is missing from a folder that is there, by what was found at their paths. If that can't be
+/// known, opening the file tells why.
 fn is_absent(file: io::Result<bool>, folder: io::Result<bool>) -> bool
     ensures { IsTrue result ↔ ((file ≡ Ok false) × (folder ≡ Ok true)) }
 {
     matches!((file, folder), (Ok(false), Ok(true)))
 }
 
-/// The folder of the file at this path.
+/// Returns the folder of the file at this path.
 fn folder_of(path: &str) -> &str {
     match Path::new(path).parent() {
         Some(folder) if !folder.as_str().is_empty() => folder.as_str(),
@@ -155,7 +155,7 @@ fn lock(disk: &FileDisk) -> Result<(), Fault> {
     unless_locked(disk.try_lock())
 }
 
-/// The fault of a lock that wasn't taken: another process holds it, or the file's device failed.
+/// Returns the fault of a lock that wasn't taken: another process holds it, or the file's device failed.
 fn unless_locked(taken: io::Result<bool>) -> Result<(), Fault>
     ensures taken { IsOk result ↔ (taken ≡ Ok true) }
     ensures locked { (result ≡ Err Fault.Locked) ↔ (taken ≡ Ok false) }
@@ -167,9 +167,9 @@ fn unless_locked(taken: io::Result<bool>) -> Result<(), Fault>
     }
 }
 
-/// The node of the spool that the configuration names, whose files are locked for this process. It is live and idle, by
-/// this configuration. Faults are looked for in this order: the files, their locks ([`Fault::Locked`]), what they hold.
-/// Where the first file is absent, the fault is [`Fault::NotASpool`], and no file is made.
+/// Returns the node of the spool that the configuration names, whose files are locked for this process. It is live and
+/// idle, by this configuration. Faults are searched for in this order: the files, their locks ([`Fault::Locked`]), what
+/// they hold. If the first file is absent, the fault is [`Fault::NotASpool`], and no file is made.
 pub fn locked_node<F: Files<File = File>>(
     alloc: Global,
     files: &F,

@@ -232,7 +232,7 @@ module _ {D : Type 0} (honest : Type 0) (words : DiskWords D) where
     pub loses : (changes : List Change) (told : Told) → Keeps honest words before.records changes
         → Tells before.config.host changes before.attempts slot told
         → IsLost honest words (reporter_of before.config) now changes slot told before.records after.records
-          after.attempts
+        after.attempts
         change
     pub others : OthersStay before.attempts after.attempts slot
     pub config : after.config ≡ before.config

@@ -35,8 +35,8 @@ WasCutShort (Down down) = ⊥
 abbrev pub without_octets : Undecided → Undecided
 without_octets undecided = record undecided { note = record undecided.note { octets = [] } }
 
--- A node that was opened has the undecided change exactly where its next number is above the change's own: then its
--- record stands after the others, and it is found.
+-- A node that was opened has the undecided change exactly if its next number is above the change's own: then its record
+-- is after the others, and it is found.
 abbrev pub Decided : {D : Type 0} → NodeState D → List (List ℕ) → Option Undecided → world.Host D → Option Undecided
     → Type 0
 Decided node records None host None = host ≡ host_of node records

@@ -46,7 +46,7 @@ abbrev pub notes_to_come : {D : Type 0} → HostState D → ℕ
 notes_to_come (Up node) = notes_of node
 notes_to_come (Down down) = count_some (down.undecided ∷ [])
 
--- So many records are owed at most, and there is room for them.
+-- This many records are owed at most, and there is room for them.
 abbrev pub OwesWithin : ℕ → ℕ → ℕ → ℕ → Type 0
 OwesWithin notes len capacity owed = (notes ≤ owed) × (len + owed ≤ capacity)
 

@@ -32,6 +32,6 @@ lines_left node (host ∷ hosts) = lines_held node host.state + lines_left (node
 abbrev pub HasRoom : {D : Type 0} → World D → ℕ → Type 0
 HasRoom world free = lines_to_come world.attempts + lines_left 0 world.hosts ≤ free
 
--- And so many lines besides.
+-- And this many lines besides.
 abbrev pub HasRoomFor : {D : Type 0} → World D → ℕ → ℕ → Type 0
 HasRoomFor world more free = lines_to_come world.attempts + lines_left 0 world.hosts + more ≤ free

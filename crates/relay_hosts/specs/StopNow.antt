@@ -23,7 +23,7 @@ StateStopsAgain honest words (Down was) (Up after) = ⊥
 StateStopsAgain honest words (Down was) (Down now) = DownStops honest words was now
 
 module _ {D : Type 0} (honest : Type 0) (words : DiskWords D) where
-  -- a stop was set for a node that is up: of its disks so many calls pass, and the next fails
+  -- a stop was set for a node that is up: of its disks this many calls pass, and the next fails
   pub record IsArmed (old new : Host D) (calls : ℕ) : Type 0 where
     pub before : NodeState D
     pub up : old.state ≡ world.Up before

@@ -26,7 +26,7 @@ use Rattle.relay_hosts.specs.declared.work.GivenUp.TheVariants as given
 use Rattle.relay_hosts.specs.Call.{NotesOne, Runs}
 use Rattle.relay_report.specs.Report.{reporter_of}
 
--- the work of a node at a moment; none of one that is down
+-- the work of a node at a time; none of one that is down
 abbrev pub works_in : {D : Type 0} → ℕ → HostState D → List Work
 works_in now (Up node) = works_of node.config.routes node.attempts now node.records.queue
 works_in now (Down disk undecided) = []
@@ -41,8 +41,8 @@ abbrev pub attempts_in : {D : Type 0} → HostState D → List (Option Run)
 attempts_in (Up node) = node.attempts
 attempts_in (Down disk undecided) = []
 
--- Of a host's first work an attempt has begun, unless there was no memory, or no free number: that is said exactly
--- where there is none.
+-- Of a host's first work an attempt has begun, unless there was no memory, or no free number: that is said exactly if
+-- there is none.
 abbrev pub BeginsUnlessFull : {D : Type 0} → Host D → Begun → Type 0
 BeginsUnlessFull old (begun.Done started) = IsFull (attempts_in old.state) → ⊥
 BeginsUnlessFull old (begun.Refused fault) =
@@ -59,7 +59,7 @@ pub record OpensSession {D : Type 0} (old new : Host D) (peer : List ℕ) (conne
   pub records : after.records ≡ before.records
   pub attempts : after.attempts ≡ before.attempts
 
--- A host has refused a client, for want of memory, or of a free session, exactly where it has none. It is as it was.
+-- A host has refused a client, for lack of memory, or of a free session, exactly if it has none. It is as it was.
 pub record RefusesSession {D : Type 0} (old new : Host D) (fault : NodeFault) : Type 0 where
   pub before : NodeState D
   pub up : old.state ≡ Up before
@@ -125,7 +125,7 @@ module _ {D : Type 0} (honest : Type 0) (words : DiskWords D) where
     pub after : NodeState D
     pub gives_up : (changes : List Change) → Keeps honest words before.records changes
         → AddsUnroutable honest words (reporter_of before.config) before.config.routes message now changes
-          before.records
+        before.records
         after.records change
     pub config : after.config ≡ before.config
     pub seats : after.seats ≡ before.seats
@@ -139,7 +139,7 @@ module _ {D : Type 0} (honest : Type 0) (words : DiskWords D) where
     pub runs : Runs old new before after
     pub cuts : (changes : List Change) → Keeps honest words before.records changes
         → CutsUnroutable honest words (reporter_of before.config) before.config.routes message now changes
-          before.records
+        before.records
         after.records
     pub failed : IsStopped words before.records after.records
     pub noted : Noted
@@ -162,7 +162,7 @@ module _ {D : Type 0} (honest : Type 0) (words : DiskWords D) where
   -- there is no room for the outcome that gives up the places of a message
   abbrev pub LacksRoom : ℕ → HostState D → ℕ → Type 0
   LacksRoom now (Up node) message = HasNoRoomFor words (reporter_of node.config) node.config.routes message now
-    node.records
+      node.records
   LacksRoom now (Down disk undecided) message = ⊥
 
   -- Of a host's first work the places of a message have ended, unless there was no memory, or no room for their

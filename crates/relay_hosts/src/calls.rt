@@ -16,7 +16,7 @@ use std::mem;
 pub enum ToldLoss {
     /// It has an outcome, the change of this number.
     Ended(u64, Recorded),
-    /// It is gone without one, for want of memory or room.
+    /// It is gone without one, for lack of memory or room.
     Gone(NodeFault),
     /// The node has stopped.
     Stopped,
@@ -26,7 +26,7 @@ pub enum ToldLoss {
 pub enum Read {
     /// They were read, and a change was made or none.
     Done(Replied, Option<Recorded>),
-    /// Their attempt is gone, for want of memory or room.
+    /// Their attempt is gone, for lack of memory or room.
     Gone(NodeFault),
     /// The node has stopped.
     Stopped,
@@ -36,7 +36,7 @@ pub enum Read {
 pub enum Heard {
     /// They were heard, and a change was made or none.
     Done(Received, Option<Recorded>),
-    /// Their session is gone, for want of memory or room.
+    /// Their session is gone, for lack of memory or room.
     Gone(NodeFault),
     /// The node has stopped.
     Stopped,
@@ -44,7 +44,7 @@ pub enum Heard {
     NoRoom,
 }
 
-/// Whether this fault says that the node has stopped.
+/// Returns whether this fault says that the node has stopped.
 pub(crate) fn is_stop(fault: NodeFault) -> bool
     ensures { result ≡ is_stop fault }
 {

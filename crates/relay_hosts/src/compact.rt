@@ -1,4 +1,4 @@
-//! A node writes its spool anew, as small as what it holds.
+//! A node compacts its spool, as small as what it holds.
 ghost use Rattle.std.specs.Prelude.{◌≤◌, ℕ, List, None};
 ghost use Rattle.relay_hosts.specs.Compact.{RewritesOrNot};
 ghost use Rattle.relay_hosts.specs.Host.{host_in, host_of, notes_of, notes_to_come};
@@ -19,7 +19,7 @@ pub enum Compacted {
     Stopped,
 }
 
-/// A node writes its spool anew. Where it stops in that, it goes down.
+/// A node compacts its spool. If it stops in that, it goes down.
 pub(crate) fn compact_at<D: Reboot>(node: Node<D>, pick: u64) -> (HostState<D>, Compacted)
     requires { KnowsChanges D.Disk.honest D.Disk.words node }
     ensures rewrites { (records : List (List ℕ)) → RewritesOrNot D.Disk.honest D.Disk.words (host_of node records)

@@ -11,7 +11,7 @@ use relay_node::Received;
 use relay_world::{Line, Link, ServerEnd};
 use std::alloc::AllocError;
 
-/// Of octets of which so many were read, as many as these that wait, or all.
+/// Of octets of which this many were read, as many as these that wait, or all.
 pub fn waiting(octets: &[u8], read: usize, count: usize) -> &[u8]
     requires { read ≤ length octets.now }
     ensures { result.now ≡ take count (drop read octets.now) }
@@ -23,7 +23,7 @@ pub fn waiting(octets: &[u8], read: usize, count: usize) -> &[u8]
     &rest[..count]
 }
 
-/// What a node has heard on a link is read, and what it answers is written. Where it answers something, and memory runs
+/// What a node has heard on a link is read, and what it answers is written. If it answers something, and memory runs
 /// out for that, the link breaks.
 pub fn answer_on(link: &mut Link, received: &Received) -> Result<(), AllocError>
     requires whole { link.old.broken ≡ false }

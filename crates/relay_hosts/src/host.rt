@@ -83,7 +83,7 @@ pub(crate) enum HostState<D: Disk> {
     Down(DownNode<D>),
 }
 
-// Written out, so that what drops a state calls this, and doesn't look into its parts.
+// Written out, so that the proof of a caller that drops a state stops at this function.
 impl<D: Disk + Drop> Drop for HostState<D> {
     fn drop(self) {
         match self {
@@ -102,7 +102,7 @@ pub struct Host<D: Disk> {
     pub(crate) pick: u64,
 }
 
-// Written out, so that what drops a host calls this, and doesn't look into its parts.
+// Written out, so that the proof of a caller that drops a host stops at this function.
 impl<D: Disk + Drop> Drop for Host<D> {
     fn drop(self) {
         let Host {
@@ -128,7 +128,7 @@ impl<D: Disk> Model for Host<D> {
 }
 
 impl<D: Disk> Host<D> {
-    /// Whether the node is up.
+    /// Returns whether the node is up.
     pub fn is_up(&self) -> bool
         ensures { result ≡ holds_up self.now.state }
     {
@@ -148,7 +148,7 @@ impl<D: Disk> Host<D> {
         }
     }
 
-    /// The held places of the node's messages, in order; none of a node that is down. Its only fault is want of memory.
+    /// The held places of the node's messages, in order; none of a node that is down. Its only fault is lack of memory.
     pub fn marks(&self, alloc: Global) -> Result<Vec<(u64, u8)>, NodeFault>
         requires { KnowsIfUp D.honest D.words self.now.state }
         ensures marks { IfOk result (λ marks. marks.items ≡ marks_in self.now.state) }
@@ -209,7 +209,7 @@ impl<D: Disk> Host<D> {
 }
 
 impl<D: Reboot + Drop> Host<D> {
-    /// A node that is up stops between two calls. Where memory runs out, its disks are as they are.
+    /// A node that is up stops between two calls. If memory runs out, its disks are as they are.
     pub fn stop(self, pick: u64) -> Self
         requires { holds_up self.state ≡ true }
         ensures { StopsAtRest D.Disk.honest D.Disk.words self result }
@@ -247,7 +247,7 @@ impl<D: Reboot + Drop> Host<D> {
         }
     }
 
-    /// A node that is down is opened, or stays down where its disks are refused, or memory runs out. Where it has the
+    /// A node that is down is opened, or stays down where its disks are refused, or memory runs out. If it has the
     /// change that was undecided, that is answered, without its record.
     pub fn open(self, alloc: Global) -> (Self, Option<Undecided>)
         requires { holds_up self.state ≡ false }
@@ -367,7 +367,7 @@ impl<D: Reboot + Drop> DownNode<D> {
 }
 
 impl<D: Reboot + Drop> Host<D> {
-    /// A node that is down stops again. Where memory runs out, its disks are as they are.
+    /// A node that is down stops again. If memory runs out, its disks are as they are.
     pub fn stop_again(self, pick: u64) -> Self
         requires { holds_up self.state ≡ false }
         ensures { StaysSo D.Disk.honest D.Disk.words self result None }
@@ -386,7 +386,7 @@ impl<D: Reboot + Drop> Host<D> {
         }
     }
 
-    /// A stop is set for a node that is up: so many calls of its disks pass, and the next fails.
+    /// A stop is set for a node that is up: this many calls of its disks pass, and the next fails.
     pub fn arm(&mut self, calls: u64, pick: u64)
         requires { holds_up self.old.state ≡ true }
         ensures { IsArmed D.Disk.honest D.Disk.words self.old self.new calls }
@@ -400,7 +400,7 @@ impl<D: Reboot + Drop> Host<D> {
 }
 
 impl<D: Reboot + Drop> Host<D> {
-    /// A node that is up writes its spool anew. Where it stops in that, it goes down.
+    /// A node that is up compacts its spool. If it stops in that, it goes down.
     pub fn compact(self) -> (Self, Compacted)
         requires { HasChanges D.Disk.honest D.Disk.words self }
         ensures { RewritesOrNot D.Disk.honest D.Disk.words self result.0 result.1 }
@@ -425,7 +425,7 @@ impl<D: Reboot + Drop> Host<D> {
 }
 
 impl<D: Reboot + Drop> HostState<D> {
-    /// A node that is up writes its spool anew. Where it stops in that, it goes down.
+    /// A node that is up compacts its spool. If it stops in that, it goes down.
     fn compact(self, pick: u64) -> (Self, Compacted)
         requires { KnowsNow D.Disk.honest D.Disk.words self }
         ensures rewrites { (records : List (List ℕ)) → RewritesOrNot D.Disk.honest D.Disk.words (host_in self records)
@@ -470,7 +470,7 @@ impl<D: Reboot + Drop> DownNode<D> {
     }
 }
 
-/// What a stop leaves of two disks. Where memory runs out, they are as they are, or the first alone has stopped.
+/// What a stop leaves of two disks. If memory runs out, they are as they are, or the first alone has stopped.
 pub(crate) fn stopped<D: Reboot>(disk: Disks<D>, pick: u64) -> Disks<D>
     ensures { D.Disk.honest → ImagesWithin D.Disk.words disk result }
 {

@@ -5,7 +5,7 @@ ghost use Rattle.relay_world.specs.Ledger.{left_lines, report_told};
 use relay_book::PlaceStep;
 use relay_world::Line;
 
-/// The number of a change where it queued a report, and else 0.
+/// Returns the number of a change where it queued a report, and else 0.
 pub fn report_told(change: u64, report: bool) -> u64
     ensures { result ≡ report_told change report }
 {

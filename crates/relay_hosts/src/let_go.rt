@@ -25,7 +25,7 @@ fn let_go_one(link: &mut Link, attempts: &[Attempt], node: usize)
     }
 }
 
-/// Whether a node has an end of a link.
+/// Returns whether a node has an end of a link.
 fn has_end_of(link: &Link, attempts: &[Attempt], node: usize) -> bool
     ensures { result ≡ has_end_of node attempts.now link.now }
 {
@@ -35,7 +35,7 @@ fn has_end_of(link: &Link, attempts: &[Attempt], node: usize) -> bool
     is_tried_for(link.client, attempts, node)
 }
 
-/// Whether a server end is a node's.
+/// Returns whether a server end is a node's.
 pub fn serves_for(server: &Option<ServerEnd>, node: usize) -> bool
     ensures { result ≡ serves_for node server.now }
 {
@@ -45,7 +45,7 @@ pub fn serves_for(server: &Option<ServerEnd>, node: usize) -> bool
     }
 }
 
-/// Whether a client end is an attempt of a node.
+/// Returns whether a client end is an attempt of a node.
 pub fn is_tried_for(client: Option<usize>, attempts: &[Attempt], node: usize) -> bool
     ensures { result ≡ is_tried_for node attempts.now client }
 {

@@ -31,7 +31,7 @@ pub fn lines_left<D: Disk>(hosts: &[Host<D>]) -> Option<usize>
     Some(lines)
 }
 
-/// The sum of two numbers of lines; none where it is beyond all numbers.
+/// Returns the sum of two numbers of lines; none if it is beyond all numbers.
 fn add_lines(lines: usize, more: usize) -> Option<usize>
     ensures { MatchOption result (Unit {0}) (λ sum. sum ≡ lines + more) }
 {
@@ -49,7 +49,7 @@ fn lines_of_attempt(attempt: &Attempt) -> usize
 }
 
 impl<D: Disk> Host<D> {
-    /// The lines that the node may come to need, where it is down.
+    /// The lines that the node may come to need, if it is down.
     fn lines_held(&self) -> usize
         ensures { (node : ℕ) → result ≡ lines_held node self.now.state }
     {

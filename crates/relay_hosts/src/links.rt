@@ -8,7 +8,7 @@ ghost use Rattle.relay_world.specs.Crashes.{serves_for, tries_for};
 
 use relay_world::{Attempt, Fate, Link, ServerEnd};
 
-/// The place of the link of a number. Numbers count from 1.
+/// Returns the place of the link of a number. Numbers count from 1.
 pub fn place_of(links: &[Link], number: usize) -> Option<usize>
     ensures { MatchOption result (link_at links.now number ≡ None)
         (λ place. (number ≡ suc place) × (place < length links.now)) }
@@ -19,7 +19,7 @@ pub fn place_of(links: &[Link], number: usize) -> Option<usize>
     Some(number - 1)
 }
 
-/// The place of the link of a number, unless it is broken.
+/// Returns the place of the link of a number, unless it is broken.
 pub fn whole_link(links: &[Link], number: usize) -> Option<&Link>
     ensures { MatchOption result (whole_link links.now number ≡ None)
         (λ link. whole_link links.now number ≡ Some link.now) }
@@ -32,7 +32,7 @@ pub fn whole_link(links: &[Link], number: usize) -> Option<&Link>
     Some(link)
 }
 
-/// Whether an attempt goes on.
+/// Returns whether an attempt goes on.
 pub(crate) fn is_running(fate: Fate) -> bool
     ensures { result ≡ is_running fate }
 {
@@ -44,7 +44,7 @@ pub(crate) fn is_running(fate: Fate) -> bool
     }
 }
 
-/// Whether the attempt of a client end runs.
+/// Returns whether the attempt of a client end runs.
 pub(crate) fn tries_on(attempts: &[Attempt], client: Option<usize>) -> bool
     ensures { result ≡ tries_on attempts.now client }
 {
@@ -57,7 +57,7 @@ pub(crate) fn tries_on(attempts: &[Attempt], client: Option<usize>) -> bool
     }
 }
 
-/// Whether a session goes on at a server end.
+/// Returns whether a session goes on at a server end.
 pub fn hears_on(server: &Option<ServerEnd>) -> bool
     ensures { result ≡ hears_on server.now }
 {
@@ -67,7 +67,7 @@ pub fn hears_on(server: &Option<ServerEnd>) -> bool
     }
 }
 
-/// Whether the attempt of a client end is over.
+/// Returns whether the attempt of a client end is over.
 fn client_closed(attempts: &[Attempt], client: Option<usize>) -> bool
     ensures { result ≡ client_closed attempts.now client }
 {
@@ -77,7 +77,7 @@ fn client_closed(attempts: &[Attempt], client: Option<usize>) -> bool
     !tries_on(attempts, client)
 }
 
-/// Whether the session of a server end is over.
+/// Returns whether the session of a server end is over.
 fn server_closed(server: &Option<ServerEnd>) -> bool
     ensures { result ≡ server_closed server.now }
 {
@@ -87,7 +87,7 @@ fn server_closed(server: &Option<ServerEnd>) -> bool
     }
 }
 
-/// Whether outside has an end of a link.
+/// Returns whether outside has an end of a link.
 pub fn has_outside(link: &Link) -> bool
     ensures { result ≡ has_outside link.now }
 {
@@ -97,7 +97,7 @@ pub fn has_outside(link: &Link) -> bool
     link.server.is_none()
 }
 
-/// Whether a node has still to be told that a link is broken.
+/// Returns whether a node has still to be told that a link is broken.
 pub fn is_untold(attempts: &[Attempt], link: &Link) -> bool
     ensures { result ≡ is_untold attempts.now link.now }
 {
@@ -110,8 +110,8 @@ pub fn is_untold(attempts: &[Attempt], link: &Link) -> bool
     tries_on(attempts, link.client)
 }
 
-/// Whether there is nothing to carry to the server end of a link: it has closed; or no octet waits there, and the other
-/// end goes on.
+/// Returns whether there is nothing to carry to the server end of a link: it has closed; or no octet waits there, and
+/// the other end goes on.
 pub fn server_idles(attempts: &[Attempt], link: &Link) -> bool
     ensures { result ≡ server_idles attempts.now link.now }
 {
@@ -124,7 +124,7 @@ pub fn server_idles(attempts: &[Attempt], link: &Link) -> bool
     false
 }
 
-/// Whether there is nothing to carry to the client end of a link.
+/// Returns whether there is nothing to carry to the client end of a link.
 pub fn client_idles(attempts: &[Attempt], link: &Link) -> bool
     ensures { result ≡ client_idles attempts.now link.now }
 {
@@ -137,7 +137,7 @@ pub fn client_idles(attempts: &[Attempt], link: &Link) -> bool
     false
 }
 
-/// Whether no octet waits after so many.
+/// Returns whether no octet waits after this many.
 #[tactic(auto, using(crate::proofs::LinkLemmas::all_read, crate::proofs::LinkLemmas::some_waits))]
 pub fn is_read(octets: &[u8], read: usize) -> bool
     ensures { result ≡ is_nil (drop read octets.now) }
@@ -148,7 +148,7 @@ pub fn is_read(octets: &[u8], read: usize) -> bool
     false
 }
 
-/// So many octets more were read at the server end of a link.
+/// This many octets more were read at the server end of a link.
 pub fn read_up(link: &mut Link, used: usize)
     requires { link.old.up_read + used ≤ length link.old.up }
     ensures { link.new ≡ record link.old { up_read = link.old.up_read + used } }
@@ -158,7 +158,7 @@ pub fn read_up(link: &mut Link, used: usize)
     link.up_read += used;
 }
 
-/// So many octets more were read at the client end of a link.
+/// This many octets more were read at the client end of a link.
 pub fn read_down(link: &mut Link, used: usize)
     requires { link.old.down_read + used ≤ length link.old.down }
     ensures { link.new ≡ record link.old { down_read = link.old.down_read + used } }

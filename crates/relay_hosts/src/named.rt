@@ -6,7 +6,7 @@ use crate::host::Host;
 use relay_disk::Disk;
 use relay_routes::HostName;
 
-/// Whether a node has this name.
+/// Returns whether a node has this name.
 fn has_name<D: Disk>(host: &Host<D>, name: &HostName) -> bool
     ensures { result ≡ bytes_eq host.now.config.host name.now }
 {

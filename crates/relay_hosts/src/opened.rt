@@ -10,7 +10,7 @@ use relay_octets::Octets;
 use std::alloc::Global;
 use std::mem;
 
-/// The host of a node that was opened: it has the change that was undecided exactly where its next number is above the
+/// The host of a node that was opened: it has the change that was undecided exactly if its next number is above the
 /// change's own.
 pub(crate) fn decide<D: Disk>(
     alloc: Global,

@@ -114,7 +114,7 @@ impl<D: Disk> Host<D> {
         node.connect(peer)
     }
 
-    /// The first work of the node at a moment, if there is any. Its only fault is want of memory.
+    /// The first work of the node at a time, if there is any. Its only fault is lack of memory.
     pub fn first_work(&self, alloc: Global, now: Moment) -> Result<Option<Work>, NodeFault>
         requires { HasChanges D.honest D.words self.now }
         ensures first { IfOk result (λ work. work ≡ slice_get (works_in now self.now.state) 0) }
@@ -133,7 +133,7 @@ impl<D: Disk> Host<D> {
         Ok(Some(works.swap_remove(0)))
     }
 
-    /// Whether 64 attempts of the node are running, so that it begins none.
+    /// Returns whether 64 attempts of the node are running, so that it begins none.
     pub fn is_full_of_attempts(&self) -> bool
         ensures { IsTrue result ↔ IsFull (attempts_in self.now.state) }
     {

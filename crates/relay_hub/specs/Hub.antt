@@ -37,7 +37,7 @@ module _ {D : Type 0} (honest : Type 0) (words : DiskWords D) where
     pub live : records.spool.live ≡ true → Keeps honest words records changes
     pub stopped : records.spool.live ≡ false → (pending : Option Change) × Halted honest words records changes pending
 
-  -- after these changes so many accepts were added, and nothing else
+  -- after these changes this many accepts were added, and nothing else
   pub record GrowsBy (changes : List Change) (added : ℕ) (records : Kept D) : Type 0 where
     pub accepts : List Accept
     pub count : length accepts ≡ added

@@ -58,7 +58,7 @@ IsRefusal NoNumber = Unit {0}
 IsRefusal Device = Unit {0}
 
 -- The words below are of a link under a hub that has answered so, of this configuration, with a client at this address,
--- from its start on, at a moment.
+-- from its start on, at a time.
 module _ (has_answered : List ℕ → ℕ → Offered → Answer → Type 0) (config : Config) (peer : List ℕ) (at : ℕ)
     (start : LinkStart) where
   -- These answers are the hub's, and after the receipts of before stand those of the offers that were queued by them,
@@ -91,9 +91,9 @@ module _ (has_answered : List ℕ → ℕ → Offered → Answer → Type 0) (co
     pub answered : length said.offers ≡ length said.answers
     pub noted : HasNoted said.offers said.answers receipts
 
-  -- What was written is a beginning of the output of a dialogue, whose input is a beginning of what was read: all of it
-  -- where nothing more could be read. Where the hub has refused an offer, it is the last, and has no answer. Where
-  -- memory ran out after the hub's answer to an offer, that isn't told, and counts for the receipts.
+  -- What was written is a prefix of the output of a dialogue, whose input is a prefix of what was read: all of it where
+  -- nothing more could be read. If the hub has refused an offer, it is the last, and has no answer. If memory ran out
+  -- after the hub's answer to an offer, that isn't told, and counts for the receipts.
   pub record HasBegun (left held : Option (List ℕ)) (receipts : List Receipt) (fault : LinkFault) : Type 0 where
     pub said : Said
     pub dialogue : IsDialogue (setup_for config peer) said

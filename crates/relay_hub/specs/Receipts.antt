@@ -46,6 +46,6 @@ pub record AreReceipts (first : ℕ) (queue : Queue) (passes : List (List Receip
   pub true_of : AllByRecursion (λ receipts. AreTrueOf queue receipts) passes
   pub once : (number : ℕ) → first ≤ number → number < queue.next → times number passes ≡ 1
 
--- so many passes, without receipts
+-- this many passes, without receipts
 abbrev pub AreNew : ℕ → List (List Receipt) → Type 0
 AreNew count passes = (length passes ≡ count) × AllByRecursion (λ receipts. receipts ≡ []) passes

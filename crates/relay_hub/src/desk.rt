@@ -54,7 +54,7 @@ impl<D: Disk, J: Opening> Model for Desk<D, J> {
 }
 
 impl<D: Disk, J: Opening> Desk<D, J> {
-    /// A node that threads begin to share, after whose passes nothing is left of the ledger's share.
+    /// Makes a node that threads begin to share, after whose passes nothing is left of the ledger's share.
     pub(crate) fn new(node: Node<D>, queued: Book<J>, rest: Share<J>) -> Desk<D, J>
         requires none { queued.total ≡ 0 }
         requires rest { (rest.parts ≡ 0) × (rest.amount ≡ 0) }
@@ -107,8 +107,8 @@ impl<D: Disk, J: Opening> Desk<D, J> {
         }
     }
 
-    /// The node, and the number of the first message that the threads gave. The passes are all that there are, so
-    /// their receipts are as many as the accepts that were added.
+    /// Returns the node, and the number of the first message that the threads gave. The passes are all that there are,
+    /// so their receipts are as many as the accepts that were added.
     pub(crate) fn close(self, passes: &mut Vec<Pass<J>>) -> (Node<D>, u64)
         requires { vec_len passes.old ≡ J.parts }
         ensures grown { HasGrown D.honest D.words J.starts (count_of passes.old.items) result.0.records }

@@ -43,7 +43,7 @@ impl<D: Disk + Drop, J: Opening> Drop for Mismatch<D, J> {
 }
 
 impl<D: Disk, J: Opening> Mismatch<D, J> {
-    /// The node and the passes.
+    /// Returns the node and the passes.
     pub fn into_parts(self) -> (Node<D>, Vec<Pass<J>>)
         ensures { (result.0 ≡ self.node) × (result.1.items ≡ self.passes.items) }
     {
@@ -53,8 +53,8 @@ impl<D: Disk, J: Opening> Mismatch<D, J> {
 }
 
 impl<D: Disk, J: Opening> Hub<D, J> {
-    /// Puts a node under a lock, with a pass for each of so many threads. Where memory runs out the node comes back.
-    /// The blank ledger has a part for each thread.
+    /// Puts a node under a lock, with a pass for each of this many threads. If memory runs out the node comes back. The
+    /// blank ledger has a part for each thread.
     pub fn new(
         alloc: Global,
         node: Node<D>,
@@ -82,9 +82,9 @@ impl<D: Disk, J: Opening> Hub<D, J> {
         ))
     }
 
-    /// Takes an offer into the node, and adds its receipt to the pass where it is queued. The receipt's room is
-    /// taken first, and where memory runs out for it that is answered, whatever the node would have answered. After
-    /// `Queued` each stop leaves the message.
+    /// Takes an offer into the node, and adds its receipt to the pass where it is queued. The receipt's room is taken
+    /// first, and if memory runs out for it that is answered, whatever the node would have answered. After `Queued`
+    /// each stop leaves the message.
     pub fn admit<R: Wait>(
         &self,
         rt: &R,
@@ -103,9 +103,9 @@ impl<D: Disk, J: Opening> Hub<D, J> {
         self.desk.lock(rt).admit(pass, offer, peer, now)
     }
 
-    /// Takes the node back, with all passes. After each list of changes that it kept at the start it has one accept
-    /// for each receipt, at its number and as that tells it, and no other change; live or stopped. Where that isn't so
-    /// by their numbers and texts, node and passes come back as a mismatch. It takes no memory.
+    /// Takes the node back, with all passes. After each list of changes that it kept at the start it has one accept for
+    /// each receipt, at its number and as that tells it, and no other change; live or stopped. If that isn't so by
+    /// their numbers and texts, node and passes come back as a mismatch. Allocates nothing.
     pub fn close(self, passes: Vec<Pass<J>>) -> Result<(Node<D>, Vec<Pass<J>>), Mismatch<D, J>>
         requires { vec_len passes ≡ J.parts }
         ensures closed { (changes : List Change) → J.starts changes
@@ -128,7 +128,7 @@ impl<D: Disk, J: Opening> Hub<D, J> {
     }
 }
 
-/// A pass for each of so many threads, and what is left of their share. It fails where memory runs out.
+/// Returns a pass for each of this many threads, and what is left of their share. Fails if memory runs out.
 fn passes_of<J: Opening>(
     alloc: Global,
     share: Share<J>,

@@ -36,11 +36,10 @@ struct Terms<'a> {
 }
 
 /// Serves a client: writes the greeting, reads commands and mail from `reader`, and writes the replies to `writer`, all
-/// of them before the next read and after each message. Each message is given to the hub, and only those that it
-/// queued add their receipts to the pass, in order; the client is told what the hub answered. It ends at a close, and
-/// at the end of the input; and where the hub refuses to take a message, without another octet. Where memory runs out
-/// after the hub's answer, the client isn't told of it, and the message stays queued. All mail counts as accepted at
-/// `now`.
+/// of them before the next read and after each message. Each message is given to the hub, and only those that it queued
+/// add their receipts to the pass, in order; the client is told what the hub answered. It ends at a close, and at the
+/// end of the input; and where the hub refuses to take a message, without another octet. If memory runs out after the
+/// hub's answer, the client isn't told of it, and the message stays queued. All mail counts as accepted at `now`.
 pub fn hub_link<D: Disk, J: Opening, T: Wait, R: Read, W: Write>(
     rt: &T,
     alloc: Global,
@@ -102,7 +101,7 @@ fn converse<D: Disk, J: Opening, T: Wait, R: Read, W: Write>(
     Err(LinkFault::Input)
 }
 
-/// Reads once into the block, and answers what was read. It tells whether the link has come to its end: by a close, or
+/// Reads once into the block, and returns what was read. Returns whether the link has come to its end: by a close, or
 /// by the end of the input. A read that was interrupted has read nothing.
 fn exchange_block<D: Disk, J: Opening, T: Wait, R: Read, W: Write>(
     rt: &T,
@@ -138,7 +137,7 @@ fn exchange_block<D: Disk, J: Opening, T: Wait, R: Read, W: Write>(
     answer_block(rt, hub, pass, terms, session, &block[..count], writer)
 }
 
-/// Answers octets that were read, all of them or up to a close. It tells whether there was one.
+/// Answers octets that were read, all of them or up to a close. Returns whether there was one.
 fn answer_block<D: Disk, J: Opening, T: Wait, W: Write>(
     rt: &T,
     hub: &Hub<D, J>,
@@ -166,7 +165,7 @@ fn answer_block<D: Disk, J: Opening, T: Wait, W: Write>(
     Ok(false)
 }
 
-/// Answers octets after those that are used, all of them or up to an offer or a close. It tells whether there was a
+/// Answers octets after those that are used, all of them or up to an offer or a close. Returns whether there was a
 /// close.
 fn answer<D: Disk, J: Opening, T: Wait, W: Write>(
     rt: &T,
@@ -196,8 +195,8 @@ fn answer<D: Disk, J: Opening, T: Wait, W: Write>(
     Ok(is_last)
 }
 
-/// Hears octets after those that are used, all of them or up to an offer or a close, and puts the replies after
-/// `out`. It tells whether there was a close.
+/// Hears octets after those that are used, all of them or up to an offer or a close, and puts the replies after `out`.
+/// Returns whether there was a close.
 fn hear<D: Disk, J: Opening, T: Wait>(
     rt: &T,
     hub: &Hub<D, J>,
@@ -267,7 +266,7 @@ fn take_offer<D: Disk, J: Opening, T: Wait>(
     }
 }
 
-/// What the hub answers to an offer. Where it takes none, the link ends.
+/// Returns what the hub answers to an offer. If it takes none, the link ends.
 #[tactic(auto, using(crate::proofs::LinkLemmas::refusal_of))]
 fn ask<D: Disk, J: Opening, T: Wait>(
     rt: &T,

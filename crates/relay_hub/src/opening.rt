@@ -3,8 +3,8 @@ use std::marker::Brand;
 use std::sync::ledger::Ledger;
 
 /// Names the ledger of a hub, the lists of changes that its node kept when threads began to share it, and what it has
-/// answered: to a client at this address, at a moment, to this offer. It exists in proofs alone. Nothing else is known
-/// of what a hub has answered, so what is held to it asks the hub.
+/// answered: to a client at this address, at a time, to this offer. It exists in proofs alone. Nothing else is known of
+/// what a hub has answered, so what is held to it asks the hub.
 pub trait Opening: Ledger {
     ghost use Rattle.std.specs.Prelude.{List, ℕ};
     ghost use Rattle.relay_book.specs.declared.change.Change.{Change};

@@ -15,7 +15,7 @@ pub struct Pass<J: Opening> {
     pub(crate) share: Share<J>,
 }
 
-// Written out, so that what drops a pass calls this, and doesn't look into its receipts.
+// Written out, so that the proof of a caller that drops a pass stops at this function.
 impl<J: Opening> Drop for Pass<J> {
     fn drop(self) {
         let Pass {
@@ -49,14 +49,14 @@ impl<J: Opening> Pass<J> {
         }
     }
 
-    /// The receipts, in the order in which the mail was queued. It takes no memory.
+    /// Returns the receipts, in the order in which the mail was queued. Allocates nothing.
     pub fn receipts(&self) -> &[Receipt]
         ensures { result.now ≡ self.now }
     {
         self.receipts.as_slice()
     }
 
-    /// The receipts, and no pass any more. It takes no memory.
+    /// Returns the receipts, and no pass any more. Allocates nothing.
     pub fn into_receipts(self) -> Vec<Receipt>
         ensures { result.items ≡ self }
     {
@@ -68,8 +68,8 @@ impl<J: Opening> Pass<J> {
     }
 }
 
-/// Tells that the ledger has counted as many messages as the passes have receipts, where no pass is missing: beside
-/// those whose shares are in `seen`. It does nothing.
+/// States that the ledger has counted as many messages as the passes have receipts, where no pass is missing: beside
+/// those whose shares are in `seen`. Does nothing.
 #[cycle(audit)]
 pub(crate) fn audit<J: Opening>(book: &mut Book<J>, seen: &mut Share<J>, passes: &mut [Pass<J>])
     requires parts { seen.old.parts + length passes.old ≡ J.parts }
@@ -85,7 +85,7 @@ pub(crate) fn audit<J: Opening>(book: &mut Book<J>, seen: &mut Share<J>, passes:
     }
 }
 
-/// The same, of a pass and others: its share is lent to `seen` as long as the others are looked at.
+/// The same, of a pass and others: its share is lent to `seen` as long as the others are checked.
 #[cycle(audit)]
 fn lend<J: Opening>(
     book: &mut Book<J>,

@@ -7,11 +7,11 @@ pub struct Receipt {
     pub number: u64,
     /// The IPv4 address of the client that gave it.
     pub peer: [u8; 4],
-    /// Its moment, envelope and stored text.
+    /// Its time, envelope and stored text.
     pub accept: Accept,
 }
 
-// Written out, so that what drops a receipt calls this, and doesn't look into the accept.
+// Written out, so that the proof of a caller that drops a receipt stops at this function.
 impl Drop for Receipt {
     fn drop(self) {
         let Receipt {

@@ -1,11 +1,11 @@
-//! Whether two accepts are the same, part by part. It takes no memory.
+//! Whether two accepts are the same, part by part. Allocates nothing.
 ghost use Rattle.std.specs.Prelude.{◌≡◌, ◌↔◌, IsTrue};
 ghost use Rattle.std.specs.Option.{option_copied};
 
 use relay_book::Accept;
 use relay_envelope::{Envelope, Recipient};
 
-/// Whether two accepts have the same moment, envelope and stored text.
+/// Returns whether two accepts have the same time, envelope and stored text.
 pub(crate) fn is_same_accept(one: &Accept, other: &Accept) -> bool
     ensures { IsTrue result ↔ (one.now ≡ other.now) }
 {
@@ -14,7 +14,7 @@ pub(crate) fn is_same_accept(one: &Accept, other: &Accept) -> bool
         && is_same_envelope(&one.envelope, &other.envelope)
 }
 
-/// Whether two envelopes are the same.
+/// Returns whether two envelopes are the same.
 fn is_same_envelope(one: &Envelope, other: &Envelope) -> bool
     ensures { IsTrue result ↔ (one.now ≡ other.now) }
 {
@@ -27,7 +27,7 @@ fn is_same_envelope(one: &Envelope, other: &Envelope) -> bool
         && are_same_recipients(one.recipients.as_slice(), other.recipients.as_slice())
 }
 
-/// Whether two rows of recipients are the same.
+/// Returns whether two rows of recipients are the same.
 fn are_same_recipients(one: &[Recipient], other: &[Recipient]) -> bool
     ensures { IsTrue result ↔ (one.now ≡ other.now) }
 {
@@ -42,7 +42,7 @@ fn are_same_recipients(one: &[Recipient], other: &[Recipient]) -> bool
     true
 }
 
-/// Whether two recipients are the same.
+/// Returns whether two recipients are the same.
 fn is_same_recipient(one: &Recipient, other: &Recipient) -> bool
     ensures { IsTrue result ↔ (one.now ≡ other.now) }
 {
@@ -54,7 +54,7 @@ fn is_same_recipient(one: &Recipient, other: &Recipient) -> bool
         )
 }
 
-/// Whether two texts that may be missing are the same.
+/// Returns whether two texts that may be missing are the same.
 fn is_same_text(one: Option<&[u8]>, other: Option<&[u8]>) -> bool
     ensures { IsTrue result ↔ (option_copied one.entry ≡ option_copied other.entry) }
 {

@@ -4,7 +4,7 @@ use Rattle.toml.specs.Data.{Data}
 use Rattle.relay_routes.specs.Network.{GivesNetworks}
 use Rattle.relay_routes.specs.declared.network.Network.{Network}
 
--- profile: an array of networks; a value that is none is bad; where none is, there is no balancer
+-- profile: an array of networks; a value that is none is bad; if none is, there is no balancer
 abbrev pub ReadsBalancers : Option Data → Option (List Network) → Type 0
 ReadsBalancers None found = found ≡ Some []
 ReadsBalancers (Some value) None = (networks : List Network) → ¬ GivesNetworks value networks

@@ -1,8 +1,8 @@
--- When a spool is compacted without being asked to: written anew, as small as what it holds.
+-- When a spool is compacted without being asked to: rewritten, as small as what it holds.
 use Rattle.std.specs.Prelude.{◌≡◌, ◌⊎◌, ℕ, ◌+◌, ◌*◌, ◌/◌, ◌^◌, ◌<◌, ◌≤◌, min, Bool, true}
 
--- A spool of this size, which would take so many octets if it were written anew, passes the lesser of 16 MiB and half
--- of its limit, and is more than twice as large.
+-- A spool of this size, which would take this many octets if it were rewritten, passes the lesser of 16 MiB and half of
+-- its limit, and is more than twice as large.
 abbrev pub HasHalved : ℕ → ℕ → ℕ → Type 0
 HasHalved size compacted limit = (min (2 ^ 24) (limit / 2) < size) × (2 * compacted < size)
 

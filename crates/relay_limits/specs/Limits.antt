@@ -44,7 +44,7 @@ value_of limit document = get_member (limit_text limit) document
 abbrev pub GivesNumber : Limit → Data → ℕ → Type 0
 GivesNumber limit value number = (value ≡ integer (pos number)) × (1 ≤ number) × (number ≤ most_of limit)
 
--- a value that is there gives this number, or it is bad; where none is, this is the number otherwise
+-- a value that is there gives this number, or it is bad; if none is, this is the number otherwise
 abbrev pub ReadsLimit : Limit → Option Data → Result ℕ Limit → Type 0
 ReadsLimit limit None result = result ≡ Ok (default_of limit)
 ReadsLimit limit (Some value) (Ok number) = GivesNumber limit value number
@@ -54,7 +54,7 @@ ReadsLimit limit (Some value) (Err fault) = (fault ≡ limit) × ((number : ℕ)
 abbrev pub SaysOf : Members → Limit → Result ℕ Limit → Type 0
 SaysOf document limit = ReadsLimit limit (value_of limit document)
 
--- profile: a text says the port of a page that this machine alone is shown; a value that is none is bad; where none is,
+-- profile: a text says the port of a page that this machine alone is shown; a value that is none is bad; if none is,
 -- there is no page
 abbrev pub ReadsPort : Option Data → Result (Option ℕ) Limit → Type 0
 ReadsPort None result = result ≡ Ok None
@@ -68,7 +68,7 @@ abbrev pub log_form_text : LogForm → List ℕ
 log_form_text Text = codes "text"
 log_form_text Json = codes "json"
 
--- profile: a text names the form of the log's lines; a value that names none is bad; where none is, they are text
+-- profile: a text names the form of the log's lines; a value that names none is bad; if none is, they are text
 abbrev pub ReadsLogForm : Option Data → Result LogForm Limit → Type 0
 ReadsLogForm None result = result ≡ Ok Text
 ReadsLogForm (Some value) (Ok form) = value ≡ string (log_form_text form)
@@ -92,7 +92,7 @@ pub record IsGoodPort (document : Members) : Type 0 where
   pub port : Option ℕ
   pub says : ReadsPort (value_of StatusListen document) (Ok port)
 
--- the first fault of a document: the keys are looked at in this order, and those before are good
+-- the first fault of a document: the keys are checked in this order, and those before are good
 pub data FirstFault (document : Members) (fault : Limit) : Type 0 where
   at_sessions : SaysOf document SessionsPerClient (Err fault) → FirstFault document fault
   at_attempts : IsGood document SessionsPerClient → SaysOf document AttemptsPerHop (Err fault)

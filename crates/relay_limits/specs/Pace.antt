@@ -1,4 +1,4 @@
--- When one more connection to a next hop may be begun, and how long a next hop is left alone.
+-- When one more connection to a next hop may be begun, and how long a next hop is on hold.
 use Rattle.std.specs.Prelude.{◌≡◌, ℕ, ◌<◌, ◌+◌, ◌-◌, ◌*◌, ◌^◌, min, nat_lt, true, false, Option, None, Some}
 use Rattle.std.specs.Prelude.{if◌then◌else◌}
 use Rattle.relay_limits.specs.declared.pace.Hold.{Hold}
@@ -10,7 +10,7 @@ abbrev pub next_hold : Option Hold → ℕ
 next_hold None = 60
 next_hold (Some hold) = min (hold.seconds * 2) 1800
 
--- at this tick the next hop is left alone
+-- at this tick the next hop is on hold
 abbrev pub IsHeld : Option Hold → ℕ → Type 0
 IsHeld None tick = ⊥
 IsHeld (Some hold) tick = tick < hold.until
@@ -36,7 +36,7 @@ abbrev pub standing : Pace → ℕ
 standing pace = min (pace.running + pace.leaving) (2 ^ 64 - 1)
 
 -- Fewer attempts run than the most, and fewer connections stand than the next hop takes; or none runs where it has said
--- nothing yet. And it isn't left alone.
+-- nothing yet. And it isn't on hold.
 pub record MayBegin (most tick : ℕ) (pace : Pace) : Type 0 where
   pub fewer : pace.has_answered ≡ true → (pace.running < most) × (standing pace < pace.limit)
   pub one : pace.has_answered ≡ false → pace.running ≡ 0
@@ -62,7 +62,7 @@ with_limit limit pace = record pace { limit = limit }
 abbrev pub answered_pace : Pace → Pace
 answered_pace pace = record pace { has_answered = true; hold = None }
 
--- it is left alone from this tick on, or up to the last that there is
+-- it is on hold from this tick on, or up to the last that there is
 abbrev pub held_from : ℕ → Pace → Pace
 held_from tick pace = record pace {
   has_answered = false;

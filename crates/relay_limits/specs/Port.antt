@@ -23,7 +23,7 @@ abbrev pub if_some : Option ℕ → Option ℕ
 if_some None = None
 if_some (Some number) = if nat_lt 0 number then Some number else None
 
--- the number of digits, where it is a port: from 1 to 65,535
+-- the number of digits, if it is a port: from 1 to 65,535
 abbrev pub port_of : List ℕ → Option ℕ
 port_of digits = if_some (number_of digits)
 

@@ -22,7 +22,7 @@ pub struct Balancers {
     networks: Vec<Network>,
 }
 
-// Written out, so that what drops them calls this, and doesn't look into each.
+// Written out, so that the proof of a caller that drops them stops at this function.
 impl Drop for Balancers {
     fn drop(self) {
         let Balancers {
@@ -50,8 +50,8 @@ impl Balancers {
         }
     }
 
-    /// The networks that a document names at `balancers`, an array; no balancer where nothing is said, and none of this
-    /// where a value is no network. It fails where memory runs out.
+    /// Returns the networks that a document names at `balancers`, an array; no balancer where nothing is said, and none
+    /// of this where a value is no network. Fails if memory runs out.
     pub fn of_document(alloc: Global, document: &toml::Table) -> Result<Option<Self>, AllocError>
         ensures { IfOk result (ReadsBalancers (value_of Limit.Balancers (table_view document.now))) }
     {
@@ -67,7 +67,7 @@ impl Balancers {
         }
     }
 
-    /// Whether an address is a balancer's.
+    /// Returns whether an address is a balancer's.
     pub fn contains(&self, address: Ipv4Addr) -> bool
         ensures { result ≡ list_any (is_in (ipv4_octets address)) self.now }
     {

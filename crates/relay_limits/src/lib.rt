@@ -1,5 +1,5 @@
 //! What bounds a relay that serves many clients at once: how many sessions and attempts it has, how long it waits, when
-//! a next hop is left alone, and when its spool is compacted.
+//! a next hop is on hold, and when its spool is compacted.
 #![tactic(auto)]
 
 mod balancers;

@@ -3,7 +3,7 @@ ghost use Rattle.relay_limits.specs.Limits.{default_of, limit_text, most_of};
 
 use std::fmt;
 
-/// A key of a configuration that only a relay which stays up reads, in the order in which they are looked at.
+/// A key of a configuration that only a relay which stays up reads, in the order in which they are checked.
 #[derive(Clone, Copy, Debug, Drop, PartialEq, Eq)]
 pub enum Limit {
     /// The most sessions of one client's address at a time.
@@ -35,7 +35,7 @@ impl Limit {
         }
     }
 
-    /// The most that it may be, where it is a number; the least is 1.
+    /// Returns the most that it may be, if it is a number; the least is 1.
     pub(crate) fn most(self) -> u16
         ensures most { result ≡ most_of self }
     {
@@ -46,7 +46,7 @@ impl Limit {
         }
     }
 
-    /// What it is where a document says nothing of it, where it is a number.
+    /// Returns what it is where a document says nothing of it, if it is a number.
     pub(crate) fn default(self) -> u16
         ensures default { result ≡ default_of self }
     {

@@ -18,17 +18,17 @@ pub struct Limits {
     /// How long a client is waited for, in seconds, 1 to 3,600.
     pub client_timeout: u16,
     /// The port of this machine's own address 127.0.0.1 at which the page listens that shows the relay's state, 1 to
-    /// 65,535; none where there is no such page.
+    /// 65,535; none if there is no such page.
     pub status_port: Option<u16>,
     /// How the lines of the log are written.
     pub log: LogForm,
 }
 
 impl Limits {
-    /// The limits that a document says, or the first of them, in the order of [`Limit`], whose value may not stand
-    /// there: the first three are integers from 1 to their most, `status_listen` is a text `127.0.0.1:` and a port, and
-    /// `log` is `text` or `json`. Where they are missing, `sessions_per_client` is 32, `attempts_per_hop` 20 and
-    /// `client_timeout` 300, there is no page, and the log is text; other keys are ignored. It takes no memory.
+    /// Returns the limits that a document says, or the first of them, in the order of [`Limit`], whose value may not
+    /// stand there: the first three are integers from 1 to their most, `status_listen` is a text `127.0.0.1:` and a
+    /// port, and `log` is `text` or `json`. If they are missing, `sessions_per_client` is 32, `attempts_per_hop` 20 and
+    /// `client_timeout` 300, there is no page, and the log is text; other keys are ignored. Allocates nothing.
     pub fn of_document(document: &toml::Table) -> Result<Limits, Limit>
         ensures ok { IfOk result (Says (table_view document.now)) }
         ensures err { IfErr result (FirstFault (table_view document.now)) }
@@ -48,7 +48,7 @@ impl Limits {
     }
 }
 
-/// The number that a document says of a limit: what it is otherwise where nothing is said.
+/// Returns the number that a document says of a limit: what it is otherwise where nothing is said.
 fn read_limit(document: &toml::Table, limit: Limit) -> Result<u16, Limit>
     ensures reads { ReadsLimit limit (value_of limit (table_view document.now)) result }
     ensures within { IfOk result (λ number. number ≤ most_of limit) }
@@ -62,7 +62,7 @@ fn read_limit(document: &toml::Table, limit: Limit) -> Result<u16, Limit>
     }
 }
 
-/// The port that a document says of the page; none where nothing is said.
+/// Returns the port that a document says of the page; none if nothing is said.
 fn read_status_port(document: &toml::Table) -> Result<Option<u16>, Limit>
     ensures { ReadsPort (value_of Limit.StatusListen (table_view document.now)) result }
 {
@@ -75,7 +75,7 @@ fn read_status_port(document: &toml::Table) -> Result<Option<u16>, Limit>
     }
 }
 
-/// The port that a text says of the page.
+/// Returns the port that a text says of the page.
 fn read_port(text: &[u8]) -> Result<Option<u16>, Limit>
     ensures { ReadsPort (Some (string text.now)) result }
 {
@@ -85,7 +85,7 @@ fn read_port(text: &[u8]) -> Result<Option<u16>, Limit>
     }
 }
 
-/// The form that a document says of the log's lines; text where nothing is said.
+/// Returns the form that a document says of the log's lines; text where nothing is said.
 fn read_log_form(document: &toml::Table) -> Result<LogForm, Limit>
     ensures { ReadsLogForm (value_of Limit.Log (table_view document.now)) result }
 {
@@ -101,7 +101,7 @@ fn read_log_form(document: &toml::Table) -> Result<LogForm, Limit>
     }
 }
 
-/// The value of a limit's key.
+/// Returns the value of a limit's key.
 pub(crate) fn member(document: &toml::Table, limit: Limit) -> Option<&Value>
     ensures { value_of limit (table_view document.now) ≡ option_map (λ value. view value.now) result }
 {

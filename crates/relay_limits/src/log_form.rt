@@ -11,7 +11,7 @@ pub enum LogForm {
 }
 
 impl LogForm {
-    /// The form that a configuration's text names, and none where it names nothing.
+    /// Returns the form that a configuration's text names, and none if it names nothing.
     pub(crate) fn read(text: &str) -> Option<Self>
         ensures { MatchOption result ((other : LogForm) → text.now ≢ log_form_text other)
             (λ form. text.now ≡ log_form_text form) }

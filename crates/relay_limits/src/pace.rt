@@ -3,23 +3,23 @@ ghost use Rattle.relay_limits.specs.Pace.{IsHeld, MayBegin, answered_pace, held_
 ghost use Rattle.relay_limits.specs.Pace.{next_outage, outage_of, standing, unknown_pace, with_leaving};
 ghost use Rattle.relay_limits.specs.Pace.{with_limit, with_running};
 
-/// How many seconds a next hop that can't be reached is left alone the first time. After each further attempt it is
-/// twice as long, up to the longest.
+/// How many seconds a next hop that can't be reached is on hold the first time. After each further attempt it is twice
+/// as long, up to the longest.
 const FIRST_HOLD: u64 = 60;
 
-/// The most seconds that a next hop is left alone.
+/// The most seconds that a next hop is on hold.
 const LONGEST_HOLD: u64 = 30 * 60;
 
 /// A next hop can't be reached, or says nothing.
 #[derive(Clone, Copy, Debug)]
 pub struct Outage {
-    /// The tick at which it was left alone first.
+    /// The tick at which it was put on hold first.
     pub since: u64,
-    /// How many times it was left alone, up to 2^64 - 1: once for each connection that failed outside of a hold.
+    /// How many times it was put on hold, up to 2^64 - 1: once for each connection that failed outside of a hold.
     pub failures: u64,
 }
 
-/// A next hop is left alone.
+/// A next hop is on hold.
 #[derive(Clone, Copy, Debug)]
 struct Hold {
     /// The tick at which it ends. One attempt is made then.
@@ -30,8 +30,8 @@ struct Hold {
     outage: Outage,
 }
 
-/// How many connections to a next hop stand, how many it takes, and whether it is left alone. A tick is a millisecond
-/// of a monotonic clock.
+/// How many connections to a next hop stand, how many it takes, and whether it is on hold. A tick is a millisecond of a
+/// monotonic clock.
 #[derive(Debug, Drop)]
 pub struct Pace {
     /// How many attempts run, each by a connection.
@@ -40,7 +40,7 @@ pub struct Pace {
     leaving: usize,
     /// The most connections that the next hop takes at a time, as far as is known.
     limit: usize,
-    /// The next hop has said something since it was left alone last, or since the relay began.
+    /// The next hop has said something since it was put on hold last, or since the relay began.
     has_answered: bool,
     hold: Option<Hold>,
 }
@@ -59,9 +59,9 @@ impl Pace {
         }
     }
 
-    /// Whether one more connection may be begun: fewer attempts run than `most`, fewer connections stand than the next
-    /// hop takes, and the next hop isn't left alone. Until it has said something only one is made, so that a next hop
-    /// that can't be reached, or is silent, takes no more of those that there may be.
+    /// Returns whether one more connection may be begun: fewer attempts run than `most`, fewer connections stand than
+    /// the next hop takes, and the next hop isn't on hold. Until it has said something only one is made, so that a next
+    /// hop that can't be reached, or is silent, takes no more of those that there may be.
     pub fn may_begin(&self, most: usize, tick: u64) -> bool
         ensures { IsTrue result ↔ MayBegin most tick self.now }
     {
@@ -73,21 +73,21 @@ impl Pace {
         takes_one_more && !self.is_held(tick)
     }
 
-    /// How many connections to the next hop stand, with those whose attempt has ended.
+    /// Returns how many connections to the next hop stand, with those whose attempt has ended.
     pub fn standing(&self) -> usize
         ensures { result ≡ standing self.now }
     {
         self.running.saturating_add(self.leaving)
     }
 
-    /// Whether connections stand whose attempt has ended.
+    /// Returns whether connections stand whose attempt has ended.
     pub fn has_leaving(&self) -> bool
         ensures { IsTrue result ↔ (0 < self.now.leaving) }
     {
         0 < self.leaving
     }
 
-    /// Whether the next hop has said something since it was left alone last, or since the relay began.
+    /// Returns whether the next hop has said something since it was put on hold last, or since the relay began.
     pub fn has_answered(&self) -> bool
         ensures { result ≡ self.now.has_answered }
     {
@@ -122,15 +122,15 @@ impl Pace {
         self.running = self.running.saturating_sub(1);
     }
 
-    /// So many connections stand whose attempt has ended.
+    /// This many connections stand whose attempt has ended.
     pub fn note_leaving(&mut self, count: usize)
         ensures { self.new ≡ with_leaving count self.old }
     {
         self.leaving = count;
     }
 
-    /// The next hop has said something: when it can't be reached the next time, it is left alone for as short as the
-    /// first time.
+    /// The next hop has said something: when it can't be reached the next time, it is on hold for as short as the first
+    /// time.
     pub fn answered(&mut self)
         ensures { self.new ≡ answered_pace self.old }
     {
@@ -138,7 +138,7 @@ impl Pace {
         self.hold = None;
     }
 
-    /// Whether the next hop is left alone.
+    /// Returns whether the next hop is on hold.
     pub fn is_held(&self, tick: u64) -> bool
         ensures { IsTrue result ↔ IsHeld self.now.hold tick }
     {
@@ -167,7 +167,7 @@ impl Pace {
         seconds
     }
 
-    /// The outage, with a connection more that has failed at this tick.
+    /// Returns the outage, with a connection more that has failed at this tick.
     fn next_outage(&self, tick: u64) -> Outage
         ensures { result ≡ next_outage tick self.now.hold }
     {
@@ -183,7 +183,7 @@ impl Pace {
         }
     }
 
-    /// Returns the outage, if the next hop was left alone and has said nothing since.
+    /// Returns the outage, if the next hop was put on hold and has said nothing since.
     pub fn outage(&self) -> Option<Outage>
         ensures { result ≡ outage_of self.now.hold }
     {
@@ -193,7 +193,7 @@ impl Pace {
         }
     }
 
-    /// The tick up to which the next hop is left alone, where it is.
+    /// Returns the tick up to which the next hop is on hold, if it is.
     pub fn held_until(&self, tick: u64) -> Option<u64>
         ensures { result ≡ hold_end tick self.now.hold }
     {

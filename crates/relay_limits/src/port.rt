@@ -6,10 +6,10 @@ ghost use Rattle.std.specs.List.{list_all};
 
 use std::str;
 
-/// What stands before the port.
+/// What is before the port.
 const HERE: &[u8] = b"127.0.0.1:";
 
-/// The port after `127.0.0.1:`, 1 to 65,535 in 1 to 5 digits, where a text is such an address.
+/// Returns the port after `127.0.0.1:`, 1 to 65,535 in 1 to 5 digits, where a text is such an address.
 #[tactic(auto, unfolding(crate::specs::Port::port_in))]
 pub(crate) fn port_in(text: &[u8]) -> Option<u16>
     ensures { result ≡ port_in text.now }
@@ -25,7 +25,7 @@ pub(crate) fn port_in(text: &[u8]) -> Option<u16>
     }
 }
 
-/// Whether a text begins with `127.0.0.1:`.
+/// Returns whether a text begins with `127.0.0.1:`.
 fn begins_here(text: &[u8]) -> bool
     ensures value { result ≡ begins_here text.now }
     ensures long { IsTrue result → 10 ≤ length text.now }
@@ -45,7 +45,7 @@ fn are_digits(digits: &[u8]) -> bool
     digits.iter().all(|octet| octet.is_ascii_digit())
 }
 
-/// The number of digits, where it is a port.
+/// Returns the number of digits, if it is a port.
 fn port_of(digits: &[u8]) -> Option<u16>
     requires { IsTrue (are_port_digits digits.now) }
     ensures { result ≡ port_of digits.now }
@@ -56,7 +56,7 @@ fn port_of(digits: &[u8]) -> Option<u16>
     }
 }
 
-/// The number of digits, where 16 bits hold it.
+/// Returns the number of digits, where 16 bits hold it.
 fn number_of(digits: &[u8]) -> Option<u16>
     requires { IsTrue (are_port_digits digits.now) }
     ensures { result ≡ number_of digits.now }

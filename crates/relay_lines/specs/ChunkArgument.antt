@@ -28,7 +28,7 @@ pub record IsEndMarker (text : List ℕ) : Type 0 where
   pub are_spaces : AllPass is_space spaces
   pub is_last : IsSameWord word (codes "LAST")
 
--- what stands after the chunk-size: nothing, or the end-marker at the last chunk
+-- what is after the chunk-size: nothing, or the end-marker at the last chunk
 abbrev pub StandsBehindSize : Bool → List ℕ → Type 0
 StandsBehindSize false behind = behind ≡ []
 StandsBehindSize true behind = IsEndMarker behind
@@ -49,7 +49,7 @@ are_digits text = list_all is_ascii_digit text
 unfoldable pub are_size_digits : List ℕ → Bool
 are_size_digits text = is_in_range 1 10 (length text) && are_digits text
 
--- the number of digits, where it is a chunk-size
+-- the number of digits, if it is a chunk-size
 unfoldable pub size_of_digits : List ℕ → Option ℕ
 size_of_digits digits =
     let size = digits_value 10 digits in if nat_lt size 4294967296 then Some size else None
@@ -109,6 +109,6 @@ LeadingZeroSaysNothing =
 abbrev pub DecimalIsChunkSize : Type 0
 DecimalIsChunkSize = (size : ℕ) → size < 2 ^ 32 → IsChunkSize (decimal size) size
 
--- The test of BDAT passes exactly where a line begins with it.
+-- The test of BDAT passes exactly if a line begins with it.
 abbrev pub BdatBeginningIsTested : Type 0
 BdatBeginningIsTested = (line : List ℕ) → IsTrue (begins_with_bdat line) ↔ BeginsWithBdat line

@@ -102,8 +102,8 @@ reading_of_words word argument = reading_of_verb (verb_of word) argument
 abbrev pub is_bdat : List ℕ → Bool
 is_bdat word = is_word word (codes "BDAT")
 
--- the reading of a text without blanks at its end: a bad octet is found before the verb, but after
--- BDAT, where it makes a bad chunk size; the verb is found before its argument
+-- the reading of a text without blanks at its end: a bad octet is found before the verb, but after BDAT, if it makes a
+-- bad chunk size; the verb is found before its argument
 unfoldable pub reading_of_text : List ℕ → Result Command LineFault
 reading_of_text text =
     if are_printable text || is_bdat (first_word text)
@@ -170,8 +170,7 @@ SplitIsOne =
     (line word argument other more : List ℕ) → SplitsLine line word argument
     → SplitsLine line other more → (word ≡ other) × (argument ≡ more)
 
--- A line's reading is that of its word and its argument, and the spaces between them and after
--- them say nothing.
+-- A line is read as its word and its argument, whatever spaces are between and after them.
 abbrev pub ReadingIsOfWords : Type 0
 ReadingIsOfWords =
     (line word argument : List ℕ) → SplitsLine line word argument
@@ -184,14 +183,14 @@ abbrev pub ReadingIsOfSpelling : Type 0
 ReadingIsOfSpelling =
     (line : List ℕ) (command : Command) → (reading_of line ≡ Ok command) ↔ ReadsCommand line command
 
--- A bad octet is found exactly where the word isn't BDAT, and it or the argument holds one.
+-- A bad octet is found exactly if the word isn't BDAT, and it or the argument holds one.
 abbrev pub BadByteIsFound : Type 0
 BadByteIsFound =
     (line word argument : List ℕ) → SplitsLine line word argument
     → (reading_of line ≡ Err BadByte)
     ↔ ((¬ AllPass is_printable (word ++ argument)) × (¬ IsSameWord word (codes "BDAT")))
 
--- A line is unknown exactly where it is printable and its word is no verb.
+-- A line is unknown exactly if it is printable and its word is no verb.
 abbrev pub UnknownIsFound : Type 0
 UnknownIsFound =
     (line word argument : List ℕ) → SplitsLine line word argument
@@ -202,8 +201,8 @@ UnknownIsFound =
 abbrev pub IsVerb : Bool → List ℕ → Type 0
 IsVerb offered word = (verb : Verb) × IsSameWord word (word_of verb) × (is_offered verb ≡ offered)
 
--- An argument is bad exactly where the line is printable, its word is a verb that is offered but
--- not BDAT, and the two spell no command.
+-- An argument is bad exactly if the line is printable, its word is a verb that is offered but not BDAT, and the two
+-- spell no command.
 abbrev pub BadArgumentIsFound : Type 0
 BadArgumentIsFound =
     (line word argument : List ℕ) → SplitsLine line word argument
@@ -211,21 +210,20 @@ BadArgumentIsFound =
     ↔ (AllPass is_printable (word ++ argument) × IsVerb true word × (¬ IsSameWord word (codes "BDAT"))
     × ((command : Command) → ¬ IsSpelled command word argument))
 
--- A verb isn't offered exactly where the line is printable, and its word is such a verb.
+-- A verb isn't offered exactly if the line is printable, and its word is such a verb.
 abbrev pub NotOfferedIsFound : Type 0
 NotOfferedIsFound =
     (line word argument : List ℕ) → SplitsLine line word argument
     → (reading_of line ≡ Err NotOffered)
     ↔ (AllPass is_printable (word ++ argument) × IsVerb false word)
 
--- The letter case of a verb says nothing.
+-- The letter case of a verb doesn't matter.
 abbrev pub LetterCaseIsFree : Type 0
 LetterCaseIsFree =
     (line other word again argument : List ℕ) → SplitsLine line word argument
     → SplitsLine other again argument → IsSameWord word again → reading_of line ≡ reading_of other
 
--- A bad chunk size is found exactly where the word is BDAT, and the argument spells no chunk,
--- whatever octets it holds.
+-- A bad chunk size is found exactly if the word is BDAT, and the argument spells no chunk, whatever octets it holds.
 abbrev pub BadChunkSizeIsFound : Type 0
 BadChunkSizeIsFound =
     (line word argument : List ℕ) → SplitsLine line word argument

@@ -1,8 +1,8 @@
--- What is held of a line while it comes in pieces: 2,048 octets of it, and what its end depends on.
+-- What a buffer holds of a line that comes in pieces: 2,048 octets of it, and what its end depends on.
 use Rattle.std.specs.Prelude.{◌≡◌, ℕ, ◌+◌, Bool, ◌||◌, nat_lt, List, [], ◌∷◌, ◌++◌, take, length}
 use Rattle.relay_octets.specs.Line.{HasNoCrlf, ReadsLine, ends_in_cr}
 
--- the octets in hand, whether more came than fit, and whether the last was a CR
+-- the buffered octets, whether more came than fit, and whether the last was a CR
 pub record HeldLine : Type 0 where
   pub kept : List ℕ
   pub is_long : Bool

@@ -67,8 +67,8 @@ last_text (text ∷ next ∷ more) = last_text (next ∷ more)
 abbrev pub written_replies : List Reply → List ℕ
 written_replies replies = flat_map reply_text replies
 
--- what follows the code in a line with this text: where it is the last line, SP and the text, or
--- nothing where there is no text; else a hyphen and the text
+-- what follows the code in a line with this text: where it is the last line, SP and the text, or nothing if there is no
+-- text; else a hyphen and the text
 abbrev pub IsBehindCode : Bool → List ℕ → List ℕ → Type 0
 IsBehindCode true text behind = (behind ≡ 32 ∷ text) ⊎ ((behind ≡ []) × (text ≡ []))
 IsBehindCode false text behind = behind ≡ 45 ∷ text

@@ -1,4 +1,4 @@
--- What is true of replies, whoever writes and reads them.
+-- Laws of replies, whoever writes and reads them.
 use Rattle.std.specs.Prelude.{◌≡◌, ℕ, ◌<◌, List, ◌++◌, length}
 use Rattle.std.specs.List.{AllByRecursion}
 use Rattle.relay_lines.specs.Reply.{Reply, IsReply, ReadsReply, reply_text, written_replies}
@@ -17,8 +17,8 @@ NoReplyBeginsAnother =
     (text other behind rest : List ℕ) (reply second : Reply) → ReadsReply text reply
     → ReadsReply other second → text ++ behind ≡ other ++ rest → (text ≡ other) × (behind ≡ rest) × (reply ≡ second)
 
--- Where octets begin replies as they are written, what is cut from the octets is a beginning of
--- those replies, and the rest has no fault.
+-- If octets are a prefix of written replies, the replies cut from them are a prefix of those, and the rest has no
+-- fault.
 abbrev pub BeginningIsCut : Type 0
 BeginningIsCut =
     (octets more rest : List ℕ) (cut replies : List Reply) → AllByRecursion IsReply replies
@@ -31,17 +31,17 @@ ReplyHasNoFault =
     (text rest : List ℕ) (reply : Reply) (fault : ReplyFault) → ReadsReply text reply
     → ¬ HasFault (text ++ rest) fault
 
--- A rest that isn't whole has no fault.
+-- An unfinished rest has no fault.
 abbrev pub UnfinishedHasNoFault : Type 0
 UnfinishedHasNoFault =
     (octets : List ℕ) (fault : ReplyFault) → IsUnfinished octets → ¬ HasFault octets fault
 
--- A rest that isn't whole begins with no reply.
+-- An unfinished rest begins with no reply.
 abbrev pub UnfinishedHasNoReply : Type 0
 UnfinishedHasNoReply =
     (text rest : List ℕ) (reply : Reply) → ReadsReply text reply → ¬ IsUnfinished (text ++ rest)
 
--- A beginning of a reply, where it isn't all of it, is a rest that isn't whole.
+-- A proper prefix of a reply is an unfinished rest.
 abbrev pub BeginningIsUnfinished : Type 0
 BeginningIsUnfinished =
     (octets more : List ℕ) (reply : Reply) → ReadsReply (octets ++ more) reply → 0 < length more
@@ -58,7 +58,7 @@ FaultIsOne =
     (octets : List ℕ) (fault other : ReplyFault) → HasFault octets fault → HasFault octets other
     → fault ≡ other
 
--- What a reader holds is a rest that isn't whole.
+-- A reader holds an unfinished rest.
 abbrev pub HeldIsUnfinished : Type 0
 HeldIsUnfinished = (reader : ReplyReader) (rest : List ℕ) → HoldsRest reader rest → IsUnfinished rest
 
@@ -80,8 +80,7 @@ CutGoesOn =
     (octets rest more : List ℕ) (replies : List Reply) → CutsReplies octets replies rest
     → CutsReplies (octets ++ more) replies (rest ++ more)
 
--- What is cut stays cut when more comes after: the further replies are those of the rest and what
--- came.
+-- Replies that were cut stay when more octets come: the further replies are those of the rest and these octets.
 abbrev pub CutStays : Type 0
 CutStays =
     (octets rest more left : List ℕ) (replies others : List Reply) → CutsReplies octets replies rest

@@ -25,8 +25,8 @@ pub record IsUnfinished (octets : List ℕ) : Type 0 where
   pub short : length part < 2048
   pub octets_are : octets ≡ followed_lines code lines ++ part
 
--- the octets begin with this line and its CR LF, 2,048 octets at most; or it is their first 2,048
--- octets, and no CR LF stands in it
+-- the octets begin with this line and its CR LF, 2,048 octets at most; or it is their first 2,048 octets, and no CR LF
+-- is in it
 abbrev pub ShowsLine : List ℕ → List ℕ → Type 0
 ShowsLine octets line =
     ((rest : List ℕ) × ReadsLine octets line rest × (length line ≤ 2046))

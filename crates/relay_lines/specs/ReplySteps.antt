@@ -52,7 +52,7 @@ pub record KeepsLine (old new : ReplyReader) (code : ℕ) : Type 0 where
   pub holds : Holds new.line []
   pub is_open : new.has_failed ≡ old.has_failed
 
--- the lines are given away, and all else stays
+-- the lines are given away, and nothing else changes
 pub record GivesLines (old new : ReplyReader) : Type 0 where
   pub code_is : new.code ≡ old.code
   pub lines_are : new.lines.items ≡ []

@@ -61,11 +61,11 @@ word_len text = position_or_len is_space text
 unfoldable pub space_len : List ℕ → ℕ
 space_len text = prefix_len is_space text
 
--- what stands before the first space
+-- what is before the first space
 unfoldable pub first_word : List ℕ → List ℕ
 first_word text = take (word_len text) text
 
--- profile: what stands after the first word and the spaces after it, where one may be several
+-- profile: what is after the first word and the spaces after it, where one may be several
 unfoldable pub argument_of : List ℕ → List ℕ
 argument_of text = let behind = drop (word_len text) text in drop (space_len behind) behind
 
@@ -73,7 +73,7 @@ argument_of text = let behind = drop (word_len text) text in drop (space_len beh
 unfoldable pub is_word : List ℕ → List ℕ → Bool
 is_word text word = str_eq_ignore_ascii_case text word
 
--- what stands after a keyword, where the text begins with it, in any letter case
+-- what is after a keyword, where the text begins with it, in any letter case
 unfoldable pub behind_keyword : List ℕ → List ℕ → Option (List ℕ)
 behind_keyword keyword text =
     if is_word (take (length keyword) text) keyword then Some (drop (length keyword) text) else None
@@ -88,8 +88,7 @@ is_address_literal text =
 unfoldable pub is_host_word : List ℕ → Bool
 is_host_word text = is_in_range 1 255 (length text) && (are_domain_octets text || is_address_literal text)
 
--- the line is a word, spaces, an argument, and spaces and tabs at its end; an argument stands
--- after a space
+-- the line is a word, spaces, an argument, and spaces and tabs at its end; an argument is after a space
 pub record SplitsLine (line word argument : List ℕ) : Type 0 where
   pub spaces : List ℕ
   pub blanks : List ℕ

@@ -12,7 +12,7 @@ abbrev pub end_marker : Bool → List ℕ
 end_marker true = codes " LAST"
 end_marker false = []
 
--- the line of a command, without its CR LF; where an argument may be left out, there is none
+-- the line of a command, without its CR LF; if an argument may be left out, there is none
 abbrev pub written_command : Command → List ℕ
 written_command (Helo host) = codes "HELO " ++ host
 written_command (Ehlo host) = codes "EHLO " ++ host

@@ -8,7 +8,7 @@ use crate::word::{argument_of, behind_keyword, first_word, is_word};
 use std::str;
 use thiserror::Error;
 
-/// What stands after the verb BDAT.
+/// The argument of BDAT.
 #[derive(Clone, Copy, Debug, PartialEq, Eq)]
 pub struct BdatArgument {
     /// How many octets of content follow the line at once.
@@ -24,8 +24,8 @@ pub struct BdatArgument {
 pub struct BadChunkSize;
 
 impl BdatArgument {
-    /// Reads what stands after BDAT and its spaces: `size` or `size LAST`, with LAST in any letter
-    /// case and one space before it or several. No blanks stand after it.
+    /// Reads the argument of BDAT: `size` or `size LAST`, with LAST in any letter case and one space or more before it.
+    /// It has no blanks at its end.
     pub fn parse(text: &[u8]) -> Result<BdatArgument, BadChunkSize>
         ensures value { MatchResult result (λ argument. bdat_argument_of text.now ≡ Some argument)
             (λ _. bdat_argument_of text.now ≡ None) }
@@ -55,7 +55,7 @@ impl BdatArgument {
     }
 }
 
-/// The chunk-size that a text is.
+/// Reads a chunk-size.
 #[tactic(auto, unfolding(crate::specs::ChunkArgument::chunk_size_of))]
 fn chunk_size(text: &[u8]) -> Option<u32>
     ensures { result ≡ chunk_size_of text.now }
@@ -67,7 +67,7 @@ fn chunk_size(text: &[u8]) -> Option<u32>
     }
 }
 
-/// Whether the text is 1 to 10 digits.
+/// Returns whether the text is 1 to 10 digits.
 #[tactic(auto, unfolding(crate::specs::ChunkArgument::are_size_digits))]
 fn are_size_digits(text: &[u8]) -> bool
     ensures { result ≡ are_size_digits text.now }
@@ -85,7 +85,7 @@ fn are_digits(text: &[u8]) -> bool
     text.iter().all(|octet| octet.is_ascii_digit())
 }
 
-/// The number of digits, where a chunk may be as large.
+/// Returns the number that digits spell, if it is a chunk-size.
 fn size_of_digits(digits: &[u8]) -> Option<u32>
     requires { IsTrue (are_size_digits digits.now) }
     ensures { result ≡ size_of_digits digits.now }
@@ -96,8 +96,8 @@ fn size_of_digits(digits: &[u8]) -> Option<u32>
     }
 }
 
-/// Whether a line begins with BDAT, in any letter case, and a space. A line that is too long and
-/// begins so has a bad chunk size.
+/// Returns whether a line begins with BDAT, in any letter case, and a space. A line that is too long and begins so has
+/// a bad chunk size.
 #[tactic(auto, using(crate::proofs::ChunkArgumentLemmas::bdat_is_found))]
 pub fn begins_with_bdat(line: &[u8]) -> bool
     ensures value { result ≡ begins_with_bdat line.now }

@@ -1,4 +1,4 @@
-//! What is true of the argument of BDAT, whoever reads it.
+//! Laws of the argument of BDAT, whoever reads it.
 ghost use Rattle.relay_lines.specs.ChunkArgument.{BdatArgumentIsOfSpelling, BdatBeginningIsTested, DecimalIsChunkSize};
 ghost use Rattle.relay_lines.specs.ChunkArgument.{ElevenDigitsAreTooMany, LeadingZeroSaysNothing, OneBdatArgument};
 
@@ -17,17 +17,17 @@ pub fn eleven_digits_are_too_many()
     ensures { ElevenDigitsAreTooMany }
 {}
 
-/// A zero before the digits of a chunk-size says nothing.
+/// A zero before the digits of a chunk-size changes nothing.
 pub fn leading_zero_says_nothing()
     ensures { LeadingZeroSaysNothing }
 {}
 
-/// The decimal of a number of 32 bits is its chunk-size.
+/// The decimal of a number of 32 bits is read as that chunk-size.
 pub fn decimal_is_chunk_size()
     ensures { DecimalIsChunkSize }
 {}
 
-/// The test of BDAT passes exactly where a line begins with it.
+/// The test for BDAT passes exactly if a line begins with it.
 pub fn bdat_beginning_is_tested()
     ensures { BdatBeginningIsTested }
 {}

@@ -22,9 +22,9 @@ pub enum Command<'a> {
     Helo(&'a [u8]),
     /// The same, of a client that asks for the service extensions.
     Ehlo(&'a [u8]),
-    /// What stands after the colon of `FROM:`.
+    /// The text after the colon of `FROM:`.
     Mail(&'a [u8]),
-    /// What stands after the colon of `TO:`.
+    /// The text after the colon of `TO:`.
     Rcpt(&'a [u8]),
     /// The mail data comes next.
     Data,
@@ -42,14 +42,14 @@ pub enum Command<'a> {
     Quit,
 }
 
-/// Why a line is no command. Faults are looked for in the order BadByte, Unknown, and then that of
-/// the verb, and the first one is answered. After BDAT any octet is a bad chunk size.
+/// Why a line is no command. `BadByte` comes before `Unknown`, and both before a fault of the argument. After BDAT a
+/// bad octet is a bad chunk size.
 #[derive(Clone, Copy, Debug, PartialEq, Eq, Error)]
 pub enum LineFault {
     /// The line begins with no verb.
     #[error("unknown command")]
     Unknown,
-    /// An octet of the line stands outside 32 to 126.
+    /// An octet of the line is outside 32 to 126.
     #[error("bad octet in line")]
     BadByte,
     /// The verb doesn't take this argument.
@@ -58,13 +58,12 @@ pub enum LineFault {
     /// The verb is EXPN or TURN, whatever its argument.
     #[error("not implemented")]
     NotOffered,
-    /// What stands after BDAT is no size, nor a size and LAST, so that nobody knows what follows
-    /// the line.
+    /// The argument of BDAT is neither a size nor a size and LAST, so nobody knows how many octets follow the line.
     #[error("bad chunk size")]
     BadChunkSize,
 }
 
-/// What a command line begins with.
+/// The verb of a command line.
 #[derive(Clone, Copy)]
 enum Verb {
     Helo,
@@ -82,7 +81,7 @@ enum Verb {
     Quit,
 }
 
-/// The verb that a word is, in any letter case.
+/// Returns the verb that a word spells, in any letter case.
 #[tactic(auto, unfolding(crate::specs::Command::verb_of))]
 fn verb_of(word: &[u8]) -> Option<Verb>
     ensures { result ≡ verb_of word.now }
@@ -119,13 +118,11 @@ fn verb_of(word: &[u8]) -> Option<Verb>
 }
 
 impl<'a> Command<'a> {
-    /// Reads a line without its CR LF. The parts of the command are slices of the line. A line may
-    /// have any length here: the limit of a command line (RFC 5321, section 4.5.3.1.4) is held by
-    /// whoever cuts it.
+    /// Reads a line without its CR LF. The parts of the command are slices of the line. The caller enforces the limit
+    /// of a command line (RFC 5321, section 4.5.3.1.4): a line may have any length here.
     ///
-    /// Spaces and tabs at the end of the line are dropped. The verb is what stands before the first
-    /// space, and several spaces may follow it. It and `FROM:` and `TO:` stand in any letter case
-    /// (RFC 5321, section 2.4).
+    /// Spaces and tabs at the end of the line are dropped. The verb ends at the first space, and several spaces may
+    /// follow it. The verb, `FROM:` and `TO:` may be in any letter case (RFC 5321, section 2.4).
     #[tactic(auto, unfolding(crate::specs::Command::reading_of, crate::specs::Command::reading_of_text))]
     pub fn parse(line: &'a [u8]) -> Result<Command<'a>, LineFault>
         ensures { answer_of result ≡ reading_of line.now }
@@ -138,7 +135,7 @@ impl<'a> Command<'a> {
         Command::of_words(word, argument_of(text))
     }
 
-    /// What a word says as a verb, with an argument.
+    /// Reads a word as a verb, with an argument.
     #[tactic(auto, unfolding(crate::specs::Command::reading_of_words))]
     fn of_words(word: &[u8], argument: &'a [u8]) -> Result<Command<'a>, LineFault>
         ensures { answer_of result ≡ reading_of_words word.now argument.now }
@@ -149,7 +146,7 @@ impl<'a> Command<'a> {
         }
     }
 
-    /// What a verb says with an argument.
+    /// Reads the argument of a verb.
     #[tactic(auto, unfolding(crate::specs::Command::command_of))]
     fn of_verb(verb: Verb, argument: &'a [u8]) -> Result<Command<'a>, LineFault>
         ensures { answer_of result ≡ command_of verb argument.now }
@@ -182,10 +179,9 @@ impl<'a> Command<'a> {
         }
     }
 
-    /// Writes the command's line and its CR LF at the end of `out`, with the verb in upper case.
-    /// Where memory runs out, nothing is written. What is written is read as this command where its
-    /// parts are such as a line may have: a host word, or a printable text that ends in no blank
-    /// and isn't too long.
+    /// Appends the command's line and its CR LF to `out`, with the verb in upper case. If memory runs out, nothing is
+    /// written. The line is read as this command if its parts may be in a line: a host word, or a printable text that
+    /// isn't too long and ends in no blank.
     pub fn write(&self, out: &mut Vec<u8>) -> Result<(), AllocError>
         ensures ok { OnOk result (out.new.items ≡ out.old.items
             ++ line_text (written_command (value_of self.now))) }
@@ -199,7 +195,7 @@ impl<'a> Command<'a> {
         written
     }
 
-    /// Writes the command's line and its CR LF, or a beginning of them where memory runs out.
+    /// Writes the command's line and its CR LF, or a prefix of them if memory runs out.
     fn push(&self, out: &mut Vec<u8>) -> Result<(), AllocError>
         ensures ok { OnOk result (out.new.items ≡ out.old.items
             ++ line_text (written_command (value_of self.now))) }

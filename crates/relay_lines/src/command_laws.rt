@@ -1,4 +1,4 @@
-//! What is true of command lines, whoever reads them.
+//! Laws of command lines, whoever reads them.
 ghost use Rattle.relay_lines.specs.Word.{AddressLiteralIsTested, HostWordIsTested};
 ghost use Rattle.relay_lines.specs.WrittenCommand.{WrittenCommandIsRead};
 ghost use Rattle.relay_lines.specs.Command.{EveryLineSplits, SplitIsOne, ReadingIsOfWords, ReadingIsOfSpelling};
@@ -15,8 +15,7 @@ pub fn split_is_one()
     ensures { SplitIsOne }
 {}
 
-/// A line's reading is that of its word and its argument, and the spaces between them and after
-/// them say nothing.
+/// A line is read as its word and its argument, whatever spaces are between and after them.
 pub fn reading_is_of_words()
     ensures { ReadingIsOfWords }
 {}
@@ -26,33 +25,33 @@ pub fn reading_is_of_spelling()
     ensures { ReadingIsOfSpelling }
 {}
 
-/// A bad octet is found exactly where the word isn't BDAT, and it or the argument holds one.
+/// A bad octet is found exactly if the word isn't BDAT, and it or the argument holds one.
 pub fn bad_byte_is_found()
     ensures { BadByteIsFound }
 {}
 
-/// A line is unknown exactly where it is printable and its word is no verb.
+/// A line is unknown exactly if it is printable and its word is no verb.
 pub fn unknown_is_found()
     ensures { UnknownIsFound }
 {}
 
-/// An argument is bad exactly where the line is printable, its word is a verb that is offered but
-/// not BDAT, and the two spell no command.
+/// An argument is bad exactly if the line is printable, its word is a verb that is offered but not BDAT, and the two
+/// spell no command.
 pub fn bad_argument_is_found()
     ensures { BadArgumentIsFound }
 {}
 
-/// A verb isn't offered exactly where the line is printable, and its word is EXPN or TURN.
+/// A verb isn't offered exactly if the line is printable, and its word is EXPN or TURN.
 pub fn not_offered_is_found()
     ensures { NotOfferedIsFound }
 {}
 
-/// A bad chunk size is found exactly where the word is BDAT, and the argument spells no chunk.
+/// A bad chunk size is found exactly if the word is BDAT, and the argument spells no chunk.
 pub fn bad_chunk_size_is_found()
     ensures { BadChunkSizeIsFound }
 {}
 
-/// The letter case of a verb says nothing.
+/// The letter case of a verb doesn't matter.
 pub fn letter_case_is_free()
     ensures { LetterCaseIsFree }
 {}
@@ -68,12 +67,12 @@ pub fn written_command_is_read()
     ensures { WrittenCommandIsRead }
 {}
 
-/// The test of an address literal passes exactly at one.
+/// The test for an address literal passes exactly if the text is one.
 pub fn address_literal_is_tested()
     ensures { AddressLiteralIsTested }
 {}
 
-/// The test of a host word passes exactly at one.
+/// The test for a host word passes exactly if the text is one.
 pub fn host_word_is_tested()
     ensures { HostWordIsTested }
 {}

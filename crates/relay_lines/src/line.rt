@@ -6,19 +6,19 @@ ghost use Rattle.relay_lines.specs.LineCut.{CutsLine};
 use relay_octets::find_crlf;
 use std::alloc::AllocError;
 
-/// What a stream shows of its next line.
+/// The state of a stream's next line.
 #[derive(Clone, Copy, Debug, PartialEq, Eq)]
 pub enum LineCut {
-    /// It is whole: so many octets, with its CR LF.
+    /// It is whole, and has this many octets with its CR LF.
     Whole(usize),
-    /// As many octets as a line may have are there, and no CR LF among them.
+    /// It has the most octets of a line without a CR LF among them.
     TooLong,
-    /// More octets decide.
+    /// Whether it is whole or too long depends on further octets.
     More,
 }
 
-/// Cuts the first line off a stream (RFC 5321, 2.3.8), where a line has at most `limit` octets with
-/// its CR LF. It takes no memory.
+/// Cuts the first line off a stream (RFC 5321, 2.3.8), where a line has at most `limit` octets with its CR LF.
+/// Allocates nothing.
 pub fn next_line(octets: &[u8], limit: usize) -> LineCut
     ensures { CutsLine result octets.now limit }
 {

@@ -6,12 +6,11 @@ ghost use Rattle.relay_lines.specs.HeldLine.{HeldLine, Holds, HoldsLine, EndsLin
 use relay_octets::find_crlf;
 use std::marker::Model;
 
-/// The most octets that a command line or a reply line has, with its CR LF. A command line may so
-/// have more than the 512 octets of RFC 5321, 4.5.3.1.4, which the extensions raise.
+/// The most octets of a command line or a reply line, with its CR LF: more than the 512 of RFC 5321, 4.5.3.1.4, which
+/// the extensions raise.
 pub const LINE_LIMIT: usize = 2048;
 
-/// A line that comes in pieces. It stands in a fixed array: of a longer line the first 2,048 octets
-/// are kept, and the others are counted as too many and dropped.
+/// A line that comes in pieces, in a fixed array: the octets of a line after the first 2,048 are dropped.
 pub struct LineBuffer {
     octets: [u8; LINE_LIMIT],
     len: usize,
@@ -19,7 +18,7 @@ pub struct LineBuffer {
     after_cr: bool,
 }
 
-// Written out, so that what drops a buffer calls this, and doesn't look into its array.
+// Written out, so that the proof of a caller that drops a buffer stops at this function.
 impl Drop for LineBuffer {
     fn drop(self) {
         let LineBuffer {
@@ -40,7 +39,7 @@ impl Model for LineBuffer {
 }
 
 impl LineBuffer {
-    /// An empty buffer.
+    /// Makes an empty buffer.
     pub fn new() -> Self
         ensures { Holds result [] }
     {
@@ -52,9 +51,8 @@ impl LineBuffer {
         }
     }
 
-    /// Takes the next octets of the line, up to the line's end where it comes, and answers how many
-    /// they are then. Where it doesn't come, all of the piece is taken. A buffer whose line has
-    /// ended is cleared first.
+    /// Takes octets up to the line's end, and returns how many it took, or takes the whole piece and returns `None` if
+    /// the line goes on. Clear a buffer whose line has ended before you feed it again.
     pub fn feed(&mut self, piece: &[u8]) -> Option<usize>
         ensures taken { (octets : List ℕ) → Holds self.old octets
             → MatchOption result (Holds self.new (octets ++ piece.now))
@@ -79,7 +77,7 @@ impl LineBuffer {
         }
     }
 
-    /// Whether the piece begins with the LF of a CR LF whose CR has come already.
+    /// Returns whether the piece begins with the LF of a CR LF whose CR has come already.
     fn is_ended_by(&self, piece: &[u8]) -> bool
         ensures { result ≡ self.now.after_cr && begins_with_lf piece.now }
     {
@@ -89,7 +87,7 @@ impl LineBuffer {
         }
     }
 
-    /// Keeps what fits of further octets.
+    /// Appends the octets that fit.
     fn push(&mut self, octets: &[u8])
         ensures { GoesOn self.old self.new octets.now }
     {
@@ -123,28 +121,28 @@ impl LineBuffer {
         self.end();
     }
 
-    /// Whether the line has more octets than a line may have. Its first ones are in hand.
+    /// Returns whether the line has more than [`LINE_LIMIT`] octets. The first ones are in the buffer.
     pub fn is_long(&self) -> bool
         ensures { result ≡ self.now.is_long }
     {
         self.is_long
     }
 
-    /// The octets in hand.
+    /// Returns the buffered octets.
     pub fn octets(&self) -> &[u8]
         ensures { result.now ≡ self.now.kept }
     {
         &self.octets[..self.len]
     }
 
-    /// Whether no octet is in hand.
+    /// Returns whether the buffer is empty.
     pub fn is_empty(&self) -> bool
         ensures { IsTrue result ↔ (self.now.kept ≡ []) }
     {
         self.len == 0
     }
 
-    /// Forgets the line, so that the next can come.
+    /// Empties the buffer for the next line.
     pub fn clear(&mut self)
         ensures { Holds self.new [] }
     {

@@ -14,7 +14,7 @@ use std::marker::Model;
 /// The most lines that a reply has.
 pub const REPLY_LINES: usize = 100;
 
-/// What a reply line has beside its text: the code, the mark after it, and CR LF.
+/// The octets of a reply line beside its text: the code, the mark after it, and CR LF.
 const LINE_FRAME: usize = 6;
 
 /// A reply (RFC 5321, 4.2): a code of three digits, the first 2 to 5, and 1 to 100 lines of text. A
@@ -25,7 +25,7 @@ pub struct Reply {
     lines: Vec<Octets>,
 }
 
-// Written out, so that what drops a reply calls this, and doesn't look into its lines.
+// Written out, so that the proof of a caller that drops a reply stops at this function.
 impl Drop for Reply {
     fn drop(self) {
         let Reply {
@@ -49,7 +49,7 @@ impl Reply {
     ghost use Rattle.std.specs.Prelude.{◌≡◌, ◌++◌, MatchOption, OnOk, OnErr};
     ghost use Rattle.relay_lines.specs.Reply.{IsReply, reply_text, last_text, made_of};
 
-    /// A reply of these lines, where they and the code may stand in one.
+    /// Makes a reply of a code and lines, or returns `None` if a reply can't have them.
     pub fn new(code: u16, lines: Vec<Octets>) -> Option<Self>
         ensures { MatchOption result (¬ IsReply (made_of code lines.items))
             (λ reply. (reply ≡ made_of code lines.items) × IsReply reply) }
@@ -63,7 +63,7 @@ impl Reply {
         }
     }
 
-    /// The code: 200 to 599.
+    /// Returns the code: 200 to 599.
     pub fn code(&self) -> u16
         ensures value { result ≡ self.now.code }
         ensures valid { IsReply self.now }
@@ -71,7 +71,7 @@ impl Reply {
         self.code
     }
 
-    /// The text of each line. There are 1 to 100.
+    /// Returns the text of each line. There are 1 to 100.
     pub fn lines(&self) -> &[Octets]
         ensures value { result.now ≡ self.now.lines }
         ensures valid { IsReply self.now }
@@ -79,7 +79,7 @@ impl Reply {
         self.lines.as_slice()
     }
 
-    /// The text of the last line.
+    /// Returns the text of the last line.
     #[tactic(auto, using(crate::proofs::ReplyLemmas::last_is))]
     pub fn last_text(&self) -> &[u8]
         ensures { result.now ≡ last_text self.now.lines }
@@ -90,7 +90,7 @@ impl Reply {
         }
     }
 
-    /// Writes the reply at the end of `out`. Where memory runs out, nothing is written.
+    /// Appends the reply to `out`. If memory runs out, nothing is written.
     pub fn write(&self, out: &mut Vec<u8>) -> Result<(), AllocError>
         ensures ok { OnOk result (out.new.items ≡ out.old.items ++ reply_text self.now) }
         ensures err { OnErr result (out.new.items ≡ out.old.items) }
@@ -104,7 +104,7 @@ impl Reply {
     }
 }
 
-/// Whether each of the texts may stand in a reply.
+/// Returns whether each of the texts may be in a reply.
 fn are_reply_lines(lines: &[Octets]) -> bool
     ensures { IsTrue result ↔ AllByRecursion IsReplyLine lines.now }
 {
@@ -116,15 +116,15 @@ fn are_reply_lines(lines: &[Octets]) -> bool
     true
 }
 
-/// Whether the text may stand in a reply.
+/// Returns whether the text may be in a reply.
 fn is_reply_line(text: &[u8]) -> bool
     ensures { IsTrue result ↔ IsReplyLine text.now }
 {
     text.len() <= LINE_LIMIT - LINE_FRAME && find_crlf(text).is_none()
 }
 
-/// Writes a reply of one line at the end of `out`: the code, and the text in two parts, each of
-/// which may be empty. Where memory runs out, nothing is written.
+/// Appends a reply of one line to `out`: the code, and the text in two parts, each of which may be empty. If memory
+/// runs out, nothing is written.
 pub fn write_line(out: &mut Vec<u8>, code: u16, text: &[u8], more: &[u8]) -> Result<(), AllocError>
     requires { code < 1000 }
     ensures ok { OnOk result (out.new.items ≡ out.old.items
@@ -139,8 +139,8 @@ pub fn write_line(out: &mut Vec<u8>, code: u16, text: &[u8], more: &[u8]) -> Res
     written
 }
 
-/// Writes a line of a reply that another follows at the end of `out`: the code, a hyphen, and the
-/// text. Where memory runs out, nothing is written.
+/// Appends a line of a reply that isn't the last to `out`: the code, a hyphen, and the text. If memory runs out,
+/// nothing is written.
 pub fn write_middle_line(out: &mut Vec<u8>, code: u16, text: &[u8]) -> Result<(), AllocError>
     requires { code < 1000 }
     ensures ok { OnOk result (out.new.items ≡ out.old.items ++ middle_line code text.now) }
@@ -169,7 +169,7 @@ fn push_lines(out: &mut Vec<u8>, code: u16, lines: &[Octets]) -> Result<(), Allo
     push_last(out, code, last.as_slice(), b"")
 }
 
-/// Writes the last line of a reply, which has no space where it has no text.
+/// Writes the last line of a reply, without a space if it has no text.
 fn push_last(out: &mut Vec<u8>, code: u16, text: &[u8], more: &[u8]) -> Result<(), AllocError>
     requires { code < 1000 }
     ensures ok { OnOk result (out.new.items ≡ out.old.items ++ last_line code (text.now ++ more.now)) }
@@ -199,7 +199,7 @@ fn push_reply_line(
     push_line(out, mark, text, more)
 }
 
-/// The code's three digits.
+/// Returns the code's three digits.
 fn code_digits(code: u16) -> [u8; 3]
     requires { code < 1000 }
     ensures { result ≡ code_digits code }

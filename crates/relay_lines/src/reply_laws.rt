@@ -1,4 +1,4 @@
-//! What is true of replies, whoever reads or writes them.
+//! Laws of replies, whoever reads or writes them.
 ghost use Rattle.relay_lines.specs.ReplyLaws.{BeginningIsCut, BeginningIsUnfinished, CutGoesOn, CutIsOne, CutStays};
 ghost use Rattle.relay_lines.specs.ReplyLaws.{FaultIsOne, FaultStays, HeldIsUnfinished, NoReplyBeginsAnother};
 ghost use Rattle.relay_lines.specs.ReplyLaws.{ReadIsCut, ReplyHasNoFault, UnfinishedHasNoFault, UnfinishedHasNoReply};
@@ -14,8 +14,8 @@ pub fn no_reply_begins_another()
     ensures { NoReplyBeginsAnother }
 {}
 
-/// Where octets begin replies as they are written, what is cut from the octets is a beginning of
-/// those replies, and the rest has no fault.
+/// If octets are a prefix of written replies, the replies cut from them are a prefix of those, and the rest has no
+/// fault.
 pub fn beginning_is_cut()
     ensures { BeginningIsCut }
 {}
@@ -35,8 +35,7 @@ pub fn cut_goes_on()
     ensures { CutGoesOn }
 {}
 
-/// What is cut stays cut when more comes after: the further replies are those of the rest and what
-/// came.
+/// Replies that were cut stay when more octets come: the further replies are those of the rest and these octets.
 pub fn cut_stays()
     ensures { CutStays }
 {}
@@ -46,17 +45,17 @@ pub fn reply_has_no_fault()
     ensures { ReplyHasNoFault }
 {}
 
-/// A rest that isn't whole has no fault.
+/// An unfinished rest has no fault.
 pub fn unfinished_has_no_fault()
     ensures { UnfinishedHasNoFault }
 {}
 
-/// A rest that isn't whole begins with no reply.
+/// An unfinished rest begins with no reply.
 pub fn unfinished_has_no_reply()
     ensures { UnfinishedHasNoReply }
 {}
 
-/// A beginning of a reply, where it isn't all of it, is a rest that isn't whole.
+/// A proper prefix of a reply is an unfinished rest.
 pub fn beginning_is_unfinished()
     ensures { BeginningIsUnfinished }
 {}
@@ -71,7 +70,7 @@ pub fn fault_is_one()
     ensures { FaultIsOne }
 {}
 
-/// What a reader holds is a rest that isn't whole.
+/// A reader holds an unfinished rest.
 pub fn held_is_unfinished()
     ensures { HeldIsUnfinished }
 {}

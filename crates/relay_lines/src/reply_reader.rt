@@ -19,8 +19,8 @@ const CODE_LEN: usize = 3;
 /// Where the text of a line begins: after the code, and a hyphen or a space.
 const TEXT_START: usize = 4;
 
-/// Why octets are no reply. A line is judged when it is whole, or has 2,048 octets and no end among
-/// them. Of two rules that it breaks the first of this list is answered.
+/// Why octets are no reply. A line is judged when it is whole, or has 2,048 octets without an end. If it breaks two
+/// rules, the first of this list is the fault.
 #[derive(Clone, Copy, Debug, PartialEq, Eq, Error)]
 pub enum ReplyFault {
     /// The line begins with no code, or neither a hyphen nor a space follows that. Each call after
@@ -52,33 +52,33 @@ impl From<AllocError> for ReplyFault {
 /// What a feed has done.
 #[derive(Debug, Drop)]
 pub struct ReplyCut {
-    /// How many octets of the piece it has used: those up to a reply's end, or all.
+    /// The number of octets used: up to a reply's end, or the whole piece.
     pub used: usize,
-    /// The reply that ends with them.
+    /// The reply that ends there.
     pub reply: Option<Reply>,
 }
 
-/// What stands in front of a line's text.
+/// What is in front of a line's text.
 #[derive(Clone, Copy)]
 struct Front {
     code: u16,
     is_last: bool,
 }
 
-/// A reader of replies (RFC 5321, section 4.2), which may come in any pieces. Of a line that isn't
-/// ended it holds 2,048 octets at most.
+/// A reader of replies (RFC 5321, section 4.2), which may come in any pieces. It holds at most 2,048 octets of an
+/// unfinished line.
 pub struct ReplyReader {
     alloc: Global,
     /// The code of the lines; while there are none, any code.
     code: u16,
-    /// The texts of the lines that have come, each of which another follows.
+    /// The texts of the reply's lines so far, none of which is the last.
     lines: Vec<Octets>,
-    /// What has come of the next line.
+    /// The octets of the next line that have come.
     line: LineBuffer,
     has_failed: bool,
 }
 
-// Written out, so that what drops a reader calls this, and doesn't look into its lines.
+// Written out, so that the proof of a caller that drops a reader stops at this function.
 impl Drop for ReplyReader {
     fn drop(self) {
         let ReplyReader {
@@ -92,7 +92,7 @@ impl Drop for ReplyReader {
 }
 
 impl ReplyReader {
-    /// A reader that has used nothing yet. It takes no memory.
+    /// Makes a reader that has used nothing yet. Allocates nothing.
     pub fn new(alloc: Global) -> Self
         ensures { HasRead result [] [] [] }
     {
@@ -105,9 +105,8 @@ impl ReplyReader {
         }
     }
 
-    /// Uses the next piece up to the end of a reply, and gives that reply, or uses all of the
-    /// piece. The first fault is answered by its kind. After a fault each call answers that the
-    /// line is bad, and uses nothing.
+    /// Uses the next piece up to the end of a reply, and returns that reply, or uses all of the piece. Fails at the
+    /// first fault. After a fault each call returns [`ReplyFault::BadLine`], and uses nothing.
     pub fn feed(&mut self, piece: &[u8]) -> Result<ReplyCut, ReplyFault>
         ensures reads { IfOk result (λ cut. (octets : List ℕ) (replies : List Coded) (rest : List ℕ)
             → HasRead self.old octets replies rest
@@ -176,7 +175,7 @@ impl ReplyReader {
         Ok(ReplyCut { used, reply })
     }
 
-    /// Finds the fault of a line that has as many octets as a line may have, and no end.
+    /// Returns the fault of a line that has 2,048 octets and no end.
     fn judge_part(&self) -> Result<(), ReplyFault>
         ensures ok { OnOk result (length self.now.line.kept < 2048) }
         ensures err { IfErr result (λ fault.
@@ -191,7 +190,7 @@ impl ReplyReader {
         Ok(())
     }
 
-    /// Takes the line that has ended for one of the reply's, and gives the reply that ends with it.
+    /// Adds the ended line to the reply, and returns the reply if it is the last one.
     fn end_line(&mut self) -> Result<Option<Reply>, ReplyFault>
         ensures made { IfOk result (λ reply. (line : List ℕ) → HoldsEnded self.old line
             → HasMade self.new reply (followed_lines self.old.code self.old.lines.items ++ (line ++ crlf))) }
@@ -203,7 +202,7 @@ impl ReplyReader {
         self.keep_line(front.code)?;
         if front.is_last {
             let reply = self.take_reply();
-            // lines that were judged make a reply, so this doesn't come
+            // Judged lines make a reply, so this doesn't happen.
             if reply.is_none() {
                 return Err(ReplyFault::BadLine);
             }
@@ -212,7 +211,7 @@ impl ReplyReader {
         Ok(None)
     }
 
-    /// What stands in front of the line's text, where the line breaks no rule.
+    /// Returns what is in front of the line's text, where the line breaks no rule.
     fn judge(&self, line: &[u8]) -> Result<Front, ReplyFault>
         ensures ok { IfOk result (λ front.
             IsNextLine self.now.code self.now.lines.items line.now front.code front.is_last) }
@@ -242,7 +241,7 @@ impl ReplyReader {
         Ok(())
     }
 
-    /// The reply of the lines that have come. The next reply has none of them.
+    /// Returns the reply of the lines that have come. The next reply has none of them.
     fn take_reply(&mut self) -> Option<Reply>
         ensures reply { MatchOption result (¬ IsReply (made_of self.old.code self.old.lines.items))
             (λ reply. reply ≡ made_of self.old.code self.old.lines.items) }
@@ -253,7 +252,7 @@ impl ReplyReader {
     }
 }
 
-/// What stands in front of the text of a reply's line.
+/// Returns what is in front of the text of a reply's line.
 fn front_of(line: &[u8]) -> Option<Front>
     ensures { MatchOption result (IsNoReplyLine line.now)
         (λ front. SpellsLine line.now front.code front.is_last (drop 4 line.now)) }
@@ -278,7 +277,7 @@ fn front_of(line: &[u8]) -> Option<Front>
     }
 }
 
-/// The code that a line begins with.
+/// Returns the code that a line begins with.
 fn code_of(line: &[u8]) -> Option<u16>
     ensures { MatchOption result (HasNoCode line.now) (λ code. HasCode line.now code) }
 {
@@ -296,7 +295,7 @@ fn code_of(line: &[u8]) -> Option<u16>
     Some(hundreds + u16::from(second - b'0') * 10 + u16::from(third - b'0'))
 }
 
-/// The text of a reply's line.
+/// Returns the text of a reply's line.
 fn text_of(line: &[u8]) -> &[u8]
     ensures { result.now ≡ drop 4 line.now }
 {

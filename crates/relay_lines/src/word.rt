@@ -14,22 +14,22 @@ fn is_blank(octet: u8) -> bool
     octet == b' ' || octet == b'\t'
 }
 
-/// Whether the octet is a printable one of ASCII, from the space to `~`.
+/// Returns whether the octet is a printable one of ASCII, from the space to `~`.
 pub fn is_printable(octet: u8) -> bool
     ensures { result ≡ is_printable octet }
 {
     b' ' <= octet && octet <= b'~'
 }
 
-/// The octet, or `?` where it isn't printable.
+/// Returns the octet, or `?` if it isn't printable.
 fn shown(octet: u8) -> u8
     ensures { result ≡ shown octet }
 {
     if is_printable(octet) { octet } else { b'?' }
 }
 
-/// The text with `?` in place of each octet that isn't printable, so that nobody's terminal or log takes it for more
-/// than text. It fails where memory runs out.
+/// Returns the text with `?` in place of each octet that isn't printable, so that it is safe in a log or a terminal.
+/// Fails if memory runs out.
 pub fn all_shown(alloc: Global, text: &[u8]) -> Result<Vec<u8>, AllocError>
     ensures shown { IfOk result (λ all. all.items ≡ map shown text.now) }
     ensures printable { IfOk result (λ all. AllPass is_printable all.items) }
@@ -53,7 +53,7 @@ fn is_literal_octet(octet: u8) -> bool
     is_domain_octet(octet) || octet == b':'
 }
 
-/// Whether each octet is a printable one, from the space to `~`.
+/// Returns whether each octet is a printable one, from the space to `~`.
 #[tactic(auto, unfolding(crate::specs::Word::are_printable))]
 pub(crate) fn are_printable(text: &[u8]) -> bool
     ensures { result ≡ are_printable text.now }
@@ -61,8 +61,7 @@ pub(crate) fn are_printable(text: &[u8]) -> bool
     text.iter().all(|octet| is_printable(*octet))
 }
 
-/// Whether each octet is one of a domain (RFC 5321, section 4.1.2): a letter, a digit, `-` or `.`,
-/// or `_`.
+/// Returns whether each octet is one of a domain (RFC 5321, section 4.1.2): a letter, a digit, `-` or `.`, or `_`.
 #[tactic(auto, unfolding(crate::specs::Word::are_domain_octets))]
 pub fn are_domain_octets(text: &[u8]) -> bool
     ensures { result ≡ are_domain_octets text.now }
@@ -77,7 +76,7 @@ fn are_literal_octets(text: &[u8]) -> bool
     text.iter().all(|octet| is_literal_octet(*octet))
 }
 
-/// The line without the spaces and tabs at its end (RFC 5321, section 4.1.1).
+/// Returns the line without the spaces and tabs at its end (RFC 5321, section 4.1.1).
 #[tactic(auto, unfolding(crate::specs::Word::without_trailing_blanks))]
 pub(crate) fn without_trailing_blanks(line: &[u8]) -> &[u8]
     ensures { result.now ≡ without_trailing_blanks line.now }
@@ -115,7 +114,7 @@ fn space_len(text: &[u8]) -> usize
     text.len()
 }
 
-/// What stands before the first space.
+/// Returns the text up to the first space.
 #[tactic(auto, unfolding(crate::specs::Word::first_word))]
 pub fn first_word(text: &[u8]) -> &[u8]
     ensures { result.now ≡ first_word text.now }
@@ -123,7 +122,7 @@ pub fn first_word(text: &[u8]) -> &[u8]
     &text[..word_len(text)]
 }
 
-/// What stands after the first word and the spaces after it.
+/// Returns the text after the first word and the spaces after it.
 #[tactic(auto, unfolding(crate::specs::Word::argument_of))]
 pub(crate) fn argument_of(text: &[u8]) -> &[u8]
     ensures { result.now ≡ argument_of text.now }
@@ -132,7 +131,7 @@ pub(crate) fn argument_of(text: &[u8]) -> &[u8]
     &behind[space_len(behind)..]
 }
 
-/// Whether the text is this word, in any letter case (RFC 5321, section 2.4).
+/// Returns whether the text is this word, in any letter case (RFC 5321, section 2.4).
 #[tactic(auto, unfolding(crate::specs::Word::is_word))]
 pub fn is_word(text: &[u8], word: &[u8]) -> bool
     ensures { result ≡ is_word text.now word.now }
@@ -140,7 +139,7 @@ pub fn is_word(text: &[u8], word: &[u8]) -> bool
     text.eq_ignore_ascii_case(word)
 }
 
-/// What stands after a keyword, where the text begins with it in any letter case.
+/// Returns the text after a keyword, if it begins with that in any letter case.
 #[tactic(auto, using(crate::proofs::WordLemmas::behind_keyword_short), unfolding(crate::specs::Word::behind_keyword))]
 pub(crate) fn behind_keyword<'a>(keyword: &[u8], text: &'a [u8]) -> Option<&'a [u8]>
     ensures { option_copied result ≡ behind_keyword keyword.now text.now }
@@ -153,8 +152,8 @@ pub(crate) fn behind_keyword<'a>(keyword: &[u8], text: &'a [u8]) -> Option<&'a [
     }
 }
 
-/// Whether the text is an address literal (RFC 5321, section 4.1.3): `[`, then letters, digits,
-/// `-`, `.`, `_` and `:`, or none, then `]`.
+/// Returns whether the text is an address literal (RFC 5321, section 4.1.3): `[`, then letters, digits, `-`, `.`, `_`
+/// and `:`, or none, then `]`.
 #[tactic(auto, unfolding(crate::specs::Word::is_address_literal))]
 pub fn is_address_literal(text: &[u8]) -> bool
     ensures { result ≡ is_address_literal text.now }
@@ -165,8 +164,8 @@ pub fn is_address_literal(text: &[u8]) -> bool
     }
 }
 
-/// Whether the text is the word of HELO: 1 to 255 octets (RFC 5321, section 4.5.3.1.2), each of
-/// them one of a domain, or an address literal.
+/// Returns whether the text is the word of HELO: 1 to 255 octets (RFC 5321, section 4.5.3.1.2), each of them one of a
+/// domain, or an address literal.
 #[tactic(auto, unfolding(crate::specs::Word::is_host_word))]
 pub fn is_host_word(text: &[u8]) -> bool
     ensures { result ≡ is_host_word text.now }

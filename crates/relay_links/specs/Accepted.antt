@@ -22,7 +22,7 @@ pub record Rule : Type 0 where
   pub acceptance : ℕ → Acceptance
   pub limit : ℕ
 
--- After so many changes, over a spool of one size, the offers with these answers brought these changes, in order, and
+-- After this many changes, over a spool of one size, the offers with these answers brought these changes, in order, and
 -- left a spool of another size: an offer for which there was room is answered by the number of its change, and any
 -- other refused.
 abbrev pub Accepts : Rule → ℕ → ℕ → List Answer → List Offered → List Change → ℕ → Type 0

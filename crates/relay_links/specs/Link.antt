@@ -55,7 +55,7 @@ link_fault_of node_fault.Busy = Input
 link_fault_of node_fault.NoSecond = Input
 link_fault_of (node_fault.Open cause) = Input
 
--- The words below are of a link from its start on, at a moment.
+-- The words below are of a link from its start on, at a time.
 module _ {D : Type 0} (honest : Type 0) (words : DiskWords D) (start : Start) (at : ℕ) where
   -- how mail is accepted on this link
   abbrev pub rule : Rule
@@ -131,8 +131,8 @@ module _ {D : Type 0} (honest : Type 0) (words : DiskWords D) (start : Start) (a
   Leaves Full said added records = HasFilled said added records
   Leaves Device said added records = HasHalted said added records
 
-  -- what was written is a beginning of the output of a dialogue, whose input is a beginning of what was read: all of it
-  -- where nothing more could be read
+  -- what was written is a prefix of the output of a dialogue, whose input is a prefix of what was read: all of it where
+  -- nothing more could be read
   pub record HasBegun (left held : Option (List ℕ)) (records : Kept D) (fault : LinkFault) : Type 0 where
     pub said : Said
     pub dialogue : IsDialogue (setup_for start.config start.peer) said

@@ -36,7 +36,7 @@ abbrev pub push_start_at : {D : Type 0} → Option (List ℕ) → Option (List �
 push_start_at left held node changes told =
     record { left = left; held = held; reporter = reporter_of node.config; changes = changes; told = told }
 
--- The words below are of a link from its start on, at a moment.
+-- The words below are of a link from its start on, at a time.
 module _ {D : Type 0} (honest : Type 0) (words : DiskWords D) (start : PushStart) (at : ℕ) where
   -- The attempt of this number has read what was read but for these octets, which wait, and it wrote what was written
   -- and these octets after that, which weren't; the node keeps the changes of before.
@@ -63,7 +63,7 @@ module _ {D : Type 0} (honest : Type 0) (words : DiskWords D) (start : PushStart
     pub course : IsCourse start.reporter.host start.told.envelope start.told.text start.told.places
         (start.told.input ++ input) lost (start.told.output ++ (written ++ unwritten)) verdicts
 
-  -- the outcome with these verdicts, and the report that is due of it, is the one change that was added
+  -- the outcome with these verdicts, and the report that is owed, is the one change that was added
   pub record Concludes (verdicts : List Verdict) (records : Kept D) : Type 0 where
     pub used : ℕ
     pub number : ℕ
@@ -147,7 +147,7 @@ module _ {D : Type 0} (honest : Type 0) (words : DiskWords D) (start : PushStart
   WaysTo number left held node (Err fault) = HasFailed left held node.records fault
 
 -- What a link of an attempt did to the records, whatever list they keep: an outcome was added, with the report that is
--- due of it, and the spool has grown by the link of that record alone.
+-- owed, and the spool has grown by the link of that record alone.
 abbrev pub HasGrown : {D : Type 0} → DiskWords D → NodeState D → NodeState D → Type 0
 HasGrown words old new =
     (outcome : Outcome) × (number : ℕ) × GrowsBy words (reporter_of old.config) outcome old.records new.records number

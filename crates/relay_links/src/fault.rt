@@ -35,7 +35,7 @@ impl From<AllocError> for LinkFault {
     }
 }
 
-/// What a fault of the node is to its link. A session or an attempt that the node doesn't have reads nothing.
+/// Returns the fault of a link by that of its node. A session or an attempt that the node doesn't have reads nothing.
 pub fn link_fault(fault: NodeFault) -> LinkFault
     ensures { result ≡ link_fault_of fault }
 {

@@ -44,12 +44,12 @@ pub(crate) enum Way {
     Broken,
 }
 
-/// Hands on mail by an attempt that `start` has begun: reads what the next hop says from `reader`, and
-/// writes the attempt's commands and mail to `writer`, all that a read led to before the next. It ends
-/// where the attempt does. The end of the input before that, a fault of the reader or the writer, and
-/// want of memory for reading are a loss of the connection, of which the node is told. Its outcome counts
-/// at `now`. Where the node answers a fault the attempt is gone without an outcome; after a fault of the
-/// device a stop may leave the outcome, or not. An attempt that the node doesn't have is `Input`.
+/// Relays mail by an attempt that `start` has begun: reads what the next hop says from `reader`, and writes the
+/// attempt's commands and mail to `writer`, all that a read led to before the next. It ends where the attempt does. The
+/// end of the input before that, a fault of the reader or the writer, and lack of memory for reading are a loss of the
+/// connection, of which the node is told. Its outcome counts at `now`. Where the node answers a fault the attempt is
+/// gone without an outcome; after a fault of the device a stop may leave the outcome, or not. An attempt that the node
+/// doesn't have is `Input`.
 pub fn push_link<D: Disk, R: Read, W: Write>(
     alloc: Global,
     node: &mut Node<D>,

@@ -6,7 +6,7 @@ use crate::fault::LinkFault;
 use crate::whole::write_whole;
 use std::io::Write;
 
-/// Writes the octets, and flushes the writer. After a fault a beginning of them was written.
+/// Writes the octets, and flushes the writer. After a fault a prefix of them was written.
 pub fn send<W: Write>(writer: &mut W, octets: &[u8]) -> Result<(), LinkFault>
     ensures ok { OnOk result (Appends (W.contents writer.old) (W.contents writer.new) octets.now) }
     ensures err { OnErr result ((front : List ℕ) × (rest : List ℕ) × (octets.now ≡ front ++ rest)
@@ -22,8 +22,8 @@ pub fn send<W: Write>(writer: &mut W, octets: &[u8]) -> Result<(), LinkFault>
     Ok(())
 }
 
-/// Writes octets after which nothing comes, and flushes the writer. It fails only where they couldn't be written
-/// whole, and then a beginning of them was written: a flush that fails comes after all of them.
+/// Writes octets after which nothing comes, and flushes the writer. It fails only if they couldn't be written whole,
+/// and then a prefix of them was written: a flush that fails comes after all of them.
 pub(crate) fn send_last<W: Write>(writer: &mut W, octets: &[u8]) -> Result<(), LinkFault>
     ensures ok { OnOk result (Appends (W.contents writer.old) (W.contents writer.new) octets.now) }
     ensures err { OnErr result ((front : List ℕ) × (rest : List ℕ) × (octets.now ≡ front ++ rest) × (rest ≢ [])

@@ -17,11 +17,10 @@ use std::io::{ErrorKind, Read, Write};
 /// How many reads a link does at most: 2^40.
 const READS: u64 = 1_099_511_627_776;
 
-/// Serves the session that `connect` has opened: writes the greeting, reads commands and mail from
-/// `reader`, and writes the replies to `writer`, all of them before the next read and after each
-/// message that the node takes. It ends at a close, and at the end of the input, and the session is then
-/// gone. After a fault a beginning of the replies was written, and all of them where nothing more could be
-/// read. All mail counts as accepted at `now`.
+/// Serves the session that `connect` has opened: writes the greeting, reads commands and mail from `reader`, and writes
+/// the replies to `writer`, all of them before the next read and after each message that the node takes. It ends at a
+/// close, and at the end of the input, and the session is then gone. After a fault a prefix of the replies was written,
+/// and all of them where nothing more could be read. All mail counts as accepted at `now`.
 pub fn serve_link<D: Disk, R: Read, W: Write>(
     alloc: Global,
     node: &mut Node<D>,
@@ -101,8 +100,8 @@ fn converse<D: Disk, R: Read, W: Write>(
     Err(LinkFault::Input)
 }
 
-/// Reads once into the block, and answers what was read. It tells whether the link has come to its
-/// end: by a close, or by the end of the input. A read that was interrupted has read nothing.
+/// Reads once into the block, and returns what was read. Returns whether the link has come to its end: by a close, or
+/// by the end of the input. A read that was interrupted has read nothing.
 fn exchange_block<D: Disk, R: Read, W: Write>(
     node: &mut Node<D>,
     session: usize,
@@ -134,7 +133,7 @@ fn exchange_block<D: Disk, R: Read, W: Write>(
     answer_block(node, session, &block[..count], writer, now)
 }
 
-/// Answers octets that were read, all of them or up to a close. It tells whether there was one.
+/// Answers octets that were read, all of them or up to a close. Returns whether there was one.
 fn answer_block<D: Disk, W: Write>(
     node: &mut Node<D>,
     session: usize,
@@ -158,8 +157,8 @@ fn answer_block<D: Disk, W: Write>(
     Ok(false)
 }
 
-/// Answers octets after those that are used, all of them or up to a change or a close. It tells
-/// whether there was a close.
+/// Answers octets after those that are used, all of them or up to a change or a close. Returns whether there was a
+/// close.
 fn answer<D: Disk, W: Write>(
     node: &mut Node<D>,
     session: usize,

@@ -6,8 +6,8 @@ use std::io::{Error, ErrorKind, Result, Write};
 /// How many interrupted writes are tried again.
 const TRIES: u64 = 1_099_511_627_776;
 
-/// Writes all of the octets. Where it fails, a beginning of them was written, and not all. A write that takes no
-/// octet counts as a fault, and so does an interrupted one where 2^40 of them were tried again.
+/// Writes all of the octets. If it fails, a prefix of them was written, and not all. A write that takes no octet counts
+/// as a fault, and so does an interrupted one where 2^40 of them were tried again.
 pub fn write_whole<W: Write>(writer: &mut W, octets: &[u8]) -> Result<()>
     ensures ok { OnOk result (Appends (W.contents writer.old) (W.contents writer.new) octets.now) }
     ensures err { OnErr result ((front : List ℕ) × (rest : List ℕ) × (octets.now ≡ front ++ rest) × (rest ≢ [])

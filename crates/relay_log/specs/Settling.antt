@@ -14,7 +14,7 @@ is_intermediate code = is_in_range 300 399 code
 abbrev pub is_permanent : ℕ → Bool
 is_permanent code = is_in_range 500 599 code
 
--- the code of the reply at this place, 0 where there is none
+-- the code of the reply at this place, 0 if there is none
 abbrev pub code_at : List ℕ → ℕ → ℕ
 code_at codes place = slice_index_or codes place 0
 
@@ -40,8 +40,8 @@ first_refusal codes [] last = last
 first_refusal codes (place ∷ places) last =
     if is_completion (code_at codes place) then first_refusal codes places last else place
 
--- the place of the reply that settles the recipient of this index among so many: the first refusal of what it needs, or
--- what was said of the mail data
+-- the place of the reply that settles the recipient of this index among this many: the first refusal of what it needs,
+-- or what was said of the mail data
 abbrev pub settling_place : List ℕ → ℕ → ℕ → ℕ
 settling_place codes count index =
     first_refusal codes (0 ∷ hello_place codes ∷ mail_place codes ∷ rcpt_place codes index ∷ [])

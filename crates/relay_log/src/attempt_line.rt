@@ -39,7 +39,8 @@ enum Status {
 }
 
 impl Status {
-    /// What a verdict made of a recipient, to which the node's note adds what became of one that may be tried again.
+    /// Returns what a verdict made of a recipient, to which the node's note adds what became of one that may be tried
+    /// again.
     fn of(verdict: &Verdict, step: Option<PlaceStep>) -> Self {
         match verdict {
             Verdict::Taken { .. } => Status::Sent,
@@ -53,7 +54,7 @@ impl Status {
         }
     }
 
-    /// The word of the log for it.
+    /// Returns the word of the log for it.
     fn word(self) -> &'static [u8] {
         match self {
             Status::Sent => b"sent",
@@ -77,8 +78,8 @@ impl Status {
     }
 }
 
-/// The outcome that a note has the record of. The note has the places that left or are late and not why, so the record
-/// is read.
+/// Returns the outcome that a note has the record of. The note has the places that left or are late and not why, so the
+/// record is read.
 pub(crate) fn outcome_of(alloc: Global, noted: &Noted) -> Option<Outcome> {
     match decode_change(alloc, noted.octets.as_slice()) {
         Ok(Change::Outcome(outcome)) => Some(outcome),
@@ -96,7 +97,7 @@ pub(crate) fn count_outcome(noted: &Noted, outcome: &Outcome, counters: &mut Cou
     }
 }
 
-/// What became of a place, if the note tells it.
+/// Returns what became of a place, if the note tells it.
 fn step_of(noted: &Noted, place: u8) -> Option<PlaceStep> {
     for (other, step) in noted.left.as_slice() {
         if *other == place {
@@ -106,7 +107,7 @@ fn step_of(noted: &Noted, place: u8) -> Option<PlaceStep> {
     None
 }
 
-/// The line of an attempt whose outcome wasn't recorded: all of its recipients stay due.
+/// Returns the line of an attempt whose outcome wasn't recorded: all of its recipients stay due.
 pub(crate) fn unrecorded_line(head: Head, attempt: &Attempt<'_>) -> io::Result<LogLine> {
     let mut line = head.line(b"unrecorded")?;
     add_attempt(head, &mut line, attempt)?;
@@ -116,7 +117,7 @@ pub(crate) fn unrecorded_line(head: Head, attempt: &Attempt<'_>) -> io::Result<L
     Ok(line)
 }
 
-/// The line of a recipient, whose ruling has this index among those of the attempt.
+/// Returns the line of a recipient, whose ruling has this index among those of the attempt.
 pub(crate) fn recipient_line(
     head: Head,
     attempt: &Attempt<'_>,
@@ -205,7 +206,8 @@ fn add_reply(head: Head, line: &mut LogLine, code: u16, text: &[u8]) -> io::Resu
     Ok(())
 }
 
-/// The line of a report that an outcome has queued: its number, the message, whom it is for, and of what it tells.
+/// Returns the line of a report that an outcome has queued: its number, the message, whom it is for, and of what it
+/// tells.
 pub(crate) fn report_line(
     head: Head,
     attempt: &Attempt<'_>,
@@ -222,7 +224,7 @@ pub(crate) fn report_line(
     Ok(line)
 }
 
-/// What a report tells of first: a recipient that failed, one that is delayed, or one that was relayed.
+/// Returns what a report tells of first: a recipient that failed, one that is delayed, or one that was relayed.
 fn report_kind(noted: &Noted) -> &'static [u8] {
     let mut kind: &'static [u8] = b"relayed";
     for (_place, step) in noted.left.as_slice() {

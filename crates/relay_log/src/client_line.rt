@@ -11,8 +11,8 @@ use std::fmt::Display;
 use std::io;
 use std::net::SocketAddrV4;
 
-/// How the time stamp line of a message begins that a client brought; the client's word stands after it, up to a space
-/// (RFC 5321, section 4.4).
+/// How the time stamp line of a message begins that a client brought; the client's word is after it, up to a space (RFC
+/// 5321, section 4.4).
 const STAMP_BEGINNING: &[u8] = b"Received: from ";
 
 /// What a time stamp line says of a client that said EHLO.
@@ -21,7 +21,7 @@ const WITH_ESMTP: &[u8] = b" with ESMTP id ";
 /// How many octets of a message are searched for that: more than a time stamp line has.
 const STAMP_LIMIT: usize = 1_024;
 
-/// How many octets the paths of recipients have in one line. Even if each has to stand after a backslash, the line has
+/// How many octets the paths of recipients have in one line. Even if each must stand after a backslash, the line has
 /// room for them.
 const LIST_LIMIT: usize = 320;
 
@@ -65,7 +65,7 @@ pub enum ClientEnd {
 }
 
 impl ClientEnd {
-    /// The word of the log for it.
+    /// Returns the word of the log for it.
     fn word(self) -> &'static [u8] {
         match self {
             ClientEnd::Quit => b"quit",
@@ -91,7 +91,7 @@ pub enum HeaderFault {
 }
 
 impl HeaderFault {
-    /// The word of the log for it.
+    /// Returns the word of the log for it.
     fn word(self) -> &'static [u8] {
         match self {
             HeaderFault::Missing => b"no-proxy-header",
@@ -102,7 +102,7 @@ impl HeaderFault {
     }
 }
 
-/// The line of a balancer's connection that was closed since its header says no client.
+/// Returns the line of a balancer's connection that was closed since its header says no client.
 pub(crate) fn header_fault_line(
     head: Head,
     balancer: SocketAddrV4,
@@ -114,7 +114,7 @@ pub(crate) fn header_fault_line(
     Ok(line)
 }
 
-/// The line of a connection that has ended at this tick.
+/// Returns the line of a connection that has ended at this tick.
 pub(crate) fn client_end_line(
     head: Head,
     peer: SocketAddrV4,
@@ -132,7 +132,7 @@ pub(crate) fn client_end_line(
     Ok(line)
 }
 
-/// The line of a connection that one call has served.
+/// Returns the line of a connection that one call has served.
 pub(crate) fn connection_line<D: Disk, F: Display>(
     head: Head,
     node: &Node<D>,
@@ -153,7 +153,7 @@ pub(crate) fn connection_line<D: Disk, F: Display>(
     Ok(line)
 }
 
-/// How many messages the node has taken.
+/// Returns how many messages the node has taken.
 pub(crate) fn count_of<D: Disk>(node: &Node<D>, messages: Messages<'_>) -> u64 {
     match messages {
         Messages::From(first) => node.next_number().saturating_sub(first),
@@ -161,7 +161,7 @@ pub(crate) fn count_of<D: Disk>(node: &Node<D>, messages: Messages<'_>) -> u64 {
     }
 }
 
-/// The line of a client whose connection was closed before anything was read or written on it.
+/// Returns the line of a client whose connection was closed before anything was read or written on it.
 pub(crate) fn unserved_line(head: Head, peer: SocketAddrV4) -> io::Result<LogLine> {
     let mut line = head.line(b"client-end")?;
     head.add_address(&mut line, b"client", peer)?;
@@ -169,8 +169,8 @@ pub(crate) fn unserved_line(head: Head, peer: SocketAddrV4) -> io::Result<LogLin
     Ok(line)
 }
 
-/// The line of clients of an address that were told that there are too many connections, with the address and port of
-/// the last.
+/// Returns the line of clients of an address that were told that there are too many connections, with the address and
+/// port of the last.
 pub(crate) fn turned_away_line(head: Head, peer: SocketAddrV4, count: u64) -> io::Result<LogLine> {
     let mut line = head.line(b"client-end")?;
     head.add_address(&mut line, b"client", peer)?;
@@ -179,7 +179,7 @@ pub(crate) fn turned_away_line(head: Head, peer: SocketAddrV4, count: u64) -> io
     Ok(line)
 }
 
-/// The line of a reply to a client that refuses something.
+/// Returns the line of a reply to a client that refuses something.
 pub(crate) fn rejected_line(head: Head, peer: SocketAddrV4, reply: &[u8]) -> io::Result<LogLine> {
     let reply = reply.trim_ascii();
     let mut line = head.line(b"rejected")?;
@@ -197,7 +197,7 @@ fn refused_command(reply: &[u8]) -> Option<&'static [u8]> {
     match reply {
         b"550 no route" | b"452 too many recipients" => Some(b"rcpt"),
         b"500 unknown command" => Some(b"unknown"),
-        // The relay's name stands before these words.
+        // The relay's name is before these words.
         _ if reply.starts_with(b"421 ") && reply.ends_with(b" bad chunk size, closing") => {
             Some(b"bdat")
         }
@@ -205,7 +205,7 @@ fn refused_command(reply: &[u8]) -> Option<&'static [u8]> {
     }
 }
 
-/// The line of replies that refuse something and have no line of their own.
+/// Returns the line of replies that refuse something and have no line of their own.
 pub(crate) fn more_rejected_line(
     head: Head,
     peer: SocketAddrV4,
@@ -217,9 +217,9 @@ pub(crate) fn more_rejected_line(
     Ok(line)
 }
 
-/// The first line of a message that was accepted: its number, the client's address and word, the protocol, how many
-/// recipients it has, how many octets are relayed, the reverse path, and the first recipients. It returns how many of
-/// these it has.
+/// Returns the first line of a message that was accepted: its number, the client's address and word, the protocol, how
+/// many recipients it has, how many octets are relayed, the reverse path, and the first recipients. It returns how many
+/// of these it has.
 pub(crate) fn accepted_line(
     head: Head,
     peer: SocketAddrV4,
@@ -244,7 +244,7 @@ pub(crate) fn accepted_line(
     Ok((line, count))
 }
 
-/// A further line of a message that was accepted, with the next recipients, and how many of these it has.
+/// Returns a further line of a message that was accepted, with the next recipients, and how many of these it has.
 pub(crate) fn more_accepted_line(
     head: Head,
     number: u64,
@@ -256,7 +256,7 @@ pub(crate) fn more_accepted_line(
     Ok((line, count))
 }
 
-/// Adds the paths of recipients to a line, with spaces between, as many as so many octets hold. It returns how many.
+/// Adds the paths of recipients to a line, with spaces between, as many as this many octets hold. It returns how many.
 fn add_recipients(
     head: Head,
     line: &mut LogLine,
@@ -282,7 +282,7 @@ fn add_recipients(
     Ok(count)
 }
 
-/// The word that a client gave of itself; none where the text begins with another line than its time stamp.
+/// Returns the word that a client gave of itself; none if the text begins with another line than its time stamp.
 fn client_word(stored_text: &[u8]) -> &[u8] {
     let Some(rest) = stored_text.strip_prefix(STAMP_BEGINNING) else {
         return &[];
@@ -293,7 +293,7 @@ fn client_word(stored_text: &[u8]) -> &[u8] {
     }
 }
 
-/// The protocol that a time stamp line names.
+/// Returns the protocol that a time stamp line names.
 fn protocol(stored_text: &[u8]) -> &'static [u8] {
     let stamp = &stored_text[..stored_text.len().min(STAMP_LIMIT)];
     match memmem::find(stamp, WITH_ESMTP) {

@@ -26,7 +26,7 @@ pub struct ClientRecord {
 }
 
 impl ClientRecord {
-    /// A connection that was accepted at this tick, in milliseconds.
+    /// Makes a connection that was accepted at this tick, in milliseconds.
     pub fn new(tick: u64) -> Self {
         ClientRecord {
             since: tick,
@@ -39,7 +39,7 @@ impl ClientRecord {
         }
     }
 
-    /// So many octets were read.
+    /// This many octets were read.
     pub fn read(&mut self, count: usize)
         ensures { self.new.octets ≡ min (self.old.octets + count) (2 ^ 64 - 1) }
     {
@@ -76,27 +76,27 @@ impl ClientRecord {
         untold
     }
 
-    /// How many refusals no line tells of.
+    /// Returns how many refusals no line tells of.
     pub(crate) fn untold(&self) -> u64 {
         self.untold
     }
 
-    /// Whether the next refusal at this tick begins a minute.
+    /// Returns whether the next refusal at this tick begins a minute.
     pub(crate) fn begins_minute(&self, tick: u64) -> bool {
         self.minute_end <= tick
     }
 
-    /// How many messages were accepted.
+    /// Returns how many messages were accepted.
     pub(crate) fn messages(&self) -> u64 {
         self.messages
     }
 
-    /// How often something was refused.
+    /// Returns how often something was refused.
     pub(crate) fn refusals(&self) -> u64 {
         self.refusals
     }
 
-    /// How many octets were read.
+    /// Returns how many octets were read.
     pub(crate) fn octets(&self) -> u64 {
         self.octets
     }

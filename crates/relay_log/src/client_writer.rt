@@ -18,7 +18,7 @@ pub struct ClientWriter<'a> {
 }
 
 impl<'a> ClientWriter<'a> {
-    /// A writer of this connection, to which nothing was written yet.
+    /// Makes a writer of this connection, to which nothing was written yet.
     pub fn new(stream: &'a TcpStream) -> Self {
         ClientWriter {
             stream,
@@ -29,12 +29,12 @@ impl<'a> ClientWriter<'a> {
         }
     }
 
-    /// How many of the replies that were written refuse something. Each is one line.
+    /// Returns how many of the replies that were written refuse something. Each is one line.
     pub fn refusals(&self) -> u64 {
         self.refusals
     }
 
-    /// Whether one of the replies that were written says that the spool is full.
+    /// Returns whether one of the replies that were written says that the spool is full.
     pub fn was_full(&self) -> bool {
         self.was_full
     }

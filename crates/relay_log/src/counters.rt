@@ -24,7 +24,7 @@ pub struct Counters {
     pub expired: u64,
     /// Delivery status notifications that were queued.
     pub reports: u64,
-    /// How often a next hop was left alone for a while, because it couldn't be reached.
+    /// How often a next hop was put on hold for a while, because it couldn't be reached.
     pub holds: u64,
     /// How often the spool was compacted.
     pub compactions: u64,
@@ -95,7 +95,7 @@ impl Rejections {
         }
     }
 
-    /// Counts a reply to a client, by its line, where it refuses something.
+    /// Counts a reply to a client, by its line, if it refuses something.
     pub(crate) fn count(&mut self, rejection: Rejection) {
         let count = match rejection {
             Rejection::NoRoute => &mut self.no_route,

@@ -15,7 +15,7 @@ pub(crate) struct Head {
 }
 
 impl Head {
-    /// A line of this event.
+    /// Returns a line of this event.
     pub(crate) fn line(&self, event: &[u8]) -> io::Result<LogLine> {
         LogLine::new(self.alloc, self.form, self.moment, event)
     }

@@ -17,7 +17,7 @@ pub enum Loss {
 }
 
 impl Loss {
-    /// What a connection that couldn't be made is lost for.
+    /// Returns what a connection that couldn't be made is lost for.
     pub fn of_connecting(error: &Error) -> Self {
         match error.kind() {
             ErrorKind::ConnectionRefused => Loss::Refused,
@@ -26,7 +26,7 @@ impl Loss {
         }
     }
 
-    /// The words of the log for it.
+    /// Returns the words of the log for it.
     pub(crate) fn text(self) -> &'static [u8] {
         match self {
             Loss::Refused => b"connection refused",
@@ -47,7 +47,7 @@ pub struct Why {
 }
 
 impl Why {
-    /// What reader and writer of a connection tell, which was lost or not.
+    /// Returns what reader and writer of a connection tell, which was lost or not.
     pub fn told_by(reader: HopReader<'_>, writer: HopWriter<'_>, is_lost: bool) -> Self {
         let is_silent = reader.is_silent || writer.is_silent;
         let loss = if !is_lost {
@@ -73,7 +73,7 @@ pub struct HopReader<'a> {
 }
 
 impl<'a> HopReader<'a> {
-    /// A reader of this connection, of which nothing was read yet, whose replies the talk hears.
+    /// Makes a reader of this connection, of which nothing was read yet, whose replies the talk hears.
     pub fn new(stream: &'a TcpStream, talk: Talk) -> Self {
         HopReader {
             stream,
@@ -107,7 +107,7 @@ pub struct HopWriter<'a> {
 }
 
 impl<'a> HopWriter<'a> {
-    /// A writer of this connection.
+    /// Makes a writer of this connection.
     pub fn new(stream: &'a TcpStream) -> Self {
         HopWriter {
             stream,
@@ -134,7 +134,7 @@ impl Write for HopWriter<'_> {
     }
 }
 
-/// Whether a call has waited for as long as it may.
+/// Returns whether a call has waited for as long as it may.
 fn has_waited(error: &Error) -> bool {
     matches!(error.kind(), ErrorKind::WouldBlock | ErrorKind::TimedOut)
 }

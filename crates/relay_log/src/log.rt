@@ -42,7 +42,7 @@ pub struct Log<'a, E: Write> {
 }
 
 impl<'a, E: Write> Log<'a, E> {
-    /// A log on this writer that speaks, by lines of text without a time, or says nothing.
+    /// Makes a log on this writer that speaks, by lines of text without a time, or says nothing.
     pub fn new(alloc: Global, errors: &'a mut E, speaks: bool, counters: &'a mut Counters) -> Self {
         Log {
             head: Head {
@@ -56,7 +56,7 @@ impl<'a, E: Write> Log<'a, E> {
         }
     }
 
-    /// A log on this writer whose lines have this form and this time, in UTC (RFC 3339). Without a form it says
+    /// Returns a log on this writer whose lines have this form and this time, in UTC (RFC 3339). Without a form it says
     /// nothing.
     pub fn stamped(
         alloc: Global,
@@ -80,12 +80,12 @@ impl<'a, E: Write> Log<'a, E> {
         }
     }
 
-    /// Whether it was asked to write lines.
+    /// Returns whether it was asked to write lines.
     pub fn speaks(&self) -> bool {
         self.speaks
     }
 
-    /// What the log keeps in mind of an attempt for this message, if it writes lines and the message is queued.
+    /// Returns what the log keeps in mind of an attempt for this message, if it writes lines and the message is queued.
     pub fn talk_of(&self, message: Option<&Message>) -> Talk {
         let mut talk = Talk::new(self.head.alloc, self.speaks);
         talk.note_message(message);
@@ -219,7 +219,8 @@ impl<'a, E: Write> Log<'a, E> {
         }
     }
 
-    /// Logs that clients of an address were told that there are too many connections, so many with this one, the last.
+    /// Logs that clients of an address were told that there are too many connections, this many with this one, the
+    /// last.
     pub fn refused(&mut self, peer: SocketAddrV4, count: u64) {
         add(&mut self.counters.turned_away, count);
         if self.speaks {
@@ -264,7 +265,7 @@ impl<'a, E: Write> Log<'a, E> {
         Ok(())
     }
 
-    /// Logs that a next hop couldn't be reached, and is left alone for so many seconds.
+    /// Logs that a next hop couldn't be reached, and is on hold for this many seconds.
     pub fn held_off(&mut self, hop: &[u8], at: SocketAddrV4, seconds: u64, loss: Loss) {
         add(&mut self.counters.holds, 1);
         if self.speaks {
@@ -272,8 +273,8 @@ impl<'a, E: Write> Log<'a, E> {
         }
     }
 
-    /// Logs that a next hop that was left alone has said something again: so many seconds after it was left alone
-    /// first, and after so many failures.
+    /// Logs that a next hop that was put on hold has said something again: this many seconds after it was put on hold
+    /// first, and after this many failures.
     pub fn came_back(&mut self, hop: &[u8], at: SocketAddrV4, seconds: u64, failures: u64) {
         if self.speaks {
             self.say(hop_back_line(self.head, hop, at, seconds, failures));
@@ -328,7 +329,7 @@ impl<'a, E: Write> Log<'a, E> {
     }
 
     /// Logs that a push has ended before its last work, by this fault. It does so whether lines are asked for or not,
-    /// since whoever serves mail has to mend that.
+    /// since whoever serves mail must mend that.
     pub fn push_ended<F: Display + Drop>(&mut self, fault: F) {
         self.say(push_ended_line(self.head, &fault));
     }
@@ -348,7 +349,7 @@ impl<'a, E: Write> Log<'a, E> {
     }
 }
 
-/// How many octets the first line has, with its LF; all if there is none.
+/// Returns how many octets the first line has, with its LF; all if there is none.
 fn line_length(octets: &[u8]) -> usize
     ensures { result ≤ length octets.now }
 {
@@ -358,7 +359,7 @@ fn line_length(octets: &[u8]) -> usize
     }
 }
 
-/// The recipients after so many.
+/// Returns the recipients after this many.
 fn after(recipients: &[Recipient], count: usize) -> &[Recipient] {
     &recipients[count.min(recipients.len())..]
 }

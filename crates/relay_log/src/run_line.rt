@@ -6,14 +6,14 @@ use std::fmt::Display;
 use std::io;
 use std::net::SocketAddrV4;
 
-/// The line of a listener.
+/// Returns the line of a listener.
 pub(crate) fn listening_line(head: Head, at: SocketAddrV4) -> io::Result<LogLine> {
     let mut line = head.line(b"listening")?;
     head.add_address(&mut line, b"addr", at)?;
     Ok(line)
 }
 
-/// The line of a next hop that is left alone for so many seconds.
+/// Returns the line of a next hop that is on hold for this many seconds.
 pub(crate) fn hop_held_line(
     head: Head,
     hop: &[u8],
@@ -29,8 +29,8 @@ pub(crate) fn hop_held_line(
     Ok(line)
 }
 
-/// The line of a next hop that was left alone and has said something again: so many seconds after it was left alone
-/// first, and after so many failures.
+/// Returns the line of a next hop that was put on hold and has said something again: this many seconds after it was put
+/// on hold first, and after this many failures.
 pub(crate) fn hop_back_line(
     head: Head,
     hop: &[u8],
@@ -46,7 +46,7 @@ pub(crate) fn hop_back_line(
     Ok(line)
 }
 
-/// The line of a configured address that this machine hasn't yet.
+/// Returns the line of a configured address that this machine hasn't yet.
 pub(crate) fn address_awaited_line(
     head: Head,
     at: SocketAddrV4,
@@ -58,7 +58,7 @@ pub(crate) fn address_awaited_line(
     Ok(line)
 }
 
-/// The line of a spool that was compacted, with its sizes in octets.
+/// Returns the line of a spool that was compacted, with its sizes in octets.
 pub(crate) fn compacted_line(head: Head, before: usize, after: usize) -> io::Result<LogLine> {
     let mut line = head.line(b"compacted")?;
     line.number(b"before", before as u64, b"")?;
@@ -66,7 +66,7 @@ pub(crate) fn compacted_line(head: Head, before: usize, after: usize) -> io::Res
     Ok(line)
 }
 
-/// The line of a push that a fault has ended before its last work: what is due stays due.
+/// Returns the line of a push that a fault has ended before its last work: what is due stays due.
 pub(crate) fn push_ended_line<F: Display>(head: Head, fault: &F) -> io::Result<LogLine> {
     let mut line = head.line(b"push-ended")?;
     let text = format!(in head.alloc; "{fault}")?;
@@ -74,7 +74,7 @@ pub(crate) fn push_ended_line<F: Display>(head: Head, fault: &F) -> io::Result<L
     Ok(line)
 }
 
-/// The line of a relay that a fault ends.
+/// Returns the line of a relay that a fault ends.
 pub(crate) fn stopping_line<F: Display>(head: Head, fault: &F) -> io::Result<LogLine> {
     let mut line = head.line(b"stopping")?;
     let text = format!(in head.alloc; "{fault}")?;
@@ -93,8 +93,8 @@ pub struct DeviceFailure<'a> {
     pub retry_in: u64,
 }
 
-/// The line of a failure of a device:
-/// `device-failed reason="No space left on device" file=/var/spool/relayd/a retry_in=1s`.
+/// Returns the line of a failure of a device: `device-failed reason="No space left on device" file=/var/spool/relayd/a
+/// retry_in=1s`.
 pub(crate) fn device_failed_line(head: Head, failure: &DeviceFailure<'_>) -> io::Result<LogLine> {
     let mut line = head.line(b"device-failed")?;
     if let Some(reason) = failure.reason {
@@ -108,7 +108,7 @@ pub(crate) fn device_failed_line(head: Head, failure: &DeviceFailure<'_>) -> io:
     Ok(line)
 }
 
-/// The text of a system's error without the number that follows it.
+/// Returns the text of a system's error without the number that follows it.
 fn without_number(said: &[u8]) -> &[u8] {
     match said.split(|octet| *octet == b'(').next() {
         Some(words) => words.trim_ascii(),

@@ -24,7 +24,7 @@ pub fn settling_place(codes: &[u16], count: u8, index: u8) -> usize
     }
 }
 
-/// The place of the reply to EHLO, or to HELO if EHLO was refused.
+/// Returns the place of the reply to EHLO, or to HELO if EHLO was refused.
 fn hello_place(codes: &[u16]) -> usize
     ensures place { result ≡ hello_place codes.now }
     ensures within { result ≤ 2 }
@@ -36,7 +36,7 @@ fn hello_place(codes: &[u16]) -> usize
     }
 }
 
-/// The place of the reply to the mail data.
+/// Returns the place of the reply to the mail data.
 fn content_place(codes: &[u16], count: u8) -> usize
     ensures { result ≡ content_place codes.now count }
 {
@@ -48,7 +48,7 @@ fn content_place(codes: &[u16], count: u8) -> usize
     }
 }
 
-/// The code at a place, 0 if there is none.
+/// Returns the code at a place, 0 if there is none.
 fn code_at(codes: &[u16], place: usize) -> u16
     ensures { result ≡ code_at codes.now place }
 {

@@ -13,8 +13,8 @@ const TEXT_LIMIT: usize = 200;
 /// mail data.
 const REPLY_LIMIT: usize = 106;
 
-/// The reverse path and the recipients of a message, and the replies of a next hop as they come. Where memory runs out,
-/// it knows less than there is.
+/// The reverse path and the recipients of a message, and the replies of a next hop as they come. If memory runs out, it
+/// knows less than there is.
 #[derive(Drop)]
 pub struct Talk {
     alloc: Global,
@@ -115,17 +115,17 @@ impl Talk {
         Ok(())
     }
 
-    /// Why the last octets were no reply, if they were none.
+    /// Returns why the last octets were no reply, if they were none.
     pub(crate) fn fault(&self) -> Option<ReplyFault> {
         self.fault
     }
 
-    /// The message's reverse path; empty if it isn't known.
+    /// Returns the message's reverse path; empty if it isn't known.
     pub(crate) fn reverse_path(&self) -> &[u8] {
         self.reverse_path.as_slice()
     }
 
-    /// The path of the recipient at a place of the message, if it is known.
+    /// Returns the path of the recipient at a place of the message, if it is known.
     pub(crate) fn recipient(&self, place: u8) -> Option<&[u8]> {
         match self.recipients.as_slice().get(usize::from(place)) {
             Some(path) => Some(path.as_slice()),
@@ -133,8 +133,8 @@ impl Talk {
         }
     }
 
-    /// The code and the text of the reply that settles the recipient of this index, among so many of the attempt, if
-    /// one came.
+    /// Returns the code and the text of the reply that settles the recipient of this index, among this many of the
+    /// attempt, if one came.
     pub(crate) fn settling_reply(&self, count: usize, index: usize) -> Option<(u16, &[u8])> {
         let (Ok(count), Ok(index)) = (u8::try_from(count), u8::try_from(index)) else {
             return None;

@@ -10,7 +10,7 @@ use Rattle.relay_book.specs.Marks.{change_at}
 use Rattle.relay_node.specs.Acceptance.{IsAcceptOf, acceptance_by}
 use Rattle.relay_node.specs.Queued.{queued_in}
 
--- the change of this number accepts, at some moment, the offer of a client at this address
+-- the change of this number accepts, at some time, the offer of a client at this address
 pub record IsAcceptedAs (config : Config) (peer : List ℕ) (changes : List Change) (number : ℕ) (offer : Offered)
     : Type 0 where
   pub at : ℕ

@@ -45,7 +45,7 @@ module _ {D : Type 0} (changes : List Change) (relay : RelayState D) (session : 
   GoesOn None = TalksTo
   GoesOn (Some last) = HasLeft last
 
--- What a read at a moment did, after what was said and written, where nothing waited: the octets of the piece that it
+-- What a read at a time did, after what was said and written, where nothing waited: the octets of the piece that it
 -- used are read after the input. Each offer but the last found no room. The list of changes is as before, or has grown
 -- by the accept of the last offer, whose number is the answer.
 module _ {D : Type 0} (honest : Type 0) (words : DiskWords D) (changes : List Change) (session : ℕ) (peer : List ℕ)

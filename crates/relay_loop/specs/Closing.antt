@@ -5,7 +5,7 @@ use Rattle.relay_lines.specs.Reply.{IsReply, one_line, reply_text}
 use Rattle.relay_loop.specs.declared.closing.Closing.{Closing}
 use Rattle.relay_loop.specs.declared.closing.Closing.TheVariants.{TooMany, Timeout}
 
--- what stands after the name of the host
+-- what is after the name of the host
 abbrev pub text_of : Closing → List ℕ
 text_of TooMany = codes " too many connections, closing"
 text_of Timeout = codes " timeout, closing"

@@ -51,7 +51,7 @@ IsRefused attempt (reply ∷ replies) (answer ∷ answers) =
     ((reply.attempt ≡ attempt) × IsErr answer) ⊎ IsRefused attempt replies answers
 
 -- The words below are of an attempt of which this was told, and this written, after replies with these answers at a
--- moment, by this list of changes.
+-- time, by this list of changes.
 module _ {D : Type 0} (list : List Change) (at : ℕ) (new : RelayState D) (attempt : ℕ) (told : Told)
     (written : List ℕ) (replies : List ReplyPiece) (answers : List (Result Answered NodeFault)) where
   -- it is handed to still, and what was used of its replies is read after its input
@@ -59,8 +59,8 @@ module _ {D : Type 0} (list : List Change) (at : ℕ) (new : RelayState D) (atte
     pub out : List ℕ
     pub hands : HandsTo list new attempt (told_more told (used_of attempt replies answers) out) written
 
-  -- It has ended, and its last octets are handed out. The one outcome of its course, with the report that is due of it,
-  -- is the change of this number in the list.
+  -- It has ended, and its last octets are handed out. The one outcome of its course, with the report that is owed, is
+  -- the change of this number in the list.
   pub record HasEndedIn : Type 0 where
     pub out : List ℕ
     pub verdicts : List Verdict
@@ -93,7 +93,7 @@ GroupsHand {D = D} honest words =
     → (all : ReadsAll honest words changes at pieces replies old new group) → HandsTo changes old attempt told written
     → Becomes (changes ++ all.pending) at new attempt told written replies group.answered.items
 
--- To a next hop without a reply mail is handed on as before such a call, by the list with all that were pending.
+-- To a next hop without a reply mail is relayed as before such a call, by the list with all that were pending.
 abbrev pub GroupsLeaveHops : {D : Type 0} → Type 0 → DiskWords D → Type 0
 GroupsLeaveHops {D = D} honest words =
     (changes : List Change) (at : ℕ) (pieces : List Piece) (replies : List ReplyPiece) (old new : RelayState D)

@@ -37,8 +37,8 @@ pub record IsUndone {D : Type 0} (old new : RelayState D) : Type 0 where
   pub spool : new.node.records.spool ≡ old.node.records.spool
   pub noted : new.node.records.noted ≡ old.node.records.noted
 
--- The words below are of a call at a moment, of a relay whose node keeps these changes and awaits those that are
--- pending, which the row records. What one piece stages are the changes that it adds to these, one at most.
+-- The words below are of a call at a time, of a relay whose node keeps these changes and awaits those that are pending,
+-- which the row records. What one piece stages are the changes that it adds to these, one at most.
 module _ {D : Type 0} (honest : Type 0) (words : DiskWords D) (changes : List Change) (at : ℕ) where
   -- What was read of a client, after what was said and written, where nothing waited: the octets of the piece that
   -- were used are read after the input. Each offer but the last found no room. The last one's change is pending too.

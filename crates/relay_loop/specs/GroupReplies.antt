@@ -38,8 +38,8 @@ IsEnding next None more = more ≡ []
 IsEnding next (Some number) more =
     (outcome : Outcome) × (number ≡ next) × (more ≡ change.Outcome outcome ∷ [])
 
--- The words below are of a call at a moment, of a relay whose node keeps these changes and awaits those that are
--- pending, which the row records. What one reply stages are the changes that it adds to these, one at most.
+-- The words below are of a call at a time, of a relay whose node keeps these changes and awaits those that are pending,
+-- which the row records. What one reply stages are the changes that it adds to these, one at most.
 module _ {D : Type 0} (honest : Type 0) (words : DiskWords D) (changes : List Change) (at : ℕ) where
   -- The words below are of a reply to an attempt of which this is told and written, where nothing waited.
   module _ (pending : List Change) (attempt : ℕ) (told : Told) (written piece : List ℕ) (old : RelayState D) (row : Row)
@@ -53,8 +53,8 @@ module _ {D : Type 0} (honest : Type 0) (words : DiskWords D) (changes : List Ch
       pub out : List ℕ
       pub hands : HandsTo (changes ++ pending) new attempt (told_more told (take answered.used piece) out) written
 
-    -- It has ended, with these last octets: the one outcome of its course is pending too, with the report that is due
-    -- of it, as the change of this number. The attempt and its connection are gone.
+    -- It has ended, with these last octets: the one outcome of its course is pending too, with the report that is owed,
+    -- as the change of this number. The attempt and its connection are gone.
     pub record HandsLastBehind (number : ℕ) : Type 0 where
       pub last : List ℕ
       pub last_is : answered.last ≡ Some last

@@ -19,7 +19,7 @@ use Rattle.relay_loop.specs.GroupPieces.{AnswersEach, AreOfOthers, IsUndone}
 use Rattle.relay_loop.specs.GroupReplies.{AreToOthers, RepliesEach}
 use Rattle.relay_loop.specs.Relay.{RelayState}
 
--- The words below are of a call at a moment, of a relay whose node keeps these changes.
+-- The words below are of a call at a time, of a relay whose node keeps these changes.
 module _ {D : Type 0} (honest : Type 0) (words : DiskWords D) (changes : List Change) (at : ℕ) where
   -- The pieces have these answers, and the replies, after them, these. No call went to a device yet; these changes are
   -- pending then, which the row records.
@@ -34,7 +34,7 @@ module _ {D : Type 0} (honest : Type 0) (words : DiskWords D) (changes : List Ch
     pub undone : IsUndone old before
 
   -- The changes of the pieces and of the replies were added at once: after the answers nothing else happened, and a
-  -- stop at any moment of the call leaves none of them or all.
+  -- stop at any time of the call leaves none of them or all.
   pub record ReadsAll (pieces : List Piece) (replies : List ReplyPiece) (old new : RelayState D) (group : Group)
       : Type 0 where
     pub pending : List Change
@@ -83,7 +83,7 @@ AllAreGone clients pieces = AllByRecursion (λ piece. slot_at clients piece.sess
 abbrev pub HopsAreGone : List (Option (List ℕ)) → List ReplyPiece → Type 0
 HopsAreGone hops replies = AllByRecursion (λ reply. slot_at hops reply.attempt ≡ None) replies
 
--- A call on these pieces and replies is refused so: for want of memory nothing changes, and where the node is stopped,
+-- A call on these pieces and replies is refused so: for lack of memory nothing changes, and where the node is stopped,
 -- or stops, no connection of theirs is left, so that no octet of what was pending goes out.
 abbrev pub RefusesToReadAll
     : {D : Type 0} → List Piece → List ReplyPiece → RelayState D → RelayState D → NodeFault → Type 0

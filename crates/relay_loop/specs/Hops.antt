@@ -28,7 +28,7 @@ pub record HandsTo {D : Type 0} (changes : List Change) (relay : RelayState D) (
   pub connection : slot_at relay.hops attempt ≡ Some waiting
   pub output : told.output ≡ written ++ waiting
 
--- an attempt has begun for a message and a hop at a moment, for at most so many places, and nothing is written to its
+-- an attempt has begun for a message and a hop at a time, for at most this many places, and nothing is written to its
 -- connection, and nothing waits
 pub record StartsToAtMost {D : Type 0} (changes : List Change) (message : ℕ) (hop : List ℕ) (most : Option ℕ) (now : ℕ)
     (old new : RelayState D) (started : Started)
@@ -40,7 +40,7 @@ pub record StartsToAtMost {D : Type 0} (changes : List Change) (message : ℕ) (
 abbrev pub StartsTo : {D : Type 0} → List Change → ℕ → List ℕ → ℕ → RelayState D → RelayState D → Started → Type 0
 StartsTo changes message hop = StartsToAtMost changes message hop None
 
--- The words below are of a reply at a moment, to an attempt of which this is told and written, where nothing waited.
+-- The words below are of a reply at a time, to an attempt of which this is told and written, where nothing waited.
 module _ {D : Type 0} (honest : Type 0) (words : DiskWords D) (changes : List Change) (attempt now : ℕ) (told : Told)
     (written : List ℕ) where
   -- it goes on after the whole piece, and the records are the same
@@ -51,8 +51,8 @@ module _ {D : Type 0} (honest : Type 0) (words : DiskWords D) (changes : List Ch
     pub out : List ℕ
     pub hands : HandsTo changes new attempt (told_more told (take answered.used piece) out) written
 
-  -- It has ended, with these last octets: the one outcome of its course was added, with the report that is due of it,
-  -- as the change of this number. The attempt and its connection are gone.
+  -- It has ended, with these last octets: the one outcome of its course was added, with the report that is owed, as the
+  -- change of this number. The attempt and its connection are gone.
   pub record HandsLast (piece : List ℕ) (old new : RelayState D) (answered : Answered) (change : ℕ) : Type 0 where
     pub last : List ℕ
     pub last_is : answered.last ≡ Some last
@@ -71,8 +71,8 @@ module _ {D : Type 0} (honest : Type 0) (words : DiskWords D) (changes : List Ch
   abbrev pub Replies : List ℕ → RelayState D → RelayState D → Answered → Type 0
   Replies piece old new answered = RepliesBy piece old new answered answered.change
 
--- Octets of a piece of this length were used: where nothing waited and the attempt goes on, all. Where it has ended, it
--- is gone; the records are the same, or have grown by its outcome, and no call of the device has failed.
+-- Octets of a piece of this length were used: where nothing waited and the attempt goes on, all. If it has ended, it is
+-- gone; the records are the same, or have grown by its outcome, and no call of the device has failed.
 pub record UsesReply {D : Type 0} (words : DiskWords D) (now attempt len : ℕ) (old new : RelayState D)
     (answered : Answered)
     : Type 0 where

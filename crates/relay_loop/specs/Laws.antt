@@ -1,4 +1,4 @@
--- What is true of the connections of a relay, whatever calls are made.
+-- Laws of the connections of a relay, whatever calls are made.
 use Rattle.std.specs.Prelude.{◌≡◌, ◌≢◌, ◌⊎◌, ℕ, List, [], ◌∷◌, ◌++◌}
 use Rattle.std.specs.List.{Contains}
 use Rattle.relay_octets.specs.Beginning.{Begins}
@@ -14,7 +14,7 @@ use Rattle.relay_loop.specs.Clients.{TalksTo}
 use Rattle.relay_loop.specs.Hops.{HandsTo}
 use Rattle.relay_loop.specs.Relay.{OnlyClient, OnlyHop, RelayState}
 
--- What was said to a client is a dialogue, and what was written to it is a beginning of its output.
+-- What was said to a client is a dialogue, and what was written to it is a prefix of its output.
 abbrev pub TalksAreDialogues : Type 0 → Type 0
 TalksAreDialogues D =
     (changes : List Change) (relay : RelayState D) (session : ℕ) (peer : List ℕ) (said : Said) (written : List ℕ)
@@ -52,7 +52,7 @@ abbrev pub StaysOrGrows : List Change → List Change → Type 0
 StaysOrGrows changes later =
     (later ≡ changes) ⊎ ((change : Change) × (later ≡ changes ++ change ∷ []) × Fitting later)
 
--- To a next hop mail is handed on as before while changes are added, as long as its attempt, its connection and the
+-- To a next hop mail is relayed as before while changes are added, as long as its attempt, its connection and the
 -- configuration are the same.
 abbrev pub HandsStay : Type 0 → Type 0
 HandsStay D =

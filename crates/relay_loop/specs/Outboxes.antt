@@ -2,7 +2,7 @@
 use Rattle.std.specs.Prelude.{ℕ, List, [], Option, None, Some}
 use Rattle.relay_slots.specs.Slots.{slot_at}
 
--- what waits where a connection stands, and nothing where none does
+-- what waits where a connection stands, and nothing if none does
 abbrev pub octets_of : Option (List ℕ) → List ℕ
 octets_of None = []
 octets_of (Some octets) = octets

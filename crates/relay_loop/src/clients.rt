@@ -51,7 +51,7 @@ impl Heard {
 impl<D: Disk> Relay<D> {
     /// Opens a session for a client at this address, under the least free number, which is the answer. Its greeting
     /// waits to be written. The first fault in this order is answered, and nothing is changed then: `Stopped`,
-    /// `TooMany` where 64 sessions are open, and want of memory.
+    /// `TooMany` where 64 sessions are open, and lack of memory.
     pub fn accept(&mut self, peer: [u8; 4]) -> Result<usize, NodeFault>
         ensures talks { IfOk result (λ session. (changes : List Change) → TalksTo changes self.new session peer
             (greeted_by (unwritten_at self.new.clients session)) []) }
@@ -113,14 +113,14 @@ impl<D: Disk> Relay<D> {
         }
     }
 
-    /// What waits to be written to a client; nothing where no such connection stands.
+    /// Returns what waits to be written to a client; nothing if no such connection stands.
     pub fn to_client(&self, session: usize) -> &[u8]
         ensures { result.now ≡ unwritten_at self.now.clients session }
     {
         self.clients.to_write(session)
     }
 
-    /// So many of the octets that wait for a client were written. It takes no memory.
+    /// This many of the octets that wait for a client were written. Allocates nothing.
     pub fn wrote_to_client(&mut self, session: usize, count: usize)
         requires { count ≤ length (unwritten_at self.old.clients session) }
         ensures talks { (changes : List Change) (peer : List ℕ) (said : Said) (written : List ℕ)
@@ -137,8 +137,8 @@ impl<D: Disk> Relay<D> {
 
     /// Ends the session of a client, whose input has come to its end, or whom the relay cuts off. Its connection is
     /// gone, and what still waits for it comes back. An offer that isn't whole is dropped with it. `Unknown` is
-    /// answered where there is no such connection or session, and `Stopped` by a node that is stopped; the connection
-    /// is gone then too. It takes no memory.
+    /// answered if there is no such connection or session, and `Stopped` by a node that is stopped; the connection is
+    /// gone then too. Allocates nothing.
     pub fn end_client(&mut self, session: usize) -> Result<Outbox, NodeFault>
         ensures last { IfOk result (λ last. slot_at self.old.clients session ≡ Some last) }
         ensures talked { (changes : List Change) (peer : List ℕ) (said : Said) (written : List ℕ)

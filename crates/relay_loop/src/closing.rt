@@ -15,8 +15,8 @@ pub enum Closing {
     Timeout,
 }
 
-/// The reply with which the relay closes a connection by itself, code 421: the name of its host, and why. It fails
-/// where memory runs out.
+/// Returns the reply with which the relay closes a connection by itself, code 421: the name of its host, and why. Fails
+/// if memory runs out.
 pub fn closing_line(alloc: Global, host: &HostName, why: Closing) -> Result<Vec<u8>, AllocError>
     ensures { IfOk result (λ line. line.items ≡ closing_of host.now why) }
 {
@@ -26,7 +26,7 @@ pub fn closing_line(alloc: Global, host: &HostName, why: Closing) -> Result<Vec<
 }
 
 impl Closing {
-    /// What stands after the name of the host.
+    /// Returns what is after the name of the host.
     fn text(self) -> &'static [u8]
         ensures { result.now ≡ text_of self }
     {

@@ -21,10 +21,10 @@ use relay_records::list_laws::none_is_awaited;
 use relay_records::{NodeFault, Noted};
 use relay_trace::Moment;
 
-/// So many changes of a group come into the spool together, and no more.
+/// This many changes of a group come into the spool together, and no more.
 const MOST_CHANGES: usize = 64;
 
-/// Once the records of a group take so many octets of the spool, 4 MiB, no more is read into it.
+/// Once the records of a group take this many octets of the spool, 4 MiB, no more is read into it.
 const MOST_ROOM: usize = 4_194_304;
 
 /// Octets of a client.
@@ -48,16 +48,16 @@ pub struct Group {
 }
 
 impl<D: Disk> Relay<D> {
-    /// Uses octets of several clients, one after another, each as [`Relay::read`] does, and after them the
-    /// replies of next hops, each as [`Relay::reply`] does. It brings the changes that all of them lead to into the
-    /// spool after one pair of syncs: from then on every stop leaves them, and before that no octet can be written
-    /// that tells of them. A piece or a reply is left unread, as one whose connection has octets waiting, once the
-    /// group has 64 changes or their records take 4 MiB. A fault of one is its answer, which ends its connection
-    /// alone: `Unknown`, and want of memory, of a number for its mail, or of room for its outcome.
+    /// Uses octets of several clients, one after another, each as [`Relay::read`] does, and after them the replies of
+    /// next hops, each as [`Relay::reply`] does. It brings the changes that all of them lead to into the spool after
+    /// one pair of syncs: from then on every stop leaves them, and before that no octet can be written that tells of
+    /// them. A piece or a reply is left unread, as one whose connection has octets waiting, once the group has 64
+    /// changes or their records take 4 MiB. A fault of one is its answer, which ends its connection alone: `Unknown`,
+    /// and lack of memory, of a number for its mail, or of room for its outcome.
     ///
-    /// The first fault in this order is the call's: `Stopped`, where the node was; want of memory for the answers,
-    /// at which nothing changes; and `Stopped`, where the device fails: a stop leaves none of the changes or all.
-    /// At `Stopped` the connections of all pieces and replies are gone.
+    /// The first fault in this order is the call's: `Stopped`, where the node was; lack of memory for the answers, at
+    /// which nothing changes; and `Stopped`, where the device fails: a stop leaves none of the changes or all. At
+    /// `Stopped` the connections of all pieces and replies are gone.
     pub fn read_all(
         &mut self,
         pieces: &[Piece<'_>],
@@ -171,14 +171,14 @@ impl<D: Disk> Relay<D> {
     }
 }
 
-/// Whether no more is read after a row.
+/// Returns whether no more is read after a row.
 pub(crate) fn is_laden(row: &Staged) -> bool
     ensures { IsTrue result ↔ IsLaden row.now }
 {
     row.len() >= MOST_CHANGES || row.room() >= MOST_ROOM
 }
 
-/// The connections of these pieces are gone. It takes no memory.
+/// The connections of these pieces are gone. Allocates nothing.
 fn drop_all(clients: &mut Outboxes, pieces: &[Piece<'_>])
     ensures gone { AllAreGone clients.new pieces.now }
     ensures others { (session : ℕ) → AreOfOthers session pieces.now

@@ -146,14 +146,14 @@ impl<D: Disk> Relay<D> {
         }
     }
 
-    /// What waits to be written to the next hop of an attempt; nothing where no such connection stands.
+    /// Returns what waits to be written to the next hop of an attempt; nothing if no such connection stands.
     pub fn to_hop(&self, attempt: usize) -> &[u8]
         ensures { result.now ≡ unwritten_at self.now.hops attempt }
     {
         self.hops.to_write(attempt)
     }
 
-    /// So many of the octets that wait for the next hop of an attempt were written. It takes no memory.
+    /// This many of the octets that wait for the next hop of an attempt were written. Allocates nothing.
     pub fn wrote_to_hop(&mut self, attempt: usize, count: usize)
         requires { count ≤ length (unwritten_at self.old.hops attempt) }
         ensures hands { (changes : List Change) (told : Told) (written : List ℕ)

@@ -1,4 +1,4 @@
-//! What is true of the connections of a relay, whatever calls are made.
+//! Laws of the connections of a relay, whatever calls are made.
 ghost use Rattle.relay_loop.specs.Closing.{ClosingIsReply};
 ghost use Rattle.relay_loop.specs.GroupHopLaws.{GroupsHand, GroupsLeaveHops};
 ghost use Rattle.relay_loop.specs.GroupLaws.{GroupsTalk};
@@ -27,13 +27,13 @@ pub fn others_talk<D>()
     ensures { OthersTalk D }
 {}
 
-/// To a next hop mail is handed on as before while changes are added, as long as its attempt and its connection are the
+/// To a next hop mail is relayed as before while changes are added, as long as its attempt and its connection are the
 /// same.
 pub fn hands_stay<D>()
     ensures { HandsStay D }
 {}
 
-/// A call on an attempt, or on a session, leaves what is handed on to all other next hops.
+/// A call on an attempt, or on a session, leaves what is relayed to all other next hops.
 pub fn others_hand<D>()
     ensures { OthersHand D }
 {}
@@ -52,7 +52,7 @@ pub fn groups_hand<D: Disk>()
     ensures { GroupsHand D.honest D.words }
 {}
 
-/// Such a call leaves what is handed on to each next hop without a reply.
+/// Such a call leaves what is relayed to each next hop without a reply.
 pub fn groups_leave_hops<D: Disk>()
     ensures { GroupsLeaveHops D.honest D.words }
 {}

@@ -10,7 +10,7 @@ pub struct Outbox {
     written: usize,
 }
 
-// Written out, so that what drops an outbox calls this, and doesn't look into its octets.
+// Written out, so that the proof of a caller that drops an outbox stops at this function.
 impl Drop for Outbox {
     fn drop(self) {
         let Outbox {
@@ -31,28 +31,28 @@ impl Model for Outbox {
 }
 
 impl Outbox {
-    /// All of these octets wait. It takes no memory.
+    /// Makes an outbox of these octets, none of which is written yet. Allocates nothing.
     pub fn new(octets: Vec<u8>) -> Self
         ensures { result ≡ octets.items }
     {
         Outbox { octets, written: 0 }
     }
 
-    /// What waits.
+    /// Returns what waits.
     pub fn as_slice(&self) -> &[u8]
         ensures { result.now ≡ self.now }
     {
         &self.octets[self.written..]
     }
 
-    /// Whether nothing waits.
+    /// Returns whether nothing waits.
     pub fn is_empty(&self) -> bool
         ensures { IsTrue result ↔ (self.now ≡ []) }
     {
         self.as_slice().is_empty()
     }
 
-    /// So many of the octets that wait were written. It takes no memory.
+    /// This many of the octets that wait were written. Allocates nothing.
     pub fn wrote(&mut self, count: usize)
         requires { count ≤ length self.old }
         ensures { self.new ≡ drop count self.old }
@@ -60,7 +60,7 @@ impl Outbox {
         self.written += count;
     }
 
-    /// The same, once so many more octets were written.
+    /// Returns the same, once so many more octets were written.
     pub(crate) fn behind(self, count: usize) -> Self
         requires { count ≤ length self }
         ensures { result ≡ drop count self }

@@ -14,7 +14,7 @@ pub(crate) struct Outboxes {
     slots: Slots<Outbox>,
 }
 
-// Written out, so that what drops outboxes calls this, and doesn't look into each.
+// Written out, so that the proof of a caller that drops outboxes stops at this function.
 impl Drop for Outboxes {
     fn drop(self) {
         let Outboxes { slots: _slots } = self;
@@ -33,7 +33,7 @@ impl Model for Outboxes {
 }
 
 impl Outboxes {
-    /// No connection. It fails where memory runs out.
+    /// No connection. Fails if memory runs out.
     pub(crate) fn new(alloc: Global) -> Result<Self, AllocError>
         ensures { IfOk result AreFree }
     {
@@ -42,7 +42,7 @@ impl Outboxes {
         })
     }
 
-    /// What waits to be written to the connection of a number, where there is one.
+    /// Returns what waits to be written to the connection of a number, if there is one.
     pub(crate) fn waiting(&self, number: usize) -> Option<&[u8]>
         ensures waiting { MatchOption result (slot_at self.now number ≡ None)
             (λ waiting. slot_at self.now number ≡ Some waiting.now) }
@@ -55,7 +55,7 @@ impl Outboxes {
         }
     }
 
-    /// What waits to be written to the connection of a number; nothing where there is none.
+    /// Returns what waits to be written to the connection of a number; nothing if there is none.
     pub(crate) fn to_write(&self, number: usize) -> &[u8]
         ensures { result.now ≡ unwritten_at self.now number }
     {
@@ -65,7 +65,7 @@ impl Outboxes {
         }
     }
 
-    /// The connection of a number stands, and this waits to be written to it. It takes no memory.
+    /// The connection of a number stands, and this waits to be written to it. Allocates nothing.
     pub(crate) fn put(&mut self, number: usize, outbox: Outbox)
         requires { number < SLOT_COUNT }
         ensures at { slot_at self.new number ≡ Some outbox }
@@ -74,7 +74,7 @@ impl Outboxes {
         self.slots.put(number, outbox);
     }
 
-    /// Takes the connection of a number out, with what still waits to be written to it. It takes no memory.
+    /// Takes the connection of a number out, with what still waits to be written to it. Allocates nothing.
     pub(crate) fn take(&mut self, number: usize) -> Option<Outbox>
         ensures taken { result ≡ slot_at self.old number }
         ensures within { MatchOption result (Unit {0}) (λ _. number < SLOT_COUNT) }
@@ -84,7 +84,7 @@ impl Outboxes {
         self.slots.take(number)
     }
 
-    /// The connection of a number is gone, if there was one. It takes no memory.
+    /// The connection of a number is gone, if there was one. Allocates nothing.
     pub(crate) fn remove(&mut self, number: usize)
         ensures gone { slot_at self.new number ≡ None }
         ensures others { OthersStay self.old self.new number }
@@ -92,7 +92,7 @@ impl Outboxes {
         let _gone = self.take(number);
     }
 
-    /// So many of the octets that wait for the connection of a number were written. It takes no memory.
+    /// This many of the octets that wait for the connection of a number were written. Allocates nothing.
     pub(crate) fn wrote(&mut self, number: usize, count: usize)
         requires { count ≤ length (unwritten_at self.old number) }
         ensures at { slot_at self.new number ≡ option_map (drop count) (slot_at self.old number) }

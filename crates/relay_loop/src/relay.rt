@@ -18,9 +18,9 @@ use relay_trace::Moment;
 use std::alloc::Global;
 use std::marker::Model;
 
-/// A node, and the connections of its sessions and of its attempts: the connection of a session stands under the
-/// session's number, that of an attempt under the attempt's. It knows no socket: whoever holds them hands it what was
-/// read, and writes what waits. No octet of a connection is used while something waits to be written to it.
+/// A node, and the connections of its sessions and of its attempts: the connection of a session is under the session's
+/// number, that of an attempt under the attempt's. It knows no socket: whoever holds them hands it what was read, and
+/// writes what waits. No octet of a connection is used while something waits to be written to it.
 ///
 /// Where the device fails, the node is stopped: all connections are to be dropped then, and its disks opened again.
 pub struct Relay<D: Disk> {
@@ -30,7 +30,7 @@ pub struct Relay<D: Disk> {
     pub(crate) hops: Outboxes,
 }
 
-// Written out, so that what drops a relay calls this, and doesn't look into its parts.
+// Written out, so that the proof of a caller that drops a relay stops at this function.
 impl<D: Disk + Drop> Drop for Relay<D> {
     fn drop(self) {
         let Relay {
@@ -55,7 +55,7 @@ impl<D: Disk> Model for Relay<D> {
 }
 
 impl<D: Disk> Relay<D> {
-    /// A relay of a node, without a connection. Where memory runs out, the node comes back.
+    /// Makes a relay of a node, without a connection. If memory runs out, the node comes back.
     pub fn new(alloc: Global, node: Node<D>) -> Result<Self, Node<D>>
         ensures { MatchResult result
             (λ relay. (relay.node ≡ node) × AreFree relay.clients × AreFree relay.hops)
@@ -75,14 +75,14 @@ impl<D: Disk> Relay<D> {
         })
     }
 
-    /// The node.
+    /// Returns the node.
     pub fn node(&self) -> &Node<D>
         ensures { result.now ≡ self.now.node }
     {
         &self.node
     }
 
-    /// The node, live or stopped. All connections are dropped. It takes no memory.
+    /// Returns the node, live or stopped. All connections are dropped. Allocates nothing.
     pub fn into_node(self) -> Node<D>
         ensures { result ≡ self.node }
     {
@@ -111,7 +111,7 @@ impl<D: Disk> Relay<D> {
             → OnOk result (Keeps D.honest D.words self.new.node.records changes) }
         ensures cut { (changes : List Change) → Keeps D.honest D.words self.old.node.records changes
             → result ≡ Err NodeFault.Stopped → Halted D.honest D.words self.new.node.records changes None }
-        // A stop at any moment of the call leaves the changes as they were.
+        // A stop at any time of the call leaves the changes as they were.
         ensures stop { (changes : List Change) → Keeps D.honest D.words self.old.node.records changes → D.honest
             → AtEachMoment D.words self.old.node.records.spool.disk self.new.node.records.spool.disk
             (HasBodies (λ bodies. StandsFor bodies changes)) }
@@ -134,7 +134,7 @@ impl<D: Disk> Relay<D> {
             → OnOk result (Keeps D.honest D.words self.new.node.records changes) }
         ensures cut { (changes : List Change) → Keeps D.honest D.words self.old.node.records changes
             → result ≡ Err NodeFault.Stopped → Halted D.honest D.words self.new.node.records changes None }
-        // A stop at any moment of the call leaves the changes as they were.
+        // A stop at any time of the call leaves the changes as they were.
         ensures stop { (changes : List Change) → Keeps D.honest D.words self.old.node.records changes → D.honest
             → AtEachMoment D.words self.old.node.records.spool.disk self.new.node.records.spool.disk
             (HasBodies (λ bodies. StandsFor bodies changes)) }

@@ -94,7 +94,7 @@ impl<D: Disk> Relay<D> {
     }
 }
 
-/// The connections of these replies are gone. It takes no memory.
+/// The connections of these replies are gone. Allocates nothing.
 pub(crate) fn drop_hops(hops: &mut Outboxes, replies: &[ReplyPiece<'_>])
     ensures gone { HopsAreGone hops.new replies.now }
     ensures others { (attempt : ℕ) → AreToOthers attempt replies.now

@@ -1,4 +1,4 @@
--- Two relays that meet: both ends by their histories, each of which has read a beginning of what the other wrote.
+-- Two relays that meet: both ends by their histories, each of which has read a prefix of what the other wrote.
 use Rattle.std.specs.Prelude.{◌≡◌, ◌≢◌, ◌⊎◌, ◌<◌, ℕ, nat_le, Bool, true, List, [], ◌∷◌, ◌++◌, length, map, slice_get}
 use Rattle.std.specs.Prelude.{option_to_list, if◌then◌else◌, Option, None, Some}
 use Rattle.std.specs.List.{AllByRecursion, flat_map}
@@ -57,7 +57,7 @@ MayClose said None = Unit {0}
 MayClose said (Some reply) = IsReply reply × (reply.code ≡ 421) × (length said.answers ≡ length said.offers)
 
 -- a server end with a dialogue, and perhaps a reply with which it closed unasked, and a client end with a course of
--- this errand, which has read these replies and a rest: each has read a beginning of what the other wrote
+-- this errand, which has read these replies and a rest: each has read a prefix of what the other wrote
 pub record AreJoined (setup : Setup) (errand : Errand) (said : Said) (closing : Option Reply) (input output : List ℕ)
     (replies : List Reply)
     (rest : List ℕ) : Type 0 where
@@ -70,8 +70,8 @@ pub record AreJoined (setup : Setup) (errand : Errand) (said : Said) (closing : 
   pub up : Begins said.input output
   pub down : Begins input (output_with said.output closing)
 
--- what the two have said: turns of the script, of which the client has read a beginning of the replies, and after all
--- of these of the one with which the server closed, and no fault; and the text was offered at most once
+-- what the two have said: turns of the script, of which the client has read a prefix of the replies, and after all of
+-- these of the one with which the server closed, and no fault; and the text was offered at most once
 pub record HaveMet (setup : Setup) (errand : Errand) (tried : List Tried) (said : Said) (closing : Option Reply)
     (replies : List Reply)
     (rest : List ℕ) : Type 0 where
@@ -98,7 +98,7 @@ TwoRelaysMeet =
 abbrev pub verdict_at : List ℕ → Verdict → Tried → Verdict
 verdict_at host last tried = if tried.goes then last else refusal (reply_of host (refusal_row tried.routed))
 
--- Taken, by a server that offers DSN, exactly where the offer was answered by a number
+-- Taken, by a server that offers DSN, exactly if the offer was answered by a number
 abbrev pub Tells : Verdict → List Answer → Type 0
 Tells last answers =
     ((last ≡ Taken true) × ((number : ℕ) × (answers ≡ Queued number ∷ [])))
@@ -169,7 +169,7 @@ ChildHoldsItsPlaces =
     → IsErrand errand → AreJoined setup errand said closing input output replies rest → 0 < length said.offers
     → said.offers ≡ child_by errand replies ∷ []
 
--- all of it: each place is tried as the server's table says; what was said; what the client has read where there is an
+-- all of it: each place is tried as the server's table says; what was said; what the client has read if there is an
 -- offer, and that this is one; and how an attempt ends whose replies each answered something
 pub record HaveTalked (setup : Setup) (errand : Errand) (said : Said) (closing : Option Reply) (replies : List Reply)
     (rest : List ℕ)

@@ -1,5 +1,5 @@
 -- Two that meet (RFC 5321, section 2.1): a client that writes a script of commands by the replies it reads, and a
--- server whose table says what comes of each.
+-- server whose table says the outcome of each.
 use Rattle.std.specs.Prelude.{◌≡◌, ◌⊎◌, ◌≤◌, ℕ, List, [], ◌∷◌, ◌++◌, length, map}
 use Rattle.relay_octets.specs.Beginning.{Begins}
 use Rattle.relay_lines.specs.Reply.{Reply}
@@ -11,7 +11,7 @@ use Rattle.relay_server.specs.Setup.{Setup}
 use Rattle.relay_server.specs.State.{Greeted, State, Command, Closed, start}
 use Rattle.relay_course.specs.Course.{joined}
 
--- a command, and what comes of it by the server's table
+-- a command, and its outcome by the server's table
 pub record Step : Type 0 where
   pub command : List ℕ
   pub course : Course
@@ -65,7 +65,7 @@ behind_turns (step ∷ script) (turn ∷ turns) = behind_turns script turns
 abbrev pub replies_by : List Turn → List Reply
 replies_by turns = map (λ turn. turn.reply) turns
 
--- A client that writes by the replies it has read: what was written stays written; after so many replies as many
+-- A client that writes by the replies it has read: what was written stays written; after this many replies as many
 -- commands are written, or nothing more is; and on a greeting and replies as they may be it writes commands of the
 -- script.
 pub record Writes (host : List ℕ) (greeting : Reply) (commands : List Reply → List (List ℕ)) (script : List Step)
@@ -81,8 +81,8 @@ pub record Meets (setup : Setup) (script : List Step) (turns : List Turn) (new :
   pub plays : Plays setup.host script turns
   pub goes_on : IsScript setup new (behind_turns script turns)
 
--- Of a client that writes a script and a server that has read a beginning of what the client wrote after a beginning
--- of the server's replies, and of any that come after those, the turns are of the script.
+-- Of a client that writes a script and a server that has read a prefix of what the client wrote after a prefix of the
+-- server's replies, and of any that come after those, the turns are of the script.
 abbrev pub Meeting : Type 0
 Meeting =
     (setup : Setup) (greeting : Reply) (commands : List Reply → List (List ℕ)) (script : List Step) (new : State)

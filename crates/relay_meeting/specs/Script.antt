@@ -51,7 +51,7 @@ envelope_behind envelope (tried ∷ more) = envelope_behind (with_tried envelope
 abbrev pub quit_step : Step
 quit_step = step_of quit_line (Replies row.Closing Closed)
 
--- what comes of the content, as mail data and as one last chunk
+-- the outcome of the content, as mail data and as one last chunk
 abbrev pub course_of_mail_data : Setup → Client → Envelope → List ℕ → Course
 course_of_mail_data setup client envelope text =
     unless_refused setup.bare_newlines (course_of_text setup.max_content client envelope text)

@@ -1,11 +1,10 @@
-//! What is true of two relays that meet.
+//! Laws of two relays that meet.
 ghost use Rattle.relay_meeting.specs.Joined.{ChildHoldsItsPlaces, OfferHoldsItsPlaces, TwoRelaysEnd, TwoRelaysMeet};
 ghost use Rattle.relay_meeting.specs.Joined.{WhatRelaysSay};
 ghost use Rattle.relay_meeting.specs.Meeting.{Meeting};
 ghost use Rattle.relay_meeting.specs.Script.{ClientWrites, EachPlaceIsTried, ScriptIsServers};
 
-/// Of a client that writes a script, and a server that has read a beginning of what it wrote, the turns are of the
-/// script.
+/// Of a client that writes a script, and a server that has read a prefix of what it wrote, the turns are of the script.
 pub fn meeting()
     ensures { Meeting }
 {}
@@ -25,7 +24,7 @@ pub fn client_writes()
     ensures { ClientWrites }
 {}
 
-/// Two relays of which each has read a beginning of what the other wrote have said turns of the script.
+/// Two relays of which each has read a prefix of what the other wrote have said turns of the script.
 pub fn two_relays_meet()
     ensures { TwoRelaysMeet }
 {}

@@ -1,5 +1,5 @@
-//! Two ends that meet: what a client's course and a server's dialogue have said of each other, where each has read a
-//! beginning of what the other wrote. Laws alone.
+//! A client's course and a server's dialogue on one connection, each of which has read a prefix of what the other
+//! wrote. Laws only.
 #![tactic(auto)]
 
 pub mod laws;

@@ -18,7 +18,7 @@ abbrev pub CountsMatchWith : {S : Type 0} → Hop S → List (Option (Hop S)) �
 CountsMatchWith hop hops paces =
     (lane : ℕ) → running_at paces lane ≡ (if is_in lane hop then 1 else 0) + count_of_such (is_in lane) hops
 
--- a connection whose next hop hasn't said anything since its place was left alone last, or since the relay began
+-- a connection whose next hop hasn't said anything since its place was put on hold last, or since the relay began
 abbrev pub is_unanswered : {S : Type 0} → List Pace → Hop S → Bool
 is_unanswered paces hop = not (has_answered_at paces hop.aim.lane)
 

@@ -21,11 +21,11 @@ use Rattle.relay_next_hops.specs.declared.hops.Hops.{Hops}
 abbrev pub told_of : ReplyPiece → ℕ × List ℕ
 told_of reply = (reply.attempt, reply.octets.now)
 
--- the attempt of a connection, where it has octets that it may hear
+-- the attempt of a connection, if it has octets that it may hear
 abbrev pub hearing_of : {S : Type 0} → Hop S → Option ℕ
 hearing_of hop = if hop.hears then hop.attempt else None
 
--- what the attempt of a connection has to hear: all that was read of that connection and isn't used yet
+-- what the attempt of a connection must hear: all that was read of that connection and isn't used yet
 abbrev pub reply_of : {S : Type 0} → Option (Hop S) → Option (ℕ × List ℕ)
 reply_of None = None
 reply_of (Some hop) = option_map (λ attempt. (attempt, unread_of hop.channel)) (hearing_of hop)
@@ -41,7 +41,7 @@ reply_at hops number = reply_of (slot_at hops number)
 unfoldable pub order_of : {S : Type 0} → Hops S → List ℕ
 order_of hops = turned 64 (hops.first % 64) 64
 
--- what all attempts have to hear, in that order
+-- what all attempts must hear, in that order
 abbrev pub replies_of : {S : Type 0} → Hops S → List (ℕ × List ℕ)
 replies_of hops = filter_map (reply_at hops.hops) (order_of hops)
 
@@ -57,7 +57,7 @@ WasLeft (Err fault) = ⊥
 abbrev pub IsLate : {S : Type 0} → ℕ → Hop S → Type 0
 IsLate tick hop = min hop.idle_deadline hop.answer_deadline ≤ tick
 
--- What becomes of a connection by what came of octets that its attempt has heard: at a fault the attempt is gone; where
+-- What becomes of a connection by the outcome of octets that its attempt has heard: at a fault the attempt is gone; if
 -- it has ended these are its last octets; and otherwise it goes on without the octets that were used, unless its next
 -- hop has taken too long.
 abbrev pub IsCourse : {S : Type 0} → ℕ → Result Answered NodeFault → Hop S → Hop S → Course → Type 0
@@ -68,7 +68,7 @@ IsCourse tick (Ok answered) old new course =
     × ((course ≡ Stays) ⊎ ((course ≡ Lost Silent) × IsLate tick new)))
     (λ outbox. (noted : Option Noted) × (course ≡ Ended outbox noted))
 
--- A connection stays for its errand without the octets that were used. Where none was used, its attempt may hear them
+-- A connection stays for its errand without the octets that were used. If none was used, its attempt may hear them
 -- alone, and then some of them are used.
 pub record UsesOwn {S : Type 0} (answered : Answered) (old new : Hop S) : Type 0 where
   pub goes_on : answered.last ≡ None
@@ -84,12 +84,12 @@ module _ {S : Type 0} (tick : ℕ) where
     pub uses : UsesOwn answered old new
     pub late : IsLate tick new
 
-  -- A connection is gone: its attempt has ended, or its next hop has taken too long. Where none of its octets was used,
+  -- A connection is gone: its attempt has ended, or its next hop has taken too long. If none of its octets was used,
   -- its attempt has heard them alone.
   abbrev pub IsGone : Answered → Hop S → Type 0
   IsGone answered old = (answered.last ≢ None) ⊎ IsLeft answered ⊎ WentLate answered old
 
-  -- what became of a connection by an answer to its attempt; where that is a fault, the connection is gone
+  -- what became of a connection by an answer to its attempt; if that is a fault, the connection is gone
   abbrev pub IsAnswered : Result Answered NodeFault → Option (Hop S) → Option (Hop S) → Type 0
   IsAnswered answer None None = Unit {0}
   IsAnswered answer None (Some new) = ⊥

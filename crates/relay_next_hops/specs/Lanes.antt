@@ -13,7 +13,7 @@ use Rattle.relay_next_hops.specs.Paces.{RunAsBefore, has_answered_at}
 abbrev pub next_due_of : {S : Type 0} → NextHops S → ℕ
 next_due_of next_hops = next_hops.lanes.next_due
 
--- what is due for the lane of a number, in the order in which it is begun; nothing where there is no such lane
+-- what is due for the lane of a number, in the order in which it is begun; nothing if there is no such lane
 abbrev pub tasks_at : Lanes → ℕ → List Task
 tasks_at lanes number = option_map_or (λ lane. lane.tasks.items) (slice_get lanes.lanes.items number) []
 
@@ -51,8 +51,8 @@ pub record ListsMore (old new : Lanes) : Type 0 where
 abbrev pub IsListedUnroutable : ℕ → Lanes → Type 0
 IsListedUnroutable message lanes = Contains lanes.unroutable.items message ⊎ (lanes.is_stale ≡ true)
 
--- The task is the first of its lane again. Where it isn't, its message is listed anyway, or all that is due is, or
--- there is no such lane.
+-- The task is the first of its lane again. If it isn't, its message is listed anyway, or all that is due is, or there
+-- is no such lane.
 abbrev pub IsPutBack : ℕ → Task → Lanes → Lanes → Type 0
 IsPutBack lane task old new =
     (tasks_at new lane ≡ task ∷ tasks_at old lane)
@@ -60,7 +60,7 @@ IsPutBack lane task old new =
     ⊎ (new.is_stale ≡ true)
     ⊎ (slice_get old.lanes.items lane ≡ None)
 
--- of so many lanes this is the one that comes so many places after the first, where lane 0 comes after the last
+-- of this many lanes this is the one that comes this many places after the first, where lane 0 comes after the last
 abbrev pub IsNth : ℕ → ℕ → ℕ → ℕ → Type 0
 IsNth first count step lane = (first + step ≡ lane) ⊎ (first + step ≡ lane + count)
 
@@ -77,6 +77,6 @@ pub record OnlyLane (lane : ℕ) (old new : Lanes) : Type 0 where
 abbrev pub closed : Lanes → Lanes
 closed lanes = record lanes { is_open = false }
 
--- this lane is looked at first, and the next room is kept for one that waits
+-- this lane is checked first, and the next room is kept for one that waits
 abbrev pub turned_to : ℕ → Option ℕ → Lanes → Lanes
 turned_to first waiting lanes = record lanes { first = first; waiting = waiting }

@@ -57,7 +57,7 @@ abbrev pub route_of : RouteTable → List Recipient → ℕ → Option NextHop
 route_of table recipients place =
     option_and_then (λ recipient. hop_at table recipient.path) (slice_get recipients place)
 
--- The words below are of a moment, with these connections to next hops.
+-- The words below are of a time, with these connections to next hops.
 module _ {S : Type 0} (hops : List (Option (Hop S))) (moment : ℕ) where
   -- A place of a message is listed: where it is held and has no next hop its message is unroutable, and where it is due
   -- the message has its turn at its next hop.
@@ -66,7 +66,7 @@ module _ {S : Type 0} (hops : List (Option (Hop S))) (moment : ℕ) where
       → MatchOption (route_of table recipients index) (IsListedUnroutable message lanes)
       (λ hop. place.due ≤ moment → IsListedFor hops message hop.name hop.at lanes)
 
-  -- so many of its places are, from the first on
+  -- this many of its places are, from the first on
   abbrev pub ArePlacesListed : RouteTable → ℕ → List Recipient → List Place → ℕ → Lanes → Type 0
   ArePlacesListed table message recipients places count lanes = (index : ℕ) (place : Place) → index < count
       → slice_get places index ≡ Some place → IsPlaceListed table message recipients index place lanes
@@ -82,8 +82,8 @@ module _ {S : Type 0} (hops : List (Option (Hop S))) (moment : ℕ) where
   abbrev pub AreListedFrom : {D : Type 0} → NodeState D → ℕ → ℕ → Lanes → Type 0
   AreListedFrom node first next lanes = (number : ℕ) → first ≤ number → number < next → IsListed node number lanes
 
-  -- Of the walk over the queued messages the next ones were looked at, and are listed: as many as a part has, or all
-  -- that were left. It goes on after them, and what was listed before stays so.
+  -- Of the walk over the queued messages the next ones were checked, and are listed: as many as a part has, or all that
+  -- were left. It goes on after them, and what was listed before stays so.
   pub record ListsPart {D : Type 0} (node : NodeState D) (old new : Lanes) : Type 0 where
     pub kept : KeepsListed old new
     pub size : ℕ

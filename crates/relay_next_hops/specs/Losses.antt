@@ -14,7 +14,7 @@ use Rattle.relay_next_hops.specs.Paces.{IsHeldAt}
 use Rattle.relay_next_hops.specs.declared.errand.Errand.{Errand}
 use Rattle.relay_report.specs.Report.{reporter_of}
 
--- The words below are of a call at a moment, of a relay on a disk of these words.
+-- The words below are of a call at a time, of a relay on a disk of these words.
 module _ {D : Type 0} (words : DiskWords D) (at : ℕ) (old new : RelayState D) where
   -- the attempt of this number has ended, and its outcome was recorded; its connection is gone
   pub record LosesAttempt (attempt : ℕ) : Type 0 where
@@ -89,8 +89,8 @@ abbrev pub IsRecordedOrRefused : {D : Type 0} → DiskWords D → ℕ → Errand
 IsRecordedOrRefused words at errand old new =
     IsRecorded words at errand old new ⊎ LosesNot words at errand old new errand.attempt
 
--- An errand has ended as lost: that is recorded, or refused. Only where its attempt hasn't begun, and its place is left
--- alone, it stays due instead, and nothing changes.
+-- An errand has ended as lost: that is recorded, or refused. Only where its attempt hasn't begun, and its place is on
+-- hold, it stays due instead, and nothing changes.
 abbrev pub EndsLost : {D : Type 0} → DiskWords D → Now → Errand → List Pace → RelayState D → RelayState D → Type 0
 EndsLost words now errand paces old new =
     ((errand.attempt ≡ None) × IsHeldAt now.tick paces errand.aim.lane × (new ≡ old))

@@ -1,8 +1,8 @@
 -- The numbers of the messages that may be queued, and how far a walk over them has come.
 use Rattle.std.specs.Prelude.{ℕ, ◌==◌, List, [], ◌∷◌, ◌++◌, if◌then◌else◌}
 
--- Numbers in order: those that the walk is still to come to, of which there are none where none is under way; those
--- that it has come to, and that were queued then; and those that have come since it began.
+-- Numbers in order: those that the walk is still to come to, of which there are none if none is under way; those that
+-- it has come to, and that were queued then; and those that have come since it began.
 pub record Walk : Type 0 where
   pub left : List ℕ
   pub passed : List ℕ
@@ -28,7 +28,7 @@ with_left left walk = record { left = left; passed = walk.passed; newer = walk.n
 abbrev pub begun : Walk → Walk
 begun walk = record { left = walk.passed ++ walk.newer; passed = []; newer = [] }
 
--- the numbers of these places, without each that stands after the same; no place has the number 0
+-- the numbers of these places, without each that is after the same; no place has the number 0
 abbrev pub numbers_behind : ℕ → List (ℕ × ℕ) → List ℕ
 numbers_behind last [] = []
 numbers_behind last (place ∷ places) =

@@ -1,4 +1,4 @@
--- Overdue mail: tasks at a place that is left alone, which have been due there for too long.
+-- Overdue mail: tasks at a place that is on hold, which have been due there for too long.
 use Rattle.std.specs.Prelude.{◌≡◌, ◌-◌, ◌+◌, ◌*◌, ℕ, Bool, false, nat_lt, ◌&&◌, List, [], ◌∷◌, ◌++◌, Option}
 use Rattle.std.specs.Prelude.{take, drop, find, length, slice_get}
 use Rattle.std.specs.List.{list_any}
@@ -16,7 +16,7 @@ use Rattle.relay_next_hops.specs.declared.lane.Lane.{Lane}
 use Rattle.relay_next_hops.specs.declared.lane.Task.{Task}
 use Rattle.relay_next_hops.specs.declared.lanes.Lanes.{Lanes}
 
--- profile: at this moment the place is held, and has been due for more than four hours
+-- profile: at this time the place is held, and has been due for more than four hours
 abbrev pub is_late : ℕ → Place → Bool
 is_late at place = place.held && nat_lt (place.due + 4 * 60 * 60) at
 
@@ -36,7 +36,7 @@ unchecked_of lane = drop (length lane.tasks.items - lane.unchecked) lane.tasks.i
 abbrev pub checked_of : Lane → List Task
 checked_of lane = take (length lane.tasks.items - lane.unchecked) lane.tasks.items
 
--- the same of the lane of a number, and none where there is no such lane
+-- the same of the lane of a number, and none if there is no such lane
 abbrev pub unchecked_at : Lanes → ℕ → List Task
 unchecked_at lanes number = option_map_or unchecked_of (slice_get lanes.lanes.items number) []
 
@@ -47,7 +47,7 @@ checked_at lanes number = option_map_or checked_of (slice_get lanes.lanes.items 
 abbrev pub overdue_at : ℕ → List (ℕ × Message) → Lanes → ℕ → ℕ → Option Task
 overdue_at at messages lanes lane most = find (is_overdue_task at messages) (take most (unchecked_at lanes lane))
 
--- the next so many tasks of the lane that weren't checked are, and each stays where it is
+-- the next this many tasks of the lane that weren't checked are, and each stays where it is
 pub record Checks (lane most : ℕ) (old new : Lanes) : Type 0 where
   pub tasks : tasks_at new lane ≡ tasks_at old lane
   pub unchecked : unchecked_at new lane ≡ drop most (unchecked_at old lane)

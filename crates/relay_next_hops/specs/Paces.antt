@@ -5,7 +5,7 @@ use Rattle.std.specs.Option.{option_map_or}
 use Rattle.relay_limits.specs.declared.pace.Pace.{Pace}
 use Rattle.relay_limits.specs.Pace.{IsHeld, MayBegin, standing, with_limit, with_running}
 
--- the paces with another one under a number, where there is one
+-- the paces with another one under a number, if there is one
 abbrev pub put_at : List Pace → ℕ → Option Pace → List Pace
 put_at paces number None = paces
 put_at paces number (Some pace) = slice_set paces number pace
@@ -14,7 +14,7 @@ put_at paces number (Some pace) = slice_set paces number pace
 abbrev pub changed_at : (Pace → Pace) → List Pace → ℕ → List Pace
 changed_at change paces number = put_at paces number (option_map change (slice_get paces number))
 
--- how many attempts of the lane of a number run: none where there is no such lane
+-- how many attempts of the lane of a number run: none if there is no such lane
 abbrev pub running_at : List Pace → ℕ → ℕ
 running_at paces number = option_map_or (λ pace. pace.running) (slice_get paces number) 0
 
@@ -38,7 +38,7 @@ welcomed pace = with_limit (min (pace.limit + 1) (2 ^ 64 - 1)) pace
 abbrev pub MayBeginAt : ℕ → ℕ → List Pace → ℕ → Type 0
 MayBeginAt most tick paces number = MatchOption (slice_get paces number) ⊥ (MayBegin most tick)
 
--- the place of the lane is left alone at this tick
+-- the place of the lane is on hold at this tick
 abbrev pub IsHeldAt : ℕ → List Pace → ℕ → Type 0
 IsHeldAt tick paces number = MatchOption (slice_get paces number) ⊥ (λ pace. IsHeld pace.hold tick)
 
@@ -60,6 +60,7 @@ pub record RunsOneLess (lane : ℕ) (old new : List Pace) : Type 0 where
   pub own : running_at new lane ≡ running_at old lane - 1
   pub others : (number : ℕ) → number ≢ lane → running_at new number ≡ running_at old number
 
--- the next hop of the lane of a number has said something since its place was left alone last, or since the relay began
+-- the next hop of the lane of a number has said something since its place was put on hold last, or since the relay
+-- began
 abbrev pub has_answered_at : List Pace → ℕ → Bool
 has_answered_at paces number = option_map_or (λ pace. pace.has_answered) (slice_get paces number) false

@@ -3,7 +3,8 @@ use Rattle.std.specs.Prelude.{ℕ, Bool, true, false}
 use Rattle.relay_next_hops.specs.declared.phase.Phase.{Phase}
 use Rattle.relay_next_hops.specs.declared.phase.Phase.TheVariants.{Connecting, Command, Data, Content}
 
--- RFC 5321, section 4.5.3.2: so many seconds may pass without an octet, while some are still to be written, or none is
+-- RFC 5321, section 4.5.3.2: this many seconds may pass without an octet, while some are still to be written, or none
+-- is
 abbrev pub patience : Phase → Bool → ℕ
 patience Connecting writes = 30
 patience Command writes = 300

@@ -1,4 +1,4 @@
--- What comes of tasks: connections that begin for them, and messages that are lost or given up without one.
+-- The outcome of tasks: connections that begin for them, and messages that are lost or given up without one.
 use Rattle.std.specs.Prelude.{◌≡◌, ◌⊎◌, ◌<◌, ◌≤◌, ◌+◌, ℕ, Bool, true, false, List, [], ◌∷◌, Option}
 use Rattle.std.specs.Prelude.{None, Some, length}
 use Rattle.std.specs.declared.net.socket_addr.SocketAddrV4.{SocketAddrV4}
@@ -58,7 +58,7 @@ pub record FailsFor {D : Type 0} (words : DiskWords D) (now : Now) (lane : ℕ) 
   pub of_task : IsOfTask task errand
   pub lost : EndsLost words now errand paces old new
 
--- what has come of a task of a lane for which a connection was to begin under a number
+-- the outcome of a task of a lane for which a connection was to begin under a number
 abbrev pub IsTried : {D S : Type 0} → DiskWords D → (SocketAddrV4 → Channel S → Type 0) → Now → ℕ → ℕ → Task
     → List (Option (Hop S)) → List (Option (Hop S)) → Lanes → Lanes → RelayState D → RelayState D → Tried → Type 0
 IsTried words Opened now lane number task hops_old hops_new lanes_old lanes_new old new Connects =
@@ -79,7 +79,7 @@ pub record GivesUp {D : Type 0} (words : DiskWords D) (at message : ℕ) (old ne
       between.node.records added
   pub noted : TakesNote between new
 
--- The message is given up. Where it isn't, that isn't due any more, or what is due is to be listed anew.
+-- The message is given up. If it isn't, that isn't due any more, or what is due is to be listed anew.
 abbrev pub IsGivenUp : {D : Type 0} → DiskWords D → ℕ → ℕ → RelayState D → RelayState D → Lanes → Bool → Type 0
 IsGivenUp words at message old new lanes true = GivesUp words at message old new
 IsGivenUp words at message old new lanes false =
@@ -90,13 +90,13 @@ IsGivenUp words at message old new lanes false =
     ⊎ (lanes.is_stale ≡ true)
 
 -- No more may begin for a lane: its pace lets none begin, or no task is left, or its next hop hasn't said anything yet,
--- as the next hops of so many connections that there is no room for it.
+-- as the next hops of this many connections that there is no room for it.
 abbrev pub IsDone : {S : Type 0} → ℕ → List (Option (Hop S)) → Lanes → ℕ → Type 0
 IsDone tick hops lanes lane = MayBeginAt lanes.most tick lanes.paces lane
     → (tasks_at lanes lane ≡ [])
     ⊎ ((has_answered_at lanes.paces lane ≡ false) × (MOST_UNANSWERED ≤ unanswered_of hops lanes.paces))
 
--- As many tasks of a lane have left it as may at a turn. One that is put back for want of a descriptor takes one of
+-- As many tasks of a lane have left it as may at a turn. One that is put back for lack of a descriptor takes one of
 -- those that were kept.
 abbrev pub IsTriedOut : ℕ → Lanes → Lanes → ℕ → Type 0
 IsTriedOut spares old new lane = length (tasks_at new lane) + SLOT_COUNT ≤ length (tasks_at old lane) + spares
@@ -108,7 +108,7 @@ back_of Wants = 1
 back_of Fails = 0
 back_of HasNoPlace = 0
 
--- what has come of the next task of a lane, where it was tried with this end
+-- the outcome of the next task of a lane, if it was tried with this end
 abbrev pub step_after : Tried → Step
 step_after Connects = Left
 step_after Wants = Back
@@ -131,7 +131,7 @@ pub record TriesNext {D S : Type 0} (words : DiskWords D) (Opened : SocketAddrV4
   pub runs : between.paces ≡ lanes_old.paces
   pub comes : IsTried words Opened now lane number task hops_old hops_new between lanes_new old new tried
 
--- what has come of the next task of a lane
+-- the outcome of the next task of a lane
 abbrev pub IsStep : {D S : Type 0} → DiskWords D → (SocketAddrV4 → Channel S → Type 0) → Now → ℕ
     → List (Option (Hop S)) → List (Option (Hop S)) → Lanes → Lanes → RelayState D → RelayState D → Step → Type 0
 IsStep words Opened now lane hops_old hops_new lanes_old lanes_new old new Left =
@@ -147,7 +147,7 @@ IsStep words Opened now lane hops_old hops_new lanes_old lanes_new old new NoRoo
 IsStep words Opened now lane hops_old hops_new lanes_old lanes_new old new NoSlot = IsFull hops_new
 
 -- Where a step is the last of a lane, this is how far it has come with the lane. A task that was put back takes one of
--- the descriptors that are kept, of which there were and are so many.
+-- the descriptors that are kept, of which there were and are this many.
 abbrev pub IsEndOf : Step → ℕ → ℕ → Option Begun → Type 0
 IsEndOf Left old new begun = (begun ≡ None) × (new ≡ old)
 IsEndOf Back old new begun =
@@ -164,7 +164,7 @@ IsStoppedBy HasMore stops = stops ≡ false
 IsStoppedBy Full stops = stops ≡ true
 IsStoppedBy Wanting stops = stops ≡ true
 
--- how far it has come with a lane, where so many descriptors were kept before, and so many are left
+-- how far it has come with a lane, where this many descriptors were kept before, and this many are left
 abbrev pub IsBegun : {S : Type 0} → ℕ → ℕ → Lanes → List (Option (Hop S)) → Lanes → ℕ → ℕ → Begun → Type 0
 IsBegun tick kept old hops new left lane AllDone = IsDone tick hops new lane
 IsBegun tick kept old hops new left lane Crowded = IsDone tick hops new lane

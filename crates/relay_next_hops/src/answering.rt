@@ -14,7 +14,7 @@ use relay_loop::{Answered, Relay};
 use relay_node::{NodeFault, Noted};
 
 impl<S: Stream> Hop<S> {
-    /// Takes what came of the octets that its attempt has heard, or lets it hear them alone if they were left unread.
+    /// Takes the outcome of the octets that its attempt has heard, or lets it hear them alone if they were left unread.
     pub(crate) fn take_answer<D: Disk>(
         &mut self,
         relay: &mut Relay<D>,
@@ -34,8 +34,8 @@ impl<S: Stream> Hop<S> {
         }
     }
 
-    /// Takes what came of the octets that its attempt has heard, and writes what they lead to at once as far as that
-    /// goes. Where they end the attempt, the note is that of its outcome.
+    /// Takes the outcome of the octets that its attempt has heard, and writes what they lead to at once as far as that
+    /// goes. If they end the attempt, the note is that of its outcome.
     fn answer<D: Disk>(
         &mut self,
         relay: &mut Relay<D>,

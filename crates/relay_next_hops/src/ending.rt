@@ -102,8 +102,8 @@ fn end_well<S: Stream + Drop>(
     lanes.note_leaving_of(lane, leaving);
 }
 
-/// Records that the attempt of an errand is lost. A next hop that has said nothing is left alone then; and where it
-/// is already, an attempt that hasn't begun is none.
+/// Records that the attempt of an errand is lost. A next hop that has said nothing is on hold then; and where it is
+/// already, an attempt that hasn't begun is none.
 pub(crate) fn lose<D: Disk>(
     relay: &mut Relay<D>,
     lanes: &mut Lanes,
@@ -130,7 +130,7 @@ pub(crate) fn lose<D: Disk>(
     Ok(())
 }
 
-/// Records that an errand was lost to a place that is left alone.
+/// Records that an errand was lost to a place that is on hold.
 pub(crate) fn lose_held<D: Disk>(
     relay: &mut Relay<D>,
     errand: Errand,
@@ -177,8 +177,8 @@ fn hold(lanes: &mut Lanes, errand: &Errand, loss: Loss, log: &mut Log<'_, Vec<u8
     }
 }
 
-/// Ends an attempt as lost, which begins for that where it hasn't begun. It tells whether that is recorded: it isn't
-/// where there is no memory or no number for it, and where the message isn't due there any more.
+/// Ends an attempt as lost, which begins for that where it hasn't begun. Returns whether that is recorded: it isn't if
+/// there is no memory or no number for it, and where the message isn't due there any more.
 fn record_loss<D: Disk>(relay: &mut Relay<D>, errand: &Errand, now: &Now) -> Result<bool, Fault>
     ensures lost { result ≡ Ok true
         → Loses D.words now.now.moment errand.now relay.old relay.new errand.now.attempt }
@@ -223,7 +223,7 @@ fn lose_attempt<D: Disk>(relay: &mut Relay<D>, attempt: usize, now: &Now) -> Res
     }
 }
 
-/// Logs what came of an attempt, with what its next hop replied.
+/// Logs the outcome of an attempt, with what its next hop replied.
 fn tell_outcome(errand: &Errand, noted: Option<Noted>, now: &Now, log: &mut Log<'_, Vec<u8>>) {
     match &errand.talk {
         Some(talk) => tell(errand, None, noted, talk, now, log),
@@ -237,7 +237,7 @@ fn tell_void(errand: &Errand, now: &Now, log: &mut Log<'_, Vec<u8>>) {
     tell(errand, None, None, &talk, now, log);
 }
 
-/// Logs what came of an attempt, whose connection failed for this if it did.
+/// Logs the outcome of an attempt, whose connection failed for this if it did.
 fn tell(
     errand: &Errand,
     loss: Option<Loss>,

@@ -24,7 +24,7 @@ pub(crate) struct Aim {
 }
 
 impl Aim {
-    /// How many seconds ago the message was accepted, where that is known.
+    /// Returns how many seconds ago the message was accepted, where that is known.
     pub(crate) fn age(&self, now: &Now) -> Option<u64> {
         match self.accepted {
             Some(moment) => Some(now.moment.seconds().saturating_sub(moment.seconds())),
@@ -33,12 +33,12 @@ impl Aim {
     }
 }
 
-/// What a connection was made for, and what has come of it.
+/// What a connection was made for, and its outcome.
 pub(crate) struct Errand {
     pub(crate) aim: Aim,
     pub(crate) message: u64,
     pub(crate) name: HostName,
-    /// The attempt's number, where it has begun.
+    /// The attempt's number, if it has begun.
     pub(crate) attempt: Option<usize>,
     /// The next hop has said something.
     pub(crate) has_spoken: bool,
@@ -48,7 +48,7 @@ pub(crate) struct Errand {
     pub(crate) talk: Option<Talk>,
 }
 
-// Written out, so that what drops it calls this, and doesn't look into its parts.
+// Written out, so that the proof of a caller that drops it stops at this function.
 impl Drop for Errand {
     fn drop(self) {
         let Errand {
@@ -64,7 +64,7 @@ impl Drop for Errand {
 }
 
 impl Errand {
-    /// The message, and the name of its next hop.
+    /// Returns the message, and the name of its next hop.
     pub(crate) fn into_task(self) -> Task
         ensures { (result.message ≡ self.message) × (result.hop ≡ self.name) }
     {
@@ -92,6 +92,6 @@ pub(crate) enum Course {
     Lost(Loss),
     /// The next hop serves other connections, and takes no more of them. Its attempt hasn't begun.
     TurnedAway,
-    /// The message isn't due there any more, or there is no memory or no number to say what has come of it.
+    /// The message isn't due there any more, or there is no memory or no number to say its outcome.
     Void,
 }

@@ -11,7 +11,7 @@ use relay_log::{Attempt, Log, Talk};
 use relay_loop::Relay;
 use relay_node::{NodeFault, Noted};
 
-/// Gives up the places of the next message that have no hop, if there is one. It tells whether that was recorded.
+/// Gives up the places of the next message that have no hop, if there is one. Returns whether that was recorded.
 pub(crate) fn give_up_next<D: Disk>(
     relay: &mut Relay<D>,
     lanes: &mut Lanes,
@@ -31,7 +31,7 @@ pub(crate) fn give_up_next<D: Disk>(
     }
 }
 
-/// Gives up the places of a message that have no hop. It tells whether that was recorded. Where it wasn't, and they are
+/// Gives up the places of a message that have no hop. Returns whether that was recorded. If it wasn't, and they are
 /// still due, all that is due is listed anew.
 fn give_up<D: Disk>(
     relay: &mut Relay<D>,

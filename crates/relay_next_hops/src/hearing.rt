@@ -23,7 +23,7 @@ use std::alloc::AllocError;
 const MOST_ALONE: usize = 4;
 
 impl<S: Stream + Drop> Hops<S> {
-    /// Returns the number of the connection that is served first, of the first so many: 0 where none of these comes
+    /// Returns the number of the connection that is served first, of the first this many: 0 where none of these comes
     /// after those that were served last.
     fn first_of(&self, count: usize) -> usize
         ensures first { self.now.first % 64 < count → result ≡ self.now.first % 64 }
@@ -61,9 +61,9 @@ impl<S: Stream + Drop> Hops<S> {
         Some(ReplyPiece { attempt, octets })
     }
 
-    /// Takes what came of the replies, in the order in which they were told. It tells whether a connection was closed.
-    /// Where clients have brought so much that replies were left unread, a few are heard even so, each time others.
-    /// Where no memory was left to hear them, the first of them is lost.
+    /// Takes the outcome of the replies, in the order in which they were told. Returns whether a connection was closed.
+    /// If clients have brought so much that replies were left unread, a few are heard even so, each time others. If no
+    /// memory was left to hear them, the first of them is lost.
     pub(crate) fn answer<D: Disk>(
         &mut self,
         replied: Option<Replied>,
@@ -122,8 +122,8 @@ impl<S: Stream + Drop> Hops<S> {
         }
     }
 
-    /// Takes what came of the reply to the attempt of a number, which hears it alone where it was left unread, and so
-    /// many others may. It tells whether its connection stays.
+    /// Takes the outcome of the reply to the attempt of a number, which hears it alone where it was left unread, and
+    /// this many others may. Returns whether its connection stays.
     fn answer_one<D: Disk>(
         &mut self,
         number: usize,
@@ -159,7 +159,7 @@ impl<S: Stream + Drop> Hops<S> {
         )
     }
 
-    /// Gives the first of those up whose attempts may hear something, since no memory is left. It tells whether there
+    /// Gives the first of those up whose attempts may hear something, since no memory is left. Returns whether there
     /// was one.
     fn lose_one<D: Disk>(
         &mut self,
@@ -185,7 +185,7 @@ impl<S: Stream + Drop> Hops<S> {
         Ok(true)
     }
 
-    /// The number of the first connection whose attempt may hear something.
+    /// Returns the number of the first connection whose attempt may hear something.
     fn first_hearing(&self) -> Option<usize> {
         let count = self.hops.standing().len();
         let first = self.first_of(count);
@@ -199,12 +199,12 @@ impl<S: Stream + Drop> Hops<S> {
     }
 }
 
-/// How many of these attempts have ended with an outcome.
+/// Returns how many of these attempts have ended with an outcome.
 fn count_ended(answers: &[Result<Answered, NodeFault>]) -> usize {
     answers.iter().filter(|answer| has_ended(answer)).count()
 }
 
-/// Whether the attempt of an answer has ended, with an outcome.
+/// Returns whether the attempt of an answer has ended, with an outcome.
 pub(crate) fn has_ended(answer: &Result<Answered, NodeFault>) -> bool {
     match answer {
         Ok(answered) => answered.change.is_some(),
@@ -212,7 +212,7 @@ pub(crate) fn has_ended(answer: &Result<Answered, NodeFault>) -> bool {
     }
 }
 
-/// Whether a reply was left unread, since the call took no more.
+/// Returns whether a reply was left unread, since the call took no more.
 pub(crate) fn was_left(answer: &Result<Answered, NodeFault>) -> bool
     ensures { IsTrue result ↔ WasLeft answer.now }
 {

@@ -45,7 +45,7 @@ pub(crate) struct Hop<S> {
     answer_deadline: u64,
 }
 
-// Written out, so that what drops it calls this, and doesn't look into its connection.
+// Written out, so that the proof of a caller that drops it stops at this function.
 impl<S: Drop> Drop for Hop<S> {
     fn drop(self) {
         let Hop {
@@ -66,7 +66,7 @@ impl<S: Drop> Drop for Hop<S> {
 }
 
 impl<S: Stream> Hop<S> {
-    /// A connection that is being made for a message. Where it `tells`, the next hop's replies are kept in mind.
+    /// Makes a connection that is being made for a message. Where it `tells`, the next hop's replies are kept in mind.
     pub(crate) fn new(
         alloc: Global,
         channel: Channel<S>,
@@ -129,7 +129,7 @@ impl<S: Stream> Hop<S> {
         (channel, errand)
     }
 
-    /// Whether it is for this message and next hop, in this lane.
+    /// Returns whether it is for this message and next hop, in this lane.
     pub(crate) fn is_for(&self, message: u64, lane: usize, name: &HostName) -> bool
         ensures { result ≡ true → (self.now.message ≡ message) × (self.now.aim.lane ≡ lane)
             × (self.now.name ≡ name.now) }
@@ -137,7 +137,7 @@ impl<S: Stream> Hop<S> {
         self.message == message && self.aim.lane == lane && self.name.as_slice() == name.as_slice()
     }
 
-    /// The tick at which it is lost as things stand.
+    /// Returns the tick at which it is lost as things stand.
     pub(crate) fn deadline(&self) -> u64
         ensures { result ≡ min self.now.idle_deadline self.now.answer_deadline }
     {
@@ -184,14 +184,14 @@ impl<S: Stream> Hop<S> {
         }
     }
 
-    /// The attempt that may hear what was read, where there is something.
+    /// Returns the attempt that may hear what was read, if there is something.
     pub(crate) fn hearing(&self) -> Option<usize>
         ensures { result ≡ hearing_of self.now }
     {
         if self.hears { self.attempt } else { None }
     }
 
-    /// What becomes of it, where it has taken so long by now.
+    /// Returns what becomes of it, if it has taken so long by now.
     pub(crate) fn unless_late(&self, course: Course, now: &Now) -> Course
         ensures stays { course ≡ Course.Stays
             → (result ≡ Course.Stays) ⊎ ((result ≡ Course.Lost Loss.Silent) × IsLate now.now.tick self.now) }
@@ -203,7 +203,7 @@ impl<S: Stream> Hop<S> {
         }
     }
 
-    /// Whether something can be done with it at once.
+    /// Returns whether something can be done with it at once.
     pub(crate) fn is_ready<D: Disk>(&self, relay: &Relay<D>) -> bool
         ensures { (attempt : ℕ) → self.now.attempt ≡ Some attempt → unread_of self.now.channel ≢ []
             → unwritten_at relay.now.hops attempt ≡ [] → result ≡ true }

@@ -40,7 +40,7 @@ pub(crate) struct Hops<S> {
     pub(crate) first: usize,
 }
 
-// Written out, so that what drops them calls this, and doesn't look into each.
+// Written out, so that the proof of a caller that drops them stops at this function.
 impl<S: Drop> Drop for Hops<S> {
     fn drop(self) {
         let Hops {
@@ -52,7 +52,7 @@ impl<S: Drop> Drop for Hops<S> {
 }
 
 impl<S: Stream + Drop> Hops<S> {
-    /// None. It fails where memory runs out.
+    /// None. Fails if memory runs out.
     pub(crate) fn new(alloc: Global) -> Result<Self, AllocError>
         ensures { IfOk result (λ hops. AreFree hops.hops) }
     {
@@ -63,7 +63,7 @@ impl<S: Stream + Drop> Hops<S> {
         })
     }
 
-    /// The number that the next of them will have, where there is room for one. At most 64 stand.
+    /// Returns the number that the next of them will have, if there is room for one. At most 64 stand.
     pub(crate) fn free(&self) -> Option<usize>
         ensures least { MatchOption result (IsFull self.now.hops) (IsLeastFree self.now.hops) }
         ensures within { MatchOption result (Unit {0}) (λ number. number < length self.now.hops) }
@@ -80,7 +80,7 @@ impl<S: Stream + Drop> Hops<S> {
         self.hops.count()
     }
 
-    /// Whether a connection for this message and next hop, in this lane, is being made or stands.
+    /// Returns whether a connection for this message and next hop, in this lane, is being made or stands.
     pub(crate) fn is_tried(&self, message: u64, lane: usize, name: &HostName) -> bool
         ensures { result ≡ true → HasConnection self.now.hops message name.now lane }
     {
@@ -94,7 +94,7 @@ impl<S: Stream + Drop> Hops<S> {
         false
     }
 
-    /// Whether a connection is being made.
+    /// Returns whether a connection is being made.
     pub(crate) fn is_any_connecting(&self) -> bool {
         for slot in self.hops.standing() {
             if let Some(hop) = slot {
@@ -106,7 +106,7 @@ impl<S: Stream + Drop> Hops<S> {
         false
     }
 
-    /// How many connections stand to next hops that haven't said anything yet.
+    /// Returns how many connections stand to next hops that haven't said anything yet.
     pub(crate) fn count_unanswered(&self, lanes: &Lanes) -> usize
         ensures { result ≡ unanswered_of self.now.hops lanes.now.paces }
     {
@@ -171,8 +171,8 @@ impl<S: Stream + Drop> Hops<S> {
         }
     }
 
-    /// Attends to each of them once, each time beginning with another, until so many were lost that clients are to have
-    /// their turn; it goes on after these then. It tells whether one was closed.
+    /// Attends to each of them once, each time beginning with another, until this many were lost that clients are to
+    /// have their turn; it goes on after these then. Returns whether one was closed.
     pub(crate) fn attend<D: Disk>(
         &mut self,
         registry: &S::Registry,
@@ -205,7 +205,7 @@ impl<S: Stream + Drop> Hops<S> {
         Ok(0 < closed)
     }
 
-    /// Attends to the connection of a number. It tells whether that stays.
+    /// Attends to the connection of a number. Returns whether that stays.
     fn attend_one<D: Disk>(
         &mut self,
         number: usize,
@@ -233,7 +233,7 @@ impl<S: Stream + Drop> Hops<S> {
         )
     }
 
-    /// Puts a connection where it belongs after what was done with it. It tells whether it stays.
+    /// Puts a connection where it belongs after what was done with it. Returns whether it stays.
     pub(crate) fn settle<D: Disk>(
         &mut self,
         number: usize,
@@ -268,7 +268,7 @@ impl<S: Stream + Drop> Hops<S> {
         }
     }
 
-    /// Whether one is left with something to be done at once.
+    /// Returns whether one is left with something to be done at once.
     pub(crate) fn is_ready<D: Disk>(&self, relay: &Relay<D>) -> bool
         ensures { (number : ℕ) → IsLeftHop self.now.hops relay.now number → result ≡ true }
     {
@@ -282,7 +282,7 @@ impl<S: Stream + Drop> Hops<S> {
         false
     }
 
-    /// The tick at which the next of them is lost, or the given one where that is earlier.
+    /// Returns the tick at which the next of them is lost, or the given one where that is earlier.
     pub(crate) fn next_deadline(&self, otherwise: u64) -> u64
         ensures { result ≤ otherwise }
     {
@@ -296,7 +296,7 @@ impl<S: Stream + Drop> Hops<S> {
     }
 }
 
-/// A connection to this place that is being made, of which the system tells under this token.
+/// Returns a connection to this place that is being made, of which the system tells under this token.
 fn connecting<S: Stream + Drop, N: Dial<Stream = S>>(
     alloc: Global,
     dial: &mut N,
@@ -316,7 +316,7 @@ fn connecting<S: Stream + Drop, N: Dial<Stream = S>>(
     Ok(channel)
 }
 
-/// Whether a connection stands in a slot whose next hop hasn't said anything yet.
+/// Returns whether a connection is in a slot whose next hop hasn't said anything yet.
 fn is_unanswered<S>(slot: &Option<Hop<S>>, lanes: &Lanes) -> bool
     ensures { result ≡ is_such (is_unanswered lanes.now.paces) slot.now }
 {
@@ -342,7 +342,7 @@ fn note_spoken<S>(
     }
 }
 
-/// Logs that the next hop of a connection has said something, if it was left alone and has said nothing since.
+/// Logs that the next hop of a connection has said something, if it was put on hold and has said nothing since.
 fn tell_back<S>(hop: &Hop<S>, lanes: &Lanes, now: &Now, log: &mut Log<'_, Vec<u8>>) {
     if let Some(outage) = lanes.outage(hop.aim.lane) {
         let seconds = now.tick.saturating_sub(outage.since) / 1_000;

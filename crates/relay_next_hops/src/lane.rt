@@ -16,7 +16,7 @@ pub(crate) struct Task {
     pub(crate) hop: HostName,
 }
 
-// Written out, so that what drops it calls this, and doesn't look into the name.
+// Written out, so that the proof of a caller that drops it stops at this function.
 impl Drop for Task {
     fn drop(self) {
         let Task {
@@ -27,7 +27,7 @@ impl Drop for Task {
 }
 
 impl Task {
-    /// The message, and the name of its next hop.
+    /// Returns the message, and the name of its next hop.
     pub(crate) fn into_parts(self) -> (u64, HostName)
         ensures { result ≡ (self.message, self.hop) }
     {
@@ -39,14 +39,14 @@ impl Task {
 /// What is due for the next hops at one place, in the order in which it is begun.
 pub(crate) struct Lane {
     tasks: VecDeque<Task>,
-    /// How many of them, the last ones, weren't checked for being overdue since the lane was emptied. Where fewer are
+    /// How many of them, the last ones, weren't checked for being overdue since the lane was emptied. If fewer are
     /// left, all of these.
     unchecked: usize,
     /// What was due before the lane was emptied.
     bygone: VecDeque<Task>,
 }
 
-// Written out, so that what drops it calls this, and doesn't look into its tasks.
+// Written out, so that the proof of a caller that drops it stops at this function.
 impl Drop for Lane {
     fn drop(self) {
         let Lane {
@@ -58,7 +58,7 @@ impl Drop for Lane {
 }
 
 impl Lane {
-    /// Nothing is due yet. It takes no memory.
+    /// Nothing is due yet. Allocates nothing.
     pub(crate) fn new(alloc: Global) -> Self
         ensures { result.tasks.items ≡ [] }
     {
@@ -90,14 +90,14 @@ impl Lane {
         }
     }
 
-    /// Whether nothing is due.
+    /// Returns whether nothing is due.
     pub(crate) fn is_empty(&self) -> bool
         ensures { IsTrue result ↔ (self.now.tasks.items ≡ []) }
     {
         self.tasks.is_empty()
     }
 
-    /// Whether a message is due for this next hop, after all others.
+    /// Returns whether a message is due for this next hop, after all others.
     pub(crate) fn ends_with(&self, message: u64, hop: &HostName) -> bool
         ensures { result ≡ true → list_any (is_for message hop.now) self.now.tasks.items ≡ true }
     {
@@ -168,7 +168,7 @@ impl Lane {
         task
     }
 
-    /// The place of the first task that wasn't checked yet.
+    /// Returns the place of the first task that wasn't checked yet.
     fn first_unchecked(&self) -> usize
         ensures { result ≡ length self.now.tasks.items - self.now.unchecked }
     {

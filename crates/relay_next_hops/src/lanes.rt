@@ -22,7 +22,7 @@ pub(crate) struct Lanes {
     pub(crate) alloc: Global,
     /// The place of each lane, by number.
     pub(crate) places: Places,
-    /// How many connections to each place there are, and whether it is left alone.
+    /// How many connections to each place there are, and whether it is on hold.
     pub(crate) paces: Paces,
     /// What is due for each place.
     pub(crate) lanes: Vec<Lane>,
@@ -30,7 +30,7 @@ pub(crate) struct Lanes {
     pub(crate) unroutable: VecDeque<u64>,
     /// The most connections to one place.
     pub(crate) most: usize,
-    /// The number of the first change that wasn't looked at.
+    /// The number of the first change that wasn't checked.
     pub(crate) next_number: u64,
     /// The messages that may be queued, and how far it has come to list what is due of them.
     pub(crate) queued: Numbers,
@@ -42,7 +42,7 @@ pub(crate) struct Lanes {
     pub(crate) took: u64,
     /// Something may be due that isn't listed.
     pub(crate) is_stale: bool,
-    /// What is due next may be due at another moment than the node has told.
+    /// What is due next may be due at another time than the node has told.
     pub(crate) is_unsure: bool,
     /// Something may be begun that couldn't be before.
     pub(crate) is_open: bool,
@@ -50,19 +50,19 @@ pub(crate) struct Lanes {
     pub(crate) is_fresh: bool,
     /// The tick before which nothing is listed.
     pub(crate) next_listing: u64,
-    /// The tick at which it is looked for what is due even so.
+    /// The tick at which it is searched for what is due even so.
     pub(crate) next_minute: u64,
     /// The tick at which something is due that isn't listed, as the node has told.
     pub(crate) next_due: u64,
-    /// The tick at which the next place isn't left alone any more.
+    /// The tick at which the next place isn't on hold any more.
     pub(crate) next_hold_end: u64,
-    /// Which lane is looked at first.
+    /// Which lane is checked first.
     pub(crate) first: usize,
     /// The lane that the next room among those is for whose next hops haven't said anything yet, where one waits.
     pub(crate) waiting: Option<usize>,
 }
 
-// Written out, so that what drops them calls this, and doesn't look into each.
+// Written out, so that the proof of a caller that drops them stops at this function.
 impl Drop for Lanes {
     fn drop(self) {
         let Lanes {
@@ -92,7 +92,7 @@ impl Drop for Lanes {
 }
 
 impl Lanes {
-    /// Nothing is listed yet. At most so many connections will go to one place.
+    /// Nothing is listed yet. At most this many connections will go to one place.
     pub(crate) fn new(alloc: Global, most: usize) -> Self
         ensures { IsNew most result }
     {
@@ -128,7 +128,7 @@ impl Lanes {
         Lanes::new(self.alloc, self.most)
     }
 
-    /// Whether something may be begun that couldn't be before.
+    /// Returns whether something may be begun that couldn't be before.
     pub(crate) fn is_open(&self) -> bool
         ensures { result ≡ self.now.is_open }
     {
@@ -143,14 +143,14 @@ impl Lanes {
         self.is_open = false;
     }
 
-    /// How many lanes there are.
+    /// Returns how many lanes there are.
     pub(crate) fn len(&self) -> usize
         ensures { result ≡ length self.now.lanes.items }
     {
         self.lanes.len()
     }
 
-    /// Whether a lane has a task, and one more of its connections may be begun.
+    /// Returns whether a lane has a task, and one more of its connections may be begun.
     pub(crate) fn may_begin(&self, number: usize, now: &Now) -> bool
         ensures { result ≡ false → MayBeginAt self.now.most now.now.tick self.now.paces number
             → tasks_at self.now number ≡ [] }
@@ -209,7 +209,7 @@ impl Lanes {
         }
     }
 
-    /// The place of a lane.
+    /// Returns the place of a lane.
     pub(crate) fn place_of(&self, number: usize) -> Option<SocketAddrV4>
         ensures { result ≡ slice_get self.now.places number }
     {
@@ -234,8 +234,8 @@ impl Lanes {
         self.is_stale = true;
     }
 
-    /// Whether such a message is left, something was listed since it was last begun what may be, or it goes on to list
-    /// what is due.
+    /// Returns whether such a message is left, something was listed since it was last begun what may be, or it goes on
+    /// to list what is due.
     pub(crate) fn is_ready(&self) -> bool {
         self.is_fresh || self.is_listing || !self.unroutable.is_empty()
     }
@@ -269,7 +269,7 @@ impl Lanes {
         self.is_open = true;
     }
 
-    /// How many connections of a lane stand.
+    /// Returns how many connections of a lane stand.
     pub(crate) fn standing(&self, number: usize) -> usize {
         match self.paces.get(number) {
             Some(pace) => pace.standing(),
@@ -277,8 +277,8 @@ impl Lanes {
         }
     }
 
-    /// Whether others of its lane stand beside a connection, or stood when it was begun: one that is refused may have
-    /// been one too many.
+    /// Returns whether others of its lane stand beside a connection, or stood when it was begun: one that is refused
+    /// may have been one too many.
     pub(crate) fn is_shared(&self, aim: &Aim) -> bool {
         aim.beside || 1 < self.standing(aim.lane)
     }
@@ -309,7 +309,7 @@ impl Lanes {
         }
     }
 
-    /// Whether the next hop of a lane has said something since it was left alone last.
+    /// Returns whether the next hop of a lane has said something since it was put on hold last.
     pub(crate) fn has_answered(&self, number: usize) -> bool
         ensures { result ≡ has_answered_at self.now.paces number }
     {
@@ -319,7 +319,7 @@ impl Lanes {
         }
     }
 
-    /// The outage of a lane's next hop, if it was left alone and has said nothing since.
+    /// Returns the outage of a lane's next hop, if it was put on hold and has said nothing since.
     pub(crate) fn outage(&self, number: usize) -> Option<Outage> {
         match self.paces.get(number) {
             Some(pace) => pace.outage(),
@@ -343,7 +343,7 @@ impl Lanes {
         self.paces.raise_limit(number);
     }
 
-    /// Whether the place of a lane is left alone.
+    /// Returns whether the place of a lane is on hold.
     pub(crate) fn is_held(&self, number: usize, now: &Now) -> bool
         ensures { IsTrue result ↔ IsHeldAt now.now.tick self.now.paces number }
     {
@@ -364,8 +364,8 @@ impl Lanes {
         Some(seconds)
     }
 
-    /// The tick at which something is to be done, or the given one where that is earlier. It is never later than the
-    /// tick at which the node has told that work may start.
+    /// Returns the tick at which something is to be done, or the given one where that is earlier. It is never later
+    /// than the tick at which the node has told that work may start.
     pub(crate) fn next_deadline(&self, otherwise: u64) -> u64
         ensures otherwise { result ≤ otherwise }
         ensures due { result ≤ self.now.next_due }

@@ -1,12 +1,11 @@
-//! When it is looked for what is due. To list it all is a walk over what is queued, so that is done where the node
+//! When it is searched for what is due. To list it all is a walk over what is queued, so that is done where the node
 //! tells that something is due which isn't listed, and once a minute while something waits; and in parts, one at a
 //! turn, so that nobody waits for it. A message that has just come is put after the others at once.
 //!
-//! Between two parts messages come, are handed on and are put off. The lanes are emptied when the walk begins, and
-//! each message that is queued then is looked at once, when the walk comes to it; so it is listed then as it stands
-//! then, but for the next hops to which a connection for it is being made or stands. Before that nothing of it is
-//! listed: what a next hop turns away of it isn't put back. Each that comes later is listed when it comes, and the
-//! walk passes it by.
+//! Between two parts messages come, are relayed and are put off. The lanes are emptied when the walk begins, and each
+//! message that is queued then is checked once, when the walk comes to it; so it is listed then as it stands then, but
+//! for the next hops to which a connection for it is being made or stands. Before that nothing of it is listed: what a
+//! next hop turns away of it isn't put back. Each that comes later is listed when it comes, and the walk passes it by.
 ghost use Rattle.std.specs.Prelude.{◌≡◌, ◌<◌, OnOk, true};
 ghost use Rattle.relay_next_hops.specs.Lanes.{KeepsCounts, ListsMore};
 ghost use Rattle.relay_next_hops.specs.Listing.{AreListedFrom, IsListed, KeepsListed, ListsPart};
@@ -25,19 +24,19 @@ use std::rt::Clock;
 /// The least milliseconds between two listings.
 const LISTING_PAUSE: u64 = 1_000;
 
-/// Between two listings lies so many times what the last one took.
+/// Between two listings lies this many times what the last one took.
 const LISTING_SHARE: u64 = 10;
 
-/// How many messages are looked at in one part.
+/// How many messages are checked in one part.
 const PART_SIZE: usize = 512;
 
-/// After so many seconds it is looked for what is due, also where nothing has changed: the wall clock may have been
+/// After this many seconds it is searched for what is due, also where nothing has changed: the wall clock may have been
 /// set.
 const LISTING_SECONDS: u64 = 60;
 
 impl Lanes {
     /// Lists what has come since the last time; and a part of all that is due, where something is due that isn't
-    /// listed, and the last listing is long enough ago, or hasn't come to its end. Want of memory leaves it for the
+    /// listed, and the last listing is long enough ago, or hasn't come to its end. Lack of memory leaves it for the
     /// next time.
     pub(crate) fn refresh<C: Clock, S: Stream + Drop, D: Disk>(
         &mut self,
@@ -61,7 +60,7 @@ impl Lanes {
         Ok(())
     }
 
-    /// Lists a part of all that is due, of which it may be the first. Want of memory leaves it for the next time.
+    /// Lists a part of all that is due, of which it may be the first. Lack of memory leaves it for the next time.
     fn list_more<S: Stream + Drop, D: Disk>(
         &mut self,
         relay: &Relay<D>,
@@ -106,7 +105,7 @@ impl Lanes {
         }
     }
 
-    /// Takes note that a minute is over, that something is due, or that a place isn't left alone any more.
+    /// Takes note that a minute is over, that something is due, or that a place isn't on hold any more.
     fn note_time<S: Stream + Drop>(&mut self, hops: &Hops<S>, now: &Now)
         ensures counts { KeepsCounts self.old self.new }
         ensures kept { KeepsListed self.old self.new }
@@ -135,7 +134,7 @@ impl Lanes {
         }
     }
 
-    /// Where a place isn't left alone any more, sets when the next one isn't.
+    /// Where a place isn't on hold any more, sets when the next one isn't.
     fn note_hold_end(&mut self, now: &Now)
         ensures counts { KeepsCounts self.old self.new }
         ensures kept { KeepsListed self.old self.new }
@@ -147,7 +146,7 @@ impl Lanes {
         }
     }
 
-    /// The tick at which the next place isn't left alone any more.
+    /// Returns the tick at which the next place isn't on hold any more.
     fn hold_end(&self, now: &Now) -> u64 {
         let mut end = u64::MAX;
         for pace in self.paces.as_slice() {
@@ -158,7 +157,7 @@ impl Lanes {
         end
     }
 
-    /// Whether something that is due waits to be begun, or a connection is being made for it.
+    /// Returns whether something that is due waits to be begun, or a connection is being made for it.
     fn has_waiting<S: Stream + Drop>(&self, hops: &Hops<S>) -> bool {
         !self.unroutable.is_empty()
             || hops.is_any_connecting()
@@ -177,7 +176,7 @@ impl Lanes {
         }
     }
 
-    /// Lists what is due of the messages that have come since the last time, reports too. It tells whether there was a
+    /// Lists what is due of the messages that have come since the last time, reports too. Returns whether there was a
     /// change.
     fn take_new<S: Stream + Drop, D: Disk>(
         &mut self,
@@ -224,8 +223,7 @@ impl Lanes {
         }
     }
 
-    /// Lists what is due of a message that has come. Where memory runs out for its number, the next listing asks the
-    /// node.
+    /// Lists what is due of a message that has come. If memory runs out for its number, the next listing asks the node.
     fn take_one<S: Stream + Drop, D: Disk>(
         &mut self,
         relay: &Relay<D>,
@@ -246,7 +244,7 @@ impl Lanes {
         }
     }
 
-    /// Begins to list all that is due, with nothing listed, and tells whether: not where no memory is left for that.
+    /// Begins to list all that is due, with nothing listed, and returns whether: not where no memory is left for that.
     fn begin_listing<D: Disk>(&mut self, relay: &Relay<D>, now: &Now) -> Result<bool, Fault>
         ensures counts { KeepsCounts self.old self.new }
     {
@@ -269,7 +267,7 @@ impl Lanes {
         Ok(true)
     }
 
-    /// Asks the node which messages are queued: those that come later are listed as they come. Want of memory leaves it
+    /// Asks the node which messages are queued: those that come later are listed as they come. Lack of memory leaves it
     /// for the first listing.
     pub(crate) fn prepare<D: Disk>(&mut self, relay: &Relay<D>) -> Result<(), Fault>
         ensures counts { KeepsCounts self.old self.new }
@@ -281,7 +279,7 @@ impl Lanes {
         Ok(())
     }
 
-    /// Asks the node which messages are queued, and tells whether it has said: not where no memory is left for that.
+    /// Asks the node which messages are queued, and returns whether it has said: not where no memory is left for that.
     fn gather<D: Disk>(&mut self, relay: &Relay<D>) -> Result<bool, Fault>
         ensures counts { KeepsCounts self.old self.new }
         ensures due { self.new.next_due ≡ self.old.next_due }
@@ -344,7 +342,7 @@ impl Lanes {
         }
     }
 
-    /// Lists what is due of a message that the walk has come to. Where memory runs out for its number, the next listing
+    /// Lists what is due of a message that the walk has come to. If memory runs out for its number, the next listing
     /// asks the node.
     fn look_at<S: Stream + Drop, D: Disk>(
         &mut self,

@@ -30,7 +30,7 @@ pub struct NextHops<S = TcpStream> {
     starts: Starts,
 }
 
-// Written out, so that what drops them calls this, and doesn't look into each.
+// Written out, so that the proof of a caller that drops them stops at this function.
 impl<S: Drop> Drop for NextHops<S> {
     fn drop(self) {
         let NextHops {
@@ -47,7 +47,7 @@ impl NextHops {
 }
 
 impl<S: Stream + Drop> NextHops<S> {
-    /// No connection, and nothing that is due is listed yet; within these limits. It fails where memory runs out.
+    /// No connection, and nothing that is due is listed yet; within these limits. Fails if memory runs out.
     #[tactic(auto, using(crate::proofs::SlotLemmas::free_aimed, crate::proofs::SlotLemmas::free_counts))]
     pub fn new(alloc: Global, limits: &Limits) -> Result<Self, AllocError>
         ensures free { IfOk result (λ next_hops. AreFree (hops_of next_hops)) }
@@ -60,7 +60,7 @@ impl<S: Stream + Drop> NextHops<S> {
         })
     }
 
-    /// The same without a connection and with nothing listed, for a relay that is opened again.
+    /// Returns the same without a connection and with nothing listed, for a relay that is opened again.
     #[tactic(auto, using(crate::proofs::SlotLemmas::free_aimed, crate::proofs::SlotLemmas::free_counts))]
     pub fn renewed(self) -> Self
         ensures free { AreFree (hops_of result) }
@@ -106,8 +106,8 @@ impl<S: Stream + Drop> NextHops<S> {
     }
 
     /// Attends to each connection once, each time beginning with another: makes it, writes what waits, or reads a block
-    /// that its attempt may hear then. Where so many were lost that clients are to have their turn, it goes on after
-    /// these the next time. It tells whether one was closed. Only a device that failed is a fault.
+    /// that its attempt may hear then. If this many were lost that clients are to have their turn, it goes on after
+    /// these the next time. Returns whether one was closed. Only a device that failed is a fault.
     pub fn attend<D: Disk>(
         &mut self,
         registry: &S::Registry,
@@ -122,16 +122,16 @@ impl<S: Stream + Drop> NextHops<S> {
             .attend(registry, relay, &mut self.lanes, leaving, now, log)
     }
 
-    /// What was read of each next hop whose attempt may hear it. It fails where memory runs out.
+    /// Returns what was read of each next hop whose attempt may hear it. Fails if memory runs out.
     pub fn replies(&self) -> Result<Vec<ReplyPiece<'_>>, AllocError>
         ensures { IfOk result (λ replies. map told_of replies.items ≡ replies_of self.now.hops) }
     {
         self.hops.replies()
     }
 
-    /// Takes what came of those replies, in their order, and writes what they lead to as far as that goes at once.
-    /// Where no memory was left to hear them, the first of them is lost. It tells whether a connection was closed. Only
-    /// a device that failed is a fault.
+    /// Takes the outcome of those replies, in their order, and writes what they lead to as far as that goes at once. If
+    /// no memory was left to hear them, the first of them is lost. Returns whether a connection was closed. Only a
+    /// device that failed is a fault.
     pub fn answer<D: Disk>(
         &mut self,
         replied: Option<Replied>,
@@ -158,7 +158,7 @@ impl<S: Stream + Drop> NextHops<S> {
     }
 
     /// Begins what is due and may be begun, with the descriptors that are kept for that, and gives the places of one
-    /// message up that have no next hop. It tells whether it did that. Only a device that failed is a fault.
+    /// message up that have no next hop. Returns whether it did that. Only a device that failed is a fault.
     pub fn begin<C: Clock, N: Dial<Stream = S>, D: Disk>(
         &mut self,
         clock: &C,
@@ -188,7 +188,7 @@ impl<S: Stream + Drop> NextHops<S> {
         Ok(gave_up)
     }
 
-    /// Whether something can be done at once. Without leave to begin what is due, that waits.
+    /// Returns whether something can be done at once. Without leave to begin what is due, that waits.
     pub fn is_ready<D: Disk>(&self, relay: &Relay<D>, may_begin: bool) -> bool
         ensures { (number : ℕ) → IsLeftHop (hops_of self.now) relay.now number → result ≡ true }
     {
@@ -198,8 +198,8 @@ impl<S: Stream + Drop> NextHops<S> {
         may_begin && self.lanes.is_ready()
     }
 
-    /// The tick at which something is to be done, or the given one where that is earlier. It is never later than the
-    /// tick at which the node has told that work may start, unless there is no leave to begin what is due.
+    /// Returns the tick at which something is to be done, or the given one where that is earlier. It is never later
+    /// than the tick at which the node has told that work may start, unless there is no leave to begin what is due.
     pub fn next_deadline(&self, may_begin: bool, otherwise: u64) -> u64
         ensures otherwise { result ≤ otherwise }
         ensures due { may_begin ≡ true → result ≤ next_due_of self.now }

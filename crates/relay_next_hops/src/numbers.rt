@@ -19,7 +19,7 @@ pub(crate) struct Numbers {
     newer: Vec<u64>,
 }
 
-// Written out, so that what drops them calls this, and doesn't look into each.
+// Written out, so that the proof of a caller that drops them stops at this function.
 impl Drop for Numbers {
     fn drop(self) {
         let Numbers {
@@ -59,8 +59,8 @@ impl Numbers {
         }
     }
 
-    /// Those of the messages of which these places are held, the places of each message one after another. It fails
-    /// where memory runs out.
+    /// Returns those of the messages of which these places are held, the places of each message one after another.
+    /// Fails if memory runs out.
     pub(crate) fn of_places(alloc: Global, places: &[(u64, u8)]) -> Result<Self, AllocError>
         ensures numbers { IfOk result (λ numbers. numbers.newer ≡ numbers_behind 0 places.now) }
         ensures rest { IfOk result (λ numbers. (numbers.left ≡ []) × (numbers.passed ≡ [])) }
@@ -77,7 +77,7 @@ impl Numbers {
         Ok(numbers)
     }
 
-    /// A message has come. It fails where memory runs out, and the number is left out.
+    /// A message has come. Fails if memory runs out, and the number is left out.
     pub(crate) fn push(&mut self, number: u64) -> Result<(), AllocError>
         ensures pushed { OnOk result (self.new ≡ with_newer number self.old) }
         ensures failed { OnErr result (self.new ≡ self.old) }
@@ -86,7 +86,7 @@ impl Numbers {
         Ok(())
     }
 
-    /// Begins a walk over all of them, once the last has come to its end. It fails where memory runs out.
+    /// Begins a walk over all of them, once the last has come to its end. Fails if memory runs out.
     pub(crate) fn begin(&mut self) -> Result<(), AllocError>
         ensures begins { self.old.left ≡ [] → OnOk result (self.new ≡ begun self.old) }
         ensures failed { OnErr result (self.new ≡ self.old) }
@@ -102,14 +102,14 @@ impl Numbers {
         Ok(())
     }
 
-    /// Whether the walk has come to its end.
+    /// Returns whether the walk has come to its end.
     pub(crate) fn is_over(&self) -> bool
         ensures { IsTrue result ↔ (self.now.left ≡ []) }
     {
         self.walk[self.place..].is_empty()
     }
 
-    /// The next of the walk.
+    /// Returns the next of the walk.
     pub(crate) fn next(&mut self) -> Option<u64>
         ensures next { MatchOption result (self.old.left ≡ []) (λ number. self.old.left ≡ number ∷ self.new.left) }
         ensures rest { self.new ≡ with_left self.new.left self.old }
@@ -123,8 +123,7 @@ impl Numbers {
         Some(number)
     }
 
-    /// The walk has come to this one, and its message is queued. It fails where memory runs out, and the number is left
-    /// out.
+    /// The walk has come to this one, and its message is queued. Fails if memory runs out, and the number is left out.
     pub(crate) fn pass(&mut self, number: u64) -> Result<(), AllocError>
         ensures passed { OnOk result (self.new ≡ with_passed number self.old) }
         ensures failed { OnErr result (self.new ≡ self.old) }
@@ -133,14 +132,14 @@ impl Numbers {
         Ok(())
     }
 
-    /// Whether the walk is still to come to a message.
+    /// Returns whether the walk is still to come to a message.
     pub(crate) fn is_to_come(&self, number: u64) -> bool
         ensures { result ≡ list_any (λ other. other == number) self.now.left }
     {
         self.walk[self.place..].contains(&number)
     }
 
-    /// Whether more have come since the last walk began than were left then.
+    /// Returns whether more have come since the last walk began than were left then.
     pub(crate) fn has_grown(&self) -> bool {
         self.passed.len() < self.newer.len()
     }

@@ -1,6 +1,6 @@
-//! Mail that is overdue at a place that is left alone: after four hours it counts as lost there without a connection.
-//! Else a message that is one of many would be given up, or be told of as delayed, days late. Each listing of what is
-//! due lets each task of such a place be checked once, whatever stands before it; a bounded number at a turn.
+//! Mail that is overdue at a place that is on hold: after four hours it counts as lost there without a connection. Else
+//! a message that is one of many would be given up, or be told of as delayed, days late. Each listing of what is due
+//! lets each task of such a place be checked once, whatever is before it; a bounded number at a turn.
 ghost use Rattle.std.specs.Prelude.{◌≡◌, ◌⊎◌, ◌≤◌, ◌++◌, [], IfOk, IfSome, None, Ok, Some, drop, false};
 ghost use Rattle.std.specs.Prelude.{length, option_to_list, true};
 ghost use Rattle.std.specs.List.{list_any};
@@ -25,11 +25,11 @@ use relay_files::Fault;
 use relay_log::Log;
 use relay_loop::Relay;
 
-/// How many seconds a message may be due at a place that is left alone, before it counts as lost without a connection.
+/// How many seconds a message may be due at a place that is on hold, before it counts as lost without a connection.
 const OVERDUE_SECONDS: u64 = 4 * 60 * 60;
 
-/// Records that the first overdue message of a lane whose place is left alone is lost, among the next tasks that
-/// weren't checked yet, and returns whether it was. It checks no more than `checks`, and takes off what it has checked.
+/// Records that the first overdue message of a lane whose place is on hold is lost, among the next tasks that weren't
+/// checked yet, and returns whether it was. It checks no more than `checks`, and takes off what it has checked.
 pub(crate) fn lose_overdue<D: Disk>(
     relay: &mut Relay<D>,
     lanes: &mut Lanes,
@@ -136,7 +136,7 @@ impl Lanes {
     }
 }
 
-/// Whether a place of a message has been due for longer than it may without an attempt.
+/// Returns whether a place of a message has been due for longer than it may without an attempt.
 fn is_overdue<D: Disk>(relay: &Relay<D>, message: u64, now: &Now) -> bool
     ensures { result ≡ is_overdue now.now.moment (message_of relay.now.node.records.queue.messages message) }
 {
@@ -146,7 +146,7 @@ fn is_overdue<D: Disk>(relay: &Relay<D>, message: u64, now: &Now) -> bool
     }
 }
 
-/// Whether one of these places has been due for longer than it may.
+/// Returns whether one of these places has been due for longer than it may.
 fn has_late(places: &[Place], now: &Now) -> bool
     ensures { result ≡ list_any (is_late now.now.moment) places.now }
 {
@@ -158,7 +158,7 @@ fn has_late(places: &[Place], now: &Now) -> bool
     false
 }
 
-/// Whether a place is held, and has been due for longer than it may.
+/// Returns whether a place is held, and has been due for longer than it may.
 fn is_late(place: &Place, now: &Now) -> bool
     ensures { result ≡ is_late now.now.moment place.now }
 {

@@ -1,4 +1,4 @@
-//! The pace of each lane: how many of its attempts run, and whether its place is left alone.
+//! The pace of each lane: how many of its attempts run, and whether its place is on hold.
 ghost use Rattle.std.specs.Prelude.{◌≡◌, ◌↔◌, [], IsTrue, option_copied, option_map, slice_get};
 ghost use Rattle.relay_limits.specs.Pace.{answered_pace, held_from, next_hold, with_leaving};
 ghost use Rattle.relay_next_hops.specs.Paces.{IsHeldAt, MayBeginAt, RunAsBefore, begun, changed_at, ended};
@@ -13,7 +13,7 @@ pub(crate) struct Paces {
     paces: Vec<Pace>,
 }
 
-// Written out, so that what drops them calls this, and doesn't look into each.
+// Written out, so that the proof of a caller that drops them stops at this function.
 impl Drop for Paces {
     fn drop(self) {
         let Paces { paces: _paces } = self;
@@ -30,7 +30,7 @@ impl Model for Paces {
 }
 
 impl Paces {
-    /// Returns a table without a lane. It takes no memory.
+    /// Returns a table without a lane. Allocates nothing.
     pub(crate) fn new(alloc: Global) -> Self
         ensures { result ≡ [] }
     {
@@ -39,7 +39,7 @@ impl Paces {
         }
     }
 
-    /// Adds lanes of which no attempt runs, until there are so many. It fails where memory runs out.
+    /// Adds lanes of which no attempt runs, until there are this many. Fails if memory runs out.
     #[tactic(auto, using(crate::proofs::PaceLemmas::runs_none_more))]
     pub(crate) fn grow(&mut self, count: usize) -> Result<(), AllocError>
         ensures { RunAsBefore self.old self.new }
@@ -64,7 +64,7 @@ impl Paces {
         self.paces.get(number)
     }
 
-    /// Whether one more connection of a lane may be begun, of `most` at most.
+    /// Returns whether one more connection of a lane may be begun, of `most` at most.
     pub(crate) fn may_begin(&self, number: usize, most: usize, tick: u64) -> bool
         ensures { IsTrue result ↔ MayBeginAt most tick self.now number }
     {
@@ -74,7 +74,7 @@ impl Paces {
         }
     }
 
-    /// Whether the place of a lane is left alone.
+    /// Returns whether the place of a lane is on hold.
     pub(crate) fn is_held(&self, number: usize, tick: u64) -> bool
         ensures { IsTrue result ↔ IsHeldAt tick self.now number }
     {
@@ -111,7 +111,7 @@ impl Paces {
         }
     }
 
-    /// So many connections of a lane are leaving.
+    /// This many connections of a lane are leaving.
     pub(crate) fn note_leaving(&mut self, number: usize, count: usize)
         ensures { self.new ≡ changed_at (with_leaving count) self.old number }
     {

@@ -34,8 +34,8 @@ pub(crate) enum Phase {
 }
 
 impl Phase {
-    /// What a next hop is waited for after these octets, which its replies have led to. A content begins with a line
-    /// of its own, a trace field or one of a report, or with the line of its chunk.
+    /// Returns what a next hop is waited for after these octets, which its replies have led to. A content begins with a
+    /// line of its own, a trace field or one of a report, or with the line of its chunk.
     pub(crate) fn behind(self, octets: &[u8]) -> Self {
         if octets.is_empty() {
             self
@@ -48,7 +48,7 @@ impl Phase {
         }
     }
 
-    /// How many seconds may pass without an octet, where octets are still to be written, or aren't.
+    /// Returns how many seconds may pass without an octet, where octets are still to be written, or aren't.
     pub(crate) fn seconds(self, writes: bool) -> u64
         ensures { result ≡ patience self writes }
     {

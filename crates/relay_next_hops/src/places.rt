@@ -16,7 +16,7 @@ pub(crate) struct Places {
     numbers: HashMap<u64, usize>,
 }
 
-// Written out, so that what drops them calls this, and doesn't look into each.
+// Written out, so that the proof of a caller that drops them stops at this function.
 impl Drop for Places {
     fn drop(self) {
         let Places {
@@ -39,7 +39,7 @@ impl Model for Places {
 }
 
 impl Places {
-    /// Returns a table without a place. It takes no memory.
+    /// Returns a table without a place. Allocates nothing.
     pub(crate) fn new(alloc: Global) -> Self
         ensures { result ≡ [] }
     {

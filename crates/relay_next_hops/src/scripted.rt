@@ -16,14 +16,14 @@ pub struct PlacedStream<S> {
 }
 
 impl<S> PlacedStream<S> {
-    /// The place to which it was opened.
+    /// Returns the place to which it was opened.
     pub fn place(&self) -> SocketAddrV4
         ensures { result ≡ self.now.place }
     {
         self.place
     }
 
-    /// The stream itself.
+    /// Returns the stream itself.
     pub fn stream(&self) -> &S
         ensures { result.now ≡ self.now.stream }
     {
@@ -67,8 +67,8 @@ impl<S: Stream> Stream for PlacedStream<S> {
     }
 }
 
-/// Streams that wait to be opened, in their order: each goes to the place that is asked for next. Where none is left,
-/// each place refuses.
+/// Streams that wait to be opened, in their order: each goes to the place that is asked for next. If none is left, each
+/// place refuses.
 #[derive(Drop)]
 pub struct ScriptedDial<S> {
     streams: VecDeque<S>,
@@ -77,7 +77,7 @@ pub struct ScriptedDial<S> {
 }
 
 impl<S> ScriptedDial<S> {
-    /// These streams will be opened. No descriptor is kept yet.
+    /// Returns these streams will be opened. No descriptor is kept yet.
     pub fn new(streams: VecDeque<S>) -> Self
         ensures { result.streams ≡ streams }
     {

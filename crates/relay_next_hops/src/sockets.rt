@@ -13,7 +13,7 @@ pub struct Sockets<'a, N> {
     spares: Spares,
 }
 
-// Written out, so that what drops it calls this, and doesn't look into its files.
+// Written out, so that the proof of a caller that drops it stops at this function.
 impl<N> Drop for Sockets<'_, N> {
     fn drop(self) {
         let Sockets {
@@ -24,7 +24,7 @@ impl<N> Drop for Sockets<'_, N> {
 }
 
 impl<'a, N: Net> Sockets<'a, N> {
-    /// What opens streams of this system, with these descriptors.
+    /// Returns what opens streams of this system, with these descriptors.
     pub fn new(net: &'a N, spares: Spares) -> Self
         ensures { result.spares ≡ spares }
     {

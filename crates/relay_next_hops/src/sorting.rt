@@ -16,7 +16,7 @@ use relay_routes::{Hop, HostName, Table};
 use std::net::SocketAddrV4;
 
 impl Lanes {
-    /// Lists what is due of a message, and isn't tried. It tells whether there is such a message. One that has a held
+    /// Lists what is due of a message, and isn't tried. Returns whether there is such a message. One that has a held
     /// place without a hop is listed as unroutable; if memory runs out, all is listed anew.
     pub(crate) fn add<S: Stream + Drop, D: Disk>(
         &mut self,
@@ -178,7 +178,7 @@ impl Lanes {
         if self.grow(count) { Some(number) } else { None }
     }
 
-    /// Makes lanes until there are so many, and returns whether memory was left for them.
+    /// Makes lanes until there are this many, and returns whether memory was left for them.
     fn grow(&mut self, count: usize) -> bool
         ensures counts { KeepsCounts self.old self.new }
         ensures tasks { (lane : ℕ) → tasks_at self.new lane ≡ tasks_at self.old lane }

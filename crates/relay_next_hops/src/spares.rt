@@ -15,7 +15,7 @@ pub struct Spares {
     copies: Vec<File>,
 }
 
-// Written out, so that what drops them calls this, and doesn't look into each.
+// Written out, so that the proof of a caller that drops them stops at this function.
 impl Drop for Spares {
     fn drop(self) {
         let Spares {
@@ -26,7 +26,7 @@ impl Drop for Spares {
 }
 
 impl Spares {
-    /// None are kept yet; they will be copies of this file. It fails where memory runs out.
+    /// None are kept yet; they will be copies of this file. Fails if memory runs out.
     pub fn new(alloc: Global, file: File) -> Result<Self, AllocError>
         ensures { IfOk result (λ spares. held_of spares ≡ 0) }
     {
@@ -36,7 +36,7 @@ impl Spares {
         })
     }
 
-    /// Takes descriptors until all are kept, and tells whether they are: a client may be taken only then.
+    /// Takes descriptors until all are kept, and returns whether they are: a client may be taken only then.
     pub(crate) fn fill(&mut self) -> bool
         ensures { IsTrue result ↔ (SPARE_COUNT ≤ held_of self.new) }
     {
@@ -51,7 +51,7 @@ impl Spares {
         SPARE_COUNT <= self.copies.len()
     }
 
-    /// Gives one up, and tells whether there was one.
+    /// Gives one up, and returns whether there was one.
     pub(crate) fn give(&mut self) -> bool
         ensures given { IsTrue result ↔ (0 < held_of self.old) }
         ensures fewer { held_of self.new ≡ held_of self.old - 1 }

@@ -51,7 +51,7 @@ impl Starts {
         }
     }
 
-    /// The tick at which connections may be begun again that couldn't, or the given one where that is earlier.
+    /// Returns the tick at which connections may be begun again that couldn't, or the given one where that is earlier.
     pub(crate) fn next_deadline<S: Stream + Drop>(
         &self,
         hops: &Hops<S>,
@@ -73,7 +73,7 @@ impl Starts {
 pub(crate) enum Begun {
     /// No more of it may be begun now.
     AllDone,
-    /// Its next hop hasn't said anything yet, as the next hops of so many connections that there is no room for it.
+    /// Its next hop hasn't said anything yet, as the next hops of this many connections that there is no room for it.
     Crowded,
     /// So much of it was tried that the others have their turn.
     HasMore,
@@ -83,7 +83,7 @@ pub(crate) enum Begun {
     Wanting,
 }
 
-/// What has come of the next task of a lane.
+/// The outcome of the next task of a lane.
 #[derive(Clone, Copy, Debug, PartialEq, Eq)]
 pub(crate) enum Step {
     /// It has left the lane: a connection is being made for it, or none could be.
@@ -92,13 +92,13 @@ pub(crate) enum Step {
     Back,
     /// None may be begun now, or there is none.
     Over,
-    /// The lane's next hop hasn't said anything yet, as the next hops of so many connections that there is no room.
+    /// The lane's next hop hasn't said anything yet, as the next hops of this many connections that there is no room.
     NoRoom,
     /// There is no room for another connection.
     NoSlot,
 }
 
-/// What has come of a task for which a connection was to be begun.
+/// The outcome of a task for which a connection was to be begun.
 #[derive(Clone, Copy, Debug, PartialEq, Eq)]
 pub(crate) enum Tried {
     /// A connection is being made for it.
@@ -111,8 +111,8 @@ pub(crate) enum Tried {
     HasNoPlace,
 }
 
-/// Begins what may be begun of a lane. Where the system has no descriptor for a connection, one is given up that was
-/// kept for that.
+/// Begins what may be begun of a lane. If the system has no descriptor for a connection, one is given up that was kept
+/// for that.
 pub(crate) fn start_lane<S: Stream + Drop, N: Dial<Stream = S>, D: Disk>(
     dial: &mut N,
     registry: &S::Registry,
@@ -293,7 +293,7 @@ fn accepted_at<D: Disk>(relay: &Relay<D>, message: u64) -> Option<Moment>
     }
 }
 
-/// The errand of a task for which no connection was made.
+/// Returns the errand of a task for which no connection was made.
 pub(crate) fn errand_of(task: Task, aim: Aim) -> Errand
     ensures { (result.aim ≡ aim) × (result.message ≡ task.message) × (result.name ≡ task.hop)
         × (result.attempt ≡ None) }

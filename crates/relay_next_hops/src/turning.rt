@@ -21,14 +21,15 @@ use relay_loop::Relay;
 const MOST_CHECKS: usize = 512;
 
 impl Lanes {
-    /// Which lane is looked at first.
+    /// Returns which lane is checked first.
     pub(crate) fn first(&self) -> usize
         ensures { result ≡ self.now.first }
     {
         self.first
     }
 
-    /// The lane that the next room among those is for whose next hops haven't said anything yet, where one waits.
+    /// Returns the lane that the next room among those is for whose next hops haven't said anything yet, where one
+    /// waits.
     pub(crate) fn waiting(&self) -> Option<usize> {
         self.waiting
     }
@@ -46,7 +47,7 @@ impl Lanes {
     }
 }
 
-/// Returns the lane that comes so many places after the first, of so many, where lane 0 comes after the last.
+/// Returns the lane that comes this many places after the first, of this many, where lane 0 comes after the last.
 fn nth(first: usize, step: usize, count: usize) -> usize
     ensures place { IsNth (min first count) count step result }
     ensures within { step < count → result < count }
@@ -59,7 +60,7 @@ fn nth(first: usize, step: usize, count: usize) -> usize
     }
 }
 
-/// Returns the one of two lanes that comes first from a third on, of so many, where lane 0 comes after the last.
+/// Returns the one of two lanes that comes first from a third on, of this many, where lane 0 comes after the last.
 pub(crate) fn nearer(from: usize, count: usize, one: Option<usize>, other: usize) -> Option<usize> {
     match one {
         Some(one) if behind(from, count, one) <= behind(from, count, other) => Some(one),
@@ -67,7 +68,7 @@ pub(crate) fn nearer(from: usize, count: usize, one: Option<usize>, other: usize
     }
 }
 
-/// Returns how many places a lane comes after another, of so many.
+/// Returns how many places a lane comes after another, of this many.
 fn behind(from: usize, count: usize, lane: usize) -> usize {
     match lane.checked_sub(from) {
         Some(places) => places,
@@ -75,7 +76,7 @@ fn behind(from: usize, count: usize, lane: usize) -> usize {
     }
 }
 
-/// Returns the lane that has its turn at a step: at first the one that waits for room, and then each of so many, from
+/// Returns the lane that has its turn at a step: at first the one that waits for room, and then each of this many, from
 /// the first on.
 pub(crate) fn visited(first: usize, count: usize, waiting: Option<usize>, step: usize) -> usize
     ensures { (past : ℕ) → step ≡ past + 1 → past < count
@@ -88,10 +89,10 @@ pub(crate) fn visited(first: usize, count: usize, waiting: Option<usize>, step: 
 }
 
 /// Begins what is due and may be begun: of each lane in turn, the first lane each time another. Next hops that haven't
-/// said anything yet have so many connections together, one each. Where there is no room for another, the next room is
+/// said anything yet have this many connections together, one each. If there is no room for another, the next room is
 /// for the first that waits, after the one that had the last: each waits until the others have had one connection, and
 /// no longer. It goes over every lane, unless it is paused, there is no room at all, or no descriptor is kept; and the
-/// lanes are closed only where none of them has more that may begin.
+/// lanes are closed only if none of them has more that may begin.
 pub(crate) fn start_tasks<S: Stream + Drop, N: Dial<Stream = S>, D: Disk>(
     dial: &mut N,
     registry: &S::Registry,
@@ -137,7 +138,7 @@ pub(crate) fn start_tasks<S: Stream + Drop, N: Dial<Stream = S>, D: Disk>(
         }
     }
     lanes.turn(crowded);
-    // One is lost at a turn, and so many are checked, and then the others have theirs.
+    // One is lost at a turn, and this many are checked, and then the others have theirs.
     if has_lost || has_more || checks == 0 {
         return Ok(());
     }
@@ -145,8 +146,8 @@ pub(crate) fn start_tasks<S: Stream + Drop, N: Dial<Stream = S>, D: Disk>(
     Ok(())
 }
 
-/// Records that an overdue message of a lane is lost, as [`lose_overdue`], unless one was lost already. It tells
-/// whether one was.
+/// Records that an overdue message of a lane is lost, as [`lose_overdue`], unless one was lost already. Returns whether
+/// one was.
 fn lose_once<D: Disk>(
     has_lost: bool,
     relay: &mut Relay<D>,
@@ -167,7 +168,7 @@ fn lose_once<D: Disk>(
     lose_overdue(relay, lanes, lane, checks, now, log)
 }
 
-/// Whether no lane can go on.
+/// Returns whether no lane can go on.
 fn stops(begun: Begun) -> bool
     ensures { IsStoppedBy begun result }
 {
@@ -177,7 +178,7 @@ fn stops(begun: Begun) -> bool
     }
 }
 
-/// Whether a lane has more that its turn didn't come to: one that had its turn before, or this one.
+/// Returns whether a lane has more that its turn didn't come to: one that had its turn before, or this one.
 fn is_more(has_more: bool, begun: Begun) -> bool
     ensures { result ≡ false → (has_more ≡ false) × (begun ≢ Begun.HasMore) }
 {

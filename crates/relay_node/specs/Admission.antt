@@ -19,7 +19,7 @@ use Rattle.relay_node.specs.Acceptance.{acceptance_by}
 use Rattle.relay_node.specs.Node.{FitsIn, NodeState, RefusesToHear, TakesIn}
 use Rattle.relay_node.specs.Room.{Overfills, size_with}
 
--- The words below are of a call at a moment, for a client at this address, of a node that keeps these changes.
+-- The words below are of a call at a time, for a client at this address, of a node that keeps these changes.
 module _ {D : Type 0} (honest : Type 0) (words : DiskWords D) (config : Config) (changes : List Change)
     (peer : List ℕ) (at : ℕ) (offer : Offered) (old : Kept D) where
   -- the change of this number accepts the offer, and there was room for it

@@ -1,4 +1,4 @@
--- The attempts of a node to pass its mail on, in its list of changes (RFC 5321, section 4.5.4.1).
+-- The attempts of a node to relay its mail, in its list of changes (RFC 5321, section 4.5.4.1).
 use Rattle.std.specs.Prelude.{◌≡◌, ◌≢◌, ℕ, ◌≤◌, false, List, [], ◌∷◌, ◌++◌, length, take, Option, None, Some}
 use Rattle.relay_disk.specs.Device.{DiskWords}
 use Rattle.relay_disk.specs.Disks.{FailsNot}
@@ -57,7 +57,7 @@ begun_with number hop places message = record {
 }
 
 -- by the list of changes: an attempt has begun for the first of those places of a message that are due and go to this
--- hop, at most so many, under the least free number, and none was running for message and hop
+-- hop, at most this many, under the least free number, and none was running for message and hop
 pub record BeginsAtMost (config : Config) (changes : List Change) (number : ℕ) (hop : List ℕ) (most : Option ℕ)
     (now : ℕ) (old new : List (Option Run))
     (started : Started) : Type 0 where
@@ -75,7 +75,7 @@ abbrev pub Begins :
     Config → List Change → ℕ → List ℕ → ℕ → List (Option Run) → List (Option Run) → Started → Type 0
 Begins config changes number hop = BeginsAtMost config changes number hop None
 
--- The words below are of a call at a moment, for an attempt of which this is told, of a node that keeps these changes.
+-- The words below are of a call at a time, for an attempt of which this is told, of a node that keeps these changes.
 module _ {D : Type 0} (honest : Type 0) (words : DiskWords D) (reporter : Reporter) (now : ℕ) (changes : List Change)
     (number : ℕ) (told : Told) where
   -- it goes on: all of the piece was read, and the records are the same

@@ -16,8 +16,8 @@ LeavesUncompacted words old new Full = new ≡ old
 LeavesUncompacted words old new NoSecond = new ≡ old
 LeavesUncompacted words old new other = ⊥
 
--- By a stopped node it is refused always, and nothing changes. A live one refuses for want of a second disk exactly
--- where that has no head, and as full exactly where it has one and the snapshot of what is held is too much.
+-- By a stopped node it is refused always, and nothing changes. A live one refuses for lack of a second disk exactly if
+-- that has no head, and as full exactly if it has one and the snapshot of what is held is too much.
 pub record RefusesToCompact {D T : Type 0} (words : DiskWords D) (old new : NodeState D) (result : Result T NodeFault)
     : Type 0 where
   pub stopped : old.records.spool.live ≡ false → (result ≡ Err Stopped) × (new ≡ old)

@@ -40,12 +40,12 @@ pub record NodeState (D : Type 0) : Type 0 where
   pub attempts : List (Option Run)
   pub records : Kept D
 
--- the session stands after what was said, and each offer is answered
+-- the session is after what was said, and each offer is answered
 pub record SessionHasSaid (setup : Setup) (session : Session) (said : Said) : Type 0 where
   pub stands : Stands setup session said
   pub settled : open_offers session ≡ []
 
--- the session of this number, whose client is at this address, stands after what was said
+-- the session of this number, whose client is at this address, is after what was said
 pub record SeatHasSaid (config : Config) (seats : List (Option Seat)) (number : ℕ) (peer : List ℕ)
     (said : Said) : Type 0 where
   pub seat : Seat
@@ -84,8 +84,8 @@ IsOpen seats number =
 abbrev pub greeted_by : List ℕ → Said
 greeted_by greeting = record { input = []; answers = []; output = greeting; offers = [] }
 
--- The words below are of a call at a moment, on a session with a client at this address, of a node that
--- keeps these changes.
+-- The words below are of a call at a time, on a session with a client at this address, of a node that keeps these
+-- changes.
 module _ {D : Type 0} (honest : Type 0) (words : DiskWords D) (config : Config) (changes : List Change)
     (peer : List ℕ) (at : ℕ) where
   -- how the next change is accepted
@@ -186,8 +186,8 @@ pub record IsHeard {D : Type 0} (words : DiskWords D) (config : Config) (peer : 
   pub takes : TakesIn old.queue received.change new.queue
   pub history : HasHistory config peer session
 
--- A call on the session or the attempt of a number is refused so: by a stopped node always, and nothing
--- changes; and by a live one as unknown exactly where the number is free, and each fault leaves this.
+-- A call on the session or the attempt of a number is refused so: by a stopped node always, and nothing changes; and by
+-- a live one as unknown exactly if the number is free, and each fault leaves this.
 pub record RefusesAt {D T : Type 0} (old new : NodeState D) (IsFreeNumber : Type 0) (Leaves : NodeFault → Type 0)
     (result : Result T NodeFault) : Type 0 where
   pub refused : old.records.spool.live ≡ true → IfErr result Leaves
@@ -209,7 +209,7 @@ pub record IsFused {D : Type 0} (old new : Kept D) : Type 0 where
   pub queue : new.queue ≡ old.queue
   pub noted : new.noted ≡ old.noted
 
--- why no node is made on two disks: want of memory leaves them as they were
+-- why no node is made on two disks: lack of memory leaves them as they were
 abbrev pub RefusesToMake : {D : Type 0} → Type 0 → DiskWords D → Disks D → Disks D → Cause → Type 0
 RefusesToMake honest words old new cause =
     ((cause ≡ Spool spool_fault.NoMemory) × (new ≡ old)) ⊎ RefusesDisk honest words old new cause

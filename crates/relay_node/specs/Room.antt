@@ -31,8 +31,7 @@ pub record HasRoom (acceptance : Acceptance) (limit size : ℕ) (offer : Offered
 abbrev pub refusals : List Offered → List Answer
 refusals offers = map (λ _. answer.Full) offers
 
--- after what was said these offers were refused for want of room, and then these were made and had these
--- answers
+-- after what was said these offers were refused for lack of room, and then these were made and had these answers
 pub record AnswersMore (said later : Said) (refused last : List Offered) (given : List Answer) : Type 0 where
   pub offers : later.offers ≡ said.offers ++ (refused ++ last)
   pub answers : later.answers ≡ said.answers ++ (refusals refused ++ given)

@@ -14,8 +14,8 @@ use Rattle.relay_node.specs.Attempts.{Tells}
 use Rattle.relay_node.specs.Node.{NodeState}
 use Rattle.relay_report.specs.Report.{Reporter, reporter_of}
 
--- The words below are of a call at a moment, for an attempt of which this is told, of a node that keeps these changes
--- and awaits those that are pending, which the row records.
+-- The words below are of a call at a time, for an attempt of which this is told, of a node that keeps these changes and
+-- awaits those that are pending, which the row records.
 module _ {D : Type 0} (honest : Type 0) (words : DiskWords D) (reporter : Reporter) (now : ℕ) (changes pending : List
     Change) (number : ℕ) (told : Told) (row : Row) where
   -- it goes on: all of the piece was read, and the records and the row are the same
@@ -31,7 +31,7 @@ module _ {D : Type 0} (honest : Type 0) (words : DiskWords D) (reporter : Report
   RepliesInto piece old new left replied None = ReadsOnBehind piece old new left replied
   RepliesInto piece old new left replied (Some change) =
       HasEndedBehind honest words reporter changes pending row now number told piece new.records left new.attempts
-        replied
+      replied
       change
 
 -- Octets of a piece of this length were used: all, unless a change was staged, and then the attempt is gone. No call

@@ -28,8 +28,8 @@ use Rattle.relay_node.specs.Node.{HasHistory, IsGone, IsOpen, NodeState, SeatHas
 use Rattle.relay_node.specs.Node.{TakesIn}
 use Rattle.relay_node.specs.Room.{AnswersMore, EndsWithOffer, HasRoom, Overfills, refusals}
 
--- The words below are of a call at a moment, for a client at this address, of a node that keeps these changes and
--- awaits those that are pending, which the row records.
+-- The words below are of a call at a time, for a client at this address, of a node that keeps these changes and awaits
+-- those that are pending, which the row records.
 module _ {D : Type 0} (honest : Type 0) (words : DiskWords D) (config : Config) (changes pending : List Change)
     (peer : List ℕ) (at : ℕ) (offer : Offered) (old : Kept D) (row : Row) where
   -- how the next change is accepted
@@ -77,7 +77,7 @@ abbrev pub IsStaged : ℕ → Option ℕ → List Change → Type 0
 IsStaged next None more = more ≡ []
 IsStaged next (Some number) more = (accept : Accept) × (number ≡ next) × (more ≡ change.Accept accept ∷ [])
 
--- The words below are of a call at a moment, on a session with a client at this address, of a node that keeps these
+-- The words below are of a call at a time, on a session with a client at this address, of a node that keeps these
 -- changes and awaits those that are pending, which the row records.
 module _ (config : Config) (changes pending : List Change) (peer : List ℕ) (at : ℕ) where
   -- how the next change is accepted

@@ -47,7 +47,7 @@ impl<D: Disk> Node<D> {
             → result ≡ Err NodeFault.Stopped
             → CutsOffer D.honest D.words self.old.config changes peer now (offered offer.now)
             self.old.records self.new.records }
-        // A stop at any moment of the call leaves the changes as they were or with the offer's accept.
+        // A stop at any time of the call leaves the changes as they were or with the offer's accept.
         ensures stop { (changes : List Change) → Keeps D.honest D.words self.old.records changes → D.honest
             → AtEachMoment D.words self.old.records.spool.disk self.new.records.spool.disk
             (HasBodies (StandsForOrAccepts D.honest D.words self.old.config changes peer now
@@ -74,7 +74,7 @@ impl<D: Disk> Node<D> {
         Ok(answer)
     }
 
-    /// The accept that [`Node::admit`] would add of an offer, under the next number. It fails where memory runs out.
+    /// Returns the accept that [`Node::admit`] would add of an offer, under the next number. Fails if memory runs out.
     pub fn accept_next(
         &self,
         offer: &Offer<'_>,
@@ -94,7 +94,7 @@ impl<D: Disk> Node<D> {
         )
     }
 
-    /// The message of a number, while a place of it is held, live or stopped. It takes no memory.
+    /// Returns the message of a number, while a place of it is held, live or stopped. Allocates nothing.
     pub fn message(&self, number: u64) -> Option<&Message>
         ensures { option_copied result ≡ message_of self.now.records.queue.messages number }
     {
@@ -102,7 +102,7 @@ impl<D: Disk> Node<D> {
     }
 }
 
-/// Takes an offer into the records, where there is room for it.
+/// Takes an offer into the records, if there is room for it.
 fn take_offer<D: Disk>(
     alloc: Global,
     config: &Config,
@@ -145,7 +145,7 @@ fn take_offer<D: Disk>(
     }
 }
 
-/// Tells the attempts of the mail that an answer has accepted, if it accepted any. It takes no memory.
+/// Tells the attempts of the mail that an answer has accepted, if it accepted any. Allocates nothing.
 pub(crate) fn note_answer<D: Disk>(
     attempts: &mut Attempts,
     config: &Config,

@@ -42,8 +42,8 @@ impl<D: Disk> Node<D> {
         }
     }
 
-    /// A node of these records, on which nothing has been noted, without a session and without an attempt. Where memory
-    /// runs out, their disks come back.
+    /// Returns a node of these records, on which nothing has been noted, without a session and without an attempt. If
+    /// memory runs out, their disks come back.
     fn of_records(
         alloc: Global,
         config: Config,

@@ -1,4 +1,4 @@
-//! Mail that is passed on.
+//! Mail that is relayed.
 ghost use Rattle.std.specs.Prelude.{◌≡◌, ◌<◌, ◌↔◌, ◌⊎◌, ℕ, false, List, Some, Err, IfErr, IfOk, IsTrue};
 ghost use Rattle.relay_report.specs.Report.{reporter_of};
 ghost use Rattle.relay_attempts.specs.Attempts.{RefusesToStart, RefusesToStartAtMost, Serves, Starts, StartsAtMost};
@@ -23,9 +23,8 @@ use relay_trace::Moment;
 use std::alloc::Global;
 
 impl<D: Disk> Node<D> {
-    /// What there is to do at a moment, in order of the messages' numbers: that a held place has no hop, and
-    /// then each hop with a due place for which no attempt is running, in the order of their first due
-    /// places.
+    /// Returns what there is to do at a time, in order of the messages' numbers: that a held place has no hop, and then
+    /// each hop with a due place for which no attempt is running, in the order of their first due places.
     pub fn due(&self, alloc: Global, now: Moment) -> Result<Vec<Work>, NodeFault>
         ensures works { IfOk result (λ works. works.items
             ≡ works_of self.now.config.routes self.now.attempts now self.now.records.queue) }
@@ -44,9 +43,9 @@ impl<D: Disk> Node<D> {
         )
     }
 
-    /// The least moment, from this one on, at which [`Node::due`] has work: this one where a held place has no hop,
-    /// and else the first at which a place is due that has one, and for whose message and hop no attempt is running.
-    /// None where there is no work at any moment. It looks at the places in the order of their moments, at none after
+    /// Returns the least time, from this one on, at which [`Node::due`] has work: this one where a held place has no
+    /// hop, and else the first at which a place is due that has one, and for whose message and hop no attempt is
+    /// running. None if there is no work at any time. It checks the places in the order of their times, at none after
     /// the first that is to be tried, and takes no memory. `Stopped` is its only fault.
     pub fn next_due(&self, now: Moment) -> Result<Option<Moment>, NodeFault>
         ensures next { IfOk result (IsNextDue self.now.config.routes self.now.attempts self.now.records.queue now) }
@@ -64,17 +63,17 @@ impl<D: Disk> Node<D> {
         )
     }
 
-    /// Whether 64 attempts are running, so that [`Node::start`] begins none.
+    /// Returns whether 64 attempts are running, so that [`Node::start`] begins none.
     pub fn is_full_of_attempts(&self) -> bool
         ensures { IsTrue result ↔ IsFull self.now.attempts }
     {
         self.attempts.is_full()
     }
 
-    /// Begins an attempt for the places of a message that are due and go to this hop, under the least free
-    /// number. The first fault in this order is answered, and nothing is changed then: `Stopped`, `Unknown`
-    /// where no place of such a message is held, `TooMany` where 64 attempts are running, `Busy` where one
-    /// for this message and hop is, `NotDue` where no place is due that goes there; then want of memory.
+    /// Begins an attempt for the places of a message that are due and go to this hop, under the least free number. The
+    /// first fault in this order is answered, and nothing is changed then: `Stopped`, `Unknown` where no place of such
+    /// a message is held, `TooMany` where 64 attempts are running, `Busy` where one for this message and hop is,
+    /// `NotDue` where no place is due that goes there; then lack of memory.
     pub fn start(&mut self, message: u64, hop: &HostName, now: Moment) -> Result<Started, NodeFault>
         ensures starts { IfOk result (Starts self.old.config.host self.old.config.routes message hop.now now
             self.old.records.queue self.old.attempts self.new.attempts) }
@@ -124,10 +123,10 @@ impl<D: Disk> Node<D> {
         )
     }
 
-    /// Ends the held places of a message that have no hop (RFC 5321, section 6.1), all in one change with the
-    /// report that is due of them, whose number is the answer. The first fault in this order is answered:
-    /// `Stopped`, `Unknown` where no place of such a message is held, `NotDue` where each held place has a
-    /// hop; then `NoMemory` and `Full`, for want of memory or of room. Nothing is changed then.
+    /// Ends the held places of a message that have no hop (RFC 5321, section 6.1), all in one change with the report
+    /// that is owed, whose number is the answer. The first fault in this order is answered: `Stopped`, `Unknown` where
+    /// no place of such a message is held, `NotDue` where each held place has a hop; then `NoMemory` and `Full`, for
+    /// lack of memory or of room. Nothing is changed then.
     pub fn give_up_unroutable(&mut self, message: u64, now: Moment) -> Result<u64, NodeFault>
         ensures gives_up { (changes : List Change) → Keeps D.honest D.words self.old.records changes
             → IfOk result (AddsUnroutable D.honest D.words (reporter_of self.old.config) self.old.config.routes message
@@ -153,7 +152,7 @@ impl<D: Disk> Node<D> {
     }
 }
 
-/// Tells the attempts of the mail that a call has accepted, if it accepted any. It takes no memory.
+/// Tells the attempts of the mail that a call has accepted, if it accepted any. Allocates nothing.
 pub(crate) fn note<D: Disk>(
     attempts: &mut Attempts,
     config: &Config,

@@ -16,7 +16,7 @@ use relay_spool::BODY_OVERHEAD;
 use relay_trace::Moment;
 use std::alloc::Global;
 
-/// What a node accepts mail by in one call.
+/// The values by which a node accepts mail in one call.
 #[derive(Clone, Copy)]
 pub(crate) struct Intake<'a> {
     pub(crate) config: &'a Config,
@@ -38,9 +38,8 @@ pub(crate) struct Taken {
 }
 
 impl Intake<'_> {
-    /// The accept of the offer that is open, and none where its record would bring the spool past its
-    /// limit. It answers `Full` exactly where changes have no numbers any more, and else fails where
-    /// memory runs out.
+    /// Returns the accept of the offer that is open, and none if its record would bring the spool past its limit.
+    /// Returns `Full` exactly if changes have no numbers any more, and else fails if memory runs out.
     pub(crate) fn consider(
         &self,
         alloc: Global,
@@ -59,8 +58,8 @@ impl Intake<'_> {
         self.weigh(alloc, &offer)
     }
 
-    /// The accept of an offer, and none where its record would bring the spool past its limit. It answers
-    /// `Full` exactly where changes have no numbers any more, and else fails where memory runs out.
+    /// Returns the accept of an offer, and none if its record would bring the spool past its limit. Returns `Full`
+    /// exactly if changes have no numbers any more, and else fails if memory runs out.
     pub(crate) fn weigh(&self, alloc: Global, offer: &Offer<'_>) -> Result<Option<Taken>, NodeFault>
         requires { IsStorable (offered offer.now) }
         ensures weighs { IfOk result (Weighs self.now (offered offer.now)) }

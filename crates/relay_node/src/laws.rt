@@ -1,4 +1,4 @@
-//! What is true of the calls of a node, whoever makes them.
+//! Laws of the calls of a node, whoever makes them.
 ghost use Rattle.relay_node.specs.Attempts.{ToldStays};
 ghost use Rattle.relay_node.specs.Queued.{QueuedGrows};
 

@@ -1,5 +1,5 @@
-//! A node: the sessions of its clients, the records of the mail that it has taken from them, and the
-//! attempts to pass it on (RFC 5321, sections 4.2.5, 4.5.4.1 and 6.1).
+//! A node: the sessions of its clients, the records of the mail that it accepted from them, and the attempts to relay
+//! it (RFC 5321, sections 4.2.5, 4.5.4.1 and 6.1).
 #![tactic(auto)]
 
 mod accept;

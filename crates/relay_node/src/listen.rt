@@ -10,7 +10,7 @@ use relay_records::NodeFault;
 use relay_server::{Answer, Next, Session};
 use std::alloc::Global;
 
-/// Where a node has stopped listening.
+/// Why a node has stopped listening.
 #[derive(Drop)]
 pub(crate) enum End {
     /// All are used, and more may come.
@@ -21,7 +21,7 @@ pub(crate) enum End {
     Taken(Taken),
 }
 
-/// What a client's octets have come to.
+/// The result of a client's octets.
 #[derive(Drop)]
 pub(crate) struct Listened {
     /// How many octets of the piece are used.
@@ -32,9 +32,9 @@ pub(crate) struct Listened {
 }
 
 impl Intake<'_> {
-    /// Uses octets of a piece up to a close or to an offer that there is room for, or all of them.
-    /// Each offer before is refused. It answers `Full` where an offer came and changes have no numbers
-    /// any more, and else fails where memory runs out.
+    /// Uses octets of a piece up to a close or to an offer that there is room for, or all of them. Each offer before is
+    /// refused. Returns `Full` where an offer came and changes have no numbers any more, and else fails if memory runs
+    /// out.
     pub(crate) fn listen(
         &self,
         alloc: Global,

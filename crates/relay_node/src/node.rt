@@ -37,13 +37,13 @@ use std::marker::Model;
 pub struct Connected {
     /// Its number, 0 to 63.
     pub session: usize,
-    /// What goes to the client: the greeting.
+    /// The octets for the client: the greeting.
     pub out: Vec<u8>,
 }
 
-/// A node: up to 64 sessions, the records of the mail that they took in, and up to 64 attempts to pass it
-/// on. Where the device fails, the node is stopped: every later call answers that, but for `into_disk`,
-/// `take_noted` and `next_number`, and its disk has to be opened again.
+/// A node: up to 64 sessions, the records of the mail that they took in, and up to 64 attempts to relay it. If the
+/// device fails, the node is stopped: every later call answers that, but for `into_disk`, `take_noted` and
+/// `next_number`, and its disk must be opened again.
 pub struct Node<D: Disk> {
     pub(crate) alloc: Global,
     pub(crate) config: Config,
@@ -84,7 +84,7 @@ impl<D: Disk> Model for Node<D> {
 }
 
 impl<D: Disk> Node<D> {
-    /// A node without changes, on two disks of size 0. Disks of which one isn't empty come back unchanged, and
+    /// Returns a node without changes, on two disks of size 0. Disks of which one isn't empty come back unchanged, and
     /// disks that failed with any octets.
     pub fn create(alloc: Global, config: Config, disk: Disks<D>) -> Result<Self, NotOpened<D>>
         ensures keeps { IfOk result (λ node. Keeps D.honest D.words node.records []) }
@@ -95,7 +95,7 @@ impl<D: Disk> Node<D> {
             (λ refused. RefusesToMake D.honest D.words disk refused.disk refused.cause) }
         ensures failures { MatchResult result (λ node. FailsNot D.words disk node.records.spool.disk)
             (λ refused. FailsFor D.words disk refused.disk refused.cause) }
-        // Where a stop left nothing of the disks before, it leaves no change at any moment of this call.
+        // Where a stop left nothing of the disks before, it leaves no change at any time of this call.
         ensures stop { D.honest → LeavesNothing D.words disk → MatchResult result
             (λ node. AtEachMoment D.words disk node.records.spool.disk HasNoBody)
             (λ refused. AtEachMoment D.words disk refused.disk HasNoBody) }
@@ -118,8 +118,8 @@ impl<D: Disk> Node<D> {
         }
     }
 
-    /// A node of the changes that two disks hold, whatever configuration they were made under. The disks
-    /// are synced and read, and not written: they come back as they were where they are refused.
+    /// Returns a node of the changes that two disks hold, whatever configuration they were made under. The disks are
+    /// synced and read, and not written: they come back as they were where they are refused.
     pub fn open(alloc: Global, config: Config, disk: Disks<D>) -> Result<Self, NotOpened<D>>
         ensures opens { IfOk result (λ node. Opens D.honest D.words disk node.records) }
         ensures idle { IfOk result (IsIdle config) }
@@ -136,7 +136,7 @@ impl<D: Disk> Node<D> {
         }
     }
 
-    /// The disks, live or stopped. It takes no memory.
+    /// Returns the disks, live or stopped. Allocates nothing.
     pub fn into_disk(self) -> Disks<D>
         ensures { result ≡ self.records.spool.disk }
     {
@@ -150,7 +150,7 @@ impl<D: Disk> Node<D> {
         records.into_disk()
     }
 
-    /// The configuration and the disks, live or stopped. It takes no memory.
+    /// Returns the configuration and the disks, live or stopped. Allocates nothing.
     pub fn into_parts(self) -> (Config, Disks<D>)
         ensures config { result.0 ≡ self.config }
         ensures disk { result.1 ≡ self.records.spool.disk }
@@ -165,21 +165,21 @@ impl<D: Disk> Node<D> {
         (config, records.into_disk())
     }
 
-    /// The configuration that the node was made with.
+    /// Returns the configuration that the node was made with.
     pub fn config(&self) -> &Config
         ensures { result.now ≡ self.now.config }
     {
         &self.config
     }
 
-    /// Whether the node is live: no call of its device has failed. It takes no memory.
+    /// Returns whether the node is live: no call of its device has failed. Allocates nothing.
     pub fn is_live(&self) -> bool
         ensures { result ≡ self.now.records.spool.live }
     {
         self.records.is_live()
     }
 
-    /// The number of the next change, live or stopped. It takes no memory.
+    /// Returns the number of the next change, live or stopped. Allocates nothing.
     pub fn next_number(&self) -> u64
         ensures number { result ≡ self.now.records.queue.next }
         ensures kept { (changes : List Change) → Keeps D.honest D.words self.now.records changes
@@ -190,8 +190,7 @@ impl<D: Disk> Node<D> {
         self.records.next_number()
     }
 
-    /// The last change whose append was begun, live or stopped. It is handed out once, and takes no
-    /// memory.
+    /// Returns the last change whose append was begun, live or stopped. It is handed out once, and takes no memory.
     pub fn take_noted(&mut self) -> Option<Noted>
         ensures noted { result ≡ self.old.records.noted }
         ensures rest { self.new ≡ record self.old { records = record self.old.records { noted = None } } }
@@ -228,7 +227,7 @@ impl<D: Disk> Node<D> {
         })
     }
 
-    /// Frees the number of a session whose connection has ended. It takes no memory.
+    /// Frees the number of a session whose connection has ended. Allocates nothing.
     pub fn ended(&mut self, session: usize) -> Result<(), NodeFault>
         ensures gone { OnOk result (slot_at self.new.seats session ≡ None) }
         ensures others { OthersStay self.old.seats self.new.seats session }
@@ -246,11 +245,10 @@ impl<D: Disk> Node<D> {
         Ok(())
     }
 
-    /// Uses octets of a client, all of them or up to a change or a close. The answer 250 to mail is
-    /// handed out only after the append of its change: from then on every stop leaves it. A message
-    /// whose record would bring the spool past the configured limit is answered that the spool is full
-    /// (452), and the session goes on. Want of memory, and `Full` where a message came and changes have no
-    /// numbers any more, end the session without an octet.
+    /// Uses octets of a client, all of them or up to a change or a close. The answer 250 to mail is handed out only
+    /// after the append of its change: from then on every stop leaves it. A message whose record would bring the spool
+    /// past the configured limit is answered that the spool is full (452), and the session goes on. Lack of memory, and
+    /// `Full` where a message came and changes have no numbers any more, end the session without an octet.
     pub fn receive(
         &mut self,
         session: usize,
@@ -291,7 +289,7 @@ impl<D: Disk> Node<D> {
         Ok(received)
     }
 
-    /// All held places, each with the number of its message, in order.
+    /// Returns all held places, each with the number of its message, in order.
     pub fn marks(&self, alloc: Global) -> Result<Vec<(u64, u8)>, NodeFault>
         ensures marks { IfOk result (λ marks. marks.items ≡ held_of self.now.records.queue) }
         ensures kept { (changes : List Change) → Keeps D.honest D.words self.now.records changes
@@ -306,8 +304,7 @@ impl<D: Disk> Node<D> {
         Ok(self.records.held(alloc)?)
     }
 
-    /// The path of a held place, and when it is due; none where no place is held there. It takes no
-    /// memory.
+    /// Returns the path of a held place, and when it is due; none if no place is held there. Allocates nothing.
     pub fn place(&self, number: u64, place: u8) -> Result<Option<HeldPlace<'_>>, NodeFault>
         ensures place { IfOk result (λ found. MatchOption found
             (waiting_at self.now.records.queue number place ≡ None)
@@ -325,7 +322,7 @@ impl<D: Disk> Node<D> {
     }
 }
 
-/// The refusal of a disk for want of memory.
+/// Returns the refusal of a disk for lack of memory.
 pub(crate) fn out_of_memory<D>(disk: Disks<D>) -> NotOpened<D>
     ensures { (result.cause ≡ Cause.Spool SpoolFault.NoMemory) × (result.disk ≡ disk) }
 {
@@ -336,7 +333,7 @@ pub(crate) fn out_of_memory<D>(disk: Disks<D>) -> NotOpened<D>
 }
 
 impl<D: Reboot> Node<D> {
-    /// Sets the fuse of the disks: so many calls of both pass, and each later one fails. Nothing else changes.
+    /// Sets the fuse of the disks: this many calls of both pass, and each later one fails. Nothing else changes.
     pub fn fuse(&mut self, calls: u64)
         ensures rest { (self.new.config ≡ self.old.config) × (self.new.seats ≡ self.old.seats)
             × (self.new.attempts ≡ self.old.attempts) }

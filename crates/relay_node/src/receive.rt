@@ -15,12 +15,12 @@ use relay_routes::Config;
 use relay_trace::Moment;
 use std::alloc::Global;
 
-/// What a node has done with octets of a client.
+/// The result of a client's octets.
 #[derive(Debug, Drop)]
 pub struct Received {
     /// How many octets of the piece it has used.
     pub used: usize,
-    /// What goes to the client.
+    /// The octets for the client.
     pub out: Vec<u8>,
     /// The number of the change that was made, if one was.
     pub change: Option<u64>,

@@ -24,12 +24,12 @@ use relay_trace::Moment;
 use std::alloc::Global;
 
 impl<D: Disk> Node<D> {
-    /// Uses octets of a client as [`Node::receive`] does, but puts the change of an offer that there is room for
-    /// after those of a row: it is weighed and numbered after them. What comes out may be handed out once
-    /// [`Node::settle`] has taken the row, and not before: until then a stop leaves nothing of the change. The
-    /// first fault in this order is answered: `Stopped`, where the node was; `Unknown`; `NoMemory`; and `Full`,
-    /// where a message came and changes have no numbers any more. These two end the session without an octet,
-    /// and leave the row as it was. No device is called.
+    /// Uses octets of a client as [`Node::receive`] does, but puts the change of an offer that there is room for after
+    /// those of a row: it is judged and numbered after them. What comes out may be handed out once [`Node::settle`] has
+    /// taken the row, and not before: until then a stop leaves nothing of the change. The first fault in this order is
+    /// answered: `Stopped`, where the node was; `Unknown`; `NoMemory`; and `Full`, where a message came and changes
+    /// have no numbers any more. These two end the session without an octet, and leave the row as it was. No device is
+    /// called.
     pub fn receive_into(
         &mut self,
         row: &mut Staged,

@@ -1,4 +1,4 @@
-//! What next hops answer to attempts, and connections that are lost.
+//! Replies of next hops to attempts, and lost connections.
 ghost use Rattle.std.specs.Prelude.{◌≡◌, None, List, length, Err, IfOk};
 ghost use Rattle.relay_report.specs.Report.{reporter_of};
 ghost use Rattle.relay_attempts.specs.Reply.{CutsLoss, CutsReply, EndsBy, HasNoRoomAtEnd, HasNoRoomAtLoss, IsLost};
@@ -16,11 +16,10 @@ use relay_records::NodeFault;
 use relay_trace::Moment;
 
 impl<D: Disk> Node<D> {
-    /// Uses octets that the next hop of an attempt wrote, all of them or up to the attempt's end. At its end
-    /// one outcome is added, of exactly its places, each with its verdict, in one change with the report
-    /// that is due of it: from then on every stop leaves it. `Stopped` is answered first, and then `Unknown`
-    /// where there is no such attempt. At `NoMemory` and `Full` the attempt is gone without another octet,
-    /// and the records are unchanged.
+    /// Uses octets that the next hop of an attempt wrote, all of them or up to the attempt's end. At its end one
+    /// outcome is added, of exactly its places, each with its verdict, in one change with the report that is owed: from
+    /// then on every stop leaves it. `Stopped` is answered first, and then `Unknown` if there is no such attempt. At
+    /// `NoMemory` and `Full` the attempt is gone without another octet, and the records are unchanged.
     pub fn reply(&mut self, attempt: usize, piece: &[u8], now: Moment) -> Result<Replied, NodeFault>
         ensures replies { (changes : List Change) (told : Told)
             → Keeps D.honest D.words self.old.records changes
@@ -55,9 +54,9 @@ impl<D: Disk> Node<D> {
         )
     }
 
-    /// Ends an attempt whose connection is lost: each of its places may be tried again, or has failed where
-    /// it was tried for too long. One outcome says so, in one change with the report that is due of it,
-    /// whose number is the answer. The faults are those of [`Node::reply`], and leave the same.
+    /// Ends an attempt whose connection is lost: each of its places may be tried again, or has failed where it was
+    /// tried for too long. One outcome says so, in one change with the report that is owed, whose number is the answer.
+    /// The faults are those of [`Node::reply`], and leave the same.
     pub fn lost(&mut self, attempt: usize, now: Moment) -> Result<u64, NodeFault>
         ensures lost { (changes : List Change) (told : Told) → Keeps D.honest D.words self.old.records changes
             → Tells self.old.config.host changes self.old.attempts attempt told

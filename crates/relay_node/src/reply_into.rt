@@ -1,4 +1,4 @@
-//! What next hops answer to attempts whose outcomes come into the node's records together.
+//! Replies of next hops to several attempts, whose outcomes are added to the records together.
 ghost use Rattle.std.specs.Prelude.{◌≡◌, ◌++◌, None, List, length, Err, IfOk, OnErr};
 ghost use Rattle.relay_report.specs.Report.{reporter_of};
 ghost use Rattle.relay_attempts.specs.Reply.{Told};

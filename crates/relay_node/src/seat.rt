@@ -15,7 +15,7 @@ pub(crate) struct Seat {
     pub(crate) peer: [u8; 4],
 }
 
-// Written out, so that what drops a seat calls this, and doesn't look into the session.
+// Written out, so that the proof of a caller that drops a seat stops at this function.
 impl Drop for Seat {
     fn drop(self) {
         let Seat {

@@ -11,7 +11,7 @@ use relay_records::NodeFault;
 use relay_server::{Answer, Session};
 use std::alloc::Global;
 
-/// What a client's octets have come to, with the reply to an offer that there is room for.
+/// The result of a client's octets, with the reply to an offer that there is room for.
 #[derive(Drop)]
 pub(crate) struct Spoken {
     /// How many octets of the piece are used.

@@ -23,11 +23,11 @@ use relay_trace::Moment;
 use std::alloc::Global;
 
 impl<D: Disk> Node<D> {
-    /// Takes an offer of a session that stands outside of the node, as [`Node::admit`] does, and puts its change
-    /// after those of a row: it is weighed and numbered after them. The answer `Queued` may be handed out once
-    /// [`Node::settle`] has taken the row, and not before: until then a stop leaves nothing of it. The first fault
-    /// in this order is answered: `Stopped`, where the node was; `NoMemory`; and `Full`, where changes have no
-    /// numbers any more. A fault leaves node and row as they were. No device is called.
+    /// Takes an offer of a session that stands outside of the node, as [`Node::admit`] does, and puts its change after
+    /// those of a row: it is judged and numbered after them. The answer `Queued` may be handed out once
+    /// [`Node::settle`] has taken the row, and not before: until then a stop leaves nothing of it. The first fault in
+    /// this order is answered: `Stopped`, where the node was; `NoMemory`; and `Full`, where changes have no numbers any
+    /// more. A fault leaves node and row as they were. No device is called.
     pub fn stage(
         &mut self,
         row: &mut Staged,
@@ -63,10 +63,10 @@ impl<D: Disk> Node<D> {
         Ok(answer)
     }
 
-    /// Brings the changes of a row into the spool, after one pair of syncs, and answers the note of each: from
-    /// then on every stop leaves them. At `Stopped` the device failed, and a stop leaves none of them or all; or
-    /// the node was stopped before, and that is all that a stopped node answers. At `Full` nothing changes: no row
-    /// that was staged for this node is too large for its spool. It takes no memory.
+    /// Brings the changes of a row into the spool, after one pair of syncs, and returns the note of each: from then on
+    /// every stop leaves them. At `Stopped` the device failed, and a stop leaves none of them or all; or the node was
+    /// stopped before, and that is all that a stopped node answers. At `Full` nothing changes: no row that was staged
+    /// for this node is too large for its spool. Allocates nothing.
     pub fn settle(&mut self, row: Staged) -> Result<Vec<Noted>, Unsettled>
         ensures settles { (changes pending : List Change)
             → Awaits D.honest D.words self.old.records changes pending row
@@ -75,7 +75,7 @@ impl<D: Disk> Node<D> {
             → Awaits D.honest D.words self.old.records changes pending row
             → IfErr result (λ unsettled. unsettled.fault ≡ NodeFault.Stopped
             → CutsAll D.honest D.words self.new.records changes pending unsettled.notes.items) }
-        // A stop at any moment of the call leaves the changes as they were or with all of the row.
+        // A stop at any time of the call leaves the changes as they were or with all of the row.
         ensures stop { (changes pending : List Change)
             → Awaits D.honest D.words self.old.records changes pending row → D.honest
             → AtEachMoment D.words self.old.records.spool.disk self.new.records.spool.disk
@@ -104,7 +104,7 @@ impl<D: Disk> Node<D> {
     }
 }
 
-/// Weighs an offer after the changes of a row, and puts its accept after them where there is room for it.
+/// Judges an offer after the changes of a row, and puts its accept after them if there is room for it.
 fn stage_offer<D: Disk>(
     alloc: Global,
     config: &Config,

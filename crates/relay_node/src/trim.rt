@@ -14,16 +14,16 @@ use relay_records::NodeFault;
 impl<D: Disk> Node<D> {
     /// Makes the disk of the spool that isn't taken shorter, by `most` octets at most, so that the next compaction has
     /// fewer to drop, and returns whether there may be more. One call closes the head of that disk where it is open,
-    /// and each later one cuts it; a spool without a second disk stays as it is. No change is added, and the sessions,
+    /// and each later one cuts it; a spool without a second disk is unchanged. No change is added, and the sessions,
     /// the attempts, the note and the configuration stay, whatever is answered. A stopped node answers `Stopped`, and
     /// nothing changes; otherwise it is the answer where the device failed, and a stop leaves the changes as they were.
-    /// It takes no memory.
+    /// Allocates nothing.
     pub fn trim(&mut self, most: usize) -> Result<bool, NodeFault>
         ensures kept { (changes : List Change) → Keeps D.honest D.words self.old.records changes
             → OnOk result (Keeps D.honest D.words self.new.records changes) }
         ensures cut { (changes : List Change) → Keeps D.honest D.words self.old.records changes
             → result ≡ Err NodeFault.Stopped → Halted D.honest D.words self.new.records changes None }
-        // A stop at any moment of the call leaves the changes as they were.
+        // A stop at any time of the call leaves the changes as they were.
         ensures stop { (changes : List Change) → Keeps D.honest D.words self.old.records changes → D.honest
             → AtEachMoment D.words self.old.records.spool.disk self.new.records.spool.disk
             (HasBodies (λ bodies. StandsFor bodies changes)) }

@@ -9,7 +9,7 @@ use relay_node::{Connected, Noted, Started, Work};
 use relay_routes::HostName;
 
 impl Scene {
-    /// Opens so many sessions, and tells the number of each, and what the last client is greeted with.
+    /// Opens this many sessions, and tells the number of each, and what the last client is greeted with.
     pub fn connect(&mut self, node: &mut MemoryNode, count: u64) {
         self.empty(node);
         for number in 0..count {
@@ -53,7 +53,7 @@ impl Scene {
         }
     }
 
-    /// Writes the spool anew, and tells its sizes before and after that.
+    /// Compacts the spool, and tells its sizes before and after that.
     pub fn compact(&mut self, node: &mut MemoryNode) {
         match compact(node) {
             Ok((before, behind)) => self.tell_numbers(before as u64, behind as u64),
@@ -121,7 +121,7 @@ impl Scene {
         }
     }
 
-    /// Tells the path of a place, and when it is due, where it is held.
+    /// Tells the path of a place, and when it is due, if it is held.
     pub fn tell_place(&mut self, node: &MemoryNode, message: u64, number: u64) {
         match place(node, message, u8::try_from(number).unwrap_or(u8::MAX)) {
             Ok(Some(held)) => {
@@ -170,7 +170,7 @@ impl Scene {
         self.tell_number("octets", length);
     }
 
-    /// Tells whether the record that was noted last has this text.
+    /// Returns whether the record that was noted last has this text.
     pub fn tell_has(&mut self, text: &[u8]) {
         let mut windows = self.record.as_slice().windows(text.len().max(1));
         let has_text = windows.any(|octets| octets == text);
@@ -178,7 +178,7 @@ impl Scene {
     }
 }
 
-/// What became of a place: the next hop has it, it failed, or it is late.
+/// Returns what became of a place: the next hop has it, it failed, or it is late.
 fn word_of(step: &PlaceStep) -> &'static str {
     match step {
         PlaceStep::Left(Way::ByTransfer) => "there",

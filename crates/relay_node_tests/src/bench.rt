@@ -1,4 +1,4 @@
-//! One measurement a run: a library call so many times, and a line of what it counted. The time is the driver's to
+//! One measurement a run: a library call this many times, and a line of what it counted. The time is the driver's to
 //! take (bench/).
 //!
 //!     relay_node_tests bench NAME TIMES [FILE] < TEXT
@@ -78,7 +78,7 @@ fn forget_each(rt: &HostRuntime) -> Result<(), Fail> {
     forget(rt, "bench_queue")
 }
 
-/// Runs the measurement of this name so many times, and tells what it counted.
+/// Runs the measurement of this name this many times, and tells what it counted.
 fn measure(
     rt: &HostRuntime,
     told: &mut Told,
@@ -99,7 +99,7 @@ fn measure(
     }
 }
 
-/// The same of those of a spool.
+/// Returns the same of those of a spool.
 fn measure_files(
     rt: &HostRuntime,
     told: &mut Told,

@@ -1,5 +1,5 @@
 //! Each call of a node once, in a function without clauses: what calls these sees none of a node's contracts. And the
-//! usual node over memory, at the first moment.
+//! usual node over memory, at the first second.
 use relay_disk::{Disks, MemoryDisk};
 use relay_node::{
     Connected, HeldPlace, Node, NodeFault, NotOpened, Noted, Received, Replied, Started, Work,
@@ -43,8 +43,8 @@ pub struct Handed {
     pub is_closed: bool,
 }
 
-/// A configuration with this line of further keys, and a route for each two words: a domain, and the name of
-/// its hop. There is none where they are no configuration.
+/// Returns a configuration with this line of further keys, and a route for each two words: a domain, and the name of
+/// its hop. There is none if they are no configuration.
 pub fn configuration(alloc: Global, keys: &str, table: &str) -> Result<Option<Config>, AllocError> {
     let mut text = format!(in alloc;
         "host = \"relay.example\"
@@ -65,7 +65,7 @@ spool = \"relay.spool\"
     Ok(Config::read(alloc, text.as_str()).ok())
 }
 
-/// The first moment.
+/// Returns the first second.
 pub fn first_moment() -> Moment {
     match Moment::new(0) {
         Ok(moment) => moment,
@@ -73,7 +73,7 @@ pub fn first_moment() -> Moment {
     }
 }
 
-/// The configuration with this line of further keys, and these routes.
+/// Returns the configuration with this line of further keys, and these routes.
 pub fn config_of(alloc: Global, keys: &str, table: &str) -> Result<Config, Fail> {
     match configuration(alloc, keys, table)? {
         Some(config) => Ok(config),
@@ -81,18 +81,19 @@ pub fn config_of(alloc: Global, keys: &str, table: &str) -> Result<Config, Fail>
     }
 }
 
-/// The configuration with this limit of the spool, and a route for one domain.
+/// Returns the configuration with this limit of the spool, and a route for one domain.
 pub fn config_with(alloc: Global, limit: u64) -> Result<Config, Fail> {
     let limit = format!(in alloc; "spool_limit = {limit}")?;
     config_of(alloc, limit.as_str(), TABLE)
 }
 
-/// A node without changes, of the usual configuration.
+/// Returns a node without changes, of the usual configuration.
 pub fn empty_node(alloc: Global) -> Result<MemoryNode, Fail> {
     empty_node_with(alloc, SPOOL_LIMIT, None)
 }
 
-/// A node without changes, with this limit of its spool, whose device takes so many calls and no more, if that is said.
+/// Returns a node without changes, with this limit of its spool, whose device takes this many calls and no more, if
+/// that is said.
 pub fn empty_node_with(alloc: Global, limit: u64, calls: Option<u64>) -> Result<MemoryNode, Fail> {
     let Ok(mut node) = create(alloc, config_with(alloc, limit)?) else {
         return Err(Fail::new("not created"));
@@ -103,7 +104,7 @@ pub fn empty_node_with(alloc: Global, limit: u64, calls: Option<u64>) -> Result<
     Ok(node)
 }
 
-/// A node without changes, on empty disks.
+/// Returns a node without changes, on empty disks.
 pub fn create(alloc: Global, config: Config) -> Result<MemoryNode, Refused> {
     let disks = Disks {
         first: MemoryDisk::new(alloc),
@@ -112,13 +113,13 @@ pub fn create(alloc: Global, config: Config) -> Result<MemoryNode, Refused> {
     Node::create(alloc, config, disks)
 }
 
-/// A node of what disks hold.
+/// Returns a node of what disks hold.
 pub fn open(alloc: Global, config: Config, disks: MemoryDisks) -> Result<MemoryNode, Refused> {
     Node::open(alloc, config, disks)
 }
 
-/// A node that is opened again by its own configuration, after a stop at which nothing stays that wasn't synced. What
-/// is refused for want of memory is done once more. There is none where it can't be opened.
+/// Returns a node that is opened again by its own configuration, after a stop at which nothing stays that wasn't
+/// synced. What is refused for lack of memory is done once more. There is none if it can't be opened.
 pub fn stop_and_open(alloc: Global, node: MemoryNode) -> Option<MemoryNode> {
     let (config, disks) = node.into_parts();
     match Node::open_again(alloc, config, stop(disks)) {
@@ -127,7 +128,7 @@ pub fn stop_and_open(alloc: Global, node: MemoryNode) -> Option<MemoryNode> {
     }
 }
 
-/// What a stop leaves of disks at which nothing stays that wasn't synced.
+/// Returns what a stop leaves of disks at which nothing stays that wasn't synced.
 fn stop(disks: MemoryDisks) -> MemoryDisks {
     match disks.after_stop(0) {
         Ok(disks) => disks,
@@ -138,22 +139,22 @@ fn stop(disks: MemoryDisks) -> MemoryDisks {
     }
 }
 
-/// The disks of a node.
+/// Returns the disks of a node.
 pub fn into_disk(node: MemoryNode) -> MemoryDisks {
     node.into_disk()
 }
 
-/// What a stop by this pick leaves of disks.
+/// Returns what a stop by this pick leaves of disks.
 pub fn after_stop(disks: MemoryDisks, pick: u64) -> Option<MemoryDisks> {
     disks.after_stop(pick).ok()
 }
 
-/// Lets so many calls of the disks pass, and each later one fail.
+/// Lets this many calls of the disks pass, and each later one fail.
 pub fn fuse(node: &mut MemoryNode, calls: u64) {
     node.fuse(calls);
 }
 
-/// Writes the spool anew, and gives its sizes before and after that.
+/// Compacts the spool, and gives its sizes before and after that.
 pub fn compact(node: &mut MemoryNode) -> Result<(usize, usize), NodeFault> {
     node.compact()
 }
@@ -189,7 +190,7 @@ pub fn end(node: &mut MemoryNode, session: usize) -> Result<(), NodeFault> {
     node.ended(session)
 }
 
-/// What there is to do.
+/// Returns what there is to do.
 pub fn due(alloc: Global, node: &MemoryNode, now: Moment) -> Result<Vec<Work>, NodeFault> {
     node.due(alloc, now)
 }
@@ -230,12 +231,12 @@ pub fn give_up(node: &mut MemoryNode, message: u64, now: Moment) -> Result<u64, 
     node.give_up_unroutable(message, now)
 }
 
-/// All held places.
+/// Returns all held places.
 pub fn marks(alloc: Global, node: &MemoryNode) -> Result<Vec<(u64, u8)>, NodeFault> {
     node.marks(alloc)
 }
 
-/// A held place.
+/// Returns a held place.
 pub fn place(
     node: &MemoryNode,
     message: u64,
@@ -244,22 +245,22 @@ pub fn place(
     node.place(message, place)
 }
 
-/// The last change whose append was begun.
+/// Returns the last change whose append was begun.
 pub fn take_noted(node: &mut MemoryNode) -> Option<Noted> {
     node.take_noted()
 }
 
-/// The number of the next change.
+/// Returns the number of the next change.
 pub fn next_number(node: &MemoryNode) -> u64 {
     node.next_number()
 }
 
-/// How many changes there are.
+/// Returns how many changes there are.
 pub fn count_changes(node: &MemoryNode) -> u64 {
     next_number(node).saturating_sub(1)
 }
 
-/// How many places a node holds.
+/// Returns how many places a node holds.
 pub fn count_held(alloc: Global, node: &MemoryNode) -> Result<usize, NodeFault> {
     Ok(marks(alloc, node)?.len())
 }

@@ -1,4 +1,4 @@
-/// How what other sides say comes: in a piece of so many octets, and then in pieces of so many.
+/// How what other sides say comes: in a piece of this many octets, and then in pieces of this many.
 #[derive(Clone, Copy)]
 pub struct Cutting {
     pub first: usize,
@@ -24,7 +24,7 @@ impl Cutting {
         rest: usize::MAX,
     };
 
-    /// The cutting of this number of so many octets: by 0 all at once, then in two after each octet but the
+    /// Returns the cutting of this number of this many octets: by 0 all at once, then in two after each octet but the
     /// last, and then octet by octet.
     pub fn of_number(number: usize, length: usize) -> Self {
         if number < length {
@@ -37,7 +37,7 @@ impl Cutting {
         }
     }
 
-    /// Where the piece ends that begins here, of so many octets.
+    /// Returns where the piece ends that begins here, of this many octets.
     pub fn end_of_piece(self, start: usize, length: usize) -> usize {
         if start < self.first {
             self.first.min(length)

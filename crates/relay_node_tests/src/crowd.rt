@@ -1,4 +1,4 @@
-//! Other clients, which are there beside those of a scenario and change nothing of what comes of it.
+//! Other clients, which are there beside those of a scenario and change nothing of its outcome.
 use crate::calls::{MemoryNode, connect, end, receive};
 use crate::scene::Scene;
 use relay_node::NodeFault;
@@ -17,7 +17,7 @@ impl Scene {
             let Some(session) = self.crowd.pop() else {
                 return;
             };
-            // One whose node was opened anew since is gone already.
+            // One whose node was opened again since is gone already.
             let _ = end(node, session);
         }
     }

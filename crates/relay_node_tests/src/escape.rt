@@ -12,7 +12,7 @@ enum Place {
     Digit(u8),
 }
 
-/// Puts the octets that this text stands for after what stands in `out`.
+/// Puts the octets that this text stands for after what is in `out`.
 pub fn push_unescaped(out: &mut Vec<u8>, text: &[u8]) -> Result<(), AllocError> {
     let mut place = Place::Plain;
     for octet in text {
@@ -40,7 +40,7 @@ fn read_octet(place: Place, octet: u8) -> (Place, Option<u8>) {
     }
 }
 
-/// The octet that a letter after a backslash stands for.
+/// Returns the octet that a letter after a backslash stands for.
 fn octet_of(letter: u8) -> u8 {
     match letter {
         b'r' => b'\r',
@@ -50,7 +50,7 @@ fn octet_of(letter: u8) -> u8 {
     }
 }
 
-/// The value of a hexadecimal digit in lower case.
+/// Returns the value of a hexadecimal digit in lower case.
 fn value_of(digit: u8) -> u8 {
     if digit >= b'a' {
         (digit - b'a').wrapping_add(10)
@@ -72,7 +72,7 @@ pub fn push_escaped(text: &mut String, octets: &[u8]) -> Result<(), AllocError> 
     Ok(())
 }
 
-/// Whether an octet stands for itself.
+/// Returns whether an octet stands for itself.
 fn is_plain(octet: u8) -> bool {
     matches!(octet, 32..=126) && octet != b'\\'
 }

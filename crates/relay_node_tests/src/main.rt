@@ -1,8 +1,8 @@
-//! Plays each scenario of data/ on a node over memory: in one piece, with what the other sides say cut in
-//! two at each octet, octet by octet, and in one piece among so many other clients that 64 are there; or, where
-//! a device fails, for each call and each stop. What comes of each event is compared with what is written down. Then
-//! it shows the scenes of a relay without a socket, links over the node, and calls of nodes of which one call of the
-//! disks fails, and runs each measurement of bench/ on a few octets.
+//! Plays each scenario of data/ on a node over memory: in one piece, with what the other sides say cut in two at each
+//! octet, octet by octet, and in one piece among this many other clients that 64 are there; or, where a device fails,
+//! for each call and each stop. The outcome of each event is compared with what is written down. Then it shows the
+//! scenes of a relay without a socket, links over the node, and calls of nodes of which one call of the disks fails,
+//! and runs each measurement of bench/ on a few octets.
 //!
 //! By the word `sessions`, `chunks`, `report` or `compactions` it plays what tests/without_memory.py refuses each
 //! allocation of in turn, by `scenes` and a path the steps of that file, as tests/groups_without_memory.py does, by
@@ -80,7 +80,7 @@ fn show_rest(rt: &HostRuntime) -> Result<(), Fail> {
     measure_each(rt)
 }
 
-/// The word at this place; an empty one where there is none.
+/// Returns the word at this place; an empty one if there is none.
 fn word_of(words: &[String], place: usize) -> &str {
     match words.get(place) {
         Some(word) => word.as_str(),

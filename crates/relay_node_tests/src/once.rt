@@ -45,7 +45,7 @@ fn show_row(rt: &HostRuntime, row: &str) -> Result<(), Fail> {
     print_told(rt, row, ": ", &told)
 }
 
-/// The first number of calls of a row for which something else comes.
+/// Returns the first number of calls of a row for which something else comes.
 fn difference_of(alloc: Global, row: &str) -> Result<Option<u64>, Fail> {
     let mut words = Words { rest: row };
     let first = words.number();
@@ -61,7 +61,7 @@ fn difference_of(alloc: Global, row: &str) -> Result<Option<u64>, Fail> {
     Ok(None)
 }
 
-/// Tells what a call answers that has so many calls before the one that fails, and what its disks are opened to then.
+/// Tells what a call answers that has this many calls before the one that fails, and what its disks are opened to then.
 fn tell_call(told: &mut Told, call: &str, calls: u64) -> Result<(), Fail> {
     let config = config_with(told.alloc, SPOOL_LIMIT)?;
     let disks = failing(disks_for(told.alloc, call)?, calls);

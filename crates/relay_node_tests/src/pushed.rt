@@ -11,8 +11,8 @@ use relay_trace::Moment;
 const SAID: &[u8] =
     b"220 n\r\n250-n\r\n250 DSN\r\n250 ok\r\n250 ok\r\n550 no\r\n552 full\r\n354 go\r\n250 ok\r\n";
 
-/// Tries the one message of a node until that has led to a change, twice at most. It tells what came of
-/// each call, and in the end the places that are held and the record of the change.
+/// Tries the one message of a node until that has led to a change, twice at most. It tells the outcome of each call,
+/// and in the end the places that are held and the record of the change.
 pub fn push(node: &mut MemoryNode, told: &mut Told, now: Moment) {
     for _ in 0..2 {
         if next_number(node) == 2 {

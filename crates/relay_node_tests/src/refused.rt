@@ -1,6 +1,5 @@
-//! What tests/without_memory.py refuses each allocation of in turn. From the first line that is told on, nothing
-//! here takes memory but the node: the lines have room from the start. They are printed in the end, and where it gives
-//! up.
+//! What tests/without_memory.py refuses each allocation of in turn. From the first line that is told on, nothing here
+//! takes memory but the node: the lines have room from the start. They are printed at last, and where it gives up.
 use crate::calls::{
     Handed, MemoryNode, compact, connect, empty_node, first_moment, marks, next_number, receive,
     stop_and_open,
@@ -37,13 +36,13 @@ pub fn sessions(rt: &HostRuntime) -> Result<(), Fail> {
     two_sessions(rt, MAIL)
 }
 
-/// The same, with a content in chunks.
+/// Returns the same, with a content in chunks.
 pub fn chunks(rt: &HostRuntime) -> Result<(), Fail> {
     two_sessions(rt, MAIL_IN_CHUNKS)
 }
 
 /// Two sessions on one node: each gives this mail, and then quits; then the node stops, and is opened again. It prints
-/// what came of each piece, and what is held in the end.
+/// the outcome of each piece, and what is held at last.
 fn two_sessions(rt: &HostRuntime, mail: &[u8]) -> Result<(), Fail> {
     let mut told = lines(rt)?;
     let mut node = empty_node(rt.alloc())?;
@@ -70,9 +69,9 @@ fn give_in_turn(node: &mut MemoryNode, told: &mut Told, mail: &[u8]) -> Result<(
     Ok(())
 }
 
-/// One message whose three places go three ways at one attempt, with a report of one of them; then the node stops, and
-/// is opened again. What was refused for want of memory is tried once more. It prints what came of each call, and what
-/// is held in the end.
+/// Returns one message whose three places go three ways at one attempt, with a report of one of them; then the node
+/// stops, and is opened again. What was refused for lack of memory is tried once more. It prints the outcome of each
+/// call, and what is held at last.
 pub fn report(rt: &HostRuntime) -> Result<(), Fail> {
     let mut told = lines(rt)?;
     let mut node = empty_node(rt.alloc())?;
@@ -81,8 +80,8 @@ pub fn report(rt: &HostRuntime) -> Result<(), Fail> {
     open_again(rt, node, &mut told)
 }
 
-/// A spool that is written anew twice after a message, and a session that gives another after that; then the node
-/// stops, and is opened again. It prints what came of each call but the first message's, and what is held in the end.
+/// Returns a spool that is compacted twice after a message, and a session that gives another after that; then the node
+/// stops, and is opened again. It prints the outcome of each call but the first message's, and what is held at last.
 pub fn compactions(rt: &HostRuntime) -> Result<(), Fail> {
     let mut told = lines(rt)?;
     let mut node = empty_node(rt.alloc())?;
@@ -100,7 +99,7 @@ fn compact_twice(node: &mut MemoryNode, told: &mut Told, session: usize) {
     tell_next(told, node);
 }
 
-/// The number of a session that has given this mail.
+/// Returns the number of a session that has given this mail.
 pub fn take_mail(node: &mut MemoryNode, mail: &[u8]) -> Result<usize, NodeFault> {
     let session = connect(node)?.session;
     receive(node, session, mail, first_moment())?;
@@ -122,8 +121,8 @@ fn open_again(rt: &HostRuntime, node: MemoryNode, told: &mut Told) -> Result<(),
     }
 }
 
-/// Tells the number of the next change and the places that are held. Where memory runs out for these, they are asked
-/// for once more.
+/// Tells the number of the next change and the places that are held. If memory runs out for these, they are asked for
+/// once more.
 fn tell_opened(told: &mut Told, node: &MemoryNode) {
     told.count("opened again: the next change is ", next_number(node));
     let held = match marks(told.alloc, node) {
@@ -136,7 +135,7 @@ fn tell_opened(told: &mut Told, node: &MemoryNode) {
     }
 }
 
-/// Writes the spool anew, and tells its sizes before and after that.
+/// Compacts the spool, and tells its sizes before and after that.
 fn write_anew(node: &mut MemoryNode, told: &mut Told) {
     match compact(node) {
         Ok((before, after)) => {
@@ -148,7 +147,7 @@ fn write_anew(node: &mut MemoryNode, told: &mut Told) {
     told.say("\n");
 }
 
-/// Gives a session a piece, and tells what came of it.
+/// Gives a session a piece, and tells its outcome.
 fn give(node: &mut MemoryNode, told: &mut Told, session: usize, piece: &[u8]) {
     let handed = receive(node, session, piece, first_moment());
     tell_handed(told, "session ", session, handed);
@@ -166,7 +165,7 @@ pub fn tell_fault(told: &mut Told, words: &str, fault: NodeFault) {
     told.show(&fault);
 }
 
-/// Tells the line of what came of a piece.
+/// Tells the line of the outcome of a piece.
 pub fn tell_handed(told: &mut Told, words: &str, number: usize, handed: Result<Handed, NodeFault>) {
     told.count(words, number as u64);
     match handed {

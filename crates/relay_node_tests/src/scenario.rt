@@ -1,18 +1,17 @@
 use crate::step::Step;
 use std::alloc::{AllocError, Global};
 
-/// What happens to a node, one event after another, and what is to come of each.
+/// What happens to a node, one event after another, and the outcome of each.
 ///
-/// After `name ` stands its name, after `calls ` how many calls of the device pass before one fails, and
-/// after `picks ` what a stop leaves, each from the first number to the last: then it is played for each of
-/// them, and else for each cutting of what the other sides say. `differs` says that something else comes
-/// than what stands there.
+/// After `name ` stands its name, after `calls ` how many calls of the device pass before one fails, and after `picks `
+/// what a stop leaves, each from the first number to the last: then it is played for each of them, and else for each
+/// cutting of what the other sides say. `differs` says that something else comes than what is there.
 pub struct Scenario<'a> {
     pub name: &'a str,
     /// It is played for each of these.
     pub calls: Option<Numbers>,
     pub picks: Numbers,
-    /// Something else comes of it than what stands there.
+    /// Something else comes of it than what is there.
     pub differs: bool,
     pub steps: Vec<Step<'a>>,
 }
@@ -37,7 +36,7 @@ impl Drop for Scenario<'_> {
 }
 
 impl<'a> Scenario<'a> {
-    /// A scenario of which no line is read.
+    /// Makes a scenario of which no line is read.
     pub fn new(alloc: Global) -> Self {
         Scenario {
             name: "",
@@ -79,7 +78,7 @@ impl<'a> Scenario<'a> {
         Ok(())
     }
 
-    /// How many octets the longest of what other sides say has.
+    /// Returns how many octets the longest of what other sides say has.
     pub fn longest(&self) -> usize {
         let mut longest = 0;
         for step in self.steps.as_slice() {
@@ -89,7 +88,7 @@ impl<'a> Scenario<'a> {
     }
 }
 
-/// The numbers from the first word to the second.
+/// Returns the numbers from the first word to the second.
 fn numbers_of(text: &str) -> Numbers {
     let (first, last) = text.split_once(' ').unwrap_or((text, text));
     Numbers {

@@ -6,7 +6,7 @@ use relay_node::NodeFault;
 use relay_trace::Moment;
 use std::alloc::Global;
 
-/// What happens around a node, and what has come of the last event.
+/// What happens around a node, and the outcome of the last event.
 pub struct Scene {
     pub alloc: Global,
     pub course: Course,
@@ -19,7 +19,7 @@ pub struct Scene {
     pub came: Vec<u8>,
     /// The sessions of other clients.
     pub crowd: Vec<usize>,
-    /// Something didn't come, for want of memory.
+    /// Something didn't come, for lack of memory.
     pub is_short: bool,
 }
 
@@ -42,12 +42,12 @@ impl Drop for Scene {
 impl Scene {
     /// Performs an event of a node.
     ///
-    /// `at 1000` sets the clock, `fuse` the disks' fuse as the course of the scenario says, `fuse 5` to five
-    /// calls, `compact` writes the spool anew, and `connect 2` opens two sessions. `give client 0`
-    /// gives a session what `>` lines say, in pieces, and `give hop 0` an attempt; `once client 0` does it
-    /// in one call, `hold client 0` in as many as that takes, and `turns hop 0 hop 1` gives two peers each
-    /// octet. Further events are `end 0` of a session, `start 1 next.example` and `lose 0` of an attempt,
-    /// `give_up 1` of a message, and `crowd`, by which other clients take all places that are left.
+    /// `at 1000` sets the clock, `fuse` the disks' fuse as the course of the scenario says, `fuse 5` to five calls,
+    /// `compact` compacts the spool, and `connect 2` opens two sessions. `give client 0` gives a session what `>` lines
+    /// say, in pieces, and `give hop 0` an attempt; `once client 0` does it in one call, `hold client 0` in as many as
+    /// that takes, and `turns hop 0 hop 1` gives two peers each octet. Further events are `end 0` of a session, `start
+    /// 1 next.example` and `lose 0` of an attempt, `give_up 1` of a message, and `crowd`, by which other clients take
+    /// all places that are left.
     pub fn perform(&mut self, node: &mut MemoryNode, step: &Step<'_>, word: &str, rest: Words<'_>) {
         let mut words = rest;
         match word {
@@ -87,13 +87,13 @@ impl Scene {
         }
     }
 
-    /// Sets the fuse of the disks to so many calls, or as the course says.
+    /// Sets the fuse of the disks to this many calls, or as the course says.
     fn fuse(&mut self, node: &mut MemoryNode, rest: Words<'_>) {
         let mut words = rest;
         fuse(node, words.number_or(self.course.calls));
     }
 
-    /// Sets the clock, where there is such a moment.
+    /// Sets the clock, if there is such a time.
     fn set_moment(&mut self, seconds: u64) {
         if let Ok(now) = Moment::new(seconds) {
             self.now = now;

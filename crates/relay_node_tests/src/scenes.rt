@@ -1,6 +1,6 @@
 //! A relay over memory, without a socket. By the steps of data/scenes.in clients stand side by side, read nothing, say
 //! their octets one by one or end, several are heard at once, next hops take the mail or are lost, and a device fails.
-//! Each step has a line, which says what came of it.
+//! Each step has a line, which says its outcome.
 
 mod setup;
 mod step;
@@ -24,8 +24,8 @@ pub fn show_scenes(rt: &HostRuntime, path: &str) -> Result<(), Fail> {
 }
 
 /// Takes a step. A line that begins with `#` says what the next ones show, and stands as it is; `relay LIMIT`, and
-/// `relay LIMIT CALLS`, begin with a relay without mail, of a spool of so many octets, on a device that takes so many
-/// calls and no more. `\r\n` stands for CR LF in a step and in its answer.
+/// `relay LIMIT CALLS`, begin with a relay without mail, of a spool of this many octets, on a device that takes this
+/// many calls and no more. `\r\n` stands for CR LF in a step and in its answer.
 fn play_line(rt: &HostRuntime, relay: &mut MemoryRelay, line: &str) -> Result<(), Fail> {
     let mut told = Told::new(rt.alloc());
     if line.starts_with('#') {

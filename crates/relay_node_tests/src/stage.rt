@@ -36,7 +36,7 @@ impl Drop for Stage<'_> {
 }
 
 impl<'a> Stage<'a> {
-    /// A stage with nothing on it, at this moment.
+    /// Makes a stage with nothing on it, at this time.
     pub fn new(alloc: Global, course: Course, now: Moment) -> Self {
         Stage {
             node: None,
@@ -56,7 +56,7 @@ impl<'a> Stage<'a> {
         }
     }
 
-    /// Performs an event. What comes of it stands in the scene.
+    /// Performs an event. The outcome of it is in the scene.
     ///
     /// `table example.org next.example` and `keys spool_limit = 178` say what a node is made with from then on, `disk`
     /// puts a disk there of which `>` lines are the image, and an empty one after it, `disk second` puts one
@@ -104,7 +104,7 @@ impl<'a> Stage<'a> {
         }
     }
 
-    /// Puts a second disk after the first, where there is one.
+    /// Puts a second disk after the first, if there is one.
     fn put_behind(&mut self, disk: MemoryDisk) {
         if let Some(disks) = &mut self.disks {
             disks.second = disk;
@@ -118,7 +118,7 @@ impl<'a> Stage<'a> {
         self.start(disks);
     }
 
-    /// Starts a node on these disks, and on empty ones where there are none.
+    /// Starts a node on these disks, and on empty ones if there are none.
     fn start(&mut self, disks: Option<MemoryDisks>) {
         match configuration(self.scene.alloc, self.keys, self.table) {
             Ok(Some(config)) => self.start_with(config, disks),
@@ -127,8 +127,7 @@ impl<'a> Stage<'a> {
         }
     }
 
-    /// Starts a node with this configuration. Where its disks are refused, they come back, and the reason is
-    /// told.
+    /// Starts a node with this configuration. If its disks are refused, they come back, and the reason is told.
     fn start_with(&mut self, config: Config, disks: Option<MemoryDisks>) {
         match made(self.scene.alloc, config, disks) {
             Ok(node) => self.node = Some(node),
@@ -171,7 +170,7 @@ impl<'a> Stage<'a> {
     }
 }
 
-/// A node on these disks, or on empty ones.
+/// Returns a node on these disks, or on empty ones.
 fn made(alloc: Global, config: Config, disks: Option<MemoryDisks>) -> Result<MemoryNode, Refused> {
     match disks {
         Some(disks) => open(alloc, config, disks),

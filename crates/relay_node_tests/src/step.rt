@@ -2,15 +2,14 @@ use crate::escape::push_unescaped;
 use std::alloc::{AllocError, Global};
 use std::mem;
 
-/// When something is to be written: after so many octets of the other side, so many octets are written in
-/// all.
+/// When something is to be written: after this many octets of the other side, this many octets are written in all.
 #[derive(Clone, Copy)]
 pub struct Mark {
     pub said: usize,
     pub written: usize,
 }
 
-/// An event of a scenario, and what is to come of it.
+/// An event of a scenario, and its outcome.
 pub struct Step<'a> {
     alloc: Global,
     /// The line that names it.
@@ -42,7 +41,7 @@ impl Drop for Step<'_> {
 }
 
 impl<'a> Step<'a> {
-    /// The event that this line names, of which nothing is to come.
+    /// Returns the event that this line names, of which nothing is to come.
     pub fn new(alloc: Global, line: &'a str) -> Self {
         Step {
             alloc,
@@ -55,10 +54,9 @@ impl<'a> Step<'a> {
         }
     }
 
-    /// Takes a line that stands after the event's, and says whether it is one: after `> ` stands a line of
-    /// the other side, after `< ` one that is written to it, after `= ` a line of what else comes, each of
-    /// the three with a period before the space where no CR LF ends it. After `or` stands what may come in
-    /// place of what stands before it.
+    /// Takes a line that is after the event's, and says whether it is one: after `> ` stands a line of the other side,
+    /// after `< ` one that is written to it, after `= ` a line of what else comes, each of the three with a period
+    /// before the space where no CR LF ends it. After `or` stands what may come in place of what is before it.
     pub fn take(&mut self, word: &str, text: &[u8]) -> Result<bool, AllocError> {
         let end = if word.len() == 1 { "\r\n" } else { "" };
         match word {
@@ -81,7 +79,7 @@ impl<'a> Step<'a> {
         Ok(())
     }
 
-    /// Whether this may come of the event.
+    /// Returns whether this may come of the event.
     pub fn allows(&self, came: &[u8]) -> bool {
         if came == self.wanted.as_slice() {
             return true;
@@ -92,7 +90,7 @@ impl<'a> Step<'a> {
         }
     }
 
-    /// Whether this is what is to be written after so many octets of the other side.
+    /// Returns whether this is what is to be written after this many octets of the other side.
     pub fn has_written(&self, said: usize, written: &[u8]) -> bool {
         let mut length = 0;
         for mark in self.marks.as_slice() {
@@ -104,7 +102,7 @@ impl<'a> Step<'a> {
     }
 }
 
-/// Puts what a text stands for, and this end, after what stands in `out`.
+/// Puts what a text stands for, and this end, after what is in `out`.
 fn push_text(out: &mut Vec<u8>, text: &[u8], end: &str) -> Result<(), AllocError> {
     push_unescaped(out, text)?;
     out.extend_from_slice(end.as_bytes())

@@ -61,7 +61,7 @@ impl Scene {
         }
     }
 
-    /// Takes what a node has done with a piece of so many octets.
+    /// Takes what a node has done with a piece of this many octets.
     fn take(&mut self, talk: &mut Talk<'_>, handed: &Handed, length: usize) {
         if talk
             .written

@@ -5,7 +5,7 @@ use std::fmt::Display;
 use std::io::Print;
 use std::test::Fail;
 
-/// A line, and whether something of it is missing for want of memory.
+/// A line, and whether something of it is missing for lack of memory.
 pub struct Told {
     pub alloc: Global,
     pub text: String,
@@ -24,7 +24,7 @@ impl Drop for Told {
 }
 
 impl Told {
-    /// A line of which nothing is told.
+    /// Makes a line of which nothing is told.
     pub fn new(alloc: Global) -> Self {
         Told {
             alloc,

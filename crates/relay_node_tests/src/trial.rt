@@ -66,8 +66,8 @@ fn difference_by_cutting(
     play(alloc, scenario, course, &mut images)
 }
 
-/// Plays a scenario in one course, and says what came first that isn't written down, or that the disks hold
-/// other images than these in the end. In the place of no images it leaves those of the disks.
+/// Plays a scenario in one course, and says what came first that isn't written down, or that the disks hold other
+/// images than these at last. In the place of no images it leaves those of the disks.
 fn play(
     alloc: Global,
     scenario: &Scenario<'_>,
@@ -85,7 +85,7 @@ fn play(
     Ok(difference)
 }
 
-/// The same on a stage on which nothing has happened.
+/// Returns the same on a stage on which nothing has happened.
 fn play_on<'a>(
     stage: &mut Stage<'a>,
     scenario: &Scenario<'a>,
@@ -107,7 +107,7 @@ fn play_on<'a>(
     Ok(None)
 }
 
-/// Tells what came of an event.
+/// Tells the outcome of an event.
 fn told(scene: &Scene, event: &str) -> Result<String, AllocError> {
     let Course {
         cutting,

@@ -1,4 +1,4 @@
-/// What stands after the word of an event, and isn't read yet.
+/// What is after the word of an event, and isn't read yet.
 #[derive(Clone, Copy)]
 pub struct Words<'a> {
     pub rest: &'a str,
@@ -14,24 +14,24 @@ pub enum Peer {
 }
 
 impl<'a> Words<'a> {
-    /// The next word.
+    /// Returns the next word.
     pub fn word(&mut self) -> &'a str {
         let (word, rest) = self.rest.split_once(' ').unwrap_or((self.rest, ""));
         self.rest = rest;
         word
     }
 
-    /// The next word as a number, the greatest where it is none.
+    /// Returns the next word as a number, the greatest where it is none.
     pub fn number(&mut self) -> u64 {
         self.number_or(u64::MAX)
     }
 
-    /// The next word as a number, and this one where it is none.
+    /// Returns the next word as a number, and this one where it is none.
     pub fn number_or(&mut self, other: u64) -> u64 {
         self.word().parse::<u64>().unwrap_or(other)
     }
 
-    /// The peer that the next two words name: `client 0`, `hop 0`.
+    /// Returns the peer that the next two words name: `client 0`, `hop 0`.
     pub fn peer(&mut self) -> Peer {
         let is_client = self.word() == "client";
         let number = self.number() as usize;

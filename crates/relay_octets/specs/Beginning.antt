@@ -1,6 +1,6 @@
--- What a list begins with: octets, or whatever comes one after another.
+-- Prefixes of lists.
 use Rattle.std.specs.Prelude.{◌≡◌, List, ◌++◌}
 
--- the whole begins with this front, and some may have come after it
+-- the front is a prefix of the whole
 abbrev pub Begins : {A : Type 0} → List A → List A → Type 0
 Begins {A = A} front whole = (rest : List A) × (whole ≡ front ++ rest)

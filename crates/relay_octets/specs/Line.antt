@@ -22,7 +22,7 @@ line_text line = line ++ crlf
 abbrev pub lines_text : List (List ℕ) → List ℕ
 lines_text lines = flat_map line_text lines
 
--- each of them is a line: no CR LF stands in it
+-- each of them is a line: no CR LF is in it
 abbrev pub AreLines : List (List ℕ) → Type 0
 AreLines lines = AllByRecursion HasNoCrlf lines
 
@@ -37,34 +37,34 @@ abbrev pub begins_with_lf : List ℕ → Bool
 begins_with_lf [] = false
 begins_with_lf (octet ∷ octets) = octet == 10
 
--- a CR LF stands in the octets
+-- a CR LF is in the octets
 abbrev pub has_crlf : List ℕ → Bool
 has_crlf [] = false
 has_crlf (octet ∷ octets) = (octet == 13 && begins_with_lf octets) || has_crlf octets
 
--- the first line of a stream, and what follows it, are fixed by the stream
+-- a stream fixes its first line, and what follows it
 abbrev pub FirstLineIsOne : Type 0
 FirstLineIsOne =
     (stream line rest other more : List ℕ) → ReadsLine stream line rest
     → ReadsLine stream other more
     → (line ≡ other) × (rest ≡ more)
 
--- what comes after a whole line doesn't change it
+-- octets added to a stream don't change its first line
 abbrev pub FirstLineStays : Type 0
 FirstLineStays =
     (stream line rest more : List ℕ) → ReadsLine stream line rest
     → ReadsLine (stream ++ more) line (rest ++ more)
 
--- The test of CR LF fails exactly where none stands in the octets.
+-- The test for CR LF fails exactly if the octets have none.
 abbrev pub CrlfIsTested : Type 0
 CrlfIsTested = (octets : List ℕ) → HasNoCrlf octets ↔ (has_crlf octets ≡ false)
 
--- Octets without a CR hold no CR LF: that is, octets which all pass a test that a CR doesn't pass.
+-- Octets without a CR (which all pass a test that a CR fails) have no CR LF.
 abbrev pub NoCrIsNoCrlf : Type 0
 NoCrIsNoCrlf =
     (test : ℕ → Bool) (octets : List ℕ) → test 13 ≡ false → AllPass test octets → HasNoCrlf octets
 
--- Octets join without a CR LF exactly where neither part has one, and none stands across the join.
+-- Joined octets have no CR LF exactly if neither part has one and none spans the seam.
 abbrev pub JoinHasNoCrlf : Type 0
 JoinHasNoCrlf =
     (front back : List ℕ) → HasNoCrlf (front ++ back)

@@ -1,5 +1,4 @@
-//! Octets of mail as every crate above sees them: line ends, lines, and rows of octets with a value
-//! of their own.
+//! Line ends, lines, and octets that contracts see as a list.
 #![tactic(auto)]
 
 pub mod laws;

@@ -3,7 +3,7 @@ ghost use Rattle.relay_octets.specs.Line.{HasNoCrlf, ReadsLine};
 
 use memchr::memchr;
 
-/// The place of the first CR LF. An LF alone is rare in mail: so the search is for LFs, and looks at the octet before
+/// Returns the index of the first CR LF. A bare LF is rare in mail, so it searches for LFs and checks the octet before
 /// each.
 pub fn find_crlf(octets: &[u8]) -> Option<usize>
     ensures first { MatchOption result (HasNoCrlf octets.now)

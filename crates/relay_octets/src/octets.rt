@@ -4,7 +4,7 @@ use std::alloc::{AllocError, Global};
 use std::convert::AsSlice;
 use std::marker::Model;
 
-/// A row of octets, which contracts see as a list.
+/// Octets that contracts see as a list: two values are equal if their octets are, whatever their capacity.
 #[derive(Debug, Drop)]
 pub struct Octets {
     bytes: Vec<u8>,
@@ -17,14 +17,14 @@ impl Model for Octets {
 }
 
 impl Octets {
-    /// The octets of a `Vec`, without memory.
+    /// Takes the octets of a `Vec`. Allocates nothing.
     pub fn new(bytes: Vec<u8>) -> Self
         ensures { result ≡ bytes.items }
     {
         Octets { bytes }
     }
 
-    /// A copy of a slice. It fails where memory runs out.
+    /// Copies a slice. Fails if memory runs out.
     pub fn from_slice(alloc: Global, octets: &[u8]) -> Result<Self, AllocError>
         ensures { IfOk result (λ copy. copy ≡ octets.now) }
     {
@@ -51,7 +51,7 @@ impl Octets {
         self.bytes.as_slice()
     }
 
-    /// The octets as a `Vec`, without memory.
+    /// Returns the octets as a `Vec`. Allocates nothing.
     pub fn into_vec(self) -> Vec<u8>
         ensures { result.items ≡ self }
     {
@@ -59,7 +59,7 @@ impl Octets {
         bytes
     }
 
-    /// Adds a slice at the end. Where memory runs out, nothing is added.
+    /// Appends a slice. Fails if memory runs out, and then appends nothing.
     pub fn push_slice(&mut self, octets: &[u8]) -> Result<(), AllocError>
         ensures ok { OnOk result (self.new ≡ self.old ++ octets.now) }
         ensures err { OnErr result (self.new ≡ self.old) }

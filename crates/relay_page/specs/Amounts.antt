@@ -13,11 +13,11 @@ span_in_unit seconds =
 unfoldable pub span_text : ℕ → List ℕ
 span_text seconds = decimal (span_in_unit seconds).0 ++ (span_in_unit seconds).1
 
--- what happens in so many seconds
+-- what happens in this many seconds
 unfoldable pub wait_text : ℕ → List ℕ
 wait_text seconds = if nat_lt 0 seconds then codes "in " ++ span_text seconds else codes "now"
 
--- so many octets in a unit, with one decimal, which isn't rounded up
+-- this many octets in a unit, with one decimal, which isn't rounded up
 abbrev pub in_unit : ℕ → ℕ → List ℕ → List ℕ
 in_unit octets unit name = decimal (octets / unit) ++ codes "." ++ decimal (octets % unit * 10 / unit) ++ name
 

@@ -20,7 +20,7 @@ is_host_field field = is_word field.0 (codes "host")
 abbrev pub hosts_among : List (List ℕ × List ℕ) → List (List ℕ)
 hosts_among fields = map (λ field. field.1) (filter is_host_field fields)
 
--- the only one of a list, where it has one alone
+-- the only one of a list, if it has one alone
 abbrev pub only : {X : Type 0} → List X → Option X
 only [] = None
 only (x ∷ []) = Some x

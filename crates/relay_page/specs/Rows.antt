@@ -1,4 +1,4 @@
--- The rows of the page's tables: what others have said stands in them escaped.
+-- The rows of the page's tables: what others have said is in them escaped.
 use Rattle.std.specs.Prelude.{ℕ, ◌-◌, List, [], ◌∷◌, codes, decimal}
 use Rattle.std.specs.List.{flat_map}
 use Rattle.relay_page.specs.Amounts.{size_text, span_text, wait_text}

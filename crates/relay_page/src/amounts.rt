@@ -14,7 +14,7 @@ const MIB: u64 = 1 << 20;
 /// One GiB, in octets.
 const GIB: u64 = 1 << 30;
 
-/// Adds what happens in so many seconds.
+/// Adds what happens in this many seconds.
 #[tactic(auto, unfolding(crate::specs::Amounts::wait_text))]
 pub(crate) fn push_wait(text: &mut Vec<u8>, seconds: u64) -> Result<(), AllocError>
     ensures { OnOk result (text.new.items ≡ text.old.items ++ wait_text seconds) }
@@ -27,7 +27,7 @@ pub(crate) fn push_wait(text: &mut Vec<u8>, seconds: u64) -> Result<(), AllocErr
     }
 }
 
-/// Adds a span of so many seconds, in whole seconds, minutes, hours or days.
+/// Adds a span of this many seconds, in whole seconds, minutes, hours or days.
 #[tactic(auto, unfolding(crate::specs::Amounts::span_text))]
 pub(crate) fn push_span(text: &mut Vec<u8>, seconds: u64) -> Result<(), AllocError>
     ensures { OnOk result (text.new.items ≡ text.old.items ++ span_text seconds) }
@@ -37,7 +37,7 @@ pub(crate) fn push_span(text: &mut Vec<u8>, seconds: u64) -> Result<(), AllocErr
     text.extend_from_slice(unit)
 }
 
-/// A span in its largest unit.
+/// Returns a span in its largest unit.
 fn span_in_unit(seconds: u64) -> (u64, &'static [u8])
     ensures count { result.0 ≡ (span_in_unit seconds).0 }
     ensures unit { result.1.now ≡ (span_in_unit seconds).1 }

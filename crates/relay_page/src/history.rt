@@ -25,7 +25,7 @@ impl Minute {
 /// What was done in each of the last 1,440 minutes.
 #[derive(Drop)]
 pub struct History {
-    /// That of the minute `m` stands at `m` modulo 1,440.
+    /// That of the minute `m` is at `m` modulo 1,440.
     minutes: Vec<Minute>,
     /// The last minute of which something is kept, in minutes from 1970.
     last: u64,
@@ -35,7 +35,7 @@ pub struct History {
 }
 
 impl History {
-    /// Nothing was done yet, and this is the first minute. It fails where memory runs out.
+    /// Nothing was done yet, and this is the first minute. Fails if memory runs out.
     pub fn new(alloc: Global, minute: u64) -> Result<Self, AllocError> {
         let mut minutes = Vec::with_capacity(alloc, MINUTES)?;
         for _ in 0..MINUTES {
@@ -73,7 +73,7 @@ impl History {
         self.last = self.last.max(minute);
     }
 
-    /// What was done in so many minutes, the last of which is so many before the last one that is kept.
+    /// What was done in this many minutes, the last of which is this many before the last one that is kept.
     pub fn sum(&self, ago: u64, count: u64) -> Minute {
         let mut sum = Minute::NONE;
         for step in 0..count.min(MINUTES as u64) {

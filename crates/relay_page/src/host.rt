@@ -6,14 +6,15 @@ ghost use Rattle.std.specs.Char.{is_ascii_digit};
 
 use relay_lines::word::is_word;
 
-/// Whether a Host field names this machine alone: `localhost`, `127.0.0.1` or `[::1]`, with a port or without one.
+/// Returns whether a Host field names this machine alone: `localhost`, `127.0.0.1` or `[::1]`, with a port or without
+/// one.
 pub(crate) fn is_loopback(host: &[u8]) -> bool
     ensures { result ≡ is_loopback host.now }
 {
     is_host(b"localhost", host) || is_host(b"127.0.0.1", host) || is_host(b"[::1]", host)
 }
 
-/// Whether a text is this name, in any letter case, with a port or without one.
+/// Returns whether a text is this name, in any letter case, with a port or without one.
 fn is_host(name: &[u8], text: &[u8]) -> bool
     ensures { result ≡ is_host name.now text.now }
 {
@@ -21,7 +22,7 @@ fn is_host(name: &[u8], text: &[u8]) -> bool
     is_word(&text[..end], name) && is_port(&text[end..])
 }
 
-/// Whether a text is nothing, or a colon and digits.
+/// Returns whether a text is nothing, or a colon and digits.
 fn is_port(text: &[u8]) -> bool
     ensures { result ≡ is_port text.now }
 {

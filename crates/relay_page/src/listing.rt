@@ -37,7 +37,7 @@ struct Cut {
     queued: u64,
 }
 
-/// Adds the line of a queued recipient, where it is still queued.
+/// Adds the line of a queued recipient, if it is still queued.
 pub fn push_listed(
     alloc: Global,
     text: &mut Vec<u8>,
@@ -77,7 +77,7 @@ pub fn push_listed(
     }
 }
 
-/// Adds the line that says that a list of so many recipients is the beginning of one of so many.
+/// Adds the line that says that a list of this many recipients is the beginning of one of this many.
 pub fn push_cut(
     alloc: Global,
     text: &mut Vec<u8>,
@@ -101,7 +101,7 @@ fn push_line(text: &mut Vec<u8>, line: &[u8]) -> Result<(), AllocError> {
     Ok(())
 }
 
-/// The text of a path or of a name, which are ASCII.
+/// Returns the text of a path or of a name, which are ASCII.
 fn text_of(octets: &[u8]) -> &str {
     match str::from_utf8(octets) {
         Ok(text) => text,

@@ -66,7 +66,7 @@ pub fn push_sample(text: &mut Vec<u8>, name: &'static [u8], value: u64) -> Resul
     )
 }
 
-/// Adds a sample of a metric with one label, whose value is the name of a host or a word: no octet of these has to be
+/// Adds a sample of a metric with one label, whose value is the name of a host or a word: no octet of these must be
 /// escaped.
 pub fn push_labelled(
     text: &mut Vec<u8>,

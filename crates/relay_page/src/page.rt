@@ -50,7 +50,7 @@ pub struct View<'a> {
     pub history: &'a History,
 }
 
-/// The text of the page. It fails where memory runs out.
+/// Returns the text of the page. Fails if memory runs out.
 pub fn page_text(alloc: Global, view: &View<'_>) -> Result<Vec<u8>, AllocError> {
     let mut text = Vec::new(alloc);
     push_pieces(

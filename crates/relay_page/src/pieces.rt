@@ -18,9 +18,9 @@ pub(crate) enum Piece<'a> {
     Number(u64),
     /// A size in octets, in its largest unit.
     Size(u64),
-    /// A span of so many seconds, in its largest unit.
+    /// A span of this many seconds, in its largest unit.
     Span(u64),
-    /// What happens in so many seconds, of which none are now.
+    /// What happens in this many seconds, of which none are now.
     Wait(u64),
 }
 

@@ -82,13 +82,13 @@ fn push_curve(
     Ok(())
 }
 
-/// What was done in the minutes of a point.
+/// Returns what was done in the minutes of a point.
 fn sum_at(history: &History, point: u64) -> Minute {
     let ago = POINTS.saturating_sub(1).saturating_sub(point);
     history.sum(ago.saturating_mul(STEP), STEP)
 }
 
-/// The greatest value of both curves.
+/// Returns the greatest value of both curves.
 fn top_of(history: &History) -> u64 {
     let mut top = 0;
     for point in 0..POINTS {

@@ -50,7 +50,7 @@ pub enum Refusal {
     TooLarge,
 }
 
-/// What the octets of a connection ask for, or why they are refused; none where more octets have to come first. Of
+/// Returns what the octets of a connection ask for, or why they are refused; none if more octets must come first. Of
 /// several reasons the first is taken, in this order: 400 or 431, 403, 405, 404.
 pub fn judge(octets: &[u8]) -> Option<Result<Asked, Refusal>>
     ensures { IsJudged octets.now result }
@@ -69,7 +69,7 @@ pub fn judge(octets: &[u8]) -> Option<Result<Asked, Refusal>>
     }
 }
 
-/// The value of the Host field, where there is one and no other.
+/// Returns the value of the Host field, if there is one and no other.
 fn only_host<'a>(octets: &'a [u8], headers: &[HeaderSpan]) -> Option<&'a [u8]>
     requires { All (IsHeaderWithin (length octets.now)) headers.now }
     ensures { option_copied result ≡ only (hosts_among (map (header_bytes octets.now) headers.now)) }
@@ -86,7 +86,7 @@ fn only_host<'a>(octets: &'a [u8], headers: &[HeaderSpan]) -> Option<&'a [u8]>
     found
 }
 
-/// What a request with this host, method and target asks for.
+/// Returns what a request with this host, method and target asks for.
 fn judge_parts(host: Option<&[u8]>, method: &[u8], target: &[u8]) -> Result<Asked, Refusal>
     ensures { result ≡ asked_at (option_copied host.entry) method.now target.now }
 {

@@ -86,8 +86,8 @@ impl Kind {
     }
 }
 
-/// The octets of a response with this body; its head alone where the body wasn't asked for. It fails where memory runs
-/// out.
+/// Returns the octets of a response with this body; its head alone where the body wasn't asked for. Fails if memory
+/// runs out.
 pub fn response_octets(
     alloc: Global,
     code: Code,
@@ -105,7 +105,7 @@ pub fn response_octets(
     Ok(octets)
 }
 
-/// Adds the head of a response whose body has so many octets.
+/// Adds the head of a response whose body has this many octets.
 fn push_head(octets: &mut Vec<u8>, code: Code, kind: Kind, size: u64) -> Result<(), AllocError>
     ensures { OnOk result (octets.new.items ≡ octets.old.items ++ head_text code kind size) }
 {
@@ -123,7 +123,7 @@ fn push_head(octets: &mut Vec<u8>, code: Code, kind: Kind, size: u64) -> Result<
     )
 }
 
-/// The octets of a response that refuses a request, with a line that says why.
+/// Returns the octets of a response that refuses a request, with a line that says why.
 pub fn refusal_octets(alloc: Global, code: Code, has_body: bool) -> Result<Vec<u8>, AllocError>
     ensures { IfOk result (λ octets. octets.items
         ≡ response_text code Kind.Plain has_body (code_text code ++ 10 ∷ [])) }
@@ -132,7 +132,7 @@ pub fn refusal_octets(alloc: Global, code: Code, has_body: bool) -> Result<Vec<u
     response_octets(alloc, code, Kind::Plain, has_body, line.as_slice())
 }
 
-/// The line that says what a code means.
+/// Returns the line that says what a code means.
 fn line_of(alloc: Global, code: Code) -> Result<Vec<u8>, AllocError>
     ensures { IfOk result (λ line. line.items ≡ code_text code ++ 10 ∷ []) }
 {

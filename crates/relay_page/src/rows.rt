@@ -23,7 +23,7 @@ pub struct Waiting<'a> {
     pub due: u64,
 }
 
-/// Adds the row of a next hop at a moment.
+/// Adds the row of a next hop at a time.
 pub(crate) fn push_hop(
     text: &mut Vec<u8>,
     name: &[u8],
@@ -52,14 +52,14 @@ pub(crate) fn push_hop(
     )
 }
 
-/// The name of a next hop, or what stands for none.
+/// Returns the name of a next hop, or what stands for none.
 fn shown_name(name: &[u8]) -> &[u8]
     ensures { result.now ≡ shown_name name.now }
 {
     if name.is_empty() { b"no route" } else { name }
 }
 
-/// Adds the row of a recipient at a moment.
+/// Adds the row of a recipient at a time.
 pub(crate) fn push_waiting<'a>(
     text: &mut Vec<u8>,
     waiting: Waiting<'a>,
@@ -89,7 +89,7 @@ pub(crate) fn push_waiting<'a>(
     )
 }
 
-/// Adds the rows of recipients at a moment.
+/// Adds the rows of recipients at a time.
 pub(crate) fn push_all_waiting(
     text: &mut Vec<u8>,
     all: &[Waiting<'_>],

@@ -3,7 +3,7 @@ use mio::net::TcpStream;
 use std::io::{Read, Write};
 use std::net::Shutdown;
 
-/// A stream of octets in both directions. No call waits: what would have to is answered by `WouldBlock`.
+/// A stream of octets in both directions. No call waits: what would have to wait is answered by `WouldBlock`.
 pub trait VisitorStream: Read + Write {
     /// Tells the visitor that nothing more is written.
     fn shut_down(&mut self);

@@ -38,7 +38,7 @@ pub struct Survey {
     alloc: Global,
     /// The recipients that were queued when the last count began, in the order of the queue.
     marks: Vec<Mark>,
-    /// How many of them are counted; none where no count goes on.
+    /// How many of them are counted; none if no count goes on.
     counted: Option<usize>,
     /// What they come to so far.
     counting: Loads,
@@ -48,7 +48,7 @@ pub struct Survey {
     fresh_until: u64,
 }
 
-// Written out, so that what drops a survey calls this, and doesn't look into what it found.
+// Written out, so that the proof of a caller that drops a survey stops at this function.
 impl Drop for Survey {
     fn drop(self) {
         let Survey {
@@ -63,7 +63,7 @@ impl Drop for Survey {
 }
 
 impl Survey {
-    /// Nothing was counted yet. It takes no memory.
+    /// Nothing was counted yet. Allocates nothing.
     pub fn new(alloc: Global) -> Self {
         Survey {
             alloc,
@@ -75,12 +75,12 @@ impl Survey {
         }
     }
 
-    /// Whether what was counted last still serves at this tick.
+    /// Returns whether what was counted last still serves at this tick.
     pub fn is_fresh(&self, tick: u64) -> bool {
         tick < self.fresh_until
     }
 
-    /// Whether a count goes on.
+    /// Returns whether a count goes on.
     pub fn is_counting(&self) -> bool {
         self.counted.is_some()
     }
@@ -92,7 +92,7 @@ impl Survey {
         self.counted = Some(0);
     }
 
-    /// The next recipient to be counted.
+    /// Returns the next recipient to be counted.
     pub fn next(&mut self) -> Option<Mark> {
         let counted = self.counted?;
         let mark = *self.marks.get(counted)?;
@@ -100,7 +100,7 @@ impl Survey {
         Some(mark)
     }
 
-    /// Counts a recipient of this message, where it is still queued.
+    /// Counts a recipient of this message, if it is still queued.
     pub fn count(&mut self, table: &Table, place: u8, message: &Message) -> Result<(), AllocError> {
         let index = usize::from(place);
         let waiting = message.places.as_slice().get(index);
@@ -125,12 +125,12 @@ impl Survey {
         self.fresh_until = tick.saturating_add(FRESH);
     }
 
-    /// What is queued by next hop, as the last whole count has found it.
+    /// Returns what is queued by next hop, as the last whole count has found it.
     pub fn loads(&self) -> &Loads {
         &self.found
     }
 
-    /// The recipients that were queued when the last count began, in the order of the queue.
+    /// Returns the recipients that were queued when the last count began, in the order of the queue.
     pub fn marks(&self) -> &[Mark] {
         self.marks.as_slice()
     }
@@ -147,7 +147,7 @@ fn add(alloc: Global, loads: &mut Loads, name: &[u8], one: Load) -> Result<(), A
 }
 
 impl Load {
-    /// What one recipient of a message comes to, which is due then.
+    /// Returns what one recipient of a message comes to, which is due then.
     fn of(message: &Message, due: u64) -> Self {
         Load {
             messages: 1,
@@ -159,7 +159,7 @@ impl Load {
         }
     }
 
-    /// The same with one recipient more, whose message is the one that was counted last or a new one.
+    /// Returns the same with one recipient more, whose message is the one that was counted last or a new one.
     fn with(self, one: Load) -> Self {
         let is_new = self.last != one.last;
         Load {

@@ -50,7 +50,7 @@ pub(crate) struct Visitor<S> {
     ghost within: { written ≤ length response.items },
 }
 
-// Written out, so that what drops a visitor calls this, and doesn't look into its parts.
+// Written out, so that the proof of a caller that drops a visitor stops at this function.
 impl<S: Drop> Drop for Visitor<S> {
     fn drop(self) {
         let Visitor {
@@ -68,7 +68,7 @@ impl<S: Drop> Drop for Visitor<S> {
 }
 
 impl<S: VisitorStream> Visitor<S> {
-    /// A visitor that comes at this tick. It takes no memory.
+    /// Makes a visitor that comes at this tick. Allocates nothing.
     pub(crate) fn new(alloc: Global, stream: S, tick: u64) -> Self
         ensures { result.deadline ≡ min (tick + VISIT_TIME) (2 ^ 64 - 1) }
     {
@@ -93,7 +93,7 @@ impl<S: VisitorStream> Visitor<S> {
         self.writes |= writes;
     }
 
-    /// What it has asked for, where it waits for that.
+    /// Returns what it has asked for, if it waits for that.
     pub(crate) fn asked(&self) -> Option<Asked> {
         match self.stage {
             Stage::Waiting(asked) => Some(asked),
@@ -101,7 +101,7 @@ impl<S: VisitorStream> Visitor<S> {
         }
     }
 
-    /// Whether something can be done for it at once.
+    /// Returns whether something can be done for it at once.
     pub(crate) fn is_ready(&self) -> bool {
         match self.stage {
             Stage::Reading | Stage::Leaving => self.reads,
@@ -111,14 +111,14 @@ impl<S: VisitorStream> Visitor<S> {
         }
     }
 
-    /// The tick at which it is closed.
+    /// Returns the tick at which it is closed.
     pub(crate) fn deadline(&self) -> u64
         ensures { result ≡ self.now.deadline }
     {
         self.deadline
     }
 
-    /// Does one thing for it: reads once, or writes once. It tells whether it stays.
+    /// Does one thing for it: reads once, or writes once. Returns whether it stays.
     pub(crate) fn serve(&mut self, tick: u64) -> bool
         ensures deadline { self.new.deadline ≡ self.old.deadline }
         ensures late { self.old.deadline ≤ tick → result ≡ false }
@@ -133,7 +133,7 @@ impl<S: VisitorStream> Visitor<S> {
         self.stage != Stage::Over && tick < self.deadline
     }
 
-    /// Gives it its response; where there was no memory for that, none.
+    /// Gives it its response; if there was no memory for that, none.
     pub(crate) fn respond(&mut self, response: Result<Vec<u8>, AllocError>)
         ensures deadline { self.new.deadline ≡ self.old.deadline }
         ensures few { self.new.written ≤ self.old.written }
@@ -237,7 +237,7 @@ impl<S: VisitorStream> Visitor<S> {
         }
     }
 
-    /// So many octets of its response were written.
+    /// This many octets of its response were written.
     fn wrote(&mut self, count: usize)
         requires { self.old.written + count ≤ length self.old.response.items }
         ensures deadline { self.new.deadline ≡ self.old.deadline }

@@ -17,7 +17,7 @@ pub struct Visitors<S = TcpStream> {
     ghost few: { length seats.items ≡ 8 },
 }
 
-// Written out, so that what drops them calls this, and doesn't look into each.
+// Written out, so that the proof of a caller that drops them stops at this function.
 impl<S: Drop> Drop for Visitors<S> {
     fn drop(self) {
         let Visitors {
@@ -28,7 +28,7 @@ impl<S: Drop> Drop for Visitors<S> {
 }
 
 impl<S: VisitorStream + Drop> Visitors<S> {
-    /// None. It fails where memory runs out.
+    /// None. Fails if memory runs out.
     pub fn new(alloc: Global) -> Result<Self, AllocError> {
         let mut seats = Vec::with_capacity(alloc, MOST_VISITORS)?;
         for _ in 0..MOST_VISITORS {
@@ -37,7 +37,7 @@ impl<S: VisitorStream + Drop> Visitors<S> {
         Ok(Visitors { alloc, seats })
     }
 
-    /// The least number that no visitor has.
+    /// Returns the least number that no visitor has.
     pub fn free(&self) -> Option<usize>
         ensures { IfSome result (λ number. number < 8) }
     {
@@ -84,7 +84,7 @@ impl<S: VisitorStream + Drop> Visitors<S> {
         }
     }
 
-    /// What the visitor with the least number has asked for of those that wait, with that number.
+    /// Returns what the visitor with the least number has asked for of those that wait, with that number.
     pub fn asked(&self) -> Option<(usize, Asked)>
         ensures { IfSome result (λ asked. asked.0 < 8) }
     {
@@ -98,7 +98,7 @@ impl<S: VisitorStream + Drop> Visitors<S> {
         None
     }
 
-    /// Gives a visitor its response, or none where there was no memory for one.
+    /// Gives a visitor its response, or none if there was no memory for one.
     pub fn respond(&mut self, number: usize, response: Result<Vec<u8>, AllocError>) {
         if number < MOST_VISITORS {
             if let Some(visitor) = &mut self.seats[number] {
@@ -107,7 +107,7 @@ impl<S: VisitorStream + Drop> Visitors<S> {
         }
     }
 
-    /// Whether something can be done for one of them at once.
+    /// Returns whether something can be done for one of them at once.
     pub fn is_ready(&self) -> bool {
         for slot in &self.seats {
             if let Some(visitor) = slot {
@@ -119,7 +119,7 @@ impl<S: VisitorStream + Drop> Visitors<S> {
         false
     }
 
-    /// The tick at which the next of them is closed, or the given one where that is earlier.
+    /// Returns the tick at which the next of them is closed, or the given one where that is earlier.
     pub fn next_deadline(&self, otherwise: u64) -> u64
         ensures { result ≤ otherwise }
     {

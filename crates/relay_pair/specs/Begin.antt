@@ -15,7 +15,7 @@ AreNew honest words place (config ∷ configs) [] = ⊥
 AreNew honest words place (config ∷ configs) (host ∷ hosts) =
     IsNew honest words (at_place place config) host × AreNew honest words (place + 1) configs hosts
 
--- Relays have just begun by these configurations, at the moment 0, and there is no link.
+-- Relays have just begun by these configurations, at the time 0, and there is no link.
 pub record HasBegun {D : Type 0} (honest : Type 0) (words : DiskWords D) (configs : List Config) (world : World D)
     : Type 0 where
   pub hosts : List (Host D)
@@ -30,7 +30,7 @@ pub record HasBegunAsTwo {D : Type 0} (honest : Type 0) (words : DiskWords D) (w
   pub second : IsProfile (codes "b.example") (address_of 1) second_routes other
   pub begun : HasBegun honest words (one ∷ other ∷ []) world
 
--- They are so many relays of a play.
+-- They are this many relays of a play.
 pub record HasBegunAsMany {D : Type 0} (honest : Type 0) (words : DiskWords D) (count : ℕ) (world : World D)
     : Type 0 where
   pub configs : List Config

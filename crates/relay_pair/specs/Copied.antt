@@ -19,7 +19,7 @@ use Rattle.relay_world.specs.World.{World}
 abbrev pub AreReplies : List ℕ → List Reply → Type 0
 AreReplies octets replies = (rest : List ℕ) × CutsAllReplies octets replies rest
 
--- whether a fault is want of memory
+-- whether a fault is lack of memory
 abbrev pub is_no_memory : ReplyFault → Bool
 is_no_memory BadLine = false
 is_no_memory MixedCodes = false
@@ -47,15 +47,15 @@ accepts_place place (tried ∷ places) [] = false
 accepts_place place (tried ∷ places) (reply ∷ replies) =
     if tried == place && is_accepted reply then true else accepts_place place places replies
 
--- by whatever lists of changes a world is bound, and tries each place once, so many copies were made by this attempt
+-- by whatever lists of changes a world is bound, and tries each place once, this many copies were made by this attempt
 abbrev pub CountsBy
     : {D : Type 0} → Type 0 → DiskWords D → World D → ℕ → ℕ → ℕ → Attempt → ℕ → Type 0
 CountsBy honest words world node message place attempt count =
     (lists : List (List Change)) → IsBound honest words world lists → IsTriedOnce world lists
     → CopiesBy world lists node message place attempt count
 
--- So many copies of a message of a node hold a place, by the lists of changes of the nodes, and it is one more at most
--- than the lost replies.
+-- This many copies of a message of a node hold a place, by the lists of changes of the nodes, and it is one more at
+-- most than the lost replies.
 pub record CountsCopies {D : Type 0} (honest : Type 0) (words : DiskWords D) (world : World D)
     (node message place count : ℕ) : Type 0 where
   pub lists : List (List Change)

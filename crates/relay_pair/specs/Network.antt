@@ -44,7 +44,7 @@ pub record AreNetwork (configs : List Config) : Type 0 where
   pub hosts : ¬ HaveOneHost configs
   pub hops : ¬ HasOwnHop configs
 
--- Why no network is made of them: the first of these that holds, and memory is wanted only where none does.
+-- Why no network is made of them: the first of these that holds, and memory is wanted only if none does.
 abbrev pub IsNoNetwork : List Config → NetFault → Type 0
 IsNoNetwork configs net_fault.NoMemory = AreNetwork configs
 IsNoNetwork configs net_fault.BadCount = ¬ AreSome configs

@@ -49,15 +49,15 @@ host_of place = (97 + place) ∷ codes ".example"
 abbrev pub route_to_node : ℕ → Route
 route_to_node place = route_to (host_of place) (host_of place) (address_of place)
 
--- the routes to so many nodes, but for one
+-- the routes to this many nodes, but for one
 abbrev pub routes_to_others : ℕ → ℕ → List Route
 routes_to_others count node = map route_to_node (filter (λ other. not (other == node)) (range_with_len 0 count))
 
--- the node after this one, in a circle of so many
+-- the node after this one, in a circle of this many
 abbrev pub node_behind : ℕ → ℕ → ℕ
 node_behind count node = if nat_lt (node + 1) count then node + 1 else 0
 
--- the routes of what isn't for another of so many nodes: to the node after this one, and outside
+-- the routes of what isn't for another of this many nodes: to the node after this one, and outside
 abbrev pub routes_of_the_rest : ℕ → ℕ → List Route
 routes_of_the_rest count node =
     route_to (codes "loop.example") (host_of (node_behind count node)) (address_of (node_behind count node))
@@ -65,7 +65,7 @@ routes_of_the_rest count node =
     ∷ route_to (codes "out.example") (codes "out.example") outside_address
     ∷ []
 
--- each of so many nodes sends what is for another to it, what is for `loop.example` to the node after it, and what is
+-- each of this many nodes sends what is for another to it, what is for `loop.example` to the node after it, and what is
 -- for itself and for `out.example` outside
 abbrev pub routes_among : ℕ → ℕ → List Route
 routes_among count node = routes_to_others count node ++ routes_of_the_rest count node
@@ -82,13 +82,13 @@ pub record IsProfile (host address : List ℕ) (routes : List Route) (config : C
   pub routed_paths : config.routed_paths ≡ routed.Pass
   pub reports : config.reports ≡ Plain
 
--- each of these is the configuration of the node at its place among so many
+-- each of these is the configuration of the node at its place among this many
 abbrev pub HaveProfiles : ℕ → List Config → Type 0
 HaveProfiles count configs =
     (node : ℕ) (config : Config) → slice_get configs node ≡ Some config
     → IsProfile (host_of node) (address_of node) (routes_among count node) config
 
--- the configurations of so many nodes of a play
+-- the configurations of this many nodes of a play
 pub record AreProfiles (count : ℕ) (configs : List Config) : Type 0 where
   pub count_is : length configs ≡ count
   pub each : HaveProfiles count configs

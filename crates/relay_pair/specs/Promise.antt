@@ -14,9 +14,9 @@ use Rattle.relay_events.specs.Happened.{HasHappened}
 -- Of the mail of relays after a run: each node has a list of changes, which its spool holds, and which begins with the
 -- one that it had, by which the relays were bound, tried each place once at a time, and had lines with their sources;
 -- by these lists the promise is kept; nothing that was recorded, told, written or read before is gone; the ends of
--- links are whose they were, and a broken link stays as it is; and attempts have gone on, or have come to their ends.
--- All of it has come by events of the world, each of which adds the accept or outcome that it leads to at the moment
--- that the clock shows then.
+-- links are whose they were, and a broken link is unchanged; and attempts have gone on, or have come to their ends. All
+-- of it has come by events of the world, each of which adds the accept or outcome that it leads to at the time that the
+-- clock shows then.
 pub record KeepsItsPromise {D : Type 0} (honest : Type 0) (words : DiskWords D) (old new : World D) : Type 0 where
   pub lists : List (List Change)
   pub theirs : IsBound honest words new lists

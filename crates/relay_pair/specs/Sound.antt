@@ -1,4 +1,4 @@
--- What is true of a pair between two events.
+-- Laws of a pair between two events.
 use Rattle.relay_disk.specs.Device.{DiskWords}
 use Rattle.relay_world.specs.Leaks.{NothingLeaks}
 use Rattle.relay_events.specs.declared.relays.Relays.{Relays}

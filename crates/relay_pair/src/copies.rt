@@ -15,8 +15,8 @@ use relay_world::passing::copies_are_few;
 use relay_world::{Attempt, Line};
 use std::alloc::{AllocError, Global};
 
-/// How many copies of a node's message hold a place of it: all messages that were accepted on the links of attempts
-/// whose RCPT for the place was answered 2yz. It fails where memory runs out.
+/// Returns how many copies of a node's message hold a place of it: all messages that were accepted on the links of
+/// attempts whose RCPT for the place was answered 2yz. Fails if memory runs out.
 pub(crate) fn count_copies<D: Disk>(
     relays: &Relays<D>,
     alloc: Global,
@@ -35,7 +35,7 @@ pub(crate) fn count_copies<D: Disk>(
     Ok(count)
 }
 
-/// How many of them were made by this attempt.
+/// Returns how many of them were made by this attempt.
 fn count_copies_by<D: Disk>(
     relays: &Relays<D>,
     alloc: Global,
@@ -67,7 +67,7 @@ fn count_copies_by<D: Disk>(
     Ok(0)
 }
 
-/// How many messages were accepted on a link.
+/// Returns how many messages were accepted on a link.
 fn accepts_on(ledger: &[Line], link: usize) -> usize
     ensures { result ≡ length (accepts_on link ledger.now) }
 {
@@ -78,7 +78,7 @@ fn accepts_on(ledger: &[Line], link: usize) -> usize
     count
 }
 
-/// How many messages a line of the ledger tells to be accepted on a link: one, or none.
+/// Returns how many messages a line of the ledger tells to be accepted on a link: one, or none.
 fn accepts_by(line: &Line, link: usize) -> usize
     ensures count { result ≡ length (accepts_on link (line.now ∷ [])) }
     ensures few { result ≤ 1 }
@@ -89,7 +89,7 @@ fn accepts_by(line: &Line, link: usize) -> usize
     }
 }
 
-/// All replies that octets begin with. It fails where memory runs out.
+/// Returns all replies that octets begin with. Fails if memory runs out.
 fn replies_in(alloc: Global, octets: &[u8]) -> Result<Vec<Reply>, AllocError>
     ensures { IfOk result (λ replies. AreReplies octets.now replies.items) }
 {
@@ -114,7 +114,7 @@ fn replies_in(alloc: Global, octets: &[u8]) -> Result<Vec<Reply>, AllocError>
     Ok(replies)
 }
 
-/// Whether this fault is want of memory.
+/// Returns whether this fault is lack of memory.
 fn is_no_memory(fault: ReplyFault) -> bool
     ensures { result ≡ is_no_memory fault }
 {
@@ -126,7 +126,7 @@ fn is_no_memory(fault: ReplyFault) -> bool
     }
 }
 
-/// Of the replies to an attempt those to its RCPTs, and what stands after them.
+/// Of the replies to an attempt those to its RCPTs, and what is after them.
 fn rcpt_replies(replies: &[Reply]) -> &[Reply]
     ensures { result.now ≡ behind_mail replies.now }
 {
@@ -144,7 +144,7 @@ fn rcpt_replies(replies: &[Reply]) -> &[Reply]
     &replies[first..]
 }
 
-/// Whether HELO comes after an EHLO with a reply of this kind.
+/// Returns whether HELO comes after an EHLO with a reply of this kind.
 fn is_greeted_again(kind: ReplyKind) -> bool
     ensures { result ≡ is_greeted_again kind }
 {
@@ -156,7 +156,7 @@ fn is_greeted_again(kind: ReplyKind) -> bool
     }
 }
 
-/// Whether a RCPT of a place was accepted, by replies that come in the order of the places.
+/// Returns whether a RCPT of a place was accepted, by replies that come in the order of the places.
 fn accepts_place(place: u64, places: &[u8], replies: &[Reply]) -> bool
     ensures { result ≡ accepts_place place places.now replies.now }
 {
@@ -171,7 +171,7 @@ fn accepts_place(place: u64, places: &[u8], replies: &[Reply]) -> bool
     false
 }
 
-/// Whether this place was tried, and its RCPT accepted by this reply.
+/// Returns whether this place was tried, and its RCPT accepted by this reply.
 fn accepts(place: u64, tried: u8, reply: &Reply) -> bool
     ensures { result ≡ (tried == place && is_accepted reply.now) }
 {

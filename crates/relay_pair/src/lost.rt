@@ -5,8 +5,8 @@ ghost use Rattle.relay_world.specs.Copies.{is_lost, is_lost_reply, lost_replies_
 
 use relay_world::{Attempt, Fate};
 
-/// How many of these attempts at a place of a node's message have ended by no reply: their link was lost, or their node
-/// dropped them. It takes no memory.
+/// Returns how many of these attempts at a place of a node's message have ended by no reply: their link was lost, or
+/// their node dropped them. Allocates nothing.
 pub(crate) fn lost_replies(attempts: &[Attempt], node: usize, message: u64, place: u64) -> usize
     ensures { result ≡ lost_replies_of node message place attempts.now }
 {
@@ -19,7 +19,7 @@ pub(crate) fn lost_replies(attempts: &[Attempt], node: usize, message: u64, plac
     count
 }
 
-/// Whether an attempt at that place has ended by no reply.
+/// Returns whether an attempt at that place has ended by no reply.
 fn is_lost_reply(attempt: &Attempt, node: usize, message: u64, place: u64) -> bool
     ensures { result ≡ is_lost_reply node message place attempt.now }
 {
@@ -29,14 +29,14 @@ fn is_lost_reply(attempt: &Attempt, node: usize, message: u64, place: u64) -> bo
         && is_lost(&attempt.fate)
 }
 
-/// Whether a place is among these.
+/// Returns whether a place is among these.
 fn is_tried(place: u64, places: &[u8]) -> bool
     ensures { result ≡ list_any (λ tried. tried == place) places.now }
 {
     places.iter().any(|tried| *tried as u64 == place)
 }
 
-/// Whether an attempt has ended by no reply.
+/// Returns whether an attempt has ended by no reply.
 fn is_lost(fate: &Fate) -> bool
     ensures { result ≡ is_lost fate.now }
 {

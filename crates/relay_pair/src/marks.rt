@@ -7,7 +7,7 @@ use relay_disk::Disk;
 use relay_events::Relays;
 use std::alloc::{AllocError, Global};
 
-/// All held places of the nodes that are up, each with its node and the number of its message. It fails where memory
+/// Returns all held places of the nodes that are up, each with its node and the number of its message. Fails if memory
 /// runs out.
 pub(crate) fn held_marks<D: Disk>(
     relays: &Relays<D>,
@@ -27,7 +27,7 @@ pub(crate) fn held_marks<D: Disk>(
     Ok(marks)
 }
 
-/// Adds the held places of a node. It fails where memory runs out.
+/// Adds the held places of a node. Fails if memory runs out.
 fn push_marks(
     node: usize,
     held: &[(u64, u8)],

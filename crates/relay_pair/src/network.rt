@@ -17,7 +17,7 @@ const FEWEST: usize = 2;
 /// The most nodes of a network.
 const MOST: usize = 16;
 
-/// Why no network is made of configurations. The first of them answers, but for want of memory, which comes last.
+/// Why no network is made of configurations. The first of them answers, but for lack of memory, which comes last.
 #[derive(Clone, Copy, Debug, PartialEq, Eq, Error)]
 pub enum NetFault {
     /// Memory ran out.
@@ -34,7 +34,7 @@ pub enum NetFault {
     OwnHop,
 }
 
-/// Why configurations make no network, if they make none.
+/// Returns why configurations make no network, if they make none.
 pub(crate) fn fault_of_network(configs: &[Config]) -> Option<NetFault>
     ensures { MatchOption result (AreNetwork configs.now) (IsNoNetwork configs.now) }
 {
@@ -50,7 +50,7 @@ pub(crate) fn fault_of_network(configs: &[Config]) -> Option<NetFault>
     None
 }
 
-/// Whether two configurations have one host.
+/// Returns whether two configurations have one host.
 fn have_one_host(configs: &[Config]) -> bool
     ensures { MatchBool result (HaveOneHost configs.now) (¬ HaveOneHost configs.now) }
 {
@@ -62,7 +62,7 @@ fn have_one_host(configs: &[Config]) -> bool
     false
 }
 
-/// Whether one of the configurations before this place has the host of the one there.
+/// Returns whether one of the configurations before this place has the host of the one there.
 fn is_host_before(configs: &[Config], other: usize) -> bool
     requires { other < length configs.now }
     ensures { MatchBool result (IsHostBefore configs.now other) (¬ IsHostBefore configs.now other) }
@@ -75,7 +75,7 @@ fn is_host_before(configs: &[Config], other: usize) -> bool
     false
 }
 
-/// Whether the table of a configuration sends to its own host.
+/// Returns whether the table of a configuration sends to its own host.
 fn has_own_hop(configs: &[Config]) -> bool
     ensures { MatchBool result (HasOwnHop configs.now) (¬ HasOwnHop configs.now) }
 {
@@ -87,7 +87,7 @@ fn has_own_hop(configs: &[Config]) -> bool
     false
 }
 
-/// Whether the table of this configuration sends to its own host.
+/// Returns whether the table of this configuration sends to its own host.
 #[tactic(auto, using(crate::proofs::NetworkLemmas::sends_home, crate::proofs::NetworkLemmas::sends_elsewhere))]
 fn sends_home(config: &Config) -> bool
     ensures { MatchBool result (SendsHome config.now) (¬ SendsHome config.now) }
@@ -95,7 +95,7 @@ fn sends_home(config: &Config) -> bool
     config.routes.place_of(config.host.as_slice()).is_some()
 }
 
-/// The nodes of a network, each on two disks in memory. It fails where memory runs out.
+/// Returns the nodes of a network, each on two disks in memory. Fails if memory runs out.
 pub(crate) fn begin_hosts(
     alloc: Global,
     configs: Vec<Config>,

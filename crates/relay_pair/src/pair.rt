@@ -31,12 +31,12 @@ use relay_world::{Attempt, Line, Link};
 use std::alloc::{AllocError, Global};
 use std::marker::Model;
 
-/// Relays, the links among them and to outside, and what has come of their mail.
+/// Relays, the links among them and to outside, and the outcome of their mail.
 pub struct Pair<D: Disk> {
     relays: Relays<D>,
 }
 
-// Written out, so that what drops a pair calls this, and doesn't look into its parts.
+// Written out, so that the proof of a caller that drops a pair stops at this function.
 impl<D: Disk + Drop> Drop for Pair<D> {
     fn drop(self) {
         let Pair { relays: _relays } = self;
@@ -56,8 +56,8 @@ impl<D: Disk> Model for Pair<D> {
 }
 
 impl Pair<MemoryDisk> {
-    /// Two relays on disks in memory, at the moment 0: node 0 is `a.example` at 10.0.0.1, node 1 `b.example` at
-    /// 10.0.0.2, each with the routes that it has in a play. It fails where memory runs out.
+    /// Two relays on disks in memory, at the time 0: node 0 is `a.example` at 10.0.0.1, node 1 `b.example` at 10.0.0.2,
+    /// each with the routes that it has in a play. Fails if memory runs out.
     pub fn new(alloc: Global) -> Result<Self, AllocError>
         ensures { IfOk result (HasBegunAsTwo ⟦<MemoryDisk as Disk>⟧.honest ⟦<MemoryDisk as Disk>⟧.words) }
     {
@@ -71,22 +71,23 @@ impl Pair<MemoryDisk> {
         }
     }
 
-    /// So many relays on disks in memory, at the moment 0: node 0 is `a.example` at 10.0.0.1, node 1 `b.example` at
-    /// 10.0.0.2, and so on, each with the routes that it has in a play of so many. It fails where memory runs out.
+    /// Returns this many relays on disks in memory, at the time 0: node 0 is `a.example` at 10.0.0.1, node 1
+    /// `b.example` at 10.0.0.2, and so on, each with the routes that it has in a play of this many. Fails if memory
+    /// runs out.
     pub fn nodes(alloc: Global, count: usize) -> Result<Self, AllocError>
         requires { count ≤ 16 }
         ensures { IfOk result (HasBegunAsMany ⟦<MemoryDisk as Disk>⟧.honest ⟦<MemoryDisk as Disk>⟧.words count) }
     {
         match Pair::network(alloc, profiles_of(alloc, count)?) {
             Ok(pair) => Ok(pair),
-            // There are so many, with hosts of their own, and none sends home: memory alone is wanting.
+            // There are this many, with hosts of their own, and none sends home: memory alone is wanting.
             Err(_) => Err(AllocError),
         }
     }
 
-    /// Relays of these configurations on disks in memory, at the moment 0. There are 2 to 16, and each has the address
-    /// of its place in place of its own: 10.0.0.1 is that of the first, which is node 0. A hop whose name is a node's
-    /// host is that node, and every other is outside.
+    /// Relays of these configurations on disks in memory, at the time 0. There are 2 to 16, and each has the address of
+    /// its place in place of its own: 10.0.0.1 is that of the first, which is node 0. A hop whose name is a node's host
+    /// is that node, and every other is outside.
     pub fn network(alloc: Global, configs: Vec<Config>) -> Result<Self, NetFault>
         ensures begun { IfOk result (λ pair. AreNetwork configs.items
             × HasBegun ⟦<MemoryDisk as Disk>⟧.honest ⟦<MemoryDisk as Disk>⟧.words configs.items pair) }
@@ -103,8 +104,8 @@ impl Pair<MemoryDisk> {
 }
 
 impl<D: Disk + Drop> Pair<D> {
-    /// The same two relays, each on two disks, which are empty. It fails where memory runs out, and where a disk fails
-    /// or isn't empty.
+    /// Returns the same two relays, each on two disks, which are empty. Fails if memory runs out, and where a disk
+    /// fails or isn't empty.
     pub fn begin(alloc: Global, first: Disks<D>, second: Disks<D>) -> Result<Self, AllocError>
         ensures { IfOk result (HasBegunAsTwo D.Disk.honest D.Disk.words) }
     {
@@ -120,7 +121,7 @@ impl<D: Disk + Drop> Pair<D> {
         Ok(Pair::of_hosts(alloc, hosts))
     }
 
-    /// The relays of hosts that have just begun, no two of which have one name. It takes no memory.
+    /// Returns the relays of hosts that have just begun, no two of which have one name. Allocates nothing.
     fn of_hosts(alloc: Global, hosts: Vec<Host<D>>) -> Self
         requires { (configs : List Configuration) × AreNew D.Disk.honest D.Disk.words 0 configs hosts.items
             × ¬ HaveOneHost configs }
@@ -135,39 +136,39 @@ impl<D: Disk + Drop> Pair<D> {
 }
 
 impl<D: Disk> Pair<D> {
-    /// What has come of mail so far, in order: a line for each message that a node has accepted, and for each place
-    /// that has left one.
+    /// Returns the outcome of mail so far, in order: a line for each message that a node has accepted, and for each
+    /// place that has left one.
     pub fn ledger(&self) -> &[Line]
         ensures { result.now ≡ self.now.ledger }
     {
         self.relays.ledger.as_slice()
     }
 
-    /// All links, in the order of their numbers, which count from 1, with all octets that were written on them.
+    /// Returns all links, in the order of their numbers, which count from 1, with all octets that were written on them.
     pub fn links(&self) -> &[Link]
         ensures { result.now ≡ self.now.links }
     {
         self.relays.links.as_slice()
     }
 
-    /// All attempts to pass mail on, in the order in which they began.
+    /// Returns all attempts to pass mail on, in the order in which they began.
     pub fn attempts(&self) -> &[Attempt]
         ensures { result.now ≡ self.now.attempts }
     {
         self.relays.attempts.as_slice()
     }
 
-    /// All held places of the nodes that are up, each with its node and the number of its message, in order. It fails
-    /// where memory runs out.
+    /// Returns all held places of the nodes that are up, each with its node and the number of its message, in order.
+    /// Fails if memory runs out.
     pub fn marks(&self, alloc: Global) -> Result<Vec<(usize, u64, u8)>, AllocError>
         ensures { IfOk result (λ marks. marks.items ≡ marks_from 0 self.now.hosts) }
     {
         held_marks(&self.relays, alloc)
     }
 
-    /// How many copies of a place of a node's message its attempts have made, among nodes of ours: the messages that
-    /// were accepted on the links of those whose RCPT for the place was answered 2yz. There is one at most, and one
-    /// more at most for each reply that was lost. It fails where memory runs out.
+    /// Returns how many copies of a place of a node's message its attempts have made, among nodes of ours: the messages
+    /// that were accepted on the links of those whose RCPT for the place was answered 2yz. There is one at most, and
+    /// one more at most for each reply that was lost. Fails if memory runs out.
     pub fn copies(
         &self,
         alloc: Global,
@@ -180,9 +181,9 @@ impl<D: Disk> Pair<D> {
         count_copies(&self.relays, alloc, node, message, place)
     }
 
-    /// How many replies to attempts at a place of a node's message were lost: the attempts for it that have ended by no
-    /// reply, since their link was lost, or their node had to drop them. So many copies of it may there be besides one.
-    /// It takes no memory.
+    /// Returns how many replies to attempts at a place of a node's message were lost: the attempts for it that have
+    /// ended by no reply, since their link was lost, or their node had to drop them. This many copies of it may there
+    /// be besides one. Allocates nothing.
     pub fn lost_replies(&self, node: usize, message: u64, place: u64) -> usize
         ensures { result ≡ lost_replies_of node message place self.now.attempts }
     {
@@ -206,10 +207,10 @@ impl<D: Disk> Pair<D> {
 }
 
 impl<D: Reboot + Drop> Pair<D> {
-    /// One event happens. Refused by its first fault, or for want of memory before a node is called, it changes
-    /// nothing. A node that refuses its part, for want of memory, of room or of a number, loses the session or the
-    /// attempt by that, and the link breaks. Where memory is wanting for what a node answers, it has heard or read all
-    /// the same, and where it is for an attempt, the link to its hop was opened: that link breaks too.
+    /// Does one event. Refused by its first fault, or for lack of memory before a node is called, it changes
+    /// nothing. A node that refuses its part, for lack of memory, of room or of a number, loses the session or the
+    /// attempt by that, and the link breaks. If memory is wanting for what a node answers, it has heard or read all the
+    /// same, and where it is for an attempt, the link to its hop was opened: that link breaks too.
     pub fn step(&mut self, event: &Event) -> Result<Seen, PairFault>
         requires { D.Disk.honest }
         ensures steps { Steps D.Disk.honest D.Disk.words self.old event.now self.new result }

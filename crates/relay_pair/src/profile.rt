@@ -25,7 +25,7 @@ const SECOND: [u8; 4] = [10, 0, 0, 2];
 /// The address of outside.
 const OUTSIDE: [u8; 4] = [192, 0, 2, 1];
 
-/// The configuration of node a. It fails where memory runs out.
+/// Returns the configuration of node a. Fails if memory runs out.
 pub(crate) fn first_profile(alloc: Global) -> Result<Config, AllocError>
     ensures { IfOk result (IsProfile (codes "a.example") (address_of 0) first_routes) }
 {
@@ -38,7 +38,7 @@ pub(crate) fn first_profile(alloc: Global) -> Result<Config, AllocError>
     profile(alloc, host, FIRST, routes)
 }
 
-/// The configuration of node b. It fails where memory runs out.
+/// Returns the configuration of node b. Fails if memory runs out.
 pub(crate) fn second_profile(alloc: Global) -> Result<Config, AllocError>
     ensures { IfOk result (IsProfile (codes "b.example") (address_of 1) second_routes) }
 {
@@ -52,7 +52,7 @@ pub(crate) fn second_profile(alloc: Global) -> Result<Config, AllocError>
     profile(alloc, host, SECOND, routes)
 }
 
-/// The configurations of the nodes of a play of so many. It fails where memory runs out.
+/// Returns the configurations of the nodes of a play of this many. Fails if memory runs out.
 pub(crate) fn profiles_of(alloc: Global, count: usize) -> Result<Vec<Config>, AllocError>
     requires { count ≤ 16 }
     ensures { IfOk result (λ configs. AreProfiles count configs.items) }
@@ -64,7 +64,7 @@ pub(crate) fn profiles_of(alloc: Global, count: usize) -> Result<Vec<Config>, Al
     Ok(configs)
 }
 
-/// The configuration of a node of a play of so many. It fails where memory runs out.
+/// Returns the configuration of a node of a play of this many. Fails if memory runs out.
 #[tactic(auto, using(crate::proofs::ProfileLemmas::is_host_name))]
 pub(crate) fn profile_among(alloc: Global, count: usize, node: usize) -> Result<Config, AllocError>
     requires node { node < count }
@@ -78,7 +78,7 @@ pub(crate) fn profile_among(alloc: Global, count: usize, node: usize) -> Result<
     profile(alloc, host, address_of(node), routes)
 }
 
-/// Adds the routes of a node to the others of so many, to a table without routes.
+/// Adds the routes of a node to the others of this many, to a table without routes.
 #[tactic(auto, using(crate::proofs::ProfileLemmas::own_left_out, crate::proofs::ProfileLemmas::other_added))]
 fn add_others(
     alloc: Global,
@@ -142,7 +142,7 @@ fn add_lowered(
     add_route(alloc, routes, domain, name, address)
 }
 
-/// The node after a node of so many, each by its place: that of the last is the first.
+/// Returns the node after a node of this many, each by its place: that of the last is the first.
 fn node_behind(count: usize, node: usize) -> usize
     requires { node < count }
     ensures value { result ≡ node_behind count node }
@@ -151,7 +151,7 @@ fn node_behind(count: usize, node: usize) -> usize
     if node + 1 < count { node + 1 } else { 0 }
 }
 
-/// The host of a node, by its place: `a.example` is that of the first.
+/// Returns the host of a node, by its place: `a.example` is that of the first.
 fn host_of(node: usize) -> [u8; 9]
     requires { node < 16 }
     ensures { result ≡ host_of node }
@@ -161,7 +161,7 @@ fn host_of(node: usize) -> [u8; 9]
     host
 }
 
-/// The address of a node, by its place: 10.0.0.1 is that of the first.
+/// Returns the address of a node, by its place: 10.0.0.1 is that of the first.
 pub(crate) fn address_of(node: usize) -> [u8; 4]
     requires { node < 16 }
     ensures { result ≡ address_of node }
@@ -169,7 +169,7 @@ pub(crate) fn address_of(node: usize) -> [u8; 4]
     [10, 0, 0, node as u8 + 1]
 }
 
-/// A configuration of this host and its routes, with the limits that one has where it gives none.
+/// Returns a configuration of this host and its routes, with the limits that one has where it gives none.
 fn profile(
     alloc: Global,
     host: HostName,
@@ -196,7 +196,7 @@ fn profile(
     Ok(config)
 }
 
-/// Adds the route of a domain to the hop of a name at an address, where it may be added.
+/// Adds the route of a domain to the hop of a name at an address, if it may be added.
 fn add_route(
     alloc: Global,
     routes: &mut Table,
@@ -221,7 +221,7 @@ fn add_route(
     }
 }
 
-/// The name of a host. It fails where memory runs out.
+/// Returns the name of a host. Fails if memory runs out.
 fn host_name(alloc: Global, name: &[u8]) -> Result<HostName, AllocError>
     requires { IsHostName name.now }
     ensures { IfOk result (λ host. host ≡ name.now) }
@@ -232,7 +232,7 @@ fn host_name(alloc: Global, name: &[u8]) -> Result<HostName, AllocError>
     }
 }
 
-/// The port of mail, at an address.
+/// Returns the port of mail, at an address.
 pub(crate) fn mail_at(address: [u8; 4]) -> SocketAddrV4
     ensures { result ≡ mail_at address }
 {

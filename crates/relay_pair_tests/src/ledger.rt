@@ -39,7 +39,7 @@ fn push_line(text: &mut String, line: Line) -> Result<(), AllocError> {
     }
 }
 
-/// What became of a place: its next hop has it, it failed, or it is late.
+/// Returns what became of a place: its next hop has it, it failed, or it is late.
 fn word_of(step: PlaceStep) -> &'static str {
     match step {
         PlaceStep::Left(Way::ByTransfer) => "transfer",
@@ -48,7 +48,7 @@ fn word_of(step: PlaceStep) -> &'static str {
     }
 }
 
-/// The letter of a node: `a` for the first, and for the last of 16 and each further one `p`.
+/// Returns the letter of a node: `a` for the first, and for the last of 16 and each further one `p`.
 fn letter(node: usize) -> char {
     char::from(b'a' + node.min(15) as u8)
 }

@@ -16,7 +16,7 @@ pub fn show_networks(rt: &HostRuntime) -> Result<(), Fail> {
     Ok(())
 }
 
-/// The fault of a row's configurations, or how many nodes they make.
+/// Returns the fault of a row's configurations, or how many nodes they make.
 fn outcome_of(alloc: Global, row: &str) -> Result<String, Fail> {
     let configs = configs_of(alloc, row)?;
     let count = configs.len();

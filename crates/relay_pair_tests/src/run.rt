@@ -7,14 +7,14 @@ use std::alloc::{AllocError, Global};
 use std::fs;
 use std::test::Fail;
 
-/// Runs the events of the play in one call, and prints what has come of them. What the play asks is left out.
+/// Runs the events of the play in one call, and prints their outcomes. What the play asks is left out.
 pub fn show_run(rt: &HostRuntime) -> Result<(), Fail> {
     let script = fs::read_to_string(rt, "lost_reply.play")?;
     let text = outcome_of(rt.alloc(), script.as_str())?;
     Ok(print!(rt; "{text}")?)
 }
 
-/// What has come of the events of this script.
+/// Returns the outcome of the events of this script.
 fn outcome_of(alloc: Global, script: &str) -> Result<String, AllocError> {
     let events = events_of(alloc, script)?;
     let mut pair = Pair::new(alloc)?;
@@ -37,7 +37,7 @@ fn push_counts(
     writeln!(text, "copies {copies}, lost {lost}")
 }
 
-/// The events of a script, in order.
+/// Returns the events of a script, in order.
 fn events_of(alloc: Global, script: &str) -> Result<Vec<Event>, AllocError> {
     let mut events = Vec::new(alloc);
     for line in script.lines() {
@@ -48,7 +48,7 @@ fn events_of(alloc: Global, script: &str) -> Result<Vec<Event>, AllocError> {
     Ok(events)
 }
 
-/// The event that a line of a script says.
+/// Returns the event that a line of a script says.
 fn event_of(said: Said) -> Event {
     match said {
         Said::Connect { node } => Event::Connect(node.index()),

@@ -1,11 +1,11 @@
--- A text in pieces: what of it can be read at once, and what stands after that.
+-- A text in pieces: the readable octets, and those after them.
 use Rattle.std.specs.Prelude.{◌≡◌, ℕ, ◌+◌, ◌<◌, Bool, true, false, List, [], ◌∷◌, ◌++◌, length, drop, Vec}
 use Rattle.std.specs.List.{flat_map}
 use Rattle.std.specs.declared.alloc.Global.{Global}
 use Rattle.relay_pieces.specs.declared.window.Window.{Window}
 use Rattle.relay_pieces.specs.Window.{front_of}
 
--- the octets that can be read, those after them, and how many these and their pieces are
+-- the readable octets, those after them, and the sum of these octets and their pieces
 pub record InPieces : Type 0 where
   pub front : List ℕ
   pub behind : List ℕ
@@ -24,13 +24,13 @@ abbrev pub first_of : List (Vec ℕ Global) → List ℕ
 first_of [] = []
 first_of (piece ∷ pieces) = piece.items
 
--- a text of which this can be read, with these pieces after
+-- a text whose readable octets are these, with these pieces after
 abbrev pub in_pieces : Window → List (Vec ℕ Global) → InPieces
 in_pieces window pieces =
     let behind = drop window.ahead (joined pieces) in
     record { front = front_of window; behind = behind; left = length behind + length pieces }
 
--- the text is the same, and less stands after what can be read; or nothing did, and all is the same
+-- the text is the same, and less follows the readable octets; or nothing followed, and all is the same
 abbrev pub TakesUp : InPieces → InPieces → Bool → Type 0
 TakesUp old new true = (text_of new ≡ text_of old) × (new.left < old.left)
 TakesUp old new false = (new ≡ old) × (old.behind ≡ [])

@@ -1,4 +1,4 @@
-//! A text in pieces, which are freed as they are read.
+//! A text in pieces, each freed once it was read.
 #![tactic(auto)]
 
 mod pieces;

@@ -7,8 +7,8 @@ use std::alloc::{AllocError, Global};
 use std::collections::VecDeque;
 use std::marker::Model;
 
-/// A text in pieces. Its front can be read; what was read is let go by `advance`, and by `take_up` more can be read. A
-/// piece that stands whole in the front is read where it is; only round the seam of two pieces octets are copied.
+/// A text in pieces, read from its front: `advance` releases what was read, and `take_up` makes more readable. A
+/// piece is read in place; octets are copied only at the seam of two pieces.
 #[derive(Drop)]
 pub struct Pieces {
     window: Window,
@@ -27,14 +27,14 @@ impl Model for Pieces {
 }
 
 impl Pieces {
-    /// An empty text. It takes no memory.
+    /// Makes an empty text. Allocates nothing.
     pub fn new(alloc: Global) -> Self
         ensures { text_of result ≡ [] }
     {
         Pieces::of_one(alloc, Vec::new(alloc))
     }
 
-    /// A text of one piece, which can be read. It takes no memory.
+    /// Makes a text of one readable piece. Allocates nothing.
     pub fn of_one(alloc: Global, text: Vec<u8>) -> Self
         ensures { result ≡ record { front = text.items; behind = []; left = 0 } }
     {
@@ -48,7 +48,7 @@ impl Pieces {
         }
     }
 
-    /// Puts a piece after the text. It fails where memory runs out.
+    /// Appends a piece. Fails if memory runs out.
     pub fn push(&mut self, piece: Vec<u8>) -> Result<(), AllocError>
         ensures { OnOk result (text_of self.new ≡ text_of self.old ++ piece.items) }
     {
@@ -56,14 +56,14 @@ impl Pieces {
         Ok(())
     }
 
-    /// What can be read.
+    /// Returns the readable octets.
     pub fn front(&self) -> &[u8]
         ensures { result.now ≡ self.now.front }
     {
         &self.window.held[self.window.used..]
     }
 
-    /// How many octets the text has; 2^64 - 1 stands for as many and more.
+    /// Returns the length of the text, at most 2^64 - 1.
     pub fn len(&self) -> usize
         ensures { result ≡ min (length (text_of self.now)) (2 ^ 64 - 1) }
     {
@@ -78,7 +78,7 @@ impl Pieces {
         total
     }
 
-    /// Lets so many octets of the front go.
+    /// Releases `count` readable octets.
     pub fn advance(&mut self, count: usize)
         requires { count ≤ length self.old.front }
         ensures { self.new ≡ record self.old { front = drop count self.old.front } }
@@ -86,8 +86,8 @@ impl Pieces {
         self.window.used += count;
     }
 
-    /// Sees that so many octets can be read, or all where the text has fewer. Memory is wanted only where fewer could
-    /// be read, and more stands after them; where it runs out, the text is lost.
+    /// Makes `count` octets readable, or all if the text has fewer. Needs memory only if fewer were readable and more
+    /// follow them; if it runs out, the text is lost.
     pub fn hold_first(&mut self, count: usize) -> Result<(), AllocError>
         ensures text { OnOk result (text_of self.new ≡ text_of self.old) }
         ensures held { OnOk result (length self.new.front < count → self.new.behind ≡ []) }
@@ -99,7 +99,7 @@ impl Pieces {
         self.take_up_to(count)
     }
 
-    /// Takes up until so many octets can be read, or none is left.
+    /// Takes up pieces until `count` octets are readable or none is left.
     fn take_up_to(&mut self, count: usize) -> Result<(), AllocError>
         ensures text { OnOk result (text_of self.new ≡ text_of self.old) }
         ensures held { OnOk result (length self.new.front < count → self.new.behind ≡ []) }
@@ -113,8 +113,8 @@ impl Pieces {
         Ok(())
     }
 
-    /// Sees that more can be read, and tells whether more stood after. Memory is wanted only where it does; where it
-    /// runs out, the text is lost.
+    /// Makes more octets readable, and returns whether any followed. Needs memory only if some did; if it runs out, the
+    /// text is lost.
     pub fn take_up(&mut self) -> Result<bool, AllocError>
         ensures next { IfOk result (TakesUp self.old self.new) }
         ensures memory { OnErr result (0 < self.old.left) }
@@ -129,7 +129,7 @@ impl Pieces {
         Ok(true)
     }
 
-    /// The text in one piece. Where it is in one, that isn't copied; else it fails where memory runs out.
+    /// Returns the text as one `Vec`. A single piece isn't copied; joining several fails if memory runs out.
     pub fn into_vec(mut self) -> Result<Vec<u8>, AllocError>
         ensures { IfOk result (λ text. text.items ≡ text_of self) }
     {
@@ -139,8 +139,8 @@ impl Pieces {
     }
 }
 
-/// Puts octets of the next piece to those that can be read, and lets it go once all of it stands there. Tells whether
-/// there was one.
+/// Copies octets of the next piece to the readable ones, and drops that piece once all of it is copied. Returns
+/// whether there was one.
 fn join(window: &mut Window, rest: &mut VecDeque<Vec<u8>>) -> Result<bool, AllocError>
     requires overlaps { Overlaps window.old (first_of rest.old.items) }
     requires left { window.old.ahead ≤ length (front_of window.old) }

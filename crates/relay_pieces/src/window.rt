@@ -1,20 +1,19 @@
-// What of a text in pieces can be read.
+// The readable octets of a text in pieces.
 ghost use Rattle.std.specs.Prelude.{◌≡◌, ◌≤◌, drop, length};
 
 use std::alloc::AllocError;
 
-/// How many octets of a piece are put to what is left of the one before it, unless more are left: a message of usual
-/// size is whole then, and little is copied twice.
+/// The octets of a piece that are copied to the rest of the piece before it, unless that rest is longer. A message of
+/// usual size is whole then, and few octets are copied twice.
 const SEAM: usize = 1 << 12;
 
-/// The octets that can be read: those of a piece, or the last ones of a piece and a copy of the next piece's first
-/// ones.
+/// The readable octets: those of a piece, or the last ones of a piece and a copy of the next piece's first ones.
 #[derive(Drop)]
 pub(crate) struct Window {
     pub(crate) held: Vec<u8>,
-    /// How many octets of what is held were let go.
+    /// The number of held octets that were released.
     pub(crate) used: usize,
-    /// How many octets of what is held, its last ones, are the first ones of the piece after.
+    /// The number of held octets, the last ones, that are copies of the next piece's first ones.
     pub(crate) ahead: usize,
     ghost within: { used ≤ length held.items },
 }
@@ -23,7 +22,7 @@ impl Window {
     ghost use Rattle.std.specs.Prelude.{◌<◌, ◌++◌, OnOk};
     ghost use Rattle.relay_pieces.specs.Window.{Overlaps, front_of};
 
-    /// Puts octets of the piece after to those that can be read: as many as these are, or as it has.
+    /// Copies octets of the next piece to the readable ones: as many as these are, or as the piece has.
     pub(crate) fn join(&mut self, piece: &[u8]) -> Result<(), AllocError>
         requires overlaps { Overlaps self.old piece.now }
         requires left { self.old.ahead ≤ length (front_of self.old) }
@@ -41,7 +40,7 @@ impl Window {
         Ok(())
     }
 
-    /// Moves what can be read to the start of what is held.
+    /// Moves the readable octets to the start of the buffer.
     fn settle(&mut self, piece: &[u8])
         requires overlaps { Overlaps self.old piece.now }
         requires left { self.old.ahead ≤ length (front_of self.old) }
@@ -54,7 +53,7 @@ impl Window {
         self.used = 0;
     }
 
-    /// Goes on in the piece after itself, where all that can be read are octets of that too.
+    /// Goes on in the next piece itself, if all readable octets are copies of its octets.
     pub(crate) fn turn(&mut self, piece: Vec<u8>)
         requires overlaps { Overlaps self.old piece.items }
         requires left { length (front_of self.old) ≤ self.old.ahead }
@@ -66,7 +65,7 @@ impl Window {
         self.held = piece;
     }
 
-    /// What can be read, in one piece of memory: its own.
+    /// Returns the readable octets in the buffer's own memory.
     pub(crate) fn into_vec(self) -> Vec<u8>
         ensures { result.items ≡ front_of self }
     {
@@ -80,7 +79,7 @@ impl Window {
     }
 }
 
-/// Takes so many octets from the front away.
+/// Removes the first `count` octets.
 fn drop_front(octets: &mut Vec<u8>, count: usize)
     requires { count ≤ length octets.old.items }
     ensures { octets.new.items ≡ drop count octets.old.items }

@@ -63,7 +63,7 @@ named_in Marks = None
 named_in (Copies node number place) = Some node
 named_in (Lost node number place) = Some node
 
--- a node that is named is one of so many
+-- a node that is named is one of this many
 abbrev pub IsAmong : Option ℕ → ℕ → Type 0
 IsAmong None nodes = ⊤
 IsAmong (Some node) nodes = node < nodes
@@ -140,7 +140,7 @@ module _ (honest : Type 0) (words : DiskWords MemoryDisk) where
     pub bare : HasNoLineFeed begun
     pub plays : PlaysEach lines first now
 
-  -- a read gave octets, whose lines were played; where the script has ended, its last line was too
+  -- a read gave octets, whose lines were played; if the script has ended, its last line was too
   abbrev pub PlaysBlock : Option (List ℕ) → Option (List ℕ) → PlayState → List ℕ → List ℕ → PlayState → Bool → Type 0
   PlaysBlock old new first front begun now false =
       IsRead old new (λ octets. HasPlayed first (front ++ octets) begun now)

@@ -6,7 +6,7 @@ use std::alloc::AllocError;
 use std::io::{self, ErrorKind};
 use thiserror::Error;
 
-/// Why a play ends before its script does. Its text stands after `relayd: `.
+/// Why a play ends before its script does. Its text is after `relayd: `.
 #[derive(Clone, Copy, Debug, PartialEq, Eq, Error)]
 pub enum PlayFault {
     /// The line of this number, from 1, is no line of a script.
@@ -24,7 +24,7 @@ pub enum PlayFault {
 }
 
 impl PlayFault {
-    /// The fault of a reader.
+    /// Returns the fault of a reader.
     pub(crate) fn of_input(error: &io::Error) -> Self
         ensures memory { error_kind error.now ≡ ErrorKind.OutOfMemory → result ≡ PlayFault.NoMemory }
         ensures other { error_kind error.now ≢ ErrorKind.OutOfMemory → result ≡ PlayFault.Input }
@@ -35,7 +35,7 @@ impl PlayFault {
         }
     }
 
-    /// The fault of a writer.
+    /// Returns the fault of a writer.
     pub(crate) fn of_output(error: &io::Error) -> Self
         ensures memory { error_kind error.now ≡ ErrorKind.OutOfMemory → result ≡ PlayFault.NoMemory }
         ensures other { error_kind error.now ≢ ErrorKind.OutOfMemory → result ≡ PlayFault.Output }

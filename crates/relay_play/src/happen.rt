@@ -10,8 +10,8 @@ use relay_pair::{Event, Pair, PairFault, Seen};
 use relay_script::Event as Said;
 use std::io;
 
-/// An event happens to the relays. What is seen of it, or why it was refused, is added as a line, or a line for each
-/// node that has stopped. It fails where memory runs out.
+/// Does an event to the relays. What is seen of it, or why it was refused, is added as a line, or a line for
+/// each node that has stopped. Fails if memory runs out.
 pub(crate) fn happen(pair: &mut Pair<MemoryDisk>, said: Said, out: &mut Vec<u8>) -> io::Result<()>
     ensures steps { (answer : Result Seen PairFault) × Steps ⟦<MemoryDisk as Disk>⟧.honest
         ⟦<MemoryDisk as Disk>⟧.words pair.old (event_in said) pair.new answer }
@@ -24,7 +24,7 @@ pub(crate) fn happen(pair: &mut Pair<MemoryDisk>, said: Said, out: &mut Vec<u8>)
     }
 }
 
-/// The event that a line of a script says.
+/// Returns the event that a line of a script says.
 fn event_of(said: Said) -> Event
     ensures { result ≡ event_in said }
 {

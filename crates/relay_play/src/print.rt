@@ -6,7 +6,7 @@ use relay_script::push_text;
 use relay_world::Link;
 use std::io::{self, Write};
 
-/// The letter of a node: `a` for the first.
+/// Returns the letter of a node: `a` for the first.
 pub(crate) fn letter(node: usize) -> char {
     // A play has 16 at most, up to the letter p.
     char::from(b'a' + node.min(15) as u8)
@@ -62,7 +62,7 @@ pub(crate) fn print_refused(fault: PairFault, out: &mut Vec<u8>) -> io::Result<(
     writeln!(out, "refused {name}")
 }
 
-/// The name of a node's fault.
+/// Returns the name of a node's fault.
 fn name_of(fault: NodeFault) -> &'static str {
     match fault {
         NodeFault::NoMemory => "NoMemory",
@@ -93,12 +93,12 @@ fn print_linked<D: Disk>(
     writeln!(out)
 }
 
-/// The link of a number.
+/// Returns the link of a number.
 fn link_at<D: Disk>(pair: &Pair<D>, number: usize) -> Option<&Link> {
     pair.links().get(number.checked_sub(1)?)
 }
 
-/// What a node has written on a link: as its server, or else as its client.
+/// Returns what a node has written on a link: as its server, or else as its client.
 fn written_by<D: Disk>(pair: &Pair<D>, number: usize, node: usize) -> &[u8] {
     let Some(link) = link_at(pair, number) else {
         return b"";
@@ -109,7 +109,7 @@ fn written_by<D: Disk>(pair: &Pair<D>, number: usize, node: usize) -> &[u8] {
     }
 }
 
-/// Adds the text of the last of some octets, so many of them.
+/// Adds the text of the last of some octets, this many of them.
 fn print_last(octets: &[u8], count: usize, out: &mut Vec<u8>) -> io::Result<()> {
     let first = octets.len().saturating_sub(count);
     Ok(push_text(out, &octets[first..])?)

@@ -140,7 +140,7 @@ impl Player {
         end
     }
 
-    /// Plays the lines that end with these octets, adds what is seen of them, and keeps what stands after them.
+    /// Plays the lines that end with these octets, adds what is seen of them, and keeps what is after them.
     fn play_lines(&mut self, octets: &[u8], seen: &mut Vec<u8>) -> Result<(), PlayFault>
         ensures { OnOk result ((first : State) (front : List ℕ)
             → HasPlayed ⟦<MemoryDisk as Disk>⟧.honest ⟦<MemoryDisk as Disk>⟧.words first front
@@ -171,7 +171,7 @@ impl Player {
     }
 }
 
-/// What stands before the first LF of a text, and what stands after that.
+/// Returns what is before the first LF of a text, and what is after that.
 fn first_line(text: &[u8]) -> Option<(&[u8], &[u8])>
     ensures { MatchOption result (HasNoLineFeed text.now)
         (λ parts. HasNoLineFeed parts.0.now × (text.now ≡ parts.0.now ++ 10 ∷ parts.1.now)) }

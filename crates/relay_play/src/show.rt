@@ -9,7 +9,7 @@ use relay_world::Line;
 use std::alloc::Global;
 use std::io::{self, Write};
 
-/// Adds the lines of the ledger. It fails where memory runs out.
+/// Adds the lines of the ledger. Fails if memory runs out.
 pub(crate) fn show_ledger<D: Disk>(pair: &Pair<D>, out: &mut Vec<u8>) -> io::Result<()> {
     for line in pair.ledger() {
         show_line(line, out)?;
@@ -65,7 +65,7 @@ fn show_line(line: &Line, out: &mut Vec<u8>) -> io::Result<()> {
     }
 }
 
-/// Adds a line for each held place of the nodes that are up. It fails where memory runs out.
+/// Adds a line for each held place of the nodes that are up. Fails if memory runs out.
 pub(crate) fn show_marks<D: Disk>(
     alloc: Global,
     pair: &Pair<D>,
@@ -77,7 +77,7 @@ pub(crate) fn show_marks<D: Disk>(
     Ok(())
 }
 
-/// Adds the line with the number of copies of a place of a message. It fails where memory runs out.
+/// Adds the line with the number of copies of a place of a message. Fails if memory runs out.
 pub(crate) fn show_copies<D: Disk>(
     alloc: Global,
     pair: &Pair<D>,
@@ -89,7 +89,7 @@ pub(crate) fn show_copies<D: Disk>(
     writeln!(out, "{}", pair.copies(alloc, node.index(), number, place)?)
 }
 
-/// Adds the line with the number of lost replies to attempts at a place of a message. It fails where memory runs out.
+/// Adds the line with the number of lost replies to attempts at a place of a message. Fails if memory runs out.
 pub(crate) fn show_lost<D: Disk>(
     pair: &Pair<D>,
     node: NodeIndex,

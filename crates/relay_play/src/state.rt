@@ -24,7 +24,7 @@ pub(crate) struct PlayState {
 }
 
 impl PlayState {
-    /// Two relays, to which nothing has happened. It fails where memory runs out.
+    /// Two relays, to which nothing has happened. Fails if memory runs out.
     pub(crate) fn new(alloc: Global) -> Result<Self, AllocError>
         ensures { IfOk result (HasNotBegun ⟦<MemoryDisk as Disk>⟧.honest ⟦<MemoryDisk as Disk>⟧.words) }
     {
@@ -35,7 +35,7 @@ impl PlayState {
         })
     }
 
-    /// The relays as they stand.
+    /// Returns the relays as they stand.
     pub(crate) fn into_pair(self) -> Pair<MemoryDisk>
         ensures { result ≡ self.pair }
     {
@@ -91,7 +91,7 @@ impl PlayState {
         }
     }
 
-    /// So many nodes play, where nothing was said before the line of this number.
+    /// Returns this many nodes play, where nothing was said before the line of this number.
     fn take_nodes(&mut self, alloc: Global, nodes: NodeCount, number: u64) -> Result<(), PlayFault>
         ensures { OnOk result (Does ⟦<MemoryDisk as Disk>⟧.honest ⟦<MemoryDisk as Disk>⟧.words
             (ScriptLine.Nodes nodes) self.old self.new) }
@@ -135,12 +135,12 @@ fn not_begun(mut pair: Pair<MemoryDisk>) -> Pair<MemoryDisk>
     pair
 }
 
-/// Octets in memory fail to be written by want of memory alone.
+/// Octets in memory fail to be written by lack of memory alone.
 fn unless_memory(shown: io::Result<()>) -> Result<(), PlayFault> {
     shown.map_err(|_| PlayFault::NoMemory)
 }
 
-/// Whether a line names no node but so many.
+/// Returns whether a line names no node but this many.
 fn names_none_but(said: &ScriptLine, nodes: usize) -> bool
     ensures { IsTrue result ↔ IsAmong (named_in said.now) nodes }
 {
@@ -150,7 +150,7 @@ fn names_none_but(said: &ScriptLine, nodes: usize) -> bool
     }
 }
 
-/// The node that a line names, if it names one.
+/// Returns the node that a line names, if it names one.
 fn node_of(said: &ScriptLine) -> Option<NodeIndex>
     ensures { result ≡ named_in said.now }
 {

@@ -40,7 +40,7 @@ pub record IsServed (left new_left held new_held : Option (List ℕ)) : Type 0 w
   pub ended : (dialogue.state ≡ Closed) ⊎ IsAtEnd new_left
   pub answered : AreAnswered said
 
--- what was written is a beginning of the output of a dialogue, whose input is a beginning of what was read
+-- what was written is a prefix of the output of a dialogue, whose input is a prefix of what was read
 pub record IsBegun (left new_left held new_held : Option (List ℕ)) : Type 0 where
   pub said : Said
   pub dialogue : IsDialogue session_setup said

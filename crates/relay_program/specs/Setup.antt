@@ -41,7 +41,7 @@ session_limit = 67108864
 abbrev pub session_peer : List ℕ
 session_peer = 127 ∷ 0 ∷ 0 ∷ 1 ∷ []
 
--- profile: it has no clock, so its mail comes at the moment 0
+-- profile: it has no clock, so its mail comes at the time 0
 abbrev pub session_moment : ℕ
 session_moment = 0
 

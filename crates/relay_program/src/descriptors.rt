@@ -4,7 +4,7 @@ use std::io;
 use std::os::fd::{AsRawFd, IntoRawFd, RawFd};
 use std::rt::Files;
 
-/// The device that stands in for a stream that was closed.
+/// The device that is in for a stream that was closed.
 const NULL_DEVICE: &str = "/dev/null";
 
 /// The descriptor of standard input.
@@ -31,7 +31,7 @@ pub fn hold_standard_streams<F: Files<File = File>>(files: &F) -> io::Result<()>
     Err(io::Error::from(io::ErrorKind::Unsupported))
 }
 
-/// Leaves a file open up to the end of the process where its descriptor is this one or less, and tells whether it is.
+/// Leaves a file open up to the end of the process where its descriptor is this one or less, and returns whether it is.
 /// It is closed else.
 fn hold_up_to(last: RawFd, file: File) -> bool {
     let holds = file.as_raw_fd() <= last;

@@ -39,7 +39,7 @@ const FAULT: u8 = 1;
 /// The status of a run with wrong arguments.
 const WRONG_ARGUMENTS: u8 = 2;
 
-/// Runs the subcommand that the words name, the program's own name first, and answers the status for the system: 0
+/// Runs the subcommand that the words name, the program's own name first, and returns the status for the system: 0
 /// done, 1 a fault, with its line on `errors`, or the answer no of `check`, 2 wrong arguments, with the argument
 /// reader's text on `errors`. `--help` and `--version` write that reader's text on `writer`, and are done. What `run`
 /// logs goes to `log`, from a thread of its own: two writers of one stream.
@@ -121,7 +121,7 @@ pub fn command<
     }
 }
 
-/// The rounds that `serve` asks for.
+/// Returns the rounds that `serve` asks for.
 fn rounds_asked(rounds: u32, workers: u8, log: bool) -> ServeOptions {
     ServeOptions {
         rounds,
@@ -234,7 +234,7 @@ fn play_script<R: Read, W: Write>(
     Ok(())
 }
 
-/// The status of a subcommand's end; a fault has its line on `errors`.
+/// Returns the status of a subcommand's end; a fault has its line on `errors`.
 fn ended<F: Display + Drop, E: Write>(end: Result<(), F>, errors: &mut E) -> u8
     ensures { MatchResult end (λ _. result ≡ 0) (λ _. result ≡ 1) }
 {
@@ -244,8 +244,8 @@ fn ended<F: Display + Drop, E: Write>(end: Result<(), F>, errors: &mut E) -> u8
     }
 }
 
-/// The status of the end of a subcommand that locks the spool: as that of [`ended`], with the advice on a fault after
-/// its line.
+/// Returns the status of the end of a subcommand that locks the spool: as that of [`ended`], with the advice on a fault
+/// after its line.
 fn ended_alone<E: Write>(end: Result<(), Fault>, errors: &mut E) -> u8
     ensures { MatchResult end (λ _. result ≡ 0) (λ _. result ≡ 1) }
 {
@@ -255,7 +255,7 @@ fn ended_alone<E: Write>(end: Result<(), Fault>, errors: &mut E) -> u8
     }
 }
 
-/// The status of a subcommand whose answer is yes or no: 0 for yes, 1 for no; a fault has its line on `errors`.
+/// Returns the status of a subcommand whose answer is yes or no: 0 for yes, 1 for no; a fault has its line on `errors`.
 fn answered<E: Write>(answer: Result<bool, Fault>, errors: &mut E) -> u8
     ensures { MatchResult answer (λ yes. (yes ≡ true → result ≡ 0) × (yes ≡ false → result ≡ 1)) (λ _. result ≡ 1) }
 {
@@ -266,8 +266,8 @@ fn answered<E: Write>(answer: Result<bool, Fault>, errors: &mut E) -> u8
     }
 }
 
-/// Answers the status where the system can't give the words: 1 where memory ran out, and else 2,
-/// since one isn't UTF-8. A line on `errors` says so.
+/// Answers the status where the system can't give the words: 1 if memory ran out, and else 2, since one isn't UTF-8. A
+/// line on `errors` says so.
 pub fn refuse_words<E: Write>(error: &io::Error, errors: &mut E) -> u8
     ensures memory { error_kind error.now ≡ IoErrorKind.OutOfMemory → result ≡ 1 }
     ensures wrong { error_kind error.now ≢ IoErrorKind.OutOfMemory → result ≡ 2 }
@@ -289,7 +289,7 @@ pub fn refuse_streams<E: Write>(errors: &mut E) -> u8
     fail(errors, "standard streams")
 }
 
-/// Writes the argument reader's text where it belongs, and answers the status.
+/// Writes the argument reader's text where it belongs, and returns the status.
 fn explain<W: Write, E: Write>(error: &Error, writer: &mut W, errors: &mut E) -> u8
     ensures help { (kind_of error.now ≡ ErrorKind.DisplayHelp) ⊎ (kind_of error.now ≡ ErrorKind.DisplayVersion)
         → (result ≡ 0) ⊎ (result ≡ 1) }
@@ -315,7 +315,7 @@ fn explain<W: Write, E: Write>(error: &Error, writer: &mut W, errors: &mut E) ->
     }
 }
 
-/// Writes the line of a fault and, on a line of its own, the advice on it, where there is one. Returns the status.
+/// Writes the line of a fault and, on a line of its own, the advice on it, if there is one. Returns the status.
 fn fail_with_advice<E: Write>(errors: &mut E, fault: Fault) -> u8
     ensures { result ≡ 1 }
 {
@@ -327,7 +327,7 @@ fn fail_with_advice<E: Write>(errors: &mut E, fault: Fault) -> u8
     status
 }
 
-/// Writes the line of a fault, and answers the status.
+/// Writes the line of a fault, and returns the status.
 fn fail<E: Write, F: Display + Drop>(errors: &mut E, fault: F) -> u8
     ensures { result ≡ 1 }
 {

@@ -35,7 +35,7 @@ pub(crate) fn list_rows<R: Files<File = File> + Env + Clock + AllocGlobal, W: Wr
     print_list(alloc, rt, path, &filter, form, writer)
 }
 
-/// The age that a text says, in seconds.
+/// Returns the age that a text says, in seconds.
 fn asked_age(text: &str) -> Result<u64, QueueFault> {
     match read_age(text) {
         Some(age) => Ok(age),

@@ -20,9 +20,8 @@ const MAX_CONTENT: usize = 1_048_576;
 /// The most octets of a spool.
 const SPOOL_LIMIT: u64 = 67_108_864;
 
-/// The configuration of a session from standard input: the host `relay.example`, contents of up to
-/// 1,048,576 octets, taken as they come, and `example.org` as the only domain that mail is taken for. It
-/// fails where memory runs out.
+/// Returns the configuration of a session from standard input: the host `relay.example`, contents of up to 1,048,576
+/// octets, taken as they come, and `example.org` as the only domain that mail is taken for. Fails if memory runs out.
 #[tactic(auto, using(crate::proofs::ProfileLemmas::is_profile))]
 pub fn configuration(alloc: Global) -> Result<Config, AllocError>
     ensures { IfOk result IsProfile }
@@ -48,7 +47,7 @@ pub fn configuration(alloc: Global) -> Result<Config, AllocError>
     Ok(config)
 }
 
-/// The route of `example.org`, to `next.example`.
+/// Returns the route of `example.org`, to `next.example`.
 fn add_route(alloc: Global, routes: &mut Table) -> Result<(), AllocError>
     requires { routes.old.routes ≡ [] }
     ensures host { routes.new.host ≡ routes.old.host }
@@ -60,12 +59,12 @@ fn add_route(alloc: Global, routes: &mut Table) -> Result<(), AllocError>
     };
     match routes.add(alloc, b"example.org", hop) {
         Ok(()) => Ok(()),
-        // The domain is one, and no other route stands in the table, so nothing but memory can be wanting.
+        // The domain is one, and no other route is in the table, so nothing but memory can be wanting.
         Err(_) => Err(AllocError),
     }
 }
 
-/// The name of a host. It fails where memory runs out.
+/// Returns the name of a host. Fails if memory runs out.
 fn host_name(alloc: Global, name: &[u8]) -> Result<HostName, AllocError>
     requires { IsHostName name.now }
     ensures { IfOk result (λ host. host ≡ name.now) }
@@ -76,14 +75,14 @@ fn host_name(alloc: Global, name: &[u8]) -> Result<HostName, AllocError>
     }
 }
 
-/// This host's own address, with a port.
+/// Returns this host's own address, with a port.
 fn at_port(port: u16) -> SocketAddrV4
     ensures { result ≡ loopback_at port }
 {
     SocketAddrV4::new(Ipv4Addr::new(127, 0, 0, 1), port)
 }
 
-/// The moment at which the mail of a session from standard input counts as accepted. It takes no memory.
+/// Returns the time at which the mail of a session from standard input counts as accepted. Allocates nothing.
 pub fn moment() -> Moment
     ensures { result ≡ session_moment }
 {

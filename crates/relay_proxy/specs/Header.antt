@@ -13,8 +13,8 @@ use Rattle.relay_proxy.specs.declared.source.Source.{Source}
 abbrev pub IsHeader : List ℕ → Source → Type 0
 IsHeader header source = IsHeaderLine header source ⊎ IsBlock header source
 
--- octets of which more are waited for: a beginning of what each line or each block begins with; a line that hasn't
--- ended; a block whose length, or whose octets, aren't all there
+-- octets of which more are waited for: a prefix of what each line or each block begins with; a line that hasn't ended;
+-- a block whose length, or whose octets, aren't all there
 pub data IsUnfinished (octets : List ℕ) : Type 0 where
   at_word : Begins octets line_word → IsUnfinished octets
   at_line : Begins line_word octets → HasNoCrlf octets → length octets < line_limit → IsUnfinished octets
@@ -45,6 +45,6 @@ Reads octets (Found header) = IsFound octets header
 Reads octets (Unfinished count) = IsBegun octets count
 Reads octets Missing = IsNone octets
 
--- so many octets are missing at least to a header of which these many are there: each has more than 12
+-- this many octets are missing at least to a header of which these many are there: each has more than 12
 abbrev pub least_left : ℕ → ℕ
 least_left count = max 1 (12 - count)

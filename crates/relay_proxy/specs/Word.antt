@@ -4,7 +4,7 @@ use Rattle.std.specs.List.{AllByRecursion}
 use Rattle.std.specs.Net.Grammar.{IsIpv4Text}
 use Rattle.std.specs.declared.net.ipv4_addr.Ipv4Addr.{Ipv4Addr}
 
--- no space stands in the text
+-- no space is in the text
 abbrev pub HasNoSpace : List ℕ → Type 0
 HasNoSpace text = AllByRecursion (λ octet. octet == 32 ≡ false) text
 

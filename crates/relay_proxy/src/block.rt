@@ -21,7 +21,7 @@ const REST_LIMIT: usize = 520;
 /// Version 2, where the proxy speaks for itself.
 const LOCAL: u8 = 0x20;
 
-/// Version 2, where it passes the connection of a client on.
+/// Version 2, if it passes the connection of a client on.
 const PROXY: u8 = 0x21;
 
 /// Reads the block of which these octets follow the signature.
@@ -49,7 +49,7 @@ pub(crate) fn read_block(octets: &[u8]) -> Reading
     }
 }
 
-/// What a block says with this command, this family and protocol, and this rest.
+/// Returns what a block says with this command, this family and protocol, and this rest.
 fn source_of(command: u8, family: u8, rest: &[u8]) -> Option<Source>
     ensures { MatchOption result (HasNoMeaning command family rest.now) (SaysOfBlock command family rest.now) }
 {
@@ -70,7 +70,7 @@ fn source_of(command: u8, family: u8, rest: &[u8]) -> Option<Source>
     }
 }
 
-/// The client of TCP over IPv4: source and destination address, source and destination port.
+/// Returns the client of TCP over IPv4: source and destination address, source and destination port.
 fn client_of(rest: &[u8]) -> Option<SocketAddrV4>
     ensures { MatchOption result (lacks_addresses rest.now) (WritesIpv4 rest.now) }
 {
@@ -83,8 +83,8 @@ fn client_of(rest: &[u8]) -> Option<SocketAddrV4>
     }
 }
 
-/// The octets of the addresses of other families and protocols: UDP over IPv4, TCP and UDP over IPv6, and sockets of
-/// the proxy's own machine.
+/// Returns the octets of the addresses of other families and protocols: UDP over IPv4, TCP and UDP over IPv6, and
+/// sockets of the proxy's own machine.
 fn other_size(family: u8) -> Option<usize>
     ensures { result ≡ other_size family }
 {

@@ -26,14 +26,14 @@ pub struct Header {
 pub enum Reading {
     /// A whole header.
     Found(Header),
-    /// A beginning of a header, to which so many octets more belong at least.
+    /// A beginning of a header, to which this many octets more belong at least.
     Unfinished(usize),
     /// No header.
     Missing,
 }
 
 /// Reads the header with which octets begin. It has at most 107 octets in version 1, and 536 in version 2, of which
-/// longer ones are no headers here. What stands after it isn't looked at.
+/// longer ones are no headers here. What is after it isn't checked.
 pub fn read_header(octets: &[u8]) -> Reading
     ensures { Reads octets.now result }
 {
@@ -50,7 +50,7 @@ pub fn read_header(octets: &[u8]) -> Reading
     }
 }
 
-/// Whether octets are a beginning of that with which each line, or each block, begins.
+/// Returns whether octets are a prefix of that with which each line, or each block, begins.
 fn is_begun(octets: &[u8]) -> bool
     ensures { IsTrue result ↔ (Begins octets.now line_word ⊎ Begins octets.now signature) }
 {
@@ -60,7 +60,7 @@ fn is_begun(octets: &[u8]) -> bool
     begins(SIGNATURE, octets)
 }
 
-/// How many octets are missing at least to a header of which so many are there.
+/// Returns how many octets are missing at least to a header of which this many are there.
 pub(crate) fn least_left(count: usize) -> usize
     ensures { result ≡ least_left count }
 {

@@ -1,4 +1,4 @@
-//! What is true of headers, whoever reads them.
+//! Laws of headers, whoever reads them.
 ghost use Rattle.relay_proxy.specs.Laws.{ClientBlockIsHeader, ClientLineIsHeader, FrontIsUnfinished, HeaderIsAll};
 ghost use Rattle.relay_proxy.specs.Laws.{HeaderIsBounded, HeaderIsFinished, HeaderIsOne, HeaderIsRead};
 

@@ -39,7 +39,7 @@ pub(crate) fn read_line(octets: &[u8]) -> Reading
     }
 }
 
-/// What a line says, without its CR LF.
+/// Returns what a line says, without its CR LF.
 fn source_of(line: &[u8]) -> Option<Source>
     ensures { MatchOption result (HasNoSource line.now) (SaysOfLine line.now) }
 {
@@ -58,7 +58,7 @@ fn source_of(line: &[u8]) -> Option<Source>
     None
 }
 
-/// The client that source and destination address, source and destination port say.
+/// Returns the client that source and destination address, source and destination port say.
 fn client_of(text: &[u8]) -> Option<SocketAddrV4>
     ensures { MatchOption result (HasNoClient text.now) (WritesClient text.now) }
 {

@@ -10,7 +10,7 @@ use std::str;
 /// The port 0.
 const ZERO: &[u8] = b"0";
 
-/// The address of IPv4 that stands before the first space, and what follows that.
+/// Returns the address of IPv4 that is before the first space, and what follows that.
 pub(crate) fn read_address(text: &[u8]) -> Option<(Ipv4Addr, &[u8])>
     ensures { MatchOption result (HasNoAddress text.now)
         (λ parts. ReadsAddress text.now parts.0 parts.1.now) }
@@ -24,7 +24,7 @@ pub(crate) fn read_address(text: &[u8]) -> Option<(Ipv4Addr, &[u8])>
     }
 }
 
-/// The port that stands before the first space, and what follows that.
+/// Returns the port that is before the first space, and what follows that.
 pub(crate) fn read_port_word(text: &[u8]) -> Option<(u16, &[u8])>
     ensures { MatchOption result (HasNoPortWord text.now)
         (λ parts. ReadsPort text.now parts.0 parts.1.now) }
@@ -38,7 +38,7 @@ pub(crate) fn read_port_word(text: &[u8]) -> Option<(u16, &[u8])>
     }
 }
 
-/// The port that a text writes, without leading zeros.
+/// Returns the port that a text writes, without leading zeros.
 pub(crate) fn read_port(text: &[u8]) -> Option<u16>
     ensures { MatchOption result (HasNoPort text.now) (IsPort text.now) }
 {
@@ -51,7 +51,7 @@ pub(crate) fn read_port(text: &[u8]) -> Option<u16>
     }
 }
 
-/// The number of 16 bits that a text writes which begins neither with a sign nor with a zero.
+/// Returns the number of 16 bits that a text writes which begins neither with a sign nor with a zero.
 fn number_of(text: &[u8]) -> Option<u16>
     requires { 48 < slice_index text.now 0 }
     ensures { MatchOption result (HasNoPort text.now) (IsPort text.now) }
@@ -62,7 +62,7 @@ fn number_of(text: &[u8]) -> Option<u16>
     }
 }
 
-/// Whether a text begins with an octet above the digit 0: with a digit from 1, or with what no number has.
+/// Returns whether a text begins with an octet above the digit 0: with a digit from 1, or with what no number has.
 fn begins_above_zero(text: &[u8]) -> bool
     ensures { IsTrue result ↔ 48 < slice_index text.now 0 }
 {
@@ -72,7 +72,7 @@ fn begins_above_zero(text: &[u8]) -> bool
     }
 }
 
-/// What stands before the first space, and what follows it.
+/// Returns what is before the first space, and what follows it.
 fn cut(text: &[u8]) -> Option<(&[u8], &[u8])>
     ensures { MatchOption result (HasNoSpace text.now) (λ parts. Cuts text.now parts.0.now parts.1.now) }
 {

@@ -13,7 +13,7 @@ age_in_unit seconds =
 abbrev pub age_text : ℕ → List ℕ
 age_text seconds = decimal (age_in_unit seconds).0 ++ (age_in_unit seconds).1
 
--- so many octets in a unit, with one decimal, which isn't rounded up
+-- this many octets in a unit, with one decimal, which isn't rounded up
 abbrev pub in_unit : ℕ → ℕ → List ℕ → List ℕ
 in_unit octets unit name = decimal (octets / unit) ++ codes "." ++ decimal (octets % unit * 10 / unit) ++ name
 

@@ -23,7 +23,7 @@ abbrev pub passes_if : {X : Type 0} → (X → Bool) → Option X → Bool
 passes_if test None = true
 passes_if test (Some asked) = test asked
 
--- the recipient is listed at this moment: its next hop, its message's reverse path and its own path are those that are
+-- the recipient is listed at this time: its next hop, its message's reverse path and its own path are those that are
 -- asked for, and its message is as old as asked for
 abbrev pub passes : Filter → ℕ → Queued → Bool
 passes filter now queued =

@@ -24,7 +24,7 @@ use Rattle.relay_queue.specs.Row.{queued_at}
 use Rattle.relay_queue.specs.Screen.{AreSafe, IsShownText, shown_line}
 use Rattle.relay_queue.specs.Table.{IsTable}
 
--- the line of a recipient as an object, where it is queued
+-- the line of a recipient as an object, if it is queued
 abbrev pub object_line : RouteTable → Queue → (ℕ × ℕ × ℕ) × List ℕ → List ℕ
 object_line table queue row =
     option_map_or (λ _. shown_line row.1) (queued_at table queue (row.0.1, row.0.2)) []
@@ -40,7 +40,7 @@ abbrev pub IsList : ListForm → ℕ → RouteTable → Queue → List (ℕ × �
 IsList Table now table queue keys text = IsTable now table queue keys text
 IsList Json now table queue keys text = AreObjects table queue keys text
 
--- the queued recipients that pass the filter were printed, by some routes and at some moment
+-- the queued recipients that pass the filter were printed, by some routes and at some time
 pub record IsListPrinted (filter : Filter) (form : ListForm) (old new : Option (List ℕ)) : Type 0 where
   pub records : Kept FileDisk
   pub opened : IsOpened records

@@ -46,7 +46,7 @@ pub record IsShownText (text added : List ℕ) : Type 0 where
   pub rest_is : HasNoCrlf rest
   pub added_is : added ≡ flat_map shown_line lines ++ shown_last rest
 
--- so many spaces
+-- this many spaces
 abbrev pub padding : ℕ → List ℕ
 padding zero = []
 padding (suc count) = 32 ∷ padding count

@@ -41,7 +41,7 @@ tries_and_time time queued = right_cell 7 (tries_text queued.tries) ++ padding 2
 abbrev pub row_text : Widths → ℕ → List ℕ → Queued → List ℕ
 row_text widths now time queued = numbers_text now queued ++ names_text widths queued ++ tries_and_time time queued
 
--- the line of the recipient at a place, where it is queued
+-- the line of the recipient at a place, if it is queued
 abbrev pub row_line : Widths → ℕ → RouteTable → Queue → (ℕ × ℕ × ℕ) × List ℕ → List ℕ
 row_line widths now table queue row =
     option_map_or (row_text widths now row.1) (queued_at table queue (row.0.1, row.0.2)) []

@@ -1,7 +1,7 @@
 //! Ages as they are asked for.
 
-/// Reads an age: a number and a unit, `s`, `m`, `h` or `d`, in seconds. None where the text is none, or the age has
-/// more than 2^64 - 1 seconds. It takes no memory.
+/// Reads an age: a number and a unit, `s`, `m`, `h` or `d`, in seconds. None if the text is none, or the age has more
+/// than 2^64 - 1 seconds. Allocates nothing.
 pub fn read_age(text: &str) -> Option<u64> {
     let (digits, unit) = text.split_at_checked(text.len().checked_sub(1)?)?;
     let seconds = match unit {

@@ -24,7 +24,7 @@ pub(crate) fn push_age(screen: &mut Screen, seconds: u64) -> Result<(), AllocErr
     screen.push(unit)
 }
 
-/// An age in its largest unit.
+/// Returns an age in its largest unit.
 fn age_in_unit(seconds: u64) -> (u64, &'static [u8])
     ensures count { result.0 ≡ (age_in_unit seconds).0 }
     ensures unit { shown result.1.now ≡ (age_in_unit seconds).1 }

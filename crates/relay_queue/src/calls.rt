@@ -52,8 +52,8 @@ pub enum StatusForm {
     Metrics,
 }
 
-/// Prints the queued recipients that pass a filter, those of the oldest message first. The spool's files are opened
-/// for reading alone, and no lock is taken, so that a relay may run on them. Faults are looked for in this order: the
+/// Prints the queued recipients that pass a filter, those of the oldest message first. The spool's files are opened for
+/// reading alone, and no lock is taken, so that a relay may run on them. Faults are searched for in this order: the
 /// configuration file, its content, the spool, the writer.
 pub fn print_list<R: Files<File = File> + Env + Clock + AllocGlobal, W: Write>(
     alloc: Global,
@@ -81,7 +81,7 @@ pub fn print_list<R: Files<File = File> + Env + Clock + AllocGlobal, W: Write>(
     Ok(write_out(writer, screen.as_slice())?)
 }
 
-/// The recipients with these keys in a form.
+/// Returns the recipients with these keys in a form.
 fn list_text<R: Files<File = File> + Env + AllocGlobal, D: Disk>(
     alloc: Global,
     rt: &R,
@@ -164,7 +164,7 @@ pub fn print_status<R: Files<File = File> + Env + Clock + AllocGlobal, W: Write>
     Ok(write_out(writer, screen.as_slice())?)
 }
 
-/// The queue by next hop, and how full the spool is, in a form.
+/// Returns the queue by next hop, and how full the spool is, in a form.
 fn fill_in_form<R: Files<File = File> + Env + AllocGlobal>(
     alloc: Global,
     rt: &R,

@@ -2,7 +2,7 @@ use relay_files::Fault;
 use std::alloc::AllocError;
 use thiserror::Error;
 
-/// Why the queue can't be looked at. Its text stands after `relayd: `.
+/// Why the queue can't be checked. Its text is after `relayd: `.
 #[derive(Clone, Copy, Debug, PartialEq, Eq, Error)]
 pub enum QueueFault {
     /// A file can't be read or holds something else, memory ran out, or what was found can't be written.

@@ -21,7 +21,7 @@ pub struct Filter<'a> {
 }
 
 impl Filter<'_> {
-    /// Returns whether a recipient is listed at this moment. It takes no memory.
+    /// Returns whether a recipient is listed at this time. Allocates nothing.
     pub fn passes(&self, now: Moment, row: &Row<'_>) -> bool
         ensures { result ≡ passes self.now now (said_by row.now) }
     {
@@ -62,7 +62,7 @@ fn is_aged_if(now: Moment, accepted: Moment, asked: Option<u64>) -> bool
     }
 }
 
-/// A path without its brackets.
+/// Returns a path without its brackets.
 fn within_brackets(path: &[u8]) -> &[u8]
     ensures { result.now ≡ within_brackets path.now }
 {

@@ -51,7 +51,7 @@ pub(crate) fn json_text<D: Disk>(
     Ok(screen)
 }
 
-/// Adds the line of the recipient with this key, where it is queued.
+/// Adds the line of the recipient with this key, if it is queued.
 fn push_object_at<D: Disk>(
     alloc: Global,
     screen: &mut Screen,
@@ -100,7 +100,7 @@ fn push_object(
     }
 }
 
-/// The text of a path or of a name, which are ASCII.
+/// Returns the text of a path or of a name, which are ASCII.
 fn text_of(octets: &[u8]) -> &str {
     match str::from_utf8(octets) {
         Ok(text) => text,

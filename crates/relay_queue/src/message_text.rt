@@ -120,7 +120,7 @@ fn push_notify(screen: &mut Screen, notify: Option<Notify>) -> Result<(), AllocE
     }
 }
 
-/// The outcomes that are to be reported (RFC 3461, section 4.1), of which there is at least one.
+/// Returns the outcomes that are to be reported (RFC 3461, section 4.1), of which there is at least one.
 fn outcomes_text(outcomes: Outcomes) -> &'static [u8] {
     match (outcomes.success, outcomes.failure, outcomes.delay) {
         (true, true, true) => b"SUCCESS,FAILURE,DELAY",
@@ -134,7 +134,7 @@ fn outcomes_text(outcomes: Outcomes) -> &'static [u8] {
     }
 }
 
-/// Adds whether a recipient is queued, where it goes and when.
+/// Adds whether a recipient is queued, if it goes and when.
 fn push_state(
     alloc: Global,
     screen: &mut Screen,

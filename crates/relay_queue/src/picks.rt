@@ -14,7 +14,7 @@ use std::alloc::{AllocError, Global};
 /// When the message of a recipient was accepted, in seconds from 1970, its number, and the recipient's place.
 pub type Key = (u64, u64, u8);
 
-/// Returns the keys of the queued recipients that pass a filter at this moment, those of the oldest message first.
+/// Returns the keys of the queued recipients that pass a filter at this time, those of the oldest message first.
 pub fn listed_keys<D: Disk>(
     alloc: Global,
     records: &Records<D>,
@@ -29,7 +29,7 @@ pub fn listed_keys<D: Disk>(
     Ok(keys)
 }
 
-/// The keys in the order of the queue.
+/// Returns the keys in the order of the queue.
 fn keys_of<D: Disk>(
     alloc: Global,
     records: &Records<D>,

@@ -24,15 +24,15 @@ pub struct Row<'a> {
     pub reverse_path: &'a [u8],
     /// The forward path of the recipient.
     pub path: &'a [u8],
-    /// The name of the next hop; none where no route leads to one.
+    /// The name of the next hop; none if no route leads to one.
     pub hop: Option<&'a [u8]>,
     /// How often it was deferred; 4 stands for four times and more.
     pub tries: u8,
-    /// When it is due, in seconds from 1970. It may pass the greatest moment.
+    /// When it is due, in seconds from 1970. It may pass the last time.
     pub due: u64,
 }
 
-/// Returns the recipient at a place of the message of this number, where it is queued. It takes no memory.
+/// Returns the recipient at a place of the message of this number, if it is queued. Allocates nothing.
 pub fn row_at<'a, D: Disk>(
     records: &'a Records<D>,
     table: &'a Table,
@@ -47,7 +47,7 @@ pub fn row_at<'a, D: Disk>(
     }
 }
 
-/// The recipient at a place of a message, where it is queued.
+/// Returns the recipient at a place of a message, if it is queued.
 pub(crate) fn row_in<'a>(
     table: &'a Table,
     number: u64,
@@ -76,7 +76,7 @@ pub(crate) fn row_in<'a>(
     }
 }
 
-/// The name of the next hop of a path.
+/// Returns the name of the next hop of a path.
 fn hop_name<'a>(table: &'a Table, path: &PathBuf) -> Option<&'a [u8]>
     ensures { option_copied result ≡ hop_name table.now path.now }
 {

@@ -27,7 +27,7 @@ impl Model for Screen {
 }
 
 impl Screen {
-    /// No text. It takes no memory.
+    /// No text. Allocates nothing.
     pub fn new(alloc: Global) -> Self
         ensures { result ≡ [] }
     {
@@ -36,7 +36,7 @@ impl Screen {
         }
     }
 
-    /// The text.
+    /// Returns the text.
     pub fn as_slice(&self) -> &[u8]
         ensures value { result.now ≡ self.now }
         ensures safe { AreSafe self.now }
@@ -125,14 +125,14 @@ impl Screen {
     }
 }
 
-/// The four octets that stand for one that isn't printable.
+/// Returns the four octets that stand for one that isn't printable.
 fn escape(octet: u8) -> [u8; 4]
     ensures { result ≡ escape octet }
 {
     [b'\\', b'x', hex_digit(octet / 16), hex_digit(octet % 16)]
 }
 
-/// A hexadecimal digit.
+/// Returns a hexadecimal digit.
 fn hex_digit(digit: u8) -> u8
     requires { digit < 16 }
     ensures { result ≡ hex_digit digit }

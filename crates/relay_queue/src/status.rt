@@ -98,7 +98,7 @@ fn push_hop(
     screen.end_line()
 }
 
-/// The name of a next hop, or what stands for none.
+/// Returns the name of a next hop, or what stands for none.
 fn shown_name(name: &[u8]) -> &[u8] {
     if name.is_empty() { b"-" } else { name }
 }

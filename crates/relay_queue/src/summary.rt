@@ -53,7 +53,7 @@ fn count(alloc: Global, all: &mut Summaries, row: &Row<'_>) -> Result<(), AllocE
 }
 
 impl Summary {
-    /// What one recipient comes to.
+    /// Returns what one recipient comes to.
     fn of(row: &Row<'_>) -> Self {
         Summary {
             messages: 1,
@@ -65,7 +65,7 @@ impl Summary {
         }
     }
 
-    /// The same with one recipient more, whose message is the one that was counted last or a new one.
+    /// Returns the same with one recipient more, whose message is the one that was counted last or a new one.
     fn with(self, row: &Row<'_>) -> Self {
         let is_new = self.last != row.number;
         Summary {

@@ -82,7 +82,7 @@ pub(crate) fn table_text<D: Disk>(
     Ok(screen)
 }
 
-/// How wide the columns of texts have to be.
+/// How wide the columns of texts must be.
 fn widths_of<D: Disk>(records: &Records<D>, table: &Table, keys: &[Key]) -> Widths {
     let mut widths = Widths {
         reverse_path: 12,
@@ -120,7 +120,7 @@ fn push_heading(screen: &mut Screen, widths: Widths) -> Result<(), AllocError> {
     screen.end_line()
 }
 
-/// Adds the line of the recipient with this key, where it is queued.
+/// Adds the line of the recipient with this key, if it is queued.
 fn push_row_at<D: Disk>(
     screen: &mut Screen,
     cell: &mut Screen,
@@ -200,14 +200,14 @@ fn push_tries(screen: &mut Screen, row: &Row<'_>, time: &[u8]) -> Result<(), All
     screen.end_line()
 }
 
-/// How many seconds ago the message of a recipient was accepted.
+/// Returns how many seconds ago the message of a recipient was accepted.
 fn age_of(row: &Row<'_>, now: Moment) -> u64
     ensures { result ≡ now - row.now.accepted }
 {
     now.seconds().saturating_sub(row.accepted.seconds())
 }
 
-/// How often a recipient was deferred, as it is shown.
+/// Returns how often a recipient was deferred, as it is shown.
 pub(crate) fn tries_text(tries: u8) -> &'static [u8]
     ensures { result.now ≡ tries_text tries }
 {
@@ -220,7 +220,7 @@ pub(crate) fn tries_text(tries: u8) -> &'static [u8]
     }
 }
 
-/// The sums of these recipients, of which those of one message stand together.
+/// Returns the sums of these recipients, of which those of one message stand together.
 fn totals_of<D: Disk>(records: &Records<D>, keys: &[Key], now: Moment) -> Totals {
     let mut totals = Totals {
         messages: 0,
@@ -243,7 +243,7 @@ fn totals_of<D: Disk>(records: &Records<D>, keys: &[Key], now: Moment) -> Totals
     totals
 }
 
-/// How many octets a message has.
+/// Returns how many octets a message has.
 fn size_of<D: Disk>(records: &Records<D>, number: u64) -> u64 {
     match records.message(number) {
         Some(message) => message.accept.stored_text.len() as u64,

@@ -9,7 +9,7 @@ use std::rt::{Env, Files};
 /// How many octets a time has.
 pub(crate) const TIME_LENGTH: usize = 25;
 
-/// The time zone of this machine, by `TZ` or `/etc/localtime`; UTC where there is none that can be read.
+/// The time zone of this machine, by `TZ` or `/etc/localtime`; UTC if there is none that can be read.
 #[derive(Drop)]
 pub struct Zone {
     system: Option<SystemTimeZone>,
@@ -29,7 +29,7 @@ impl Zone {
         }
     }
 
-    /// Returns a time of so many seconds from 1970 by RFC 3339, with the zone's offset at that time:
+    /// Returns a time of this many seconds from 1970 by RFC 3339, with the zone's offset at that time:
     /// `2024-02-29T23:59:59+01:00`. Years past 9998 are shown as its last second.
     pub(crate) fn time(&self, seconds: u64) -> [u8; TIME_LENGTH] {
         let Ok(instant) = Timestamp::from_second(Moment::nearest(seconds).seconds() as i64) else {
@@ -50,7 +50,7 @@ impl Zone {
     }
 }
 
-/// The text of what calendar and clock show at so many seconds east of UTC.
+/// Returns the text of what calendar and clock show at this many seconds east of UTC.
 fn print(shown: DateTime, offset: i32) -> [u8; TIME_LENGTH] {
     let year = shown.year().unsigned_abs();
     let [y0, y1] = two_digits(u32::from(year / 100));
@@ -70,7 +70,7 @@ fn print(shown: DateTime, offset: i32) -> [u8; TIME_LENGTH] {
     ]
 }
 
-/// The last two digits of a number.
+/// Returns the last two digits of a number.
 fn two_digits(number: u32) -> [u8; 2] {
     [b'0' + (number / 10 % 10) as u8, b'0' + (number % 10) as u8]
 }

@@ -20,7 +20,7 @@ waiting_in place message =
     option_and_then
     (waiting_for (slice_get message.accept.envelope.recipients place)) (slice_get message.places place)
 
--- the path and the due moment of a held place of the queue
+-- the path and the due time of a held place of the queue
 abbrev pub waiting_at : Queue → ℕ → ℕ → Option (List ℕ × ℕ)
 waiting_at queue number place = option_and_then (waiting_in place) (message_of queue.messages number)
 

@@ -22,7 +22,7 @@ abbrev pub queues_report : Change → Bool
 queues_report (Accept accept) = false
 queues_report (Outcome outcome) = is_text outcome.report
 
--- the note is of this change after these, and of so many octets of the call's piece
+-- the note is of this change after these, and of this many octets of the call's piece
 pub record IsNoted (noted : Option Noted) (changes : List Change) (change : Change) (used : ℕ) : Type 0 where
   pub note : Noted
   pub is : noted ≡ Some note

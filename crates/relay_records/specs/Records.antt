@@ -86,7 +86,7 @@ RefusesToAdd words old new Full = new ≡ old
 RefusesToAdd words old new other = ⊥
 
 -- what a compaction did to the records, whatever list they keep: the spool has one body, the snapshot of the queue, on
--- the disk that wasn't taken and is now; it took the calls of the device that write a disk anew, which a fuse lets pass
+-- the disk that wasn't taken and is now; it took the calls of the device that rewrite a disk, which a fuse lets pass
 pub record Compacts {D : Type 0} (honest : Type 0) (words : DiskWords D) (old new : Kept D) : Type 0 where
   pub bodies_are : honest → new.spool.bodies ≡ snapshot old.queue ∷ []
   pub size : new.spool.size ≡ 23 + length (snapshot old.queue)

@@ -1,4 +1,4 @@
-//! The one way by which a change comes into records.
+//! The one way to add a change to records.
 ghost use Rattle.std.specs.Prelude.{◌≡◌, ◌↔◌, ◌⊎◌, ◌+◌, ◌<◌, ◌≤◌, ◌^◌, ◌≢◌, List, false, length, Err, Some, IfErr};
 ghost use Rattle.std.specs.Prelude.{IfOk, IsErrOf, IsTrue, MatchResult, OnOk};
 ghost use Rattle.relay_disk.specs.Disks.{Fails};
@@ -20,10 +20,10 @@ use relay_spool::{BODY_OVERHEAD, SIZE_LIMIT, Spool, SpoolFault};
 use std::alloc::{AllocError, Global};
 
 impl<D: Disk> Records<D> {
-    /// Adds a change, of which these octets are the record. It goes to the spool first, and then into the
-    /// queue, and the answer is its number; `used` is how many octets of its piece the call had used. All
-    /// growths come before the append. `NoMemory` and `Full` leave everything as it was. At `Stopped` the
-    /// device failed: a stop leaves the changes as they were or with this one, and it is noted.
+    /// Adds a change, of which these octets are the record. It goes to the spool first, and then into the queue, and
+    /// the answer is its number; `used` is how many octets of its piece the call had used. All growths come before the
+    /// append. `NoMemory` and `Full` change nothing. At `Stopped` the device failed: a stop leaves the changes as they
+    /// were or with this one, and it is noted.
     pub fn add(
         &mut self,
         alloc: Global,
@@ -39,7 +39,7 @@ impl<D: Disk> Records<D> {
             × Adds D.honest D.words self.new changes change used) }
         ensures cut { (changes : List Change) → Keeps D.honest D.words self.old changes
             → result ≡ Err NodeFault.Stopped → Cuts D.honest D.words self.new changes change used }
-        // A stop at any moment of the call leaves the changes as they were or with this one.
+        // A stop at any time of the call leaves the changes as they were or with this one.
         ensures stop { (changes : List Change) → Keeps D.honest D.words self.old changes → D.honest
             → AtEachMoment D.words self.old.spool.disk self.new.spool.disk
             (HasBodies (StandsForOrWith changes (Some change))) }
@@ -71,7 +71,7 @@ impl<D: Disk> Records<D> {
         Ok(number)
     }
 
-    /// Whether the spool may grow by this body.
+    /// Returns whether the spool may grow by this body.
     fn has_room(&self, octets: &Octets) -> bool
         ensures { IsTrue result ↔ (self.now.spool.size + 5 + length octets.now ≤ 2 ^ 40) }
     {
@@ -80,7 +80,7 @@ impl<D: Disk> Records<D> {
     }
 }
 
-/// Makes a change that fits ready to be committed. It fails where memory runs out.
+/// Makes a change that fits ready to be committed. Fails if memory runs out.
 pub(crate) fn ready_of(alloc: Global, book: &mut Book, change: Change) -> Result<Ready, AllocError>
     requires { FitsQueue book.old.queue change }
     ensures queue { book.new.queue ≡ book.old.queue }

@@ -1,4 +1,4 @@
-//! The bodies of records made one: the snapshot of their queue.
+//! Compaction: the snapshot of the queue in place of all bodies.
 ghost use Rattle.std.specs.Prelude.{◌≡◌, ◌≢◌, ◌⊎◌, ◌↔◌, ◌+◌, ◌-◌, ◌^◌, min, List, None, Err, length, IfErr, OnOk};
 ghost use Rattle.std.specs.Prelude.{IsTrue};
 ghost use Rattle.relay_spool.specs.Pair.{HasBodies, IsTooMuch};
@@ -18,8 +18,8 @@ use std::alloc::Global;
 const AROUND_ONE_BODY: usize = 23;
 
 impl<D: Disk> Records<D> {
-    /// How many octets the spool takes once it is compacted as it stands. It takes no memory, and 2^64 - 1 octets
-    /// stand for as many and more.
+    /// Returns how many octets the spool takes once it is compacted as it stands. Allocates nothing, and 2^64 - 1
+    /// octets stand for as many and more.
     pub fn compacted_size(&self) -> usize
         ensures { result ≡ min (23 + length (snapshot self.now.queue)) (2 ^ 64 - 1) }
     {
@@ -27,17 +27,16 @@ impl<D: Disk> Records<D> {
         self.book.snapshot_length().saturating_add(AROUND_ONE_BODY)
     }
 
-    /// Puts the snapshot of the queue in place of all bodies. The changes stay as they are, and so does the
-    /// note, whatever is answered. `NoSecond`, `Full` and `NoMemory` leave everything as it was, and are
-    /// looked for in this order. At `Stopped` the device failed: a stop leaves the changes as they were. It
-    /// needs memory for one copy of the snapshot.
+    /// Puts the snapshot of the queue in place of all bodies. The changes are unchanged, and so does the note, whatever
+    /// is answered. `NoSecond`, `Full` and `NoMemory` change nothing, and are searched for in this order. At `Stopped`
+    /// the device failed: a stop leaves the changes as they were. It needs memory for one copy of the snapshot.
     pub fn compact(&mut self, alloc: Global) -> Result<(), NodeFault>
         requires { IsTrue self.old.spool.live }
         ensures kept { (changes : List Change) → Keeps D.honest D.words self.old changes
             → OnOk result (Keeps D.honest D.words self.new changes) }
         ensures cut { (changes : List Change) → Keeps D.honest D.words self.old changes
             → result ≡ Err NodeFault.Stopped → Halted D.honest D.words self.new changes None }
-        // A stop at any moment of the call leaves the changes as they were.
+        // A stop at any time of the call leaves the changes as they were.
         ensures stop { (changes : List Change) → Keeps D.honest D.words self.old changes → D.honest
             → AtEachMoment D.words self.old.spool.disk self.new.spool.disk
             (HasBodies (λ bodies. StandsFor bodies changes)) }

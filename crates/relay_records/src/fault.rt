@@ -7,7 +7,7 @@ use thiserror::Error;
 /// Why a disk wasn't opened, or no records were made on it.
 #[derive(Clone, Copy, Debug, PartialEq, Eq, Error)]
 pub enum Cause {
-    /// The spool was refused; want of memory too.
+    /// The spool was refused; lack of memory too.
     #[error("spool: {0}")]
     Spool(SpoolFault),
     /// The body of this number, from 1, is the first that records no change which fits those before it.
@@ -27,7 +27,7 @@ pub enum NodeFault {
     /// There is no such session or attempt, or no such message with a held place.
     #[error("unknown")]
     Unknown,
-    /// As many sessions, or attempts, are open as there may be.
+    /// The most sessions, or attempts, are open.
     #[error("too many")]
     TooMany,
     /// No place of this hop is due, or none is without a hop.

@@ -1,5 +1,4 @@
-//! The records of a node: the spool, the queue and the note, which one call grows by a change, and one makes as small
-//! as the queue.
+//! The records of a node: the spool, the queue, and the note of the last append.
 #![tactic(auto)]
 
 mod add;

@@ -1,4 +1,4 @@
-//! What is true of the lists of changes that records keep on an honest disk.
+//! Laws of the lists of changes that records keep on an honest disk.
 ghost use Rattle.relay_records.specs.ListLaws.{AwaitedAreNumbered, HaltedAllIsNotRefused, HaltedAllIsOpened};
 ghost use Rattle.relay_records.specs.ListLaws.{HaltedIsNotRefused, HaltedIsOpened, KeptIsNotRefused, KeptIsOpened};
 ghost use Rattle.relay_records.specs.ListLaws.{NextIsOneMore, NoneIsAwaited, OneListIsKept};

@@ -23,7 +23,7 @@ pub struct Noted {
     pub report: bool,
 }
 
-// Written out, so that what drops a note calls this, and doesn't look into each part of it.
+// Written out, so that the proof of a caller that drops a note stops at this function.
 impl Drop for Noted {
     fn drop(self) {
         let Noted {
@@ -37,7 +37,7 @@ impl Drop for Noted {
     }
 }
 
-/// How many recipients a change accepts.
+/// Returns how many recipients a change accepts.
 fn accepted_by(change: &Change) -> usize
     ensures { result ≡ accepted_by change.now }
 {
@@ -47,7 +47,7 @@ fn accepted_by(change: &Change) -> usize
     }
 }
 
-/// Whether a change queues a report.
+/// Returns whether a change queues a report.
 fn queues_report(change: &Change) -> bool
     ensures { result ≡ queues_report change.now }
 {
@@ -60,7 +60,7 @@ fn queues_report(change: &Change) -> bool
     }
 }
 
-/// The note of the next change, of which these octets are the record. It fails where memory runs out.
+/// Returns the note of the next change, of which these octets are the record. Fails if memory runs out.
 pub(crate) fn note_of(
     alloc: Global,
     book: &Book,

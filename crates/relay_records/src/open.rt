@@ -15,8 +15,8 @@ use relay_spool::{Opened, Spool};
 use std::alloc::Global;
 
 impl<D: Disk> Records<D> {
-    /// No changes, on two disks of size 0. Disks of which one isn't empty come back unchanged, and disks
-    /// that failed with any octets. It takes no memory.
+    /// No changes, on two disks of size 0. Disks of which one isn't empty come back unchanged, and disks that failed
+    /// with any octets. Allocates nothing.
     pub fn create(alloc: Global, disk: Disks<D>) -> Result<Self, NotOpened<D>>
         ensures keeps { IfOk result (λ records. Keeps D.honest D.words records []) }
         ensures new { IfOk result (λ records. (records.noted ≡ None) × (records.spool.size ≡ 18)) }
@@ -42,7 +42,7 @@ impl<D: Disk> Records<D> {
         }
     }
 
-    /// The changes that disks hold. The disks are synced and read, and not written: where they are refused,
+    /// Returns the changes that disks hold. The disks are synced and read, and not written: where they are refused,
     /// they come back as they were. It needs memory for the bodies, and beside them for a block and the queue; each
     /// body is let go when it has been read, or has become a message's text.
     pub fn open(alloc: Global, disk: Disks<D>) -> Result<Self, NotOpened<D>>

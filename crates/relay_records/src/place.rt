@@ -9,11 +9,11 @@ use relay_book::Message;
 pub struct HeldPlace<'a> {
     /// The forward path of its recipient, with its brackets.
     pub path: &'a [u8],
-    /// When it is due, in seconds from 1970. It may pass the greatest moment.
+    /// When it is due, in seconds from 1970. It may pass the last time.
     pub due: u64,
 }
 
-/// The place of a message, where it is held.
+/// Returns the place of a message, if it is held.
 pub(crate) fn held_place(message: &Message, place: u8) -> Option<HeldPlace<'_>>
     ensures { MatchOption result (waiting_in place message.now ≡ None)
         (λ found. waiting_in place message.now ≡ Some (found.path.now, found.due)) }

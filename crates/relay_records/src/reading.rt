@@ -13,8 +13,8 @@ use relay_pieces::Pieces;
 use relay_spool::SpoolFault;
 use std::alloc::Global;
 
-/// The book that a body leaves after so many others, which left this book. It fails with `BadRecord` exactly where it
-/// leaves none, and where memory runs out.
+/// Returns the book that a body leaves after this many others, which left this book. It fails with `BadRecord` exactly
+/// if it leaves none, and if memory runs out.
 #[tactic(auto, using(crate::proofs::ReadLemmas::read_by_place))]
 fn read_body(alloc: Global, mut book: Book, before: usize, body: Pieces) -> Result<Book, BookFault>
     ensures reads { IfOk result (λ left. ReadsAt before book.queue (text_of body) left.queue) }
@@ -27,8 +27,8 @@ fn read_body(alloc: Global, mut book: Book, before: usize, body: Pieces) -> Resu
     Ok(book)
 }
 
-/// The book that the bodies leave, of a queue that may be stored. Each body is let go, or kept by its message, when it
-/// has been read.
+/// Returns the book that the bodies leave, of a queue that may be stored. Each body is let go, or kept by its message,
+/// when it has been read.
 #[tactic(auto, using(crate::proofs::ReadLemmas::read_queue))]
 pub(crate) fn read_bodies(alloc: Global, bodies: Vec<Pieces>) -> Result<Book, Cause>
     ensures reads { IfOk result (λ book. ReadsAll (texts_of bodies) book.queue) }

@@ -31,7 +31,7 @@ pub struct Records<D: Disk> {
     pub(crate) noted: Option<Noted>,
 }
 
-// Written out, so that what drops records calls this, and doesn't look into the book and the note.
+// Written out, so that the proof of a caller that drops records stops at this function.
 impl<D: Disk + Drop> Drop for Records<D> {
     fn drop(self) {
         let Records {
@@ -54,7 +54,7 @@ impl<D: Disk> Model for Records<D> {
 }
 
 impl<D: Disk> Records<D> {
-    /// The number of the next change, live or stopped. It takes no memory.
+    /// Returns the number of the next change, live or stopped. Allocates nothing.
     pub fn next_number(&self) -> u64
         ensures number { result ≡ self.now.queue.next }
         ensures kept { (changes : List Change) → Keeps D.honest D.words self.now changes
@@ -65,35 +65,35 @@ impl<D: Disk> Records<D> {
         self.book.next_number()
     }
 
-    /// Tells that the numbers of the messages rise, and are below the next. It does nothing.
+    /// States that the numbers of the messages rise, and are below the next. Does nothing.
     pub fn numbers_rise(&self)
         ensures { Rise 0 self.now.queue.next self.now.queue.messages }
     {
         self.book.numbers_rise();
     }
 
-    /// Tells that the queue may be stored. It does nothing.
+    /// States that the queue may be stored. Does nothing.
     pub fn is_queue(&self)
         ensures { IsQueue self.now.queue }
     {
         let _is_noted = self.noted.is_some();
     }
 
-    /// Whether another change can be numbered: numbers end at 2^62. It takes no memory.
+    /// Returns whether another change can be numbered: numbers end at 2^62. Allocates nothing.
     pub fn has_number(&self) -> bool
         ensures { IsTrue result ↔ (self.now.queue.next ≤ 2 ^ 62) }
     {
         self.next_number() <= LAST_NUMBER
     }
 
-    /// Whether no device call has failed. It takes no memory.
+    /// Returns whether no device call has failed. Allocates nothing.
     pub fn is_live(&self) -> bool
         ensures { result ≡ self.now.spool.live }
     {
         self.spool.is_live()
     }
 
-    /// How many octets the spool takes. It takes no memory.
+    /// Returns how many octets the spool takes. Allocates nothing.
     pub fn size(&self) -> usize
         ensures size { result ≡ self.now.spool.size }
         ensures limit { result ≤ 2 ^ 40 }
@@ -101,7 +101,7 @@ impl<D: Disk> Records<D> {
         self.spool.size()
     }
 
-    /// The message of a number, while a place of it is held. It takes no memory.
+    /// Returns the message of a number, while a place of it is held. Allocates nothing.
     pub fn message(&self, number: u64) -> Option<&Message>
         ensures message { option_copied result ≡ message_of self.now.queue.messages number }
         ensures kept { (changes : List Change) → Keeps D.honest D.words self.now changes
@@ -110,7 +110,7 @@ impl<D: Disk> Records<D> {
         self.book.message(number)
     }
 
-    /// All held places, each with the number of its message, in order. It fails where memory runs out.
+    /// Returns all held places, each with the number of its message, in order. Fails if memory runs out.
     pub fn held(&self, alloc: Global) -> Result<Vec<(u64, u8)>, AllocError>
         ensures held { IfOk result (λ marks. marks.items ≡ held_of self.now.queue) }
         ensures kept { (changes : List Change) → Keeps D.honest D.words self.now changes
@@ -120,7 +120,7 @@ impl<D: Disk> Records<D> {
         self.book.held(alloc)
     }
 
-    /// The numbers of the messages of which a question holds, in order. It fails where memory runs out.
+    /// Returns the numbers of the messages of which a question holds, in order. Fails if memory runs out.
     pub fn numbers_where<Q: Question>(
         &self,
         alloc: Global,
@@ -132,24 +132,24 @@ impl<D: Disk> Records<D> {
         self.book.numbers_where(alloc, question)
     }
 
-    /// The held places that are due at a moment or before, each with the number of its message, in order. It
-    /// fails where memory runs out.
+    /// Returns the held places that are due at a time or before, each with the number of its message, in order. Fails
+    /// if memory runs out.
     pub fn due(&self, alloc: Global, now: Moment) -> Result<Vec<(u64, u8)>, AllocError>
         ensures { IfOk result (λ marks. marks.items ≡ due_of now self.now.queue) }
     {
         self.book.due(alloc, now)
     }
 
-    /// The least moment at which a held place is due of which a question holds, in seconds from 1970: it may pass
-    /// the greatest moment. None where the question holds of no held place. It asks of the places in the order of
-    /// their moments, and of none after the answer's, and takes no memory.
+    /// Returns the least time at which a held place is due of which a question holds, in seconds from 1970: it may pass
+    /// the last time. None if the question holds of no held place. It asks of the places in the order of their times,
+    /// and of none after the answer's, and takes no memory.
     pub fn first_due_where<Q: PlaceQuestion>(&self, question: &Q) -> Option<u64>
         ensures { IsLeastOf (moments_of (Q.holds question.now) self.now.queue.messages) result }
     {
         self.book.first_due_where(question)
     }
 
-    /// A place of a message, where it is held. It takes no memory.
+    /// Returns a place of a message, if it is held. Allocates nothing.
     pub fn place(&self, number: u64, place: u8) -> Option<HeldPlace<'_>>
         ensures place { MatchOption result (waiting_at self.now.queue number place ≡ None)
             (λ found. waiting_at self.now.queue number place ≡ Some (found.path.now, found.due)) }
@@ -163,7 +163,7 @@ impl<D: Disk> Records<D> {
         }
     }
 
-    /// The last change whose append was begun, live or stopped. It is handed out once, and takes no memory.
+    /// Returns the last change whose append was begun, live or stopped. It is handed out once, and takes no memory.
     pub fn take_noted(&mut self) -> Option<Noted>
         ensures noted { result ≡ self.old.noted }
         ensures rest { self.new ≡ record self.old { noted = None } }
@@ -171,7 +171,7 @@ impl<D: Disk> Records<D> {
         mem::replace(&mut self.noted, None)
     }
 
-    /// The disks, live or stopped. It takes no memory.
+    /// Returns the disks, live or stopped. Allocates nothing.
     pub fn into_disk(self) -> Disks<D>
         ensures { result ≡ self.spool.disk }
     {
@@ -185,7 +185,7 @@ impl<D: Disk> Records<D> {
 }
 
 impl<D: Reboot> Records<D> {
-    /// Sets the fuse of the disks: so many calls pass, and each later one fails. Nothing else changes.
+    /// Sets the fuse of the disks: this many calls pass, and each later one fails. Nothing else changes.
     pub fn fuse(&mut self, calls: u64)
         ensures same { (self.new.spool.size ≡ self.old.spool.size)
             × (self.new.spool.live ≡ self.old.spool.live)

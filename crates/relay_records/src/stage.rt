@@ -1,4 +1,4 @@
-//! Changes that come into records together: each into the queue, one by one, and then all into the spool.
+//! Adding several changes together: each to the queue, one by one, and then all to the spool.
 ghost use Rattle.std.specs.Prelude.{◌≡◌, ◌↔◌, ◌⊎◌, ◌+◌, ◌<◌, ◌≤◌, ◌^◌, ◌∷◌, [], ◌++◌, List, length, Err, IfErr, IfOk};
 ghost use Rattle.std.specs.Prelude.{IsTrue, MatchResult, OnOk};
 ghost use Rattle.relay_spool.specs.Image.{room_of};
@@ -53,7 +53,7 @@ impl<D: Disk> Records<D> {
         Ok(number)
     }
 
-    /// Whether the spool may grow by the bodies of a row and by this one after them.
+    /// Returns whether the spool may grow by the bodies of a row and by this one after them.
     fn has_room_behind(&self, row: &Staged, octets: &Octets) -> bool
         ensures { IsTrue result
             ↔ (self.now.spool.size + room_of row.now.bodies + 5 + length octets.now ≤ 2 ^ 40) }
@@ -63,10 +63,10 @@ impl<D: Disk> Records<D> {
         room <= left && BODY_OVERHEAD <= left - room && octets.len() <= left - room - BODY_OVERHEAD
     }
 
-    /// Brings the records of a row into the spool, after one pair of syncs, and answers the note of each change.
-    /// At `Stopped` the device failed: a stop leaves the changes as they were or with all of the row. At `Full`
-    /// the records stay as they were, whose queue has the changes and whose spool has not: no row that was
-    /// staged for these records is too large for them. It takes no memory.
+    /// Brings the records of a row into the spool, after one pair of syncs, and returns the note of each change. At
+    /// `Stopped` the device failed: a stop leaves the changes as they were or with all of the row. At `Full` the
+    /// records are unchanged, whose queue has the changes and whose spool has not: no row that was staged for these
+    /// records is too large for them. Allocates nothing.
     pub fn settle(&mut self, row: Staged) -> Result<Vec<Noted>, Unsettled>
         requires { IsTrue self.old.spool.live }
         ensures settles { (changes pending : List Change) → Awaits D.honest D.words self.old changes pending row
@@ -74,7 +74,7 @@ impl<D: Disk> Records<D> {
         ensures cut { (changes pending : List Change) → Awaits D.honest D.words self.old changes pending row
             → IfErr result (λ unsettled. unsettled.fault ≡ NodeFault.Stopped
             → CutsAll D.honest D.words self.new changes pending unsettled.notes.items) }
-        // A stop at any moment of the call leaves the changes as they were or with all of the row.
+        // A stop at any time of the call leaves the changes as they were or with all of the row.
         ensures stop { (changes pending : List Change) → Awaits D.honest D.words self.old changes pending row
             → D.honest → AtEachMoment D.words self.old.spool.disk self.new.spool.disk
             (HasBodies (StandsForOrWithAll changes pending)) }

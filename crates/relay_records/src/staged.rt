@@ -1,4 +1,4 @@
-//! Changes that the queue has, and whose records come into the spool together.
+//! Changes that are in the queue, and whose records are added to the spool together.
 ghost use Rattle.std.specs.Prelude.{◌≡◌, ◌<◌, ◌^◌, ◌∷◌, [], ◌++◌, length, OnErr, OnOk};
 
 use crate::fault::NodeFault;
@@ -15,7 +15,7 @@ pub struct Staged {
     pub(crate) notes: Vec<Noted>,
 }
 
-/// A row that didn't come into the spool, with the reason.
+/// A row that wasn't added to the spool, with the reason.
 #[derive(Drop)]
 pub struct Unsettled {
     pub fault: NodeFault,
@@ -35,7 +35,7 @@ impl Staged {
     ghost use Rattle.relay_spool.specs.Image.{room_of};
     ghost use Rattle.relay_records.specs.Staged.{no_row};
 
-    /// A row without a change. It takes no memory.
+    /// Makes a row without a change. Allocates nothing.
     pub fn new(alloc: Global) -> Staged
         ensures { result ≡ no_row }
     {
@@ -45,14 +45,14 @@ impl Staged {
         }
     }
 
-    /// How many changes are staged.
+    /// Returns how many changes are staged.
     pub fn len(&self) -> usize
         ensures { result ≡ length self.now.notes }
     {
         self.notes.len()
     }
 
-    /// How many octets of a spool their records take.
+    /// Returns how many octets of a spool their records take.
     pub fn room(&self) -> usize
         ensures room { result ≡ room_of self.now.bodies }
         ensures limit { result < 2 ^ 63 }
@@ -60,7 +60,7 @@ impl Staged {
         self.bodies.room()
     }
 
-    /// Puts a change after the others. Where memory runs out, the row stays as it was.
+    /// Puts a change after the others. If memory runs out, the row is unchanged.
     pub(crate) fn push(&mut self, noted: Noted) -> Result<(), AllocError>
         requires { length noted.octets < 2 ^ 32 }
         ensures bodies { OnOk result (self.new.bodies ≡ self.old.bodies ++ noted.octets ∷ []) }
@@ -75,7 +75,7 @@ impl Staged {
         }
     }
 
-    /// Gives the row up, and the notes out.
+    /// Gives the row up, and returns the notes.
     pub fn let_go(self) -> Vec<Noted>
         ensures { result.items ≡ self.notes }
     {

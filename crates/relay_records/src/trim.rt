@@ -13,16 +13,16 @@ use relay_disk::{Disk, DiskFault};
 
 impl<D: Disk> Records<D> {
     /// Makes the disk of the spool that isn't taken shorter, by `most` octets at most, and returns whether there may be
-    /// more to drop: as [`Spool::trim`](relay_spool::Spool::trim). The changes stay as they are, and so do the queue
-    /// and the note, whatever is answered. The one fault is `Stopped`: the device failed, and a stop leaves the
-    /// changes as they were. It takes no memory.
+    /// more to drop: as [`Spool::trim`](relay_spool::Spool::trim). The changes are unchanged, and so do the queue and
+    /// the note, whatever is answered. The one fault is `Stopped`: the device failed, and a stop leaves the changes as
+    /// they were. Allocates nothing.
     pub fn trim(&mut self, most: usize) -> Result<bool, NodeFault>
         requires { IsTrue self.old.spool.live }
         ensures kept { (changes : List Change) → Keeps D.honest D.words self.old changes
             → OnOk result (Keeps D.honest D.words self.new changes) }
         ensures cut { (changes : List Change) → Keeps D.honest D.words self.old changes
             → result ≡ Err NodeFault.Stopped → Halted D.honest D.words self.new changes None }
-        // A stop at any moment of the call leaves the changes as they were.
+        // A stop at any time of the call leaves the changes as they were.
         ensures stop { (changes : List Change) → Keeps D.honest D.words self.old changes → D.honest
             → AtEachMoment D.words self.old.spool.disk self.new.spool.disk
             (HasBodies (λ bodies. StandsFor bodies changes)) }

@@ -157,8 +157,14 @@ unfolding subject_line
 subject_of due recipient valid plain = record {
   plain = headed (codes "Delivery " ++ action_of due ++ codes ": ") recipient.path (plain_action due) (ends_in_blank due) plain.path;
   short =
-      omega (arith, written_short _ recipient.path valid.path, action_short due, length-append (codes "Delivery " ++ action_of due ++ codes ": ") recipient.path,
-      length-append (codes "Delivery " ++ action_of due) (codes ": "), length-append (codes "Delivery ") (action_of due));
+      omega (
+        arith,
+        written_short _ recipient.path valid.path,
+        action_short due,
+        length-append (codes "Delivery " ++ action_of due ++ codes ": ") recipient.path,
+        length-append (codes "Delivery " ++ action_of due) (codes ": "),
+        length-append (codes "Delivery ") (action_of due),
+      );
 }
 
 subject_at : (due : DueReport) (other : List ℕ) → IsSubject other → (recipients : List Recipient) (place : ℕ) → AllByRecursion IsRecipient recipients

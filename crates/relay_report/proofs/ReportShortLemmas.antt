@@ -136,8 +136,14 @@ header_short told date may day =
     let origin = origin_short told date may day in
     let auto = auto_short told.form in
     let encoding = encoding_of_short told.form (third_part told) in
-    omega (arith, origin, auto, encoding, length-append (origin_fields told date) (auto_submitted told.form),
-    length-append (origin_fields told date ++ auto_submitted told.form) (encoding_of told.form (third_part told)))
+    omega (
+      arith,
+      origin,
+      auto,
+      encoding,
+      length-append (origin_fields told date) (auto_submitted told.form),
+      length-append (origin_fields told date ++ auto_submitted told.form) (encoding_of told.form (third_part told)),
+    )
 
 report_type_short : (boundary : List ℕ) → length boundary ≤ 49 → length (field (codes "Content-Type") (report_type boundary)) ≤ 150
 unfolding report_type

@@ -72,10 +72,15 @@ place_lines_short hop until recipient due verdict few day valid rules = by due
     short : (due : DueReport) → length (event_lines hop due verdict) + length (next_lines until due) ≤ 556
         → length (crlf ++ sentence (codes "For ") recipient.path (codes ":") ++ event_lines hop due verdict ++ next_lines until due) ≤ 820
     short due both =
-        omega (arith, path, both, length-sentence (codes "For ") recipient.path (codes ":"),
-        length-append crlf (sentence (codes "For ") recipient.path (codes ":")),
-        length-append (crlf ++ sentence (codes "For ") recipient.path (codes ":")) (event_lines hop due verdict),
-        length-append (crlf ++ sentence (codes "For ") recipient.path (codes ":") ++ event_lines hop due verdict) (next_lines until due))
+        omega (
+          arith,
+          path,
+          both,
+          length-sentence (codes "For ") recipient.path (codes ":"),
+          length-append crlf (sentence (codes "For ") recipient.path (codes ":")),
+          length-append (crlf ++ sentence (codes "For ") recipient.path (codes ":")) (event_lines hop due verdict),
+          length-append (crlf ++ sentence (codes "For ") recipient.path (codes ":") ++ event_lines hop due verdict) (next_lines until due),
+        )
 
     by : (due : DueReport) → length (crlf ++ sentence (codes "For ") recipient.path (codes ":") ++ event_lines hop due verdict ++ next_lines until due) ≤ 820
     by OfFailure = short OfFailure (omega (arith, event_short hop OfFailure verdict few rules))

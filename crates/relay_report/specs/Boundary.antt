@@ -15,18 +15,18 @@ pub record StandsNowhere (word text : List ℕ) : Type 0 where
 abbrev pub numbered : List ℕ → ℕ → List ℕ
 numbered stem number = stem ++ decimal number
 
--- the numbered stem stands in one of three parts
+-- the numbered stem is in one of three parts
 abbrev pub IsTaken : List ℕ → List ℕ → List ℕ → List ℕ → ℕ → Type 0
 IsTaken stem one two three number =
     StandsIn (numbered stem number) one ⊎ (StandsIn (numbered stem number) two ⊎ StandsIn (numbered stem number) three)
 
--- the least number whose numbered stem stands in none of the three parts
+-- the least number whose numbered stem is in none of the three parts
 pub record IsLeastFree (stem one two three : List ℕ) (number : ℕ) : Type 0 where
   pub fits : number < 2 ^ 64
   pub free : IsTaken stem one two three number → ⊥
   pub least : (lower : ℕ) → lower < number → IsTaken stem one two three lower
 
--- what a boundary begins with, after its two dashes: the number of the report stands in it
+-- what a boundary begins with, after its two dashes: the number of the report is in it
 abbrev pub stem_of : ℕ → List ℕ
 stem_of number = codes "--=_relay_" ++ decimal number ++ codes "_"
 

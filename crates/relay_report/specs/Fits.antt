@@ -24,7 +24,7 @@ ReportIsShort =
     (told : Told) (text : List ℕ) → MayBeTold told → IsReport told text
     → length text ≤ length told.message.accept.stored_text + 2 ^ 18
 
--- There is a report exactly where one is due, and it is short enough for the record of an outcome.
+-- There is a report exactly if one is due, and it is short enough for the record of an outcome.
 abbrev pub DueReportFits : Type 0
 DueReportFits =
     (told : Told) (text : List ℕ) → MayBeTold told → IsDueReport told text

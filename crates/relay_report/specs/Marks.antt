@@ -7,11 +7,11 @@ use Rattle.std.specs.Int.{bit_at}
 abbrev pub IsMarked : List ℕ → ℕ → Type 0
 IsMarked words number = bit_at (slice_index words (number / 64)) (number % 64) ≡ 1
 
--- a row of so many words, of which no bit is set
+-- a row of this many words, of which no bit is set
 abbrev pub empty_row : ℕ → List ℕ
 empty_row count = replicate count 0
 
--- the row with the bit of a number set, where it is that long
+-- the row with the bit of a number set, if it is that long
 unfoldable pub marked_one : List ℕ → ℕ → List ℕ
 marked_one words number =
     slice_set words (number / 64)

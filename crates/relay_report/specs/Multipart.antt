@@ -20,7 +20,7 @@ use Rattle.relay_report.specs.StatusFields.{action_of, field, message_fields, re
 use Rattle.relay_report.specs.Sentences.{greeting, place_lines}
 
 -- what a report tells of: in which form, this host, the number of the report, the message, the hop, the verdicts at a
--- moment
+-- time
 pub record Told : Type 0 where
   pub form : ReportForm
   pub host : List ℕ
@@ -30,7 +30,7 @@ pub record Told : Type 0 where
   pub rulings : List Ruling
   pub at : ℕ
 
--- which report is due of a place by its verdict at a moment, as a node judges that writes the second version
+-- which report is due of a place by its verdict at a time, as a node judges that writes the second version
 abbrev pub due_at : Message → ℕ → Ruling → Option DueReport
 due_at message at ruling = due_report_at WithDelay message at ruling
 
@@ -185,7 +185,7 @@ subject_as Rich told = rich_subject told
 abbrev pub moment_front : ℕ → List ℕ
 moment_front at = decimal at ++ codes "."
 
--- what a Message-ID begins with: in a rich report its moment, since the numbers of two spools at one host are the same
+-- what a Message-ID begins with: in a rich report its time, since the numbers of two spools at one host are the same
 abbrev pub id_front : ReportForm → ℕ → List ℕ
 id_front Plain at = []
 id_front Rich at = moment_front at
@@ -204,7 +204,7 @@ auto_submitted Rich = field (codes "Auto-Submitted") (codes "auto-replied")
 abbrev pub is_eight_bit : ℕ → Bool
 is_eight_bit octet = nat_lt 127 octet
 
--- Content-Transfer-Encoding (RFC 2045, section 6.2), where it isn't 7bit
+-- Content-Transfer-Encoding (RFC 2045, section 6.2), if it isn't 7bit
 abbrev pub encoding_field : Bool → List ℕ
 encoding_field eight_bit =
     if eight_bit then field (codes "Content-Transfer-Encoding") (codes "8bit") else []
@@ -241,7 +241,7 @@ dash_boundary boundary = codes "--" ++ boundary
 unfoldable pub part_fields : List ℕ → List ℕ → List ℕ
 part_fields kind encoding = field (codes "Content-Type") kind ++ encoding
 
--- what stands before a body part: the boundary's line, these fields, and an empty line
+-- what is before a body part: the boundary's line, these fields, and an empty line
 unfoldable pub part_head : List ℕ → List ℕ → List ℕ
 part_head boundary fields = dash_boundary boundary ++ crlf ++ fields ++ crlf
 

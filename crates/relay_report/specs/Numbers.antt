@@ -28,7 +28,7 @@ leading [] = None
 leading (octet ∷ octets) =
     if octet == 48 then Some 0 else (if may_grow 0 octet then Some (grown (one_more 0 octet) octets) else None)
 
--- a number, and those that its digits begin with, so many at most
+-- a number, and those that its digits begin with, this many at most
 unfoldable pub beginnings : ℕ → ℕ → List ℕ
 beginnings zero value = []
 beginnings (suc digits) value = value ∷ (if nat_lt value 10 then [] else beginnings digits (value / 10))

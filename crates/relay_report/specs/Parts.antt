@@ -7,7 +7,7 @@ pub record CutsAt (mark text piece rest : List ℕ) : Type 0 where
   pub text_is : text ≡ piece ++ (mark ++ rest)
   pub first : StandsNowhere mark piece
 
--- the mark's first octet stands in it once
+-- the mark's first octet is in it once
 pub record BeginsOnce (mark : List ℕ) : Type 0 where
   pub some : 0 < length mark
   pub once : (place : ℕ) → 0 < place → place < length mark → slice_index mark place ≢ slice_index mark 0
@@ -18,13 +18,13 @@ CutIsOne =
     (mark text piece rest other more : List ℕ) → BeginsOnce mark
     → CutsAt mark text piece rest → CutsAt mark text other more → (piece ≡ other) × (rest ≡ more)
 
--- a word without an LF stands nowhere in two texts with an LF between, if it stands in neither
+-- a word without an LF stands nowhere in two texts with an LF between, if it is in neither
 abbrev pub NowhereBehindLine : Type 0
 NowhereBehindLine =
     (word front back : List ℕ) → ((place : ℕ) → place < length word → slice_index word place ≢ 10)
     → StandsNowhere word front → StandsNowhere word back → StandsNowhere word (front ++ (10 ∷ back))
 
--- three pieces, each followed by the mark, and what stands after the last mark
+-- three pieces, each followed by the mark, and what is after the last mark
 abbrev pub three_pieces : List ℕ → List ℕ → List ℕ → List ℕ → List ℕ → List ℕ
 three_pieces mark one two three tail = one ++ (mark ++ (two ++ (mark ++ (three ++ (mark ++ tail)))))
 

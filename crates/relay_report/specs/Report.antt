@@ -1,4 +1,4 @@
--- The report of an outcome (RFC 3461, section 6; RFC 3464): its text, and that it is there exactly where it is due.
+-- The report of an outcome (RFC 3461, section 6; RFC 3464): its text, and that it is there exactly if it is due.
 use Rattle.std.specs.Prelude.{◌≡◌, ℕ, ◌+◌, ◌<◌, Bool, true, false, List, [], Option, None, Some, MatchOption}
 use Rattle.std.specs.List.{list_any}
 use Rattle.relay_trace.specs.DateTime.{IsDateText}
@@ -29,7 +29,7 @@ told_of report = record {
   at = report.at;
 }
 
--- the date until which a place is tried that was accepted at this moment, and none where it can't be written
+-- the date until which a place is tried that was accepted at this time, and none if it can't be written
 abbrev pub IsUntil : ℕ → Option (List ℕ) → Type 0
 IsUntil accepted None = LAST_SECOND < accepted + patience
 IsUntil accepted (Some date) = IsDateText (accepted + patience) date
@@ -51,7 +51,7 @@ pub record IsReport (told : Told) (text : List ℕ) : Type 0 where
 abbrev pub is_due : Message → ℕ → List Ruling → Bool
 is_due message at rulings = list_any (reports_at WithDelay message at) rulings
 
--- the text is the report that is due, and empty where none is
+-- the text is the report that is owed, and empty where none is
 pub record IsDueReport (told : Told) (text : List ℕ) : Type 0 where
   pub due : is_due told.message told.at told.rulings ≡ true → IsReport told text
   pub none : is_due told.message told.at told.rulings ≡ false → text ≡ []
@@ -86,8 +86,8 @@ pub record IsReportedOf (reporter : Reporter) (number : ℕ) (outcome : OutcomeF
   pub version : outcome.version ≡ WithDelay
   pub report : IsDueReport (told_by reporter number outcome message) outcome.report
 
--- A change after a queue: an outcome of it is of the second version, and has the report that is due, from this
--- reporter, under the number of the change, and none where none is due.
+-- A change after a queue: an outcome of it is of the second version, and has the report that is owed, from this
+-- reporter, under the number of the change, and none if none is due.
 abbrev pub ReportedFrom : Reporter → Queue → Change → Type 0
 ReportedFrom reporter queue (Accept accept) = Unit {0}
 ReportedFrom reporter queue (Outcome outcome) =

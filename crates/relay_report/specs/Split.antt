@@ -30,11 +30,11 @@ pub record Delimits (text mark pieces : List ℕ) : Type 0 where
   pub mark_is : mark ≡ crlf ++ line
   pub pieces_are : pieces ≡ crlf ++ rest
 
--- what stands after a header section and its empty line
+-- what is after a header section and its empty line
 abbrev pub behind_header : List ℕ → List ℕ
 behind_header text = drop (header_end_of text + 2) text
 
--- the part of a piece: what stands after the end of the boundary's line, the header section, and its empty line
+-- the part of a piece: what is after the end of the boundary's line, the header section, and its empty line
 abbrev pub part_of : List ℕ → List ℕ
 part_of piece = behind_header (drop 2 piece)
 

@@ -6,7 +6,7 @@ use Rattle.std.specs.Int.{is_in_range}
 use Rattle.std.specs.List.{after_first, before_first, list_all}
 use Rattle.relay_envelope.specs.Parameters.{is_octet}
 
--- no zero stands before another octet
+-- no zero is before another octet
 abbrev pub has_no_leading_zero : List ℕ → Bool
 has_no_leading_zero [] = true
 has_no_leading_zero (first ∷ []) = true
@@ -26,7 +26,7 @@ is_failure_code [] = false
 is_failure_code (first ∷ []) = false
 is_failure_code (first ∷ (second ∷ rest)) = first == 53 && second == 46 && are_subcodes rest
 
--- the first word of a reply's text: what stands before its first space
+-- the first word of a reply's text: what is before its first space
 abbrev pub first_word : List ℕ → List ℕ
 first_word text = before_first (is_octet 32) text
 

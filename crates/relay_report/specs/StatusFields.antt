@@ -37,7 +37,7 @@ octets_or other (Some octets) = octets
 abbrev pub plain_of : List ℕ → List ℕ
 plain_of text = octets_or text (decoded text)
 
--- original-envelope-id-field (section 2.2.1): ENVID decoded, where it was given
+-- original-envelope-id-field (section 2.2.1): ENVID decoded, if it was given
 abbrev pub original_envelope_id : Option (List ℕ) → List ℕ
 original_envelope_id None = []
 original_envelope_id (Some envid) = field (codes "Original-Envelope-Id") (plain_of envid)
@@ -48,13 +48,13 @@ message_fields host arrival envid =
     original_envelope_id envid ++ field (codes "Reporting-MTA") (typed (codes "dns") host)
     ++ field (codes "Arrival-Date") arrival
 
--- original-recipient-field (section 2.3.1): ORCPT decoded, where it was given
+-- original-recipient-field (section 2.3.1): ORCPT decoded, if it was given
 abbrev pub original_recipient : Option (List ℕ) → List ℕ
 original_recipient None = []
 original_recipient (Some orcpt) =
     field (codes "Original-Recipient") (typed (address_type_of orcpt) (plain_of (address_of orcpt)))
 
--- the address in a path: what stands between its brackets
+-- the address in a path: what is between its brackets
 abbrev pub address_in : List ℕ → List ℕ
 address_in path = take (length path - 2) (drop 1 path)
 
@@ -92,7 +92,7 @@ remote_mta hop Later = []
 remote_mta hop CantSend = []
 remote_mta hop NoRoute = []
 
--- a reply's code, and a space and its text where there is one
+-- a reply's code, and a space and its text if there is one
 abbrev pub reply_words : ℕ → List ℕ → List ℕ
 reply_words code [] = decimal code
 reply_words code (octet ∷ octets) = decimal code ++ codes " " ++ (octet ∷ octets)

@@ -1,4 +1,4 @@
-//! The least number of a boundary that stands in none of three parts.
+//! The boundary of a report: the least number for which it is in none of the parts.
 ghost use Rattle.std.specs.Prelude.{◌≡◌, ◌++◌, ◌<◌, length, codes, decimal, IfOk, OnOk};
 ghost use Rattle.relay_report.specs.Boundary.{IsBoundary, IsLeastFree, boundary_text, stem_of};
 
@@ -9,11 +9,11 @@ use crate::parts::Parts;
 use memchr::memmem::Finder;
 use std::alloc::{AllocError, Global};
 
-/// The octets of most boundaries.
+/// The octets that most boundaries fit into.
 const USUAL_LEN: usize = 32;
 
-/// The boundary of a report of this number with these parts (RFC 2046, section 5.1.1): `=_relay_`, the number, `_`,
-/// and the least number for which it stands in none of the parts after two dashes. It fails where memory runs out.
+/// Returns the boundary of a report of this number with these parts (RFC 2046, section 5.1.1): `=_relay_`, the number,
+/// `_`, and the least number for which it is in none of the parts after two dashes. Fails if memory runs out.
 #[tactic(auto, using(crate::proofs::LeastLemmas::boundary_by))]
 pub fn boundary_for(alloc: Global, number: u64, parts: &Parts<'_>) -> Result<Vec<u8>, AllocError>
     ensures { IfOk result (λ boundary. IsBoundary number parts.now.first.now parts.now.second.now
@@ -25,7 +25,7 @@ pub fn boundary_for(alloc: Global, number: u64, parts: &Parts<'_>) -> Result<Vec
     Ok(boundary)
 }
 
-/// The two dashes and the beginning that all boundaries of a report have.
+/// Returns the two dashes and the beginning that all boundaries of a report have.
 fn stem_of(alloc: Global, number: u64) -> Result<Vec<u8>, AllocError>
     ensures { IfOk result (λ stem. stem.items ≡ stem_of number) }
 {
@@ -52,7 +52,7 @@ fn push_numbered(out: &mut Vec<u8>, front: &[u8], number: u64) -> Result<(), All
     out.extend_from_slice(b"_")
 }
 
-/// The least number whose numbered stem stands in none of the parts.
+/// Returns the least number whose numbered stem is in none of the parts.
 fn boundary_number(alloc: Global, stem: &Finder<'_>, parts: &Parts<'_>) -> Result<u64, AllocError>
     requires { 0 < length stem.now }
     ensures { IfOk result (λ number. IsLeastFree stem.now parts.now.first.now parts.now.second.now

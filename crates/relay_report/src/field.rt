@@ -76,7 +76,7 @@ pub(crate) fn push_decimal(out: &mut Vec<u8>, number: u64) -> Result<(), AllocEr
     out.extend_from_slice(Buffer::new().format(number).as_bytes())
 }
 
-/// The octets that an xtext stands for. It fails where memory runs out.
+/// Returns the octets that an xtext stands for. Fails if memory runs out.
 pub(crate) fn plain_of(alloc: Global, text: &[u8]) -> Result<Octets, AllocError>
     ensures { IfOk result (λ plain. plain ≡ plain_of text.now) }
 {

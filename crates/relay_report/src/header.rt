@@ -118,7 +118,7 @@ fn push_message_id_text(
     out.extend_from_slice(b">")
 }
 
-/// Adds the moment of a rich report, since two spools at one host give the same numbers.
+/// Adds the time of a rich report, since two spools at one host give the same numbers.
 fn push_id_front(out: &mut Vec<u8>, form: ReportForm, at: Moment) -> Result<(), AllocError>
     ensures { OnOk result (out.new.items ≡ out.old.items ++ id_front form at) }
 {
@@ -162,7 +162,7 @@ fn encoding_field(is_eight_bit: bool) -> &'static [u8]
     if is_eight_bit { EIGHT_BIT } else { b"" }
 }
 
-/// Whether an octet stands above 127.
+/// Returns whether an octet stands above 127.
 fn is_eight_bit(part: &[u8]) -> bool
     ensures { result ≡ list_any is_eight_bit part.now }
 {

@@ -1,4 +1,4 @@
-//! What is true of reports, whoever writes them.
+//! Laws of reports, whoever writes them.
 ghost use Rattle.relay_report.specs.Boundary.{BoundaryIsOne, BoundaryIsThere};
 ghost use Rattle.relay_report.specs.Fits.{DueReportFits, ReportIsShort};
 ghost use Rattle.relay_report.specs.Lines.{ReportHasNoReceived, ReportHasShortLines, ToldBreaksNoLine};
@@ -9,7 +9,7 @@ pub fn report_is_short()
     ensures { ReportIsShort }
 {}
 
-/// There is a report exactly where one is due, and it is short enough for the record of an outcome.
+/// There is a report exactly if one is due, and it is short enough for the record of an outcome.
 pub fn due_report_fits()
     ensures { DueReportFits }
 {}
@@ -34,8 +34,8 @@ pub fn report_comes_apart()
     ensures { ReportComesApart }
 {}
 
-/// Nothing that is filled into a report breaks one of its lines: no CR LF stands in a path, an ENVID, an ORCPT, a
-/// refusal's text or a name.
+/// Nothing that is filled into a report breaks one of its lines: no CR LF is in a path, an ENVID, an ORCPT, a refusal's
+/// text or a name.
 pub fn told_breaks_no_line()
     ensures { ToldBreaksNoLine }
 {}

@@ -5,7 +5,7 @@ ghost use Rattle.relay_report.specs.Numbers.{all_begun, beginnings, IsLeastOutsi
 
 use std::alloc::{AllocError, Global};
 
-/// The least number that isn't one of these, and that none of them begins with. It fails where memory runs out.
+/// Returns the least number that isn't one of these, and that none of them begins with. Fails if memory runs out.
 pub(crate) fn least_outside(alloc: Global, numbers: &[u64]) -> Result<u64, AllocError>
     ensures { IfOk result (λ least. IsLeastOutside (all_begun numbers.now) least) }
 {
@@ -19,7 +19,7 @@ pub(crate) fn least_outside(alloc: Global, numbers: &[u64]) -> Result<u64, Alloc
     }
 }
 
-/// How many words have a bit more than 20 for each number: no number of 64 bits has more digits.
+/// Returns how many words have a bit more than 20 for each number: no number of 64 bits has more digits.
 fn words_for(numbers: usize) -> Option<usize>
     ensures { MatchOption result (Unit {0}) (λ count. (20 * numbers < 64 * count) × (64 * count < 2 ^ 64)) }
 {
@@ -27,7 +27,7 @@ fn words_for(numbers: usize) -> Option<usize>
     Some(bits / 64)
 }
 
-/// A row of so many words, in which no number is marked.
+/// Returns a row of this many words, in which no number is marked.
 fn empty_row(alloc: Global, count: usize) -> Result<Vec<u64>, AllocError>
     ensures { IfOk result (λ words. words.items ≡ empty_row count) }
 {
@@ -70,7 +70,7 @@ fn mark(words: &mut Vec<u64>, number: u64)
     }
 }
 
-/// The least number that isn't marked.
+/// Returns the least number that isn't marked.
 fn least_unmarked(words: &[u64]) -> u64
     requires { 64 * length words.now < 2 ^ 64 }
     ensures { IsLeastUnmarked words.now result }

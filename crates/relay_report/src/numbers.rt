@@ -1,4 +1,4 @@
-//! The numbers that stand after a stem in a text.
+//! The numbers after a stem in a text.
 ghost use Rattle.std.specs.Prelude.{◌≡◌, ◌++◌, ◌+◌, ◌<◌, ◌≤◌, length, drop, take, IfSome, OnOk, MatchOption, Some};
 ghost use Rattle.std.specs.Option.{option_to_list};
 ghost use Rattle.memchr.specs.Find.{FindsNeedle};
@@ -9,11 +9,11 @@ use memchr::memchr;
 use memchr::memmem::Finder;
 use std::alloc::AllocError;
 
-/// How many octets are looked at for the next stem before the whole rest is searched: where stems stand close, as in
-/// a text full of boundaries, to begin a search costs more than the look.
+/// How many octets are checked for the next stem before the whole rest is searched: where stems stand close, as in a
+/// text full of boundaries, to begin a search costs more than the look.
 const NEAR: usize = 32;
 
-/// The number with one digit more.
+/// Returns the number with one digit more.
 fn longer(value: u64, octet: u8) -> Option<u64>
     ensures { result ≡ longer value octet }
 {
@@ -24,7 +24,7 @@ fn longer(value: u64, octet: u8) -> Option<u64>
     }
 }
 
-/// The number with the digits after it that the text begins with, as far as it has 64 bits.
+/// Returns the number with the digits after it that the text begins with, as far as it has 64 bits.
 fn grown(first: u64, text: &[u8]) -> u64
     ensures { result ≡ grown first text.now }
 {
@@ -38,7 +38,7 @@ fn grown(first: u64, text: &[u8]) -> u64
     value
 }
 
-/// The longest number whose text begins this text.
+/// Returns the longest number whose text begins this text.
 fn leading(text: &[u8]) -> Option<u64>
     ensures { result ≡ leading text.now }
 {
@@ -65,8 +65,8 @@ fn push_leading(taken: &mut Vec<u64>, text: &[u8]) -> Result<(), AllocError>
     }
 }
 
-/// Adds the longest number at each place where the stem stands in the text: their digits begin all the numbers
-/// that stand after the stem somewhere.
+/// Adds the longest number at each place where the stem is in the text: their digits begin all the numbers that stand
+/// after the stem somewhere.
 pub(crate) fn collect(
     taken: &mut Vec<u64>,
     stem: &Finder<'_>,
@@ -84,7 +84,7 @@ pub(crate) fn collect(
     Ok(())
 }
 
-/// How far after a place of the stem its next one is at least: as long as the stem, where it doesn't overlap itself.
+/// How far after a place of the stem its next one is at least: as long as the stem, if it doesn't overlap itself.
 #[tactic(auto, using(crate::proofs::NearLemmas::first_step))]
 fn least_step(stem: &[u8]) -> usize
     requires { 0 < length stem.now }
@@ -99,7 +99,7 @@ fn least_step(stem: &[u8]) -> usize
     stem.len()
 }
 
-/// The first place of the stem, which isn't empty.
+/// Returns the first place of the stem, which isn't empty.
 fn find_stem(text: &[u8], stem: &Finder<'_>) -> Option<usize>
     ensures first { FindsNeedle text.now stem.now 0 result }
     ensures within { MatchOption result (Unit {0}) (λ place. place + length stem.now ≤ length text.now) }
@@ -110,7 +110,7 @@ fn find_stem(text: &[u8], stem: &Finder<'_>) -> Option<usize>
     stem.find(text)
 }
 
-/// The first place of the stem, if it is that of the first octet near by that is like the stem's first one.
+/// Returns the first place of the stem, if it is that of the first octet near by that is like the stem's first one.
 #[tactic(auto, using(crate::proofs::NearLemmas::first_like))]
 fn find_near(text: &[u8], stem: &[u8]) -> Option<usize>
     ensures { IfSome result (λ place. FindsNeedle text.now stem.now 0 (Some place)) }
@@ -130,7 +130,7 @@ fn find_near(text: &[u8], stem: &[u8]) -> Option<usize>
     }
 }
 
-/// The octets that are near.
+/// Returns the octets that are near.
 fn front(text: &[u8]) -> &[u8]
     ensures front { result.now ≡ take (length result.now) text.now }
     ensures within { length result.now ≤ length text.now }
@@ -138,7 +138,7 @@ fn front(text: &[u8]) -> &[u8]
     &text[..text.len().min(NEAR)]
 }
 
-/// What stands from a place on.
+/// Returns what stands from a place on.
 fn behind(text: &[u8], place: usize) -> &[u8]
     requires { place ≤ length text.now }
     ensures { result.now ≡ drop place text.now }

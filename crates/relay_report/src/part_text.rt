@@ -18,7 +18,7 @@ use relay_routes::ReportForm;
 use relay_trace::{Moment, header_end};
 use std::alloc::{AllocError, Global};
 
-/// The first part, for people.
+/// Returns the first part, for people.
 pub(crate) fn first_part(
     alloc: Global,
     report: &Report<'_>,
@@ -69,7 +69,7 @@ fn plain_first_part(alloc: Global, report: &Report<'_>) -> Result<Vec<u8>, Alloc
     Ok(part)
 }
 
-/// The second part: the fields of the message, and those of each place of which a report is due.
+/// Returns the second part: the fields of the message, and those of each place of which a report is due.
 #[tactic(auto, unfolding(crate::specs::Multipart::second_part))]
 pub(crate) fn second_part(
     alloc: Global,
@@ -102,7 +102,7 @@ pub(crate) fn second_part(
     Ok(part)
 }
 
-/// Whether the third part is the whole stored text: RET=FULL was given, and a failure is reported.
+/// Returns whether the third part is the whole stored text: RET=FULL was given, and a failure is reported.
 pub(crate) fn returns_whole(report: &Report<'_>) -> bool
     ensures { result ≡ returns_whole (told_of report.now) }
 {
@@ -120,14 +120,14 @@ fn is_full(ret: Option<Ret>) -> bool
     }
 }
 
-/// Whether a failure is reported of a place.
+/// Returns whether a failure is reported of a place.
 fn any_fails(message: &Message, rulings: &[Ruling], now: Moment) -> bool
     ensures { result ≡ list_any (fails_at message.now now) rulings.now }
 {
     rulings.iter().any(|ruling| fails_at(message, ruling, now))
 }
 
-/// What is returned of a stored text: all of it, or its header section.
+/// Returns what is returned of a stored text: all of it, or its header section.
 #[tactic(auto, unfolding(crate::specs::Multipart::returned, relay_trace::specs::HeaderSection::header_end_of))]
 pub(crate) fn returned(whole: bool, text: &[u8]) -> &[u8]
     ensures { result.now ≡ returned whole text.now }

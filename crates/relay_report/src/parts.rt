@@ -9,18 +9,18 @@ use memchr::{memchr, memmem};
 use relay_octets::find_crlf;
 use relay_trace::header_end;
 
-/// The three parts of a report, without what stands between them.
+/// The three parts of a report, without what is between them.
 #[derive(Clone, Copy, Debug)]
 pub struct Parts<'a> {
     /// The part for people.
     pub first: &'a [u8],
     /// The delivery status.
     pub second: &'a [u8],
-    /// What is returned of the message.
+    /// The returned message, or its header section.
     pub third: &'a [u8],
 }
-/// The three parts of a report (RFC 2046, section 5.1.1): slices of its text. None where the text has no three parts:
-/// a boundary's line after its header section that cuts what follows in three. It takes no memory.
+/// Returns the three parts of a report (RFC 2046, section 5.1.1): slices of its text. None if the text has no three
+/// parts: a boundary's line after its header section that cuts what follows in three. Allocates nothing.
 pub fn split_report(text: &[u8]) -> Option<Parts<'_>>
     ensures { MatchOption result (HasNoParts text.now)
         (λ parts. HasParts text.now parts.first.now parts.second.now parts.third.now) }
@@ -39,7 +39,7 @@ pub fn split_report(text: &[u8]) -> Option<Parts<'_>>
     }
 }
 
-/// The boundary's line that stands after an empty line, with the line end before it, and what follows.
+/// Returns the boundary's line that is after an empty line, with the line end before it, and what follows.
 fn delimiter(text: &[u8]) -> Option<(&[u8], &[u8])>
     ensures delimiter { MatchOption result (OpensWithNone text.now)
         (λ parts. Delimits text.now parts.0.now parts.1.now) }
@@ -61,7 +61,7 @@ fn delimiter(text: &[u8]) -> Option<(&[u8], &[u8])>
     }
 }
 
-/// What stands after an empty line at the front.
+/// Returns what is after an empty line at the front.
 fn behind_empty_line(text: &[u8]) -> Option<&[u8]>
     ensures line { MatchOption result (HasNoEmptyLine text.now) (λ behind. ReadsLine text.now [] behind.now) }
     ensures shorter { MatchOption result (Unit {0}) (λ behind. length behind.now + 2 ≤ length text.now) }
@@ -78,7 +78,7 @@ fn behind_empty_line(text: &[u8]) -> Option<&[u8]>
     }
 }
 
-/// Whether a line has no CR, so that a CR LF stands before it alone.
+/// Returns whether a line has no CR, so that a CR LF is before it alone.
 fn has_no_cr(line: &[u8]) -> bool
     ensures { IsTrue result ↔ BeginsOnce (crlf ++ line.now) }
 {
@@ -88,7 +88,7 @@ fn has_no_cr(line: &[u8]) -> bool
     }
 }
 
-/// The part of a piece: what stands after the end of the boundary's line, the header section, and its empty line.
+/// Returns the part of a piece: what is after the end of the boundary's line, the header section, and its empty line.
 fn part_of(piece: &[u8]) -> &[u8]
     ensures { result.now ≡ part_of piece.now }
 {
@@ -96,7 +96,7 @@ fn part_of(piece: &[u8]) -> &[u8]
     behind(headed, header_end(headed).saturating_add(2))
 }
 
-/// What stands after so many octets: nothing where there are fewer.
+/// Returns what is after this many octets: nothing if there are fewer.
 fn behind(text: &[u8], size: usize) -> &[u8]
     ensures { result.now ≡ drop size text.now }
 {
@@ -107,7 +107,7 @@ fn behind(text: &[u8], size: usize) -> &[u8]
     }
 }
 
-/// What stands before the first mark, and after it.
+/// Returns what is before the first mark, and after it.
 pub(crate) fn cut_at<'a>(text: &'a [u8], mark: &[u8]) -> Option<(&'a [u8], &'a [u8])>
     requires { BeginsOnce mark.now }
     ensures { MatchOption result (StandsNowhere mark.now text.now)
@@ -123,7 +123,7 @@ pub(crate) fn cut_at<'a>(text: &'a [u8], mark: &[u8]) -> Option<(&'a [u8], &'a [
     }
 }
 
-/// The three pieces between the marks, and what stands after the last one.
+/// Returns the three pieces between the marks, and what is after the last one.
 pub(crate) fn split_in_three<'a>(
     text: &'a [u8],
     mark: &[u8],

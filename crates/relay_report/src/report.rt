@@ -20,10 +20,10 @@ use relay_routes::ReportForm;
 use relay_trace::{Moment, date_text};
 use std::alloc::{AllocError, Global};
 
-/// The octets of most reports beside their parts.
+/// The octets that most reports take beside their parts.
 const USUAL_LEN: usize = 1024;
 
-/// What a report tells of.
+/// The values that a report is made of.
 #[derive(Clone, Copy, Debug)]
 pub struct Report<'a> {
     /// In which form it is written.
@@ -36,13 +36,13 @@ pub struct Report<'a> {
     pub message: &'a Message,
     /// The name of the hop; empty where no place had one.
     pub hop: &'a [u8],
-    /// What was said of the places.
+    /// The verdicts of the places.
     pub rulings: &'a [Ruling],
     /// When the report is made.
     pub at: Moment,
 }
 
-/// The report that is due (RFC 3461, section 5.2), and no octet where none is. It fails where memory runs out.
+/// Returns the report that is owed (RFC 3461, section 5.2), or no octets if none is. Fails if memory runs out.
 pub fn report_if_due(alloc: Global, report: &Report<'_>) -> Result<Octets, AllocError>
     ensures { IfOk result (λ text. IsDueReport (told_of report.now) text) }
 {
@@ -53,8 +53,8 @@ pub fn report_if_due(alloc: Global, report: &Report<'_>) -> Result<Octets, Alloc
     }
 }
 
-/// The text of a report: a multipart/report of three parts, each line with its CR LF (RFC 3461, section 6; RFC 3464).
-/// The stored text of the message is copied once, as it is. It fails where memory runs out.
+/// Returns the text of a report: a multipart/report of three parts, each line with its CR LF (RFC 3461, section 6; RFC
+/// 3464). The stored text of the message is copied once, as it is. Fails if memory runs out.
 pub fn report_content(alloc: Global, report: &Report<'_>) -> Result<Octets, AllocError>
     ensures { IfOk result (λ text. IsReport (told_of report.now) text) }
 {
@@ -98,7 +98,7 @@ fn date_of(alloc: Global, moment: Moment) -> Result<Vec<u8>, AllocError>
     }
 }
 
-/// The date until which a place is tried that was accepted at a moment, and none where it passes the range of moments.
+/// Returns the date until which a place is tried that was accepted at a time, and none if it passes the range of times.
 fn until_of(alloc: Global, accepted: Moment) -> Result<Option<Octets>, AllocError>
     ensures { IfOk result (λ until. IsUntil accepted until) }
 {
@@ -111,7 +111,7 @@ fn until_of(alloc: Global, accepted: Moment) -> Result<Option<Octets>, AllocErro
     }
 }
 
-/// The octets of a date that may be there.
+/// Returns the octets of a date that may be there.
 fn as_octets(date: &Option<Octets>) -> Option<&[u8]>
     ensures { option_copied result ≡ date.now }
 {
@@ -121,7 +121,7 @@ fn as_octets(date: &Option<Octets>) -> Option<&[u8]>
     }
 }
 
-/// The text of a report of these parts.
+/// Returns the text of a report of these parts.
 fn joined(
     alloc: Global,
     report: &Report<'_>,
@@ -162,13 +162,19 @@ fn push_multipart(
         ++ multipart_text boundary.now parts.now.first.now parts.now.second.now (returned_type whole) encoding.now
         parts.now.third.now) }
 {
-    push_body_part(out, boundary, b"text/plain; charset=us-ascii", b"", parts.first)?;
+    push_body_part(
+        out,
+        boundary,
+        b"text/plain; charset=us-ascii",
+        b"",
+        parts.first,
+    )?;
     push_body_part(out, boundary, b"message/delivery-status", b"", parts.second)?;
     push_body_part(out, boundary, returned_type(whole), encoding, parts.third)?;
     push_closing_line(out, boundary)
 }
 
-/// The type of what is returned (RFC 3462, section 2).
+/// Returns the type of what is returned (RFC 3462, section 2).
 fn returned_type(whole: bool) -> &'static [u8]
     ensures { result.now ≡ returned_type whole }
 {

@@ -75,7 +75,12 @@ fn push_left(out: &mut Vec<u8>, hop: &[u8], verdict: &Verdict) -> Result<(), All
 {
     match verdict {
         Verdict::Taken { .. } => {
-            push_sentence(out, b"  It was handed to ", hop, b", which sends no reports.")
+            push_sentence(
+                out,
+                b"  It was handed to ",
+                hop,
+                b", which sends no reports.",
+            )
         }
         Verdict::Refused { code, text } => push_refusal(out, hop, *code, text.as_slice()),
         Verdict::Later => push_sentence(
@@ -97,12 +102,7 @@ fn push_left(out: &mut Vec<u8>, hop: &[u8], verdict: &Verdict) -> Result<(), All
 }
 
 /// Adds what the hop answered.
-fn push_refusal(
-    out: &mut Vec<u8>,
-    hop: &[u8],
-    code: u16,
-    text: &[u8],
-) -> Result<(), AllocError>
+fn push_refusal(out: &mut Vec<u8>, hop: &[u8], code: u16, text: &[u8]) -> Result<(), AllocError>
     ensures { OnOk result (out.new.items ≡ out.old.items ++ refusal_lines hop.now code text.now) }
 {
     push_sentence(out, b"  It could not be delivered. ", hop, b" answered:")?;

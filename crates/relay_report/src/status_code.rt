@@ -29,7 +29,7 @@ fn first_word(text: &[u8]) -> &[u8]
     word
 }
 
-/// Whether a word is a status code of class 5 (RFC 3463, section 2).
+/// Returns whether a word is a status code of class 5 (RFC 3463, section 2).
 fn is_failure_code(word: &[u8]) -> bool
     ensures { result ≡ is_failure_code word.now }
 {
@@ -71,7 +71,7 @@ fn has_no_leading_zero(digits: &[u8]) -> bool
     }
 }
 
-/// What stands before the first such octet, and after it; nothing stands after it where there is none.
+/// Returns what is before the first such octet, and after it; nothing is after it if there is none.
 fn parts_at(octet: u8, text: &[u8]) -> (&[u8], &[u8])
     ensures front { result.0.now ≡ before_first (is_octet octet) text.now }
     ensures back { result.1.now ≡ after_first (is_octet octet) text.now }
@@ -82,7 +82,7 @@ fn parts_at(octet: u8, text: &[u8]) -> (&[u8], &[u8])
     }
 }
 
-/// What stands before the first such octet, and after it.
+/// Returns what is before the first such octet, and after it.
 fn first_part(octet: u8, text: &[u8]) -> Option<(&[u8], &[u8])>
     ensures { MatchOption result (OnePart octet text.now)
         (λ parts. FirstPart octet text.now parts.0.now parts.1.now) }

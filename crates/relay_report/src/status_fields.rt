@@ -24,7 +24,7 @@ pub(crate) struct Attempt<'a> {
     pub(crate) hop: &'a [u8],
     /// The date of the report.
     pub(crate) date: &'a [u8],
-    /// The date until which a place is tried; none where it can't be written.
+    /// The date until which a place is tried; none if it can't be written.
     pub(crate) until: Option<&'a [u8]>,
 }
 
@@ -107,7 +107,7 @@ fn push_original_recipient(
     }
 }
 
-/// The address in a path: what stands between its brackets.
+/// Returns the address in a path: what is between its brackets.
 fn address_in(path: &[u8]) -> &[u8]
     ensures { result.now ≡ address_in path.now }
 {
@@ -117,7 +117,7 @@ fn address_in(path: &[u8]) -> &[u8]
     &path[1..path.len() - 1]
 }
 
-/// The action of a report (RFC 3464, section 2.3.3).
+/// Returns the action of a report (RFC 3464, section 2.3.3).
 pub(crate) fn action_of(due: DueReport) -> &'static [u8]
     ensures { result.now ≡ action_of due }
 {
@@ -144,7 +144,7 @@ fn push_attempt_fields(
     push_last_attempt_date(out, attempt.date, verdict)
 }
 
-/// The status code of a place of which a report is due by a verdict (RFC 3463).
+/// Returns the status code of a place of which a report is due by a verdict (RFC 3463).
 fn status_of(form: ReportForm, due: DueReport, verdict: &Verdict) -> &[u8]
     ensures { result.now ≡ status_of form due verdict.now }
 {
@@ -210,7 +210,7 @@ fn push_diagnostic_of(out: &mut Vec<u8>, code: u16, text: &[u8]) -> Result<(), A
     out.extend_from_slice(b"\r\n")
 }
 
-/// Adds a reply's code, and its text where there is one.
+/// Adds a reply's code, and its text if there is one.
 pub(crate) fn push_reply_words(out: &mut Vec<u8>, code: u16, text: &[u8]) -> Result<(), AllocError>
     ensures { OnOk result (out.new.items ≡ out.old.items ++ reply_words code text.now) }
 {
@@ -240,7 +240,7 @@ fn push_last_attempt_date(
     }
 }
 
-/// Adds until when a place is tried that is late and stays.
+/// Adds `Will-Retry-Until` for a late place that stays queued.
 fn push_will_retry_until(
     out: &mut Vec<u8>,
     until: Option<&[u8]>,

@@ -18,7 +18,12 @@ use std::alloc::AllocError;
 pub(crate) fn push_rich_subject(out: &mut Vec<u8>, report: &Report<'_>) -> Result<(), AllocError>
     ensures { OnOk result (out.new.items ≡ out.old.items ++ rich_subject (told_of report.now)) }
 {
-    match first_of(report.message, report.at, report.rulings, DueReport::OfFailure) {
+    match first_of(
+        report.message,
+        report.at,
+        report.rulings,
+        DueReport::OfFailure,
+    ) {
         Some(recipient) => push_subject_line(out, DueReport::OfFailure, recipient),
         None => push_late_subject(out, report),
     }
@@ -28,7 +33,12 @@ pub(crate) fn push_rich_subject(out: &mut Vec<u8>, report: &Report<'_>) -> Resul
 fn push_late_subject(out: &mut Vec<u8>, report: &Report<'_>) -> Result<(), AllocError>
     ensures { OnOk result (out.new.items ≡ out.old.items ++ late_subject (told_of report.now)) }
 {
-    match first_of(report.message, report.at, report.rulings, DueReport::OfDelay) {
+    match first_of(
+        report.message,
+        report.at,
+        report.rulings,
+        DueReport::OfDelay,
+    ) {
         Some(recipient) => push_subject_line(out, DueReport::OfDelay, recipient),
         None => push_relayed_subject(out, report),
     }
@@ -38,13 +48,18 @@ fn push_late_subject(out: &mut Vec<u8>, report: &Report<'_>) -> Result<(), Alloc
 fn push_relayed_subject(out: &mut Vec<u8>, report: &Report<'_>) -> Result<(), AllocError>
     ensures { OnOk result (out.new.items ≡ out.old.items ++ relayed_subject (told_of report.now)) }
 {
-    match first_of(report.message, report.at, report.rulings, DueReport::OfRelay) {
+    match first_of(
+        report.message,
+        report.at,
+        report.rulings,
+        DueReport::OfRelay,
+    ) {
         Some(recipient) => push_subject_line(out, DueReport::OfRelay, recipient),
         None => out.extend_from_slice(b"Delivery report"),
     }
 }
 
-/// The first recipient that is reported so.
+/// Returns the first recipient that is reported so.
 fn first_of<'a>(
     message: &'a Message,
     now: Moment,
@@ -59,7 +74,7 @@ fn first_of<'a>(
     }
 }
 
-/// The first verdict whose place is reported so.
+/// Returns the first verdict whose place is reported so.
 fn ruling_of<'a>(
     message: &Message,
     now: Moment,
@@ -73,7 +88,7 @@ fn ruling_of<'a>(
         .find(|ruling| is_reported_so(message, now, ruling, due))
 }
 
-/// Whether the place of a verdict is reported so.
+/// Returns whether the place of a verdict is reported so.
 fn is_reported_so(message: &Message, now: Moment, ruling: &Ruling, due: DueReport) -> bool
     ensures { result ≡ is_kind due (due_at message.now now ruling.now) }
 {

@@ -7,18 +7,18 @@ use Rattle.relay_disk.specs.Device.{DiskWords}
 abbrev pub ballast_of : ℕ → ℕ
 ballast_of max_content = max (max_content + (2 ^ 21 + 2 ^ 17)) (2 ^ 22)
 
--- Since the old disk a stop might have left so many octets or more: the device has had the room for them.
+-- Since the old disk a stop might have left this many octets or more: the device has had the room for them.
 pub record HasHeld {D : Type 0} (words : DiskWords D) (old new : D) (room : ℕ) : Type 0 where
   pub image : List ℕ
   pub left : words.left_since new (words.moment old) image
   pub long : room ≤ length image
 
--- Time goes on: what a stop since some moment might have left stays so.
+-- Time goes on: what a stop since some time might have left stays so.
 pub record Lasts {D : Type 0} (words : DiskWords D) (old new : D) : Type 0 where
   pub later : words.moment old ≤ words.moment new
   pub keeps : (moment : ℕ) (image : List ℕ) → moment ≤ words.moment old → words.left_since old moment image
       → words.left_since new moment image
 
--- what stays after a test that found so much room: the ballast, where there is as much again beside it
+-- what stays after a test that found so much room: the ballast, if there is as much again beside it
 abbrev pub kept_of : ℕ → ℕ → ℕ
 kept_of room size = if nat_le (size * 2) room then size else 0

@@ -1,5 +1,5 @@
--- Short of room: a relay whose ballast isn't there. It begins an attempt only where a test has found the room for what
--- comes of it, and bounds its spool by what the disk holds.
+-- Short of room: a relay whose ballast isn't there. It begins an attempt only if a test has found the room for its
+-- outcome, and bounds its spool by what the disk holds.
 use Rattle.std.specs.Prelude.{ℕ, ◌+◌, ◌-◌, ◌*◌, ◌/◌, ◌^◌, ◌≤◌, nat_lt, max, min, if◌then◌else◌}
 use Rattle.relay_room.specs.declared.standing.Standing.{Standing}
 use Rattle.relay_room.specs.declared.standing.Standing.TheVariants.{Roomy, Short}
@@ -15,7 +15,7 @@ abbrev pub standing_at_test : Standing → ℕ → ℕ → Standing
 standing_at_test Roomy room size = Roomy
 standing_at_test (Short last need) room size = if nat_lt room (size * 2) then Short room need else Roomy
 
--- An attempt may begin, where the spool has grown by so many octets since the test: what is left holds its outcome.
+-- An attempt may begin, where the spool has grown by this many octets since the test: what is left holds its outcome.
 abbrev pub MayBegin : Standing → ℕ → Type 0
 MayBegin Roomy grown = Unit {0}
 MayBegin (Short room need) grown = need ≤ room - grown

@@ -8,8 +8,8 @@ use relay_disk::{Disk, DiskFault};
 /// How many octets are written by one call.
 const BLOCK: usize = 4_096;
 
-/// How many octets a ballast has for a relay whose messages have up to so many: 64 outcomes with reports that return
-/// headers, and one that returns a whole message; and no fewer than 4 MiB.
+/// Returns how many octets a ballast has for a relay whose messages have up to this many: 64 outcomes with reports that
+/// return headers, and one that returns a whole message; and no fewer than 4 MiB.
 pub fn ballast_size(max_content: usize) -> u32
     requires { max_content ≤ 2 ^ 24 }
     ensures { result ≡ ballast_of max_content }
@@ -28,9 +28,9 @@ pub fn give_up<D: Disk>(disk: &mut D) -> Result<(), DiskFault>
     disk.sync()
 }
 
-/// Tests how much room the disk has, up to twice the size of the ballast, in octets: so many are written and synced.
-/// Where all of them are there, the ballast stays; else nothing does, and a write has failed. A failure to sync or to
-/// cut is a fault.
+/// Tests how much room the disk has, up to twice the size of the ballast, in octets: this many are written and synced.
+/// If all of them are there, the ballast stays; else nothing does, and a write has failed. A failure to sync or to cut
+/// is a fault.
 pub fn test_room<D: Disk>(disk: &mut D, size: usize) -> Result<usize, DiskFault>
     requires { size < 2 ^ 62 }
     ensures held { D.honest → IfOk result (HasHeld D.words disk.old disk.new) }
@@ -49,7 +49,7 @@ pub fn test_room<D: Disk>(disk: &mut D, size: usize) -> Result<usize, DiskFault>
     Ok(room)
 }
 
-/// Writes zeros on an empty disk, up to so many, as far as that goes: how many are there.
+/// Writes zeros on an empty disk, up to this many, as far as that goes: how many are there.
 pub(crate) fn write_zeros<D: Disk>(disk: &mut D, most: usize) -> usize
     requires { D.honest → D.words.seen disk.old ≡ [] }
     ensures there { D.honest → result ≤ length (D.words.seen disk.new) }

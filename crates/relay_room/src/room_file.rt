@@ -38,8 +38,8 @@ impl RoomFile {
     }
 
     /// Looks for the reason why a device has just failed: writes up to twice the size of the ballast over the file, as
-    /// far as that goes, and returns the system's error where a write fails. Nothing where all of them succeed. What
-    /// was written stays until the ballast is given up.
+    /// far as that goes, and returns the system's error where a write fails. Nothing if all of them succeed. What was
+    /// written stays until the ballast is given up.
     pub fn reason(&mut self, size: usize) -> Option<io::Error>
         requires { size < 2 ^ 62 }
     {
@@ -48,7 +48,7 @@ impl RoomFile {
         self.error
     }
 
-    /// The answer of a call, with a failure counted and its error kept.
+    /// Returns the answer of a call, with a failure counted and its error kept.
     fn noted<T>(&mut self, answer: io::Result<T>) -> Result<T, DiskFault>
         ensures value { result_ok result ≡ result_ok answer }
         ensures ok { OnOk result (self.new.failures ≡ self.old.failures) }

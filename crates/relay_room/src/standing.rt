@@ -3,7 +3,7 @@ ghost use Rattle.std.specs.Prelude.{ℕ, ◌≡◌, ◌*◌, ◌+◌, ◌-◌, �
 ghost use Rattle.relay_room.specs.Standing.{MayBegin, bounded_limit, standing_at_failure, standing_at_test};
 
 /// How many octets the outcome of an attempt takes, with a report of all its recipients that returns a header: while a
-/// relay is short of room, an attempt begins only where a test found so many.
+/// relay is short of room, an attempt begins only if a test found this many.
 const OUTCOME: usize = 65_536;
 
 /// How a relay stands with the room on its disk.
@@ -13,9 +13,9 @@ pub enum Standing {
     Roomy,
     /// The ballast isn't there.
     Short {
-        /// How many octets the last test had room for; none where the device has failed since.
+        /// How many octets the last test had room for; none if the device has failed since.
         room: usize,
-        /// How many have to be there before an attempt begins.
+        /// How many must be there before an attempt begins.
         need: usize,
     },
 }
@@ -28,8 +28,8 @@ impl Standing {
         Standing::Roomy.behind_failure(0)
     }
 
-    /// How it stands once the device has failed: nothing is known of the room. Where it was short of it before, an
-    /// outcome has taken more than there was, and attempts wait for as much as the ballast has, which is of this size.
+    /// How it stands once the device has failed: nothing is known of the room. If it was short of it before, an outcome
+    /// has taken more than there was, and attempts wait for as much as the ballast has, which is of this size.
     pub fn behind_failure(self, size: usize) -> Self
         ensures standing { result ≡ standing_at_failure self size }
         ensures held { (grown : ℕ) → ¬ MayBegin result grown }
@@ -41,7 +41,7 @@ impl Standing {
         Standing::Short { room: 0, need }
     }
 
-    /// How it stands after a test that found this room, where the ballast is of this size.
+    /// How it is after a test that found this room, where the ballast is of this size.
     pub fn behind_test(self, room: usize, size: usize) -> Self
         requires { size < 2 ^ 62 }
         ensures { result ≡ standing_at_test self room size }
@@ -52,7 +52,7 @@ impl Standing {
         }
     }
 
-    /// Whether attempts may begin, where the spool has grown by so many octets since the test.
+    /// Returns whether attempts may begin, where the spool has grown by this many octets since the test.
     pub fn may_begin(self, grown: usize) -> bool
         ensures { IsTrue result ↔ MayBegin self grown }
     {
@@ -62,7 +62,7 @@ impl Standing {
         }
     }
 
-    /// The limit of a spool whose files have so many octets, and whose limit is configured so.
+    /// Returns the limit of a spool whose files have this many octets, and whose limit is configured so.
     pub fn limit(self, configured: u64, files: u64) -> u64
         ensures { result ≡ bounded_limit self configured files }
     {

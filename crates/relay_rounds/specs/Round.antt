@@ -22,7 +22,7 @@ use Rattle.relay_hub.specs.Receipts.{AreReceipts, count_of}
 -- The words below take what the hub has answered, what a reader of a link still has, and what its writer holds.
 module _ {R W : Type 0} (has_answered : List ℕ → ℕ → Offered → Answer → Type 0) (remaining : R → Option (List ℕ))
     (contents : W → Option (List ℕ)) where
-  -- of links of this configuration, whose mail counts as accepted at a moment
+  -- of links of this configuration, whose mail counts as accepted at a time
   module _ (config : Config) (at : ℕ) where
     -- How a link ended that ran, with a client at this address. One that had no thread has read and written nothing,
     -- and nothing was queued on it.
@@ -78,7 +78,7 @@ module _ {J R W : Type 0} where
     pub pass : lane.pass ≡ []
     pub ended : lane.ended ≡ None
 
-  -- so many words, and room for as many lanes that have begun and have ended
+  -- this many words, and room for as many lanes that have begun and have ended
   pub record MayBegin (count word_count : ℕ) (started : List (Started J R W)) (started_room : ℕ)
       (ended : List (Lane J R W)) (ended_room : ℕ) : Type 0 where
     pub words : count ≤ word_count
@@ -121,7 +121,7 @@ AreTogether (pass ∷ passes) [] served = ⊥
 AreTogether (pass ∷ passes) (rest ∷ rests) [] = ⊥
 AreTogether (pass ∷ passes) (rest ∷ rests) (one ∷ served) = IsWith pass rest one × AreTogether passes rests served
 
--- room for so many links
+-- room for this many links
 pub record HasRoom {J R W : Type 0} (count : ℕ) (room : Room J R W) : Type 0 where
   pub words : vec_len room.have_threads ≡ count
   pub no_lanes : room.lanes.items ≡ []

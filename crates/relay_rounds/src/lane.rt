@@ -23,7 +23,7 @@ pub(crate) struct Lane<J: Opening, R, W> {
     pub(crate) peer: [u8; 4],
     pub(crate) reader: R,
     pub(crate) writer: W,
-    /// How it ended; none where it had no thread.
+    /// How it ended; none if it had no thread.
     pub(crate) ended: Option<Result<(), LinkFault>>,
 }
 
@@ -41,7 +41,7 @@ impl<J: Opening, R: Drop, W: Drop> Drop for Lane<J, R, W> {
 }
 
 impl<J: Opening, R, W> Lane<J, R, W> {
-    /// The pass, and what else is to be told of the lane, without receipts.
+    /// Returns the pass, and what else is to be told of the lane, without receipts.
     pub(crate) fn into_parts(self, alloc: Global) -> (Pass<J>, Served<R, W>)
         ensures pass { result.0 ≡ self.pass }
         ensures rest { IsRestOf self result.1 }
@@ -137,8 +137,8 @@ pub(crate) fn serve_lane<D: Disk, J: Opening, T: Wait, R: Read, W: Write>(
     lane
 }
 
-/// Gives a lane to a thread of its own. Where none is given, the lane comes back as it was: `has_thread` says so to
-/// what the thread would have run, which is then called here.
+/// Gives a lane to a thread of its own. If none is given, the lane comes back as it was: `has_thread` says so to what
+/// the thread would have run, which is then called here.
 pub(crate) fn start_lane<
     's,
     E,
@@ -169,7 +169,7 @@ pub(crate) fn start_lane<
     }
 }
 
-/// A lane whose thread has ended, or that had none.
+/// Returns a lane whose thread has ended, or that had none.
 pub(crate) fn end_lane<J: Opening, T: Threads, R: Read + Drop, W: Write + Drop>(
     rt: &T,
     started: Started<J, R, W>,

@@ -16,7 +16,7 @@ use std::sync::atomic::AtomicBool;
 use std::thread;
 use std::thread::{Scope, Threads};
 
-/// Each link with a pass that has no receipts.
+/// Returns each link with a pass that has no receipts.
 pub(crate) fn lanes_of<J: Opening, R: Drop, W: Drop>(
     links: Vec<Link<R, W>>,
     passes: Vec<Pass<J>>,
@@ -130,7 +130,7 @@ fn end_lanes<J: Opening, T: Threads, R: Read + Drop, W: Write + Drop>(
     )
 }
 
-/// The passes of the lanes, and what else is to be told of them.
+/// Returns the passes of the lanes, and what else is to be told of them.
 pub(crate) fn take_apart<J: Opening, R: Drop, W: Drop>(
     alloc: Global,
     lanes: Vec<Lane<J, R, W>>,
@@ -152,7 +152,7 @@ pub(crate) fn take_apart<J: Opening, R: Drop, W: Drop>(
     (passes, rests)
 }
 
-/// The receipts of each pass, with what else is told of its lane.
+/// Returns the receipts of each pass, with what else is told of its lane.
 pub(crate) fn put_together<J: Opening, R: Drop, W: Drop>(
     passes: Vec<Pass<J>>,
     rests: Vec<Served<R, W>>,

@@ -32,7 +32,7 @@ pub struct Ended<D: Disk, R, W> {
     pub agrees: bool,
 }
 
-/// A round that didn't begin for want of memory: no link has run.
+/// A round that didn't begin for lack of memory: no link has run.
 pub struct NotBegun<D: Disk, R, W> {
     pub node: Node<D>,
     pub links: Vec<Link<R, W>>,
@@ -84,7 +84,7 @@ impl<J: Opening, R: Read + Drop, W: Write + Drop> Drop for Room<J, R, W> {
 }
 
 impl<D: Disk, R, W> Ended<D, R, W> {
-    /// The node, the links in their order, and whether the receipts are what the node has accepted.
+    /// Returns the node, the links in their order, and whether the receipts are what the node has accepted.
     pub fn into_parts(self) -> (Node<D>, Vec<Served<R, W>>, bool)
         ensures { (result.0 ≡ self.node) × (result.1.items ≡ self.links.items) × (result.2 ≡ self.agrees) }
     {
@@ -98,7 +98,7 @@ impl<D: Disk, R, W> Ended<D, R, W> {
 }
 
 impl<D: Disk, R, W> NotBegun<D, R, W> {
-    /// The node and the links.
+    /// Returns the node and the links.
     pub fn into_parts(self) -> (Node<D>, Vec<Link<R, W>>)
         ensures { (result.0 ≡ self.node) × (result.1.items ≡ self.links.items) }
     {
@@ -136,7 +136,7 @@ pub fn round<
     round_by::<Brand, D, T, R, W>(rt, alloc, node, blank, config, links, now)
 }
 
-/// The same, of any ledger.
+/// Returns the same, of any ledger.
 fn round_by<
     J: Opening + Send + Sync,
     D: Disk + Drop + Send,
@@ -176,7 +176,7 @@ fn round_by<
     Ok(room.run(rt, alloc, hub, passes, config, links, now))
 }
 
-/// Room for so many links. It fails where memory runs out.
+/// Returns room for this many links. Fails if memory runs out.
 fn room_for<J: Opening, R: Read + Drop, W: Write + Drop>(
     alloc: Global,
     count: usize,
@@ -195,7 +195,7 @@ fn room_for<J: Opening, R: Read + Drop, W: Write + Drop>(
     })
 }
 
-/// So many words, each of which says that a lane has its thread. It fails where memory runs out.
+/// Returns this many words, each of which says that a lane has its thread. Fails if memory runs out.
 fn words(alloc: Global, count: usize) -> Result<Vec<AtomicBool>, AllocError>
     ensures { IfOk result (λ words. vec_len words ≡ count) }
 {

@@ -22,7 +22,7 @@ pub struct Served<R, W> {
     pub writer: W,
     /// Of the mail that was queued on it, in order.
     pub receipts: Vec<Receipt>,
-    /// How it ended; none where it had no thread, and then nothing was read or written.
+    /// How it ended; none if it had no thread, and then nothing was read or written.
     pub ended: Option<Result<(), LinkFault>>,
 }
 
@@ -50,7 +50,7 @@ impl<R: Drop, W: Drop> Drop for Served<R, W> {
 }
 
 impl<R, W> Link<R, W> {
-    /// A lane of this link, with a pass, that hasn't begun.
+    /// Returns a lane of this link, with a pass, that hasn't begun.
     pub(crate) fn into_lane<J: Opening>(self, pass: Pass<J>) -> Lane<J, R, W>
         requires { pass ≡ [] }
         ensures { IsLaneOf self result }
@@ -71,7 +71,7 @@ impl<R, W> Link<R, W> {
 }
 
 impl<R, W> Served<R, W> {
-    /// The same, with these receipts in place of its own.
+    /// Returns the same, with these receipts in place of its own.
     pub(crate) fn with(self, receipts: Vec<Receipt>) -> Served<R, W>
         ensures { IsWith receipts.items self result }
     {

@@ -1,4 +1,4 @@
--- What is true of the routes to which a client may send, and of its routed paths.
+-- Laws of the routes to which a client may send, and of its routed paths.
 use Rattle.std.specs.Prelude.{◌≡◌, ℕ, List, None, Some}
 use Rattle.relay_envelope.specs.Path.{Path}
 use Rattle.relay_routes.specs.Routes.{hop_of}

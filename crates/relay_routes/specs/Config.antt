@@ -28,7 +28,7 @@ abbrev pub ReadsValue : {A : Type 0} → Key → (Data → A → Type 0) → Dat
 ReadsValue key Gives value (Ok a) = Gives value a
 ReadsValue {A} key Gives value (Err fault) = (fault ≡ BadValue key) × ((a : A) → ¬ Gives value a)
 
--- a key that has to be there
+-- a key that must be there
 abbrev pub ReadsRequired : {A : Type 0} → Key → (Data → A → Type 0) → Option Data → Result A ConfigFault → Type 0
 ReadsRequired key Gives None result = result ≡ Err (Missing key)
 ReadsRequired key Gives (Some value) result = ReadsValue key Gives value result
@@ -104,7 +104,7 @@ pub record IsGood {A : Type 0} (Reads : Result A ConfigFault → Type 0) : Type 
   pub value : A
   pub reads : Reads (Ok value)
 
--- the first fault of a document: the keys are looked at in this order, and those before are good
+-- the first fault of a document: the keys are checked in this order, and those before are good
 pub data FirstFault (document : Members) (fault : ConfigFault) : Type 0 where
   at_host : ReadsHost document (Err fault) → FirstFault document fault
   at_listen : IsGood (ReadsHost document) → ReadsListen document (Err fault) → FirstFault document fault

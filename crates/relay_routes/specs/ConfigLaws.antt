@@ -1,4 +1,4 @@
--- What is true of the texts of configurations.
+-- Laws of the texts of configurations.
 use Rattle.std.specs.Prelude.{◌≡◌, ℕ, List, Result}
 use Rattle.relay_routes.specs.Config.{ReadsConfig}
 use Rattle.relay_routes.specs.declared.config.Config.{Config}

@@ -28,7 +28,7 @@ abbrev pub refuses_path : RoutedPaths → Path → Bool
 refuses_path Pass path = false
 refuses_path Refuse path = is_routed path
 
--- A mailbox is routed exactly where it has a source route, or its local part names a further host.
+-- A mailbox is routed exactly if it has a source route, or its local part names a further host.
 abbrev pub RoutedIsNamed : Type 0
 RoutedIsNamed =
     (route local domain : List ℕ) → IsMailbox route local domain

@@ -6,7 +6,8 @@ ghost use Rattle.relay_routes.specs.Value.{IsAddressText, begins_with_zero, is_c
 use memchr::memchr;
 use std::net::SocketAddrV4;
 
-/// The address that the text writes: four numbers with `.` between them, `:` and a port from 1, without leading zeros.
+/// Returns the address that the text writes: four numbers with `.` between them, `:` and a port from 1, without leading
+/// zeros.
 pub(crate) fn read_address(text: &str) -> Option<SocketAddrV4>
     ensures { MatchOption result
         ((address : SocketAddrV4) → ¬ IsAddressText text.now address) (IsAddressText text.now) }
@@ -17,7 +18,7 @@ pub(crate) fn read_address(text: &str) -> Option<SocketAddrV4>
     }
 }
 
-/// Whether no `0` stands after the first `:`: a port from 1 without leading zeros begins with another digit.
+/// Returns whether no `0` is after the first `:`: a port from 1 without leading zeros begins with another digit.
 fn has_plain_port(text: &[u8]) -> bool
     ensures { result ≡ not (begins_with_zero (after_first is_colon text.now)) }
 {

@@ -18,7 +18,7 @@ use crate::trusted_clients::TrustedClients;
 use std::alloc::Global;
 use std::net::SocketAddrV4;
 
-/// What a relay is told before it runs.
+/// The configuration of a relay.
 #[derive(Debug)]
 pub struct Config {
     /// The name of this host, as replies give it.
@@ -31,13 +31,13 @@ pub struct Config {
     pub max_content: usize,
     /// The most octets of the spool, 1 to 549,755,813,888.
     pub spool_limit: u64,
-    /// What is done with a content in which a CR or an LF stands alone.
+    /// The rule for a content with a bare CR or LF.
     pub bare_newlines: BareNewlines,
     /// Where mail goes.
     pub routes: Table,
-    /// The clients that may send to every route, where not all of them may.
+    /// The clients that may send to every route; `None` if all may.
     pub trusted_clients: Option<TrustedClients>,
-    /// What is done with a recipient whose path is routed, but of a client that `trusted_clients` names.
+    /// The rule for routed paths of clients that `trusted_clients` doesn't name.
     pub routed_paths: RoutedPaths,
     /// How a delivery status notification is written.
     pub reports: ReportForm,
@@ -45,7 +45,7 @@ pub struct Config {
     pub ghost trusting: { IsTrusting routes trusted_clients },
 }
 
-// Written out, so that what drops a configuration calls this, and doesn't look into its parts.
+// Written out, so that the proof of a caller that drops a configuration stops at this function.
 impl Drop for Config {
     fn drop(self) {
         let Config {
@@ -69,8 +69,8 @@ impl Config {
     ghost use Rattle.relay_routes.specs.Config.{ReadsConfig, ReadsDocument};
     ghost use Rattle.relay_routes.specs.Trusted.{is_listed};
 
-    /// A configuration of these values, where `max_content` and `spool_limit` lie in their ranges and the routes are
-    /// those of this host. Every client may send to every route, also by routed paths. It takes no memory.
+    /// Makes a configuration of these values, or returns `None` if `max_content` or `spool_limit` is out of range or
+    /// the routes are of another host. Every client may send to every route, also by routed paths. Allocates nothing.
     pub fn new(
         host: HostName,
         listen: SocketAddrV4,
@@ -105,8 +105,8 @@ impl Config {
         }
     }
 
-    /// The configuration that a text in TOML says. Keys are looked at in the order of [`Key`](crate::Key), and the
-    /// first fault is answered; other keys are ignored. Where they are missing, `max_content` is 1,048,576,
+    /// Returns the configuration that a text in TOML says. Keys are checked in the order of [`Key`](crate::Key), and
+    /// the first fault is answered; other keys are ignored. If they are missing, `max_content` is 1,048,576,
     /// `spool_limit` 67,108,864, `bare_newlines` says that content is taken as it came, `trusted_clients` that every
     /// client may send to every route, `routed_paths` that a routed path is taken as any other, and `reports` that a
     /// report is plain.
@@ -122,7 +122,7 @@ impl Config {
         }
     }
 
-    /// The configuration that a document says, as [`Config::read`].
+    /// Returns the configuration that a document says, as [`Config::read`].
     pub fn of_document(alloc: Global, document: &toml::Table) -> Result<Self, ConfigFault>
         ensures ok { IfOk result (λ config. ReadsDocument (table_view document.now) (Ok config)) }
         ensures err { IfErr result (λ fault. (fault ≡ ConfigFault.NoMemory)
@@ -152,8 +152,8 @@ impl Config {
         })
     }
 
-    /// The table by which a client's recipients are accepted: all routes for one that may send to each of them, else
-    /// those of the domains that are named. It takes no memory.
+    /// Returns the table by which a client's recipients are accepted: all routes for one that may send to each of them,
+    /// else those of the domains that are named. Allocates nothing.
     pub fn accepted_table(&self, client: [u8; 4]) -> &Table
         ensures { result.now ≡ accepted_table self.now client }
     {
@@ -181,7 +181,7 @@ impl Config {
         }
     }
 
-    /// Whether a client is in one of the networks that `trusted_clients` names. Where none are named, nobody is.
+    /// Returns whether a client is in one of the networks that `trusted_clients` names. If none are named, nobody is.
     fn is_listed(&self, client: [u8; 4]) -> bool
         ensures { result ≡ is_listed client self.now.trusted_clients }
     {
@@ -192,7 +192,7 @@ impl Config {
     }
 }
 
-/// Whether the sizes lie in their ranges, and the routes are those of this host, which is named.
+/// Returns whether the sizes lie in their ranges, and the routes are those of this host, which is named.
 fn is_config(host: &HostName, max_content: usize, spool_limit: u64, routes: &Table) -> bool
     ensures { IsTrue result ↔ IsConfig host.now max_content spool_limit routes.now }
 {

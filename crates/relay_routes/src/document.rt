@@ -146,7 +146,7 @@ pub(crate) fn read_reports(document: &toml::Table) -> Result<ReportForm, ConfigF
     }
 }
 
-/// A size from 1 to a limit.
+/// Returns a size from 1 to a limit.
 fn read_size(document: &toml::Table, key: Key, default: u64, limit: u64) -> Result<u64, ConfigFault>
     ensures { ReadsOptional key default (GivesSize limit) (value_of key (table_view document.now)) result }
 {
@@ -200,7 +200,7 @@ pub(crate) fn read_trusted_clients(
     }
 }
 
-/// Reads the networks that the values write: `None` if one of them writes none, such as `"192.0.2.0/33"`. Fails where
+/// Reads the networks that the values write: `None` if one of them writes none, such as `"192.0.2.0/33"`. Fails if
 /// memory runs out.
 pub fn read_networks(alloc: Global, values: &[Value]) -> Result<Option<Vec<Network>>, AllocError>
     ensures { IfOk result (λ found. MatchOption found
@@ -217,7 +217,7 @@ pub fn read_networks(alloc: Global, values: &[Value]) -> Result<Option<Vec<Netwo
     Ok(Some(networks))
 }
 
-/// The network that the value writes.
+/// Returns the network that the value writes.
 fn read_network(value: &Value) -> Option<Network>
     ensures { MatchOption result
         ((network : Network) → ¬ GivesNetwork (view value.now) network) (GivesNetwork (view value.now)) }
@@ -228,7 +228,7 @@ fn read_network(value: &Value) -> Option<Network>
     }
 }
 
-/// The routes that the members say.
+/// Returns the routes that the members say.
 fn table_of(alloc: Global, host: HostName, members: &toml::Table) -> Result<Table, ConfigFault>
     ensures ok { IfOk result (λ table. AreRoutes (table_view members.now) table.routes
         × AllAgree table.routes × (table.host ≡ host)) }
@@ -250,7 +250,7 @@ fn table_of(alloc: Global, host: HostName, members: &toml::Table) -> Result<Tabl
     Ok(table)
 }
 
-/// What a route that isn't added means for the configuration.
+/// Returns what a route that isn't added means for the configuration.
 fn fault_of_routes(fault: RouteFault) -> ConfigFault
     ensures { result ≡ fault_of_routes fault }
 {
@@ -262,7 +262,7 @@ fn fault_of_routes(fault: RouteFault) -> ConfigFault
     }
 }
 
-/// A hop: its name, and its place.
+/// Returns a hop: its name, and its place.
 fn read_hop(alloc: Global, value: &Value) -> Result<Option<Hop>, AllocError>
     ensures { IfOk result (λ found. MatchOption found
         ((hop : Hop) → ¬ GivesHop (view value.now) hop) (GivesHop (view value.now))) }
@@ -282,7 +282,7 @@ fn read_hop(alloc: Global, value: &Value) -> Result<Option<Hop>, AllocError>
     }
 }
 
-/// The value of a key that has to be there.
+/// Returns the value of a key that must be there.
 fn required(document: &toml::Table, key: Key) -> Result<&Value, ConfigFault>
     ensures { MatchResult result
         (λ value. value_of key (table_view document.now) ≡ Some (view value.now))
@@ -294,14 +294,14 @@ fn required(document: &toml::Table, key: Key) -> Result<&Value, ConfigFault>
     }
 }
 
-/// The value of a key.
+/// Returns the value of a key.
 fn member(document: &toml::Table, key: Key) -> Option<&Value>
     ensures { value_of key (table_view document.now) ≡ option_map (λ value. view value.now) result }
 {
     document.get(key.text())
 }
 
-/// The text at a key.
+/// Returns the text at a key.
 fn text_at<'a>(members: &'a toml::Table, key: &str) -> Option<&'a str>
     ensures { option_and_then as_str (get_member key.now (table_view members.now))
         ≡ option_map (λ text. text.now) result }

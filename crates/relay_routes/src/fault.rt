@@ -5,13 +5,13 @@ use crate::key::Key;
 use std::alloc::AllocError;
 use thiserror::Error;
 
-/// Why a route is not added. The table stays as it was.
+/// Why a route isn't added. The table is unchanged.
 #[derive(Clone, Copy, Debug, Drop, PartialEq, Eq, Error)]
 pub enum RouteFault {
     /// It is for something that is neither a domain nor `*`.
     #[error("bad domain")]
     BadDomain,
-    /// There is a route for this domain already, in some letter case.
+    /// There is a route for this domain already, in any letter case.
     #[error("domain given twice")]
     Repeated,
     /// There is a route to this name at another place already.
@@ -36,7 +36,7 @@ pub enum ConfigFault {
     /// The text is no TOML.
     #[error("NotToml")]
     NotToml,
-    /// A key that has to be there is missing.
+    /// A key that must be there is missing.
     #[error("Missing {0}")]
     Missing(Key),
     /// A key has a value that it may not have.

@@ -4,7 +4,7 @@ use crate::host_name::HostName;
 use std::alloc::{AllocError, Global};
 use std::net::SocketAddrV4;
 
-/// Another server that takes mail on.
+/// A next hop.
 #[derive(Debug)]
 pub struct Hop {
     /// Its name.
@@ -13,7 +13,7 @@ pub struct Hop {
     pub at: SocketAddrV4,
 }
 
-// Written out, so that what drops a hop calls this, and doesn't look into its name.
+// Written out, so that the proof of a caller that drops a hop stops at this function.
 impl Drop for Hop {
     fn drop(self) {
         let Hop { name: _name, at: _ } = self;
@@ -21,7 +21,7 @@ impl Drop for Hop {
 }
 
 impl Hop {
-    /// The same hop again. It fails where memory runs out.
+    /// Returns the same hop again. Fails if memory runs out.
     pub fn copy(&self, alloc: Global) -> Result<Self, AllocError>
         ensures { IfOk result (λ copy. copy ≡ self.now) }
     {

@@ -12,7 +12,7 @@ pub struct HostName {
     octets: Octets,
 }
 
-// Written out, so that what drops a name calls this, and doesn't look into its octets.
+// Written out, so that the proof of a caller that drops a name stops at this function.
 impl Drop for HostName {
     fn drop(self) {
         let HostName { octets: _octets } = self;
@@ -31,7 +31,7 @@ impl Model for HostName {
 }
 
 impl HostName {
-    /// The octets as a name, where they are one. It takes no memory.
+    /// Returns the octets as a name, if they are one. Allocates nothing.
     pub fn new(octets: Octets) -> Option<Self>
         ensures { MatchOption result (¬ IsHostName octets) (λ name. (name ≡ octets) × IsHostName octets) }
     {
@@ -42,7 +42,7 @@ impl HostName {
         }
     }
 
-    /// The name that a text is, where it is one. It fails where memory runs out.
+    /// Returns the name that a text is, if it is one. Fails if memory runs out.
     pub fn read(alloc: Global, text: &[u8]) -> Result<Option<Self>, AllocError>
         ensures { IfOk result (λ found. MatchOption found (¬ IsHostName text.now)
             (λ name. (name ≡ text.now) × IsHostName text.now)) }
@@ -54,7 +54,7 @@ impl HostName {
         Ok(Some(HostName { octets }))
     }
 
-    /// The octets.
+    /// Returns the octets.
     pub fn as_slice(&self) -> &[u8]
         ensures value { result.now ≡ self.now }
         ensures valid { IsHostName self.now }
@@ -62,7 +62,7 @@ impl HostName {
         self.octets.as_slice()
     }
 
-    /// The same name again. It fails where memory runs out.
+    /// Returns the same name again. Fails if memory runs out.
     pub fn copy(&self, alloc: Global) -> Result<Self, AllocError>
         ensures { IfOk result (λ copy. copy ≡ self.now) }
     {

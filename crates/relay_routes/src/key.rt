@@ -3,7 +3,7 @@ ghost use Rattle.relay_routes.specs.Document.{key_text};
 
 use std::fmt;
 
-/// A key of a configuration, in the order in which they are looked at.
+/// A key of a configuration, in the order in which they are checked.
 #[derive(Clone, Copy, Debug, Drop, PartialEq, Eq)]
 pub enum Key {
     /// The name of the relay.
@@ -18,18 +18,18 @@ pub enum Key {
     SpoolLimit,
     /// Where mail goes.
     Routes,
-    /// What is done with a content in which a CR or an LF stands alone.
+    /// The rule for a content with a bare CR or LF.
     BareNewlines,
-    /// Whose mail is accepted for every route.
+    /// The clients that may send to every route.
     TrustedClients,
-    /// What is done with a recipient whose path is routed.
+    /// The rule for routed paths.
     RoutedPaths,
     /// How a delivery status notification is written.
     Reports,
 }
 
 impl Key {
-    /// The key as a document has it.
+    /// The key's name in a document.
     pub fn text(self) -> &'static str
         ensures { result.now ≡ key_text self }
     {

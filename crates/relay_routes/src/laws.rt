@@ -1,4 +1,4 @@
-//! What is true of configurations and routes, whoever reads them.
+//! Laws of configurations and routes, whoever reads them.
 ghost use Rattle.relay_routes.specs.AcceptedLaws.{AcceptedIsRouted, AllAreTrusted, NobodyIsListed};
 ghost use Rattle.relay_routes.specs.ConfigLaws.{OneReading};
 ghost use Rattle.relay_routes.specs.RoutedPath.{RoutedIsNamed};
@@ -40,7 +40,7 @@ pub fn accepted_is_routed()
     ensures { AcceptedIsRouted }
 {}
 
-/// A mailbox is routed exactly where it has a source route, or its local part names a further host.
+/// A mailbox is routed exactly if it has a source route, or its local part names a further host.
 pub fn routed_is_named()
     ensures { RoutedIsNamed }
 {}

@@ -1,4 +1,4 @@
-//! What a relay is told before it runs: its configuration, and where mail for each domain goes.
+//! The configuration of a relay, and the routes: the next hop of each domain.
 #![tactic(auto)]
 
 mod address;

@@ -22,7 +22,7 @@ pub struct Network {
 impl Network {
     ghost use Rattle.relay_routes.specs.Network.{IsNetworkAt, IsNetworkText, is_in};
 
-    /// The network of a first address and a prefix, which has at most 32 bits, and only zeros after it.
+    /// Returns the network of a first address and a prefix, which has at most 32 bits, and only zeros after it.
     pub fn new(first: Ipv4Addr, prefix_length: u8) -> Option<Self>
         ensures { MatchOption result (¬ IsNetwork (ipv4_octets first) prefix_length) (λ network.
             (network.first ≡ first) × (network.prefix_length ≡ prefix_length)) }
@@ -41,8 +41,8 @@ impl Network {
         })
     }
 
-    /// The network that a text writes: an address alone, or an address, `/` and the length of its prefix, all numbers
-    /// without leading zeros.
+    /// Returns the network that a text writes: an address alone, or an address, `/` and the length of its prefix, all
+    /// numbers without leading zeros.
     pub fn read(text: &[u8]) -> Option<Self>
         ensures { MatchOption result
             ((network : Network) → ¬ IsNetworkText text.now network) (IsNetworkText text.now) }
@@ -56,7 +56,7 @@ impl Network {
         }
     }
 
-    /// The network of the address that a text writes and a prefix.
+    /// Returns the network of the address that a text writes and a prefix.
     fn at(address: &[u8], prefix_length: u8) -> Option<Self>
         ensures { MatchOption result
             ((network : Network) → ¬ IsNetworkAt address.now prefix_length network)
@@ -68,7 +68,7 @@ impl Network {
         }
     }
 
-    /// Whether a client is in the network.
+    /// Returns whether a client is in the network.
     pub fn contains(&self, client: [u8; 4]) -> bool
         ensures { result ≡ is_in client self.now }
     {

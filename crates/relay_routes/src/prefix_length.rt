@@ -1,6 +1,6 @@
 ghost use Rattle.std.specs.Prelude.{◌≡◌, ◌≢◌, ◌+◌, ◌<◌, ℕ, MatchOption, decimal};
 
-/// The number of one or two digits that a text writes without leading zeros.
+/// Returns the number of one or two digits that a text writes without leading zeros.
 pub(crate) fn read_prefix_length(text: &[u8]) -> Option<u8>
     ensures { MatchOption result ((number : ℕ) → number < 100 → text.now ≢ decimal number)
         (λ number. (number < 100) × (text.now ≡ decimal number)) }

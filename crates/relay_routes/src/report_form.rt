@@ -11,7 +11,7 @@ pub enum ReportForm {
 }
 
 impl ReportForm {
-    /// What a configuration's text names, and none where it names nothing.
+    /// Returns what a configuration's text names, and none if it names nothing.
     pub(crate) fn read(text: &str) -> Option<Self>
         ensures { MatchOption result ((other : ReportForm) → text.now ≢ report_form_text other)
             (λ found. text.now ≡ report_form_text found) }

@@ -6,18 +6,18 @@ ghost use Rattle.relay_routes.specs.Value.{routed_paths_text};
 use memchr::memchr3;
 use relay_envelope::{Path, domain_of};
 
-/// What is done with a recipient whose path is routed: it has a source route (RFC 5321, section 4.1.2), or `%`, `!` or
-/// `@` in its local part.
+/// The rule for routed paths: those with a source route (RFC 5321, section 4.1.2), or with `%`, `!` or `@` in the local
+/// part.
 #[derive(Clone, Copy, Debug, Drop, PartialEq, Eq)]
 pub enum RoutedPaths {
-    /// It is taken as any other.
+    /// The recipient is accepted like any other.
     Pass,
-    /// It is refused: a next hop that trusts this relay may hand the mail on to a host that no route names.
+    /// The recipient is refused: a next hop that trusts this relay might relay the mail to a host that no route names.
     Refuse,
 }
 
 impl RoutedPaths {
-    /// What a configuration's text names, and none where it names nothing.
+    /// Returns what a configuration's text names, and none if it names nothing.
     pub(crate) fn read(text: &str) -> Option<Self>
         ensures { MatchOption result ((other : RoutedPaths) → text.now ≢ routed_paths_text other)
             (λ found. text.now ≡ routed_paths_text found) }
@@ -29,7 +29,7 @@ impl RoutedPaths {
         }
     }
 
-    /// Whether a recipient of this path is refused. It takes no memory.
+    /// Returns whether a recipient of this path is refused. Allocates nothing.
     pub fn refuses(self, path: &Path<'_>) -> bool
         ensures { result ≡ refuses_path self (value_of path.now) }
     {
@@ -40,7 +40,7 @@ impl RoutedPaths {
     }
 }
 
-/// Whether a path names a further host: by a source route, or in its local part.
+/// Returns whether a path names a further host: by a source route, or in its local part.
 fn is_routed(path: &Path<'_>) -> bool
     ensures { result ≡ is_routed (value_of path.now) }
 {
@@ -48,7 +48,7 @@ fn is_routed(path: &Path<'_>) -> bool
         return false;
     };
     let text = path.text();
-    // Before the `@` of the domain stand `<`, a source route and the local part, and `>` stands after the domain.
+    // Before the `@` of the domain stand `<`, a source route and the local part, and `>` is after the domain.
     let (front, _) = text.split_at(text.len() - domain.len() - 2);
     memchr3(b'%', b'!', b'@', front).is_some()
 }

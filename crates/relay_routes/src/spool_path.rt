@@ -9,7 +9,7 @@ pub struct SpoolPath {
     text: String,
 }
 
-// Written out, so that what drops a path calls this, and doesn't look into its text.
+// Written out, so that the proof of a caller that drops a path stops at this function.
 impl Drop for SpoolPath {
     fn drop(self) {
         let SpoolPath { text: _text } = self;
@@ -27,7 +27,7 @@ impl Model for SpoolPath {
 }
 
 impl SpoolPath {
-    /// A copy of the text, where it isn't empty. It fails where memory runs out.
+    /// Makes a copy of the text, if it isn't empty. Fails if memory runs out.
     pub fn new(alloc: Global, text: &str) -> Result<Option<Self>, AllocError>
         ensures { IfOk result (λ found. MatchOption found (text.now ≡ [])
             (λ path. (path ≡ text.now) × (text.now ≢ []))) }
@@ -39,7 +39,7 @@ impl SpoolPath {
         Ok(Some(SpoolPath { text }))
     }
 
-    /// The text.
+    /// Returns the text.
     pub fn as_str(&self) -> &str
         ensures value { result.now ≡ self.now }
         ensures some { self.now ≢ [] }

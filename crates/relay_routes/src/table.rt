@@ -27,7 +27,7 @@ pub struct Table {
     places: IndexMap<Vec<u8>, SocketAddrV4>,
 }
 
-// Written out, so that what drops a table calls this, and doesn't look into its routes.
+// Written out, so that the proof of a caller that drops a table stops at this function.
 impl Drop for Table {
     fn drop(self) {
         let Table {
@@ -50,7 +50,7 @@ impl Model for Table {
 }
 
 impl Table {
-    /// A table without routes, for the relay of this name. It takes no memory.
+    /// Makes a table without routes, for the relay of this name. Allocates nothing.
     pub fn new(alloc: Global, host: HostName) -> Self
         ensures host { result.host ≡ host }
         ensures empty { result.routes ≡ [] }
@@ -62,7 +62,7 @@ impl Table {
         }
     }
 
-    /// The relay's name.
+    /// Returns the relay's name.
     pub fn host(&self) -> &HostName
         ensures { result.now ≡ self.now.host }
     {
@@ -92,8 +92,8 @@ impl Table {
         Ok(())
     }
 
-    /// The next hop of a path: the route of its domain, in any letter case, else that of `*`. `<>` has none, and
-    /// `<Postmaster>` is routed as the relay's own name. It takes no memory.
+    /// Returns the next hop of a path: the route of its domain, in any letter case, else that of `*`. `<>` has none,
+    /// and `<Postmaster>` is routed as the relay's own name. Allocates nothing.
     pub fn hop(&self, path: &Path<'_>) -> Option<&Hop>
         ensures { option_copied result ≡ hop_of self.now (value_of path.now) }
     {
@@ -104,7 +104,7 @@ impl Table {
         }
     }
 
-    /// The next hop of a path as it is stored: that of [`Table::hop`] for the path. It takes no memory.
+    /// The next hop of a path as it is stored: that of [`Table::hop`] for the path. Allocates nothing.
     pub fn hop_at(&self, path: &PathBuf) -> Option<&Hop>
         ensures { option_copied result ≡ hop_at self.now path.now }
     {
@@ -118,7 +118,7 @@ impl Table {
         }
     }
 
-    /// Where the hop of this name is: one name has one place. It takes no memory.
+    /// Returns where the hop of this name is: one name has one place. Allocates nothing.
     pub fn place_of(&self, name: &[u8]) -> Option<SocketAddrV4>
         ensures value { result ≡ place_of self.now.routes name.now }
         ensures agree { AllAgree self.now.routes }
@@ -129,8 +129,8 @@ impl Table {
         }
     }
 
-    /// The same routes again but for that of `*`: where mail goes for the domains that are named. It fails where memory
-    /// runs out.
+    /// Returns the same routes again but for that of `*`: where mail goes for the domains that are named. Fails if
+    /// memory runs out.
     pub fn without_wildcard(&self, alloc: Global) -> Result<Table, AllocError>
         ensures { IfOk result (λ table. table ≡ without_wildcard self.now) }
     {
@@ -144,7 +144,7 @@ impl Table {
         Ok(table)
     }
 
-    /// Adds a route that agrees with the others. Where memory runs out, none is added.
+    /// Adds a route that agrees with the others. If memory runs out, none is added.
     fn insert(&mut self, alloc: Global, domain: Vec<u8>, hop: Hop) -> Result<(), AllocError>
         requires domain { entry_of self.old.routes domain.items ≡ None }
         requires place { HasNoOtherPlace self.old.routes hop }
@@ -159,7 +159,7 @@ impl Table {
         Ok(())
     }
 
-    /// Whether there is a route to this hop's name at another place.
+    /// Returns whether there is a route to this hop's name at another place.
     fn has_other_place(&self, hop: &Hop) -> bool
         ensures { MatchBool result (HasOtherPlace self.now.routes hop.now)
             (HasNoOtherPlace self.now.routes hop.now) }
@@ -170,7 +170,7 @@ impl Table {
         }
     }
 
-    /// The hop of a domain in any letter case, else that of `*`.
+    /// Returns the hop of a domain in any letter case, else that of `*`.
     fn hop_for(&self, domain: &[u8]) -> Option<&Hop>
         requires { length domain.now ≤ 256 }
         ensures { option_copied result ≡ hop_for self.now.routes domain.now }
@@ -185,7 +185,7 @@ impl Table {
         }
     }
 
-    /// The hop of the route of this domain, which is in lower case.
+    /// Returns the hop of the route of this domain, which is in lower case.
     fn entry(&self, domain: &[u8]) -> Option<&Hop>
         ensures { option_copied result ≡ entry_of self.now.routes domain.now }
     {
@@ -193,7 +193,7 @@ impl Table {
     }
 }
 
-/// Whether a route may be for this: `*`, or a domain.
+/// Returns whether a route may be for this: `*`, or a domain.
 pub(crate) fn is_route_domain(domain: &[u8]) -> bool
     ensures { IsTrue result ↔ IsRouteDomain domain.now }
 {

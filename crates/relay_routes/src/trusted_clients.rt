@@ -15,7 +15,7 @@ pub struct TrustedClients {
     named: Table,
 }
 
-// Written out, so that what drops a configuration calls this, and doesn't look into its routes.
+// Written out, so that the proof of a caller that drops a configuration stops at this function.
 impl Drop for TrustedClients {
     fn drop(self) {
         let TrustedClients {
@@ -34,8 +34,8 @@ impl Model for TrustedClients {
 }
 
 impl TrustedClients {
-    /// Clients in these networks may send to every route, and all others to the domains that the routes name. It
-    /// fails where memory runs out.
+    /// Clients in these networks may send to every route, and all others to the domains that the routes name. Fails if
+    /// memory runs out.
     pub fn new(alloc: Global, networks: Vec<Network>, routes: &Table) -> Result<Self, AllocError>
         ensures networks { IfOk result (λ trusted. trusted.networks ≡ networks.items) }
         ensures named { IfOk result (λ trusted. trusted.named ≡ without_wildcard routes.now) }
@@ -44,14 +44,14 @@ impl TrustedClients {
         Ok(TrustedClients { networks, named })
     }
 
-    /// Whether a client may send to every route.
+    /// Returns whether a client may send to every route.
     pub fn contains(&self, client: [u8; 4]) -> bool
         ensures { result ≡ list_any (is_in client) self.now.networks }
     {
         self.networks.iter().any(|network| network.contains(client))
     }
 
-    /// The routes to which all other clients may send: those of domains that are named.
+    /// Returns the routes to which all other clients may send: those of domains that are named.
     pub fn named(&self) -> &Table
         ensures { result.now ≡ self.now.named }
     {

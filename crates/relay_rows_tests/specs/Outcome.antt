@@ -1,4 +1,4 @@
--- What comes of a row: its first word says what is done with the rest.
+-- The outcome of a row: its first word says what is done with the rest.
 use Rattle.std.specs.Prelude.{◌≡◌, ◌≢◌, ◌↔◌, ℕ, Bool, true, false, IsTrue, List, ◌++◌, codes, Option, Some, None}
 use Rattle.std.specs.Prelude.{Result, Ok, Err}
 use Rattle.relay_envelope.specs.Xtext.{decoded, encoded}

@@ -1,4 +1,4 @@
--- What comes of a row, whatever the pieces that its octets come in.
+-- The outcome of a row, whatever the pieces that its octets come in.
 use Rattle.std.specs.Prelude.{◌≡◌, ◌≢◌, ◌⊎◌, ℕ, ◌+◌, nat_lt, Bool, true, false, List, [], ◌∷◌, ◌++◌, codes, decimal}
 use Rattle.std.specs.Prelude.{length, take, Result, Ok, Err, if◌then◌else◌}
 use Rattle.relay_octets.specs.Line.{HasNoCrlf, ReadsLine, line_text}
@@ -49,7 +49,7 @@ open_text held = codes "open: " ++ held_text held
 abbrev pub ended_text : ℕ → HeldLine → List ℕ
 ended_text used held = codes "used " ++ decimal used ++ codes ": " ++ held_text held
 
--- what is held of octets: the first 2,048 of them, and whether more than so many came
+-- what is held of octets: the first 2,048 of them, and whether more than this many came
 abbrev pub held_of : ℕ → List ℕ → Bool → HeldLine
 held_of limit octets after_cr =
     record { kept = take 2048 octets; is_long = nat_lt limit (length octets); after_cr = after_cr }
@@ -111,7 +111,7 @@ IsRepliesOutcome octets outcome =
     ⊎ ((fault : ReplyFault) × HasFault rest fault
     × (outcome ≡ written_replies replies ++ reply_fault_word fault ++ codes ", " ++ codes "BadLine")))
 
--- what comes of a play
+-- the outcome of a play
 abbrev pub IsOutcome : Play → List ℕ → Type 0
 IsOutcome (play.Cut limit octets) outcome = IsCutOutcome octets limit outcome
 IsOutcome (play.Line octets) outcome = IsLineOutcome octets outcome

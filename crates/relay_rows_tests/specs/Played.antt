@@ -6,8 +6,7 @@ use Rattle.relay_server.specs.Session.{IsClosed, Stands, open_offers}
 use Rattle.relay_rows_tests.specs.declared.meeting.play.Play.{Play}
 use Rattle.relay_rows_tests.specs.OfferText.{offers_text}
 
--- the session stands after what was said, its replies are written down, and each offer before the
--- one that is open
+-- the session is after what was said, its replies are written down, and each offer before the one that is open
 pub record HasPlayed (setup : Setup) (play : Play) (said : Said) : Type 0 where
   pub stands : Stands setup play.session said
   pub routes : setup.routes ≡ play.table.now

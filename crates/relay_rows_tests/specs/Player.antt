@@ -18,7 +18,7 @@ pub record ReadsChunk (old new : ChunkReader) (octets rest : List ℕ) : Type 0 
   pub reads : ReadsOn old new octets rest
   pub ends : (rest ≡ []) ⊎ IsBetweenChunks new
 
--- what is found of octets of which so many were used, and this has come
+-- what is found of octets of which this many were used, and this has come
 abbrev pub found_of : ℕ → Option Gathered → Found
 found_of used None = Open used
 found_of used (Some gathered) = Done used gathered

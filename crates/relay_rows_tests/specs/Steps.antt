@@ -8,7 +8,7 @@ use Rattle.relay_lines.specs.declared.reply_reader.ReplyFault.{ReplyFault}
 use Rattle.relay_lines.specs.declared.reply_reader.ReplyFault.TheVariants.{NoMemory}
 use Rattle.relay_lines.specs.declared.reply_reader.ReplyReader.{ReplyReader}
 
--- so many octets have come, which the buffer holds, and these are left
+-- this many octets have come, which the buffer holds, and these are left
 pub record HoldsSoFar (octets rest : List ℕ) (come : ℕ) (held : HeldLine) : Type 0 where
   pub used : List ℕ
   pub octets_are : octets ≡ used ++ rest

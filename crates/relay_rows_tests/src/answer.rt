@@ -1,4 +1,4 @@
-//! What comes of a row, told word by word.
+//! The outcome of a row, told word by word.
 use relay_book::BookFault;
 use std::alloc::{AllocError, Global};
 use std::fmt::Display;
@@ -17,7 +17,7 @@ pub enum RowsFault {
 }
 
 impl RowsFault {
-    /// The fault as the program says it.
+    /// Returns the fault as the program says it.
     pub fn text(self) -> &'static str {
         match self {
             RowsFault::Stream => "input or output",
@@ -51,14 +51,14 @@ impl From<BookFault> for RowsFault {
     }
 }
 
-/// The text of what comes of a row, and the first fault that kept it from being told whole.
+/// The text of the outcome of a row, and the first fault that kept it from being told whole.
 pub struct Answer {
     pub alloc: Global,
     pub text: String,
     pub fault: Option<RowsFault>,
 }
 
-// Written out, so that what drops an answer calls this, and doesn't look into it.
+// Written out, so that the proof of a caller that drops an answer stops at this function.
 impl Drop for Answer {
     fn drop(self) {
         let Answer {
@@ -70,7 +70,7 @@ impl Drop for Answer {
 }
 
 impl Answer {
-    /// An answer of which nothing is told.
+    /// Makes an answer of which nothing is told.
     pub fn new(alloc: Global) -> Self {
         Answer {
             alloc,
@@ -123,7 +123,7 @@ impl Answer {
         }
     }
 
-    /// Tells whether it is so.
+    /// Returns whether it is so.
     pub fn decide(&mut self, is_so: bool) {
         self.say(if is_so { "yes" } else { "no" });
     }
@@ -171,7 +171,7 @@ impl Answer {
         }
     }
 
-    /// Notes a fault, where none was noted before.
+    /// Notes a fault, if none was noted before.
     pub fn stop(&mut self, fault: RowsFault) {
         if self.fault.is_none() {
             self.fault = Some(fault);
@@ -185,7 +185,7 @@ impl Answer {
         }
     }
 
-    /// Whether the book has taken this. Want of memory is noted.
+    /// Returns whether the book has taken this. Lack of memory is noted.
     pub fn is_taken<T: Drop>(&mut self, taken: Result<T, BookFault>) -> bool {
         match taken {
             Ok(_) => true,
@@ -193,7 +193,7 @@ impl Answer {
         }
     }
 
-    /// Notes want of memory, and answers that the book takes nothing.
+    /// Notes lack of memory, and answers that the book takes nothing.
     pub fn refuses(&mut self, fault: BookFault) -> bool {
         if fault == BookFault::NoMemory {
             self.stop(RowsFault::NoMemory);
@@ -201,7 +201,7 @@ impl Answer {
         false
     }
 
-    /// The number that a text writes.
+    /// Returns the number that a text writes.
     pub fn number_in(&mut self, text: &str) -> u64 {
         match text.parse::<u64>() {
             Ok(number) => number,

@@ -1,4 +1,4 @@
-//! What comes of octets that are one line: its cut, its command, or the answer to a question.
+//! The outcome of octets that are one line: its cut, its command, or the answer to a question.
 ghost use Rattle.std.specs.Prelude.{◌≡◌, IfOk};
 ghost use Rattle.relay_lines.specs.Command.{reading_of};
 ghost use Rattle.relay_rows_tests.specs.PlayOutcome.{IsCutOutcome, answer_of, fault_word, reading_text, yes_or_no};
@@ -9,7 +9,7 @@ use relay_lines::{Command, LineCut, LineFault, begins_with_bdat, next_line, word
 use relay_octets::Octets;
 use std::alloc::{AllocError, Global};
 
-/// What is cut off as the first line of octets.
+/// Returns what is cut off as the first line of octets.
 pub fn cut_outcome(alloc: Global, octets: &[u8], limit: usize) -> Result<Octets, AllocError>
     ensures { IfOk result (IsCutOutcome octets.now limit) }
 {
@@ -24,7 +24,7 @@ pub fn cut_outcome(alloc: Global, octets: &[u8], limit: usize) -> Result<Octets,
     }
 }
 
-/// The line of the command that a line gives, or the word of its fault.
+/// Returns the line of the command that a line gives, or the word of its fault.
 pub fn command_outcome(alloc: Global, line: &[u8]) -> Result<Octets, AllocError>
     ensures { IfOk result (λ outcome. outcome ≡ reading_text (reading_of line.now)) }
 {
@@ -38,7 +38,7 @@ pub fn command_outcome(alloc: Global, line: &[u8]) -> Result<Octets, AllocError>
     }
 }
 
-/// The word of a fault.
+/// Returns the word of a fault.
 fn text_of(fault: LineFault) -> &'static [u8]
     ensures { result.now ≡ fault_word fault }
 {
@@ -51,7 +51,7 @@ fn text_of(fault: LineFault) -> &'static [u8]
     }
 }
 
-/// The answer to a question.
+/// Returns the answer to a question.
 pub fn word_outcome(alloc: Global, question: Question, text: &[u8]) -> Result<Octets, AllocError>
     ensures { IfOk result (λ outcome. outcome ≡ yes_or_no (answer_of question text.now)) }
 {

@@ -41,7 +41,7 @@ pub fn compare(found: &[Octets], wanted: &[u8]) -> Verdict
     }
 }
 
-/// The place of the first text that is another than what is wanted.
+/// Returns the place of the first text that is another than what is wanted.
 fn first_difference(found: &[Octets], wanted: &[u8]) -> Option<usize>
     ensures { MatchOption result (All (λ text. text ≡ wanted.now) found.now)
         (λ place. IsFirstDifference found.now wanted.now place) }

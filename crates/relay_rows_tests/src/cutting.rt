@@ -4,14 +4,14 @@ ghost use Rattle.relay_rows_tests.specs.Cutting.{piece_len_of};
 /// How octets are cut into pieces.
 #[derive(Clone, Copy)]
 pub enum Cutting {
-    /// Into two, after so many octets.
+    /// Into two, after this many octets.
     Behind(usize),
     /// Into pieces of one octet.
     Each,
 }
 
 impl Cutting {
-    /// The piece that comes next, where so many octets have come and these have not.
+    /// Returns the piece that comes next, where this many octets have come and these have not.
     pub fn piece<'a>(self, come: usize, rest: &'a [u8]) -> &'a [u8]
         requires { 0 < length rest.now }
         ensures piece { result.now ≡ take (piece_len_of self come (length rest.now)) rest.now }

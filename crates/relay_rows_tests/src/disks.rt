@@ -1,6 +1,6 @@
-//! The rows of disks and spools: steps on disks in memory and on the spool that stands on two, with what each step is
-//! to answer. Real files are tried too, and the steps of data/steps.in taken on a spool in two. Each row has a line,
-//! which says whether it came as it is written down, and so has each step, which says what came of it.
+//! The rows of disks and spools: steps on disks in memory and on the spool that is on two, with what each step is to
+//! answer. Real files are tried too, and the steps of data/steps.in taken on a spool in two. Each row has a line, which
+//! says whether it came as it is written down, and so has each step, which says its outcome.
 
 mod calls;
 mod device;

@@ -1,4 +1,4 @@
-//! What comes of an envelope's row: a text of MAIL or RCPT is read and written again, xtext is decoded, octets are
+//! The outcome of an envelope's row: a text of MAIL or RCPT is read and written again, xtext is decoded, octets are
 //! encoded, and a text is said to be a path or a host's name, or not.
 ghost use Rattle.std.specs.Prelude.{◌≡◌, IfOk};
 ghost use Rattle.relay_envelope.specs.Xtext.{decoded as decoded_octets};
@@ -12,7 +12,7 @@ use relay_envelope::{
 use relay_octets::Octets;
 use std::alloc::{AllocError, Global};
 
-/// What comes of a row. It fails where memory runs out.
+/// Returns the outcome of a row. Fails if memory runs out.
 pub fn outcome_of(alloc: Global, row: &str) -> Result<Octets, AllocError>
     ensures { IfOk result (IsOutcome row.now) }
 {
@@ -30,7 +30,7 @@ pub fn outcome_of(alloc: Global, row: &str) -> Result<Octets, AllocError>
     }
 }
 
-/// Whether the text of a row is what its first word names, in a word.
+/// Returns whether the text of a row is what its first word names, in a word.
 fn answer_of(alloc: Global, row: &str) -> Result<Octets, AllocError>
     ensures { IfOk result (IsAnswer row.now) }
 {
@@ -38,7 +38,7 @@ fn answer_of(alloc: Global, row: &str) -> Result<Octets, AllocError>
     Octets::from_slice(alloc, text)
 }
 
-/// Whether the text of a row is what its first word names, where that is a word of these.
+/// Returns whether the text of a row is what its first word names, where that is a word of these.
 fn decision_of(row: &str) -> Option<bool>
     ensures { IsDecision row.now result }
 {
@@ -53,7 +53,7 @@ fn decision_of(row: &str) -> Option<bool>
     }
 }
 
-/// A decision in a word.
+/// Returns a decision in a word.
 fn decision_text(decision: Option<bool>) -> &'static [u8]
     ensures { result.now ≡ decision_text decision }
 {
@@ -64,7 +64,7 @@ fn decision_text(decision: Option<bool>) -> &'static [u8]
     }
 }
 
-/// A text of MAIL, read and written again, or the word of its fault.
+/// Returns a text of MAIL, read and written again, or the word of its fault.
 fn written_mail(alloc: Global, text: &[u8]) -> Result<Octets, AllocError>
     ensures { IfOk result (IsMailOutcome text.now) }
 {
@@ -77,7 +77,7 @@ fn written_mail(alloc: Global, text: &[u8]) -> Result<Octets, AllocError>
     }
 }
 
-/// A text of RCPT, read and written again, or the word of its fault.
+/// Returns a text of RCPT, read and written again, or the word of its fault.
 fn written_rcpt(alloc: Global, text: &[u8]) -> Result<Octets, AllocError>
     ensures { IfOk result (IsRcptOutcome text.now) }
 {
@@ -90,7 +90,7 @@ fn written_rcpt(alloc: Global, text: &[u8]) -> Result<Octets, AllocError>
     }
 }
 
-/// The octets that an xtext stands for, or a word where the text is none.
+/// Returns the octets that an xtext stands for, or a word where the text is none.
 fn decoded(alloc: Global, text: &[u8]) -> Result<Octets, AllocError>
     ensures { IfOk result (λ outcome. outcome ≡ decoding_outcome (decoded_octets text.now)) }
 {
@@ -101,7 +101,7 @@ fn decoded(alloc: Global, text: &[u8]) -> Result<Octets, AllocError>
     }
 }
 
-/// The word of a fault.
+/// Returns the word of a fault.
 fn text_of(fault: EnvelopeFault) -> &'static [u8]
     ensures { result.now ≡ word_of fault }
 {

@@ -4,7 +4,7 @@ ghost use Rattle.relay_rows_tests.specs.Row.{escaped, octets_of};
 use relay_octets::Octets;
 use std::alloc::{AllocError, Global};
 
-/// The octets that a text of a row stands for.
+/// Returns the octets that a text of a row stands for.
 pub fn unescaped(alloc: Global, text: &[u8]) -> Result<Octets, AllocError>
     ensures { IfOk result (λ octets. octets ≡ octets_of text.now) }
 {
@@ -17,7 +17,7 @@ pub fn unescaped(alloc: Global, text: &[u8]) -> Result<Octets, AllocError>
     Ok(Octets::new(octets))
 }
 
-/// The first octet that a text of a row stands for, and the text after it.
+/// Returns the first octet that a text of a row stands for, and the text after it.
 fn first_octet(text: &[u8]) -> Option<(u8, &[u8])>
     ensures first { MatchOption result (text.now ≡ [])
         (λ first. octets_of text.now ≡ first.0 ∷ octets_of first.1.now) }
@@ -30,7 +30,7 @@ fn first_octet(text: &[u8]) -> Option<(u8, &[u8])>
     }
 }
 
-/// The octet that a letter after a backslash stands for.
+/// Returns the octet that a letter after a backslash stands for.
 pub fn escaped(letter: u8) -> u8
     ensures { result ≡ escaped letter }
 {

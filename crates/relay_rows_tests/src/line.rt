@@ -1,4 +1,4 @@
-//! The line of an envelope's row: what came of it, beside what is written down.
+//! The line of an envelope's row: its outcome, beside what is written down.
 ghost use Rattle.std.specs.Prelude.{◌≡◌, IfOk, IsTrue, ◌↔◌};
 ghost use Rattle.relay_rows_tests.specs.Outcome.{IsLine};
 
@@ -6,7 +6,8 @@ use crate::envelope::outcome_of;
 use relay_octets::Octets;
 use std::alloc::{AllocError, Global};
 
-/// What came of the row, and what is written down for it where that is another text. It fails where memory runs out.
+/// Returns the outcome of the row, and what is written down for it where that is another text. Fails if memory runs
+/// out.
 pub fn line_of(alloc: Global, row: &str, wanted: &str) -> Result<Octets, AllocError>
     ensures { IfOk result (IsLine row.now wanted.now) }
 {
@@ -21,7 +22,7 @@ pub fn line_of(alloc: Global, row: &str, wanted: &str) -> Result<Octets, AllocEr
     Ok(line)
 }
 
-/// What came of a row is what is written down.
+/// Returns whether the outcome of a row is what is written down.
 fn agrees(outcome: &[u8], wanted: &[u8]) -> bool
     ensures { IsTrue result ↔ (outcome.now ≡ wanted.now) }
 {

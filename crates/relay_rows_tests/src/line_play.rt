@@ -8,7 +8,7 @@ use relay_lines::LineBuffer;
 use relay_octets::Octets;
 use std::alloc::{AllocError, Global};
 
-/// The first line of the octets, and how many it has used, or all of them where none ends.
+/// Returns the first line of the octets, and how many it has used, or all of them where none ends.
 pub fn line_outcome(alloc: Global, octets: &[u8], size: usize) -> Result<Octets, AllocError>
     requires { 0 < size }
     ensures { IfOk result (IsLineOutcome octets.now) }
@@ -29,7 +29,7 @@ pub fn line_outcome(alloc: Global, octets: &[u8], size: usize) -> Result<Octets,
     Ok(outcome)
 }
 
-/// How many octets a line has used that has ended, and what is held of it.
+/// Returns how many octets a line has used that has ended, and what is held of it.
 fn ended(alloc: Global, buffer: &LineBuffer, used: usize) -> Result<Octets, AllocError>
     ensures { IfOk result (λ outcome. outcome ≡ ended_text used buffer.now) }
 {
@@ -40,7 +40,7 @@ fn ended(alloc: Global, buffer: &LineBuffer, used: usize) -> Result<Octets, Allo
     Ok(outcome)
 }
 
-/// What is held of a line that hasn't ended.
+/// Returns what is held of a line that hasn't ended.
 fn open(alloc: Global, buffer: &LineBuffer) -> Result<Octets, AllocError>
     ensures { IfOk result (λ outcome. outcome ≡ open_text buffer.now) }
 {
@@ -49,7 +49,7 @@ fn open(alloc: Global, buffer: &LineBuffer) -> Result<Octets, AllocError>
     Ok(outcome)
 }
 
-/// What is held, after a word where it is none or too long.
+/// Returns what is held, after a word where it is none or too long.
 fn push_held(out: &mut Octets, buffer: &LineBuffer) -> Result<(), AllocError>
     ensures { OnOk result (out.new ≡ out.old ++ held_text buffer.now) }
 {

@@ -45,7 +45,7 @@ fn tell_verdict(answer: &mut Answer, play: &Play, wanted: &str) {
     }
 }
 
-/// Tells the text of each fault, and what comes of the calls that no row makes.
+/// Tells the text of each fault, and the outcome of the calls that no row makes.
 pub fn tell_calls(answer: &mut Answer) {
     for fault in LINE_FAULTS {
         tell_fault(answer, &fault);
@@ -67,7 +67,7 @@ fn tell_fault(answer: &mut Answer, fault: &impl Display) {
     answer.say("\n");
 }
 
-/// Makes each call on octets once, and tells whether each answers as it is to.
+/// Makes each call on octets once, and returns whether each answers as it is to.
 fn tell_octets(answer: &mut Answer) {
     let mut octets = octets_in(answer, "a\\r");
     let pushed = octets.push_slice(b"\nb");

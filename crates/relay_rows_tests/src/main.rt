@@ -3,10 +3,10 @@
 //! row of data/bodies.in over the readers and writers of bodies, cut into two pieces at every octet and into pieces of
 //! one octet.
 //!
-//! Of the other rows it prints what comes of each after the row. The rows of envelopes are texts of MAIL
-//! and RCPT, xtext, paths and hosts' names; those of routes configurations, and paths whose hop is looked up;
-//! those of trace moments, time stamp lines and header sections; and those of scripts lines and texts. Where
-//! something else is written down than comes of a row, that too is printed.
+//! Of the other rows it prints the outcome of each after the row. The rows of envelopes are texts of MAIL and RCPT,
+//! xtext, paths and hosts' names; those of routes configurations, and paths whose hop is looked up; those of trace
+//! times, time stamp lines and header sections; and those of scripts lines and texts. If something else is written down
+//! than comes of a row, that too is printed.
 //!
 //! Then it holds dialogues over a session, plays transcripts over an attempt, and lets the two meet, and last it shows
 //! the rows of books, of disks and of spools. By the word `books` and a folder it shows the rows of books there alone,
@@ -58,7 +58,7 @@ fn main(rt: HostRuntime) -> Result<(), Fail> {
     }
 }
 
-/// Shows what the words ask for, and all rows where there is none.
+/// Shows what the words ask for, and all rows if there is none.
 fn show(rt: &HostRuntime, answer: &mut Answer) {
     match given_words(rt) {
         Ok(words) => match (words.get(1), words.get(2)) {

@@ -41,7 +41,7 @@ use trial::{Outcome, outcome_of};
 /// How much an attempt that waits may hold beside its places, the texts of refusals and the lines of a reply.
 const HELD_LIMIT: usize = 4096;
 
-/// Tells whether an attempt fits into so many octets.
+/// Returns whether an attempt fits into this many octets.
 pub fn tell_size(answer: &mut Answer) {
     answer.count("an attempt fits into ", HELD_LIMIT as u64);
     answer.say(if mem::size_of::<Attempt>() <= HELD_LIMIT {
@@ -51,7 +51,7 @@ pub fn tell_size(answer: &mut Answer) {
     });
 }
 
-/// Holds a dialogue of dialogues.in, where the name of its host stands before its own, and tells how it came. The hosts
+/// Holds a dialogue of dialogues.in, where the name of its host is before its own, and tells how it came. The hosts
 /// `small`, `open` and `strict` take contents of up to 4 octets, mail for every domain, and no content in which a CR or
 /// an LF stands alone or NUL is; `guarded` and `exempting` take no routed paths, the second but of this client. Two
 /// dialogues are written down wrong on purpose, one in a reply and one in an offer: they must differ.
@@ -72,7 +72,7 @@ fn held(rt: &HostRuntime, host: &str, name: &str) -> Result<Verdict, RowsFault> 
     Ok(dialogue.verdict(rt.alloc(), &config)?)
 }
 
-/// The text of a host's configuration.
+/// Returns the text of a host's configuration.
 fn text_of(host: &str) -> &'static str {
     match host {
         "small" => SMALL,

@@ -1,6 +1,6 @@
 ghost use Rattle.std.specs.Prelude.{◌≡◌, ◌<◌, ◌≤◌, length, min, take};
 
-/// The next piece of octets, in pieces of a length.
+/// Returns the next piece of octets, in pieces of a length.
 pub fn next_piece(rest: &[u8], size: usize) -> &[u8]
     requires { (0 < length rest.now) × (0 < size) }
     ensures piece { result.now ≡ take (min (length rest.now) size) rest.now }

@@ -23,7 +23,7 @@ pub enum Question {
 /// What is done in a row, and with which octets.
 #[derive(Drop)]
 pub enum Play {
-    /// The first line is cut off the octets, where it has so many octets at most.
+    /// The first line is cut off the octets, if it has this many octets at most.
     Cut(usize, Octets),
     /// A line comes in pieces.
     Line(Octets),
@@ -40,7 +40,7 @@ pub enum Play {
 }
 
 impl Play {
-    /// How many lengths of pieces there are.
+    /// Returns how many lengths of pieces there are.
     pub fn sizes(&self) -> usize {
         match self {
             Play::Line(octets) => octets.len(),
@@ -50,8 +50,7 @@ impl Play {
     }
 }
 
-/// What the play comes to, where octets come in pieces of this length. It fails where memory runs
-/// out.
+/// Returns what the play comes to, where octets come in pieces of this length. Fails if memory runs out.
 pub fn outcome_of(alloc: Global, play: &Play, size: usize) -> Result<Octets, AllocError>
     requires { 0 < size }
     ensures { IfOk result (λ outcome. IsOutcome play.now outcome) }

@@ -22,7 +22,7 @@ pub struct BodyPlay {
     pub octets: Octets,
 }
 
-// Written out, so that what drops a play calls this, and doesn't look into its kind.
+// Written out, so that the proof of a caller that drops a play stops at this function.
 impl Drop for BodyPlay {
     fn drop(self) {
         let BodyPlay {
@@ -44,7 +44,7 @@ enum Kind {
 }
 
 impl BodyPlay {
-    /// Reads the fields of a row that say what is fed to what; nothing where they are no row.
+    /// Reads the fields of a row that say what is fed to what; nothing if they are no row.
     pub fn read(answer: &mut Answer, fields: &mut Words<'_>) -> Option<BodyPlay> {
         let kind = fields.field();
         let limit = fields.field().parse::<usize>().unwrap_or(0);
@@ -63,7 +63,7 @@ impl BodyPlay {
     }
 }
 
-/// The sizes, which stand between commas. A word that is none is left out.
+/// Returns the sizes, which stand between commas. A word that is none is left out.
 fn sizes_in(answer: &mut Answer, text: &str) -> Vec<u32> {
     let mut sizes = Vec::new(answer.alloc);
     for word in text.split(',') {
@@ -74,7 +74,7 @@ fn sizes_in(answer: &mut Answer, text: &str) -> Vec<u32> {
     sizes
 }
 
-/// What is found, as a text: how many octets were used, and what has come of them.
+/// Returns what is found, as a text: how many octets were used, and their outcomes.
 pub fn outcome_of(alloc: Global, play: &BodyPlay, cutting: Cutting) -> Result<Octets, AllocError> {
     let octets = play.octets.as_slice();
     let found = match &play.kind {
@@ -93,9 +93,9 @@ pub fn outcome_of(alloc: Global, play: &BodyPlay, cutting: Cutting) -> Result<Oc
 /// What a reader has found.
 #[derive(Drop)]
 enum Found {
-    /// So many octets were used, and more is awaited.
+    /// This many octets were used, and more is awaited.
     Open(usize),
-    /// So many octets were used, and this has come.
+    /// This many octets were used, and this has come.
     Done(usize, Gathered),
     /// The reader that goes octet by octet found something else.
     PlainDiffers,
@@ -140,7 +140,7 @@ fn read_chunks(
     }
 }
 
-/// Reads a chunk, and gives what stands after it.
+/// Reads a chunk, and gives what is after it.
 fn read_chunk<'a>(
     reader: &mut ChunkReader,
     count: usize,
@@ -182,7 +182,7 @@ fn read_dots(
     Ok(agreed(used, finished(reader), finished_plain(plain)))
 }
 
-/// What both readers of a dot text have found, who have used so many octets.
+/// Returns what both readers of a dot text have found, who have used this many octets.
 fn agreed(used: usize, gathered: Option<Gathered>, plain: Option<Gathered>) -> Found
     ensures same { gathered ≡ plain → result ≡ found_of used gathered }
     ensures differs { gathered ≢ plain → result ≡ Found.PlainDiffers }
@@ -201,7 +201,7 @@ fn agreed(used: usize, gathered: Option<Gathered>, plain: Option<Gathered>) -> F
     }
 }
 
-/// What has come, where a text has been used whole.
+/// Returns what has come, where a text has been used whole.
 fn finished(reader: DotReader) -> Option<Gathered>
     ensures { MatchOption result (¬ IsDone reader) (λ gathered. (limit : ℕ) (text content : List ℕ)
         → HasRead reader limit text content → gathered ≡ gathered_of limit content) }
@@ -213,7 +213,7 @@ fn finished(reader: DotReader) -> Option<Gathered>
     }
 }
 
-/// The same, octet by octet.
+/// Returns the same, octet by octet.
 fn finished_plain(reader: plain::DotReader) -> Option<Gathered>
     ensures { MatchOption result (¬ IsDone reader) (λ gathered. (limit : ℕ) (text content : List ℕ)
         → HasRead reader limit text content → gathered ≡ gathered_of limit content) }
@@ -225,7 +225,7 @@ fn finished_plain(reader: plain::DotReader) -> Option<Gathered>
     }
 }
 
-/// Whether two readers gathered the same.
+/// Returns whether two readers gathered the same.
 fn is_same(one: &Gathered, other: &Gathered) -> bool
     ensures { IsTrue result ↔ (one.now ≡ other.now) }
 {
@@ -237,7 +237,8 @@ fn is_same(one: &Gathered, other: &Gathered) -> bool
     }
 }
 
-/// The dot text of a content, or that it can't be written, or that the writer that goes octet by octet writes another.
+/// Returns the dot text of a content, or that it can't be written, or that the writer that goes octet by octet writes
+/// another.
 fn written(alloc: Global, content: &[u8]) -> Result<Octets, AllocError> {
     if !ends_in_line_end(content) {
         return Octets::from_slice(alloc, b"no line end");

@@ -1,4 +1,4 @@
-//! What comes of replies that are made and written, or read.
+//! The outcome of replies that are made and written, or read.
 ghost use Rattle.std.specs.Prelude.{◌≡◌, ◌≢◌, ◌<◌, ◌≤◌, ◌++◌, codes, length, take, IfOk, IfErr, OnOk, OnErr};
 ghost use Rattle.relay_lines.specs.ReplySteps.{HasFailed};
 ghost use Rattle.relay_rows_tests.specs.PlayOutcome.{IsLastLineOutcome, IsRepliesOutcome, IsReplyOutcome};
@@ -10,7 +10,7 @@ use relay_lines::{Reply, ReplyFault, ReplyReader, write_line};
 use relay_octets::Octets;
 use std::alloc::{AllocError, Global};
 
-/// A reply of this code and these texts, written after another, or that they make none.
+/// Returns a reply of this code and these texts, written after another, or that they make none.
 pub fn reply_outcome(alloc: Global, code: u16, texts: &[Octets]) -> Result<Octets, AllocError>
     ensures { IfOk result (IsReplyOutcome code texts.now) }
 {
@@ -23,7 +23,7 @@ pub fn reply_outcome(alloc: Global, code: u16, texts: &[Octets]) -> Result<Octet
     Ok(Octets::new(out))
 }
 
-/// The same texts.
+/// Returns the same texts.
 fn copied(alloc: Global, texts: &[Octets]) -> Result<Vec<Octets>, AllocError>
     ensures { IfOk result (λ copy. copy.items ≡ texts.now) }
 {
@@ -34,7 +34,7 @@ fn copied(alloc: Global, texts: &[Octets]) -> Result<Vec<Octets>, AllocError>
     Ok(copy)
 }
 
-/// The last line of a reply with this text, in two parts.
+/// Returns the last line of a reply with this text, in two parts.
 pub fn last_line_outcome(
     alloc: Global,
     code: u16,
@@ -51,8 +51,8 @@ pub fn last_line_outcome(
     Ok(Octets::new(out))
 }
 
-/// The replies that are cut from the octets, as they are written, and then what follows: "more"
-/// where the rest isn't whole, or the words of its fault and of what is answered after it.
+/// Returns the replies that are cut from the octets, as they are written, and then what follows: "more" where the rest
+/// isn't whole, or the words of its fault and of what is answered after it.
 pub fn replies_outcome(alloc: Global, octets: &[u8], size: usize) -> Result<Octets, AllocError>
     requires { 0 < size }
     ensures { IfOk result (IsRepliesOutcome octets.now) }
@@ -94,8 +94,7 @@ fn read_some(reader: &mut ReplyReader, out: &mut Vec<u8>, piece: &[u8]) -> Resul
     }
 }
 
-/// Writes the words of a fault and of what is answered after it. Want of memory is no fault of a
-/// row.
+/// Writes the words of a fault and of what is answered after it. Lack of memory is no fault of a row.
 fn push_fault(
     reader: &mut ReplyReader,
     out: &mut Vec<u8>,
@@ -115,7 +114,7 @@ fn push_fault(
     Ok(())
 }
 
-/// The word of what is answered after a fault.
+/// Returns the word of what is answered after a fault.
 fn text_behind(reader: &mut ReplyReader) -> &'static [u8]
     ensures { HasFailed reader.old → result.now ≡ reply_fault_word ReplyFault.BadLine }
 {
@@ -125,7 +124,7 @@ fn text_behind(reader: &mut ReplyReader) -> &'static [u8]
     }
 }
 
-/// The word of a fault.
+/// Returns the word of a fault.
 fn text_of(fault: ReplyFault) -> &'static [u8]
     ensures { result.now ≡ reply_fault_word fault }
 {

@@ -1,13 +1,13 @@
-//! What comes of a row of routes: a configuration, of which `;` between spaces ends a line; a file with one; a file and
-//! a path, whose hop is looked up; or a client, a file and a path, which is refused as the client's recipient or whose
-//! hop is looked up so.
+//! The outcome of a row of routes: a configuration, of which `;` between spaces ends a line; a file with one; a file
+//! and a path, whose hop is looked up; or a client, a file and a path, which is refused as the client's recipient or
+//! whose hop is looked up so.
 use crate::answer::{Answer, RowsFault};
 use crate::rows::read_file;
 use relay_envelope::{Path, PathBuf};
 use relay_routes::{BareNewlines, Config, Hop, ReportForm, RoutedPaths, Table};
 use std::net::Ipv4Addr;
 
-/// Tells what comes of the lines, of the file, or of the file and the path that a row gives.
+/// Tells the outcome of the lines, of the file, or of the file and the path that a row gives.
 pub fn tell_routes(rt: &HostRuntime, answer: &mut Answer, given: &str) {
     let (word, rest) = given.split_once(' ').unwrap_or((given, ""));
     match word {
@@ -32,7 +32,7 @@ pub fn tell_routes(rt: &HostRuntime, answer: &mut Answer, given: &str) {
     }
 }
 
-/// The lines of a row, each with its end.
+/// Returns the lines of a row, each with its end.
 fn document_of(answer: &mut Answer, lines: &str) -> String {
     match lines.replace(answer.alloc, " ; ", "\n") {
         Ok(document) => document,
@@ -82,8 +82,8 @@ fn tell_hop_of(answer: &mut Answer, document: &str, path: &[u8]) {
     }
 }
 
-/// Tells the hop of a path that a client at this address gives, and none where it may not send there, or that the path
-/// is refused as a routed one.
+/// Tells the hop of a path that a client at this address gives, and none if it may not send there, or that the path is
+/// refused as a routed one.
 fn tell_accepted_hop(answer: &mut Answer, document: &str, client: &str, path: &[u8]) {
     let Ok(client) = client.parse::<Ipv4Addr>() else {
         return answer.say("no client");
@@ -119,7 +119,7 @@ fn tell_both_hops(answer: &mut Answer, routes: &Table, path: Path<'_>) {
     }
 }
 
-/// Whether two look-ups found one hop, or none, and the first has the place of its name.
+/// Returns whether two look-ups found one hop, or none, and the first has the place of its name.
 fn are_one(routes: &Table, one: Option<&Hop>, other: Option<&Hop>) -> bool {
     match (one, other) {
         (None, None) => true,

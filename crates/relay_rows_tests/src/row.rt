@@ -4,8 +4,8 @@ use crate::play::{Play, Question};
 use crate::words::Words;
 use relay_octets::Octets;
 
-/// Reads what is done in a row, `KIND|number|octets`; nothing where the fields are no row. Texts of a reply stand
-/// between slashes. Octets that a row can't hold are written with a backslash and a letter.
+/// Reads what is done in a row, `KIND|number|octets`; nothing if the fields are no row. Texts of a reply stand between
+/// slashes. Octets that a row can't hold are written with a backslash and a letter.
 pub fn play_in(answer: &mut Answer, fields: &mut Words<'_>) -> Option<Play> {
     let kind = fields.field();
     let number = fields.field();
@@ -16,7 +16,7 @@ pub fn play_in(answer: &mut Answer, fields: &mut Words<'_>) -> Option<Play> {
     }
 }
 
-/// What is asked of a text in a row of this kind.
+/// Returns what is asked of a text in a row of this kind.
 fn question_of(kind: &str) -> Option<Question> {
     Some(match kind {
         "BDAT" => Question::BeginsWithBdat,
@@ -45,7 +45,7 @@ fn play_of(answer: &mut Answer, kind: &str, number: &str, text: &str) -> Option<
     })
 }
 
-/// The octets that a text of a row stands for.
+/// Returns the octets that a text of a row stands for.
 pub fn octets_in(answer: &mut Answer, text: &str) -> Octets {
     match unescaped(answer.alloc, text.as_bytes()) {
         Ok(octets) => octets,
@@ -56,7 +56,7 @@ pub fn octets_in(answer: &mut Answer, text: &str) -> Octets {
     }
 }
 
-/// The texts between slashes, and none where the word `none` stands there.
+/// Returns the texts between slashes, and none if the word `none` is there.
 fn texts_in(answer: &mut Answer, text: &str) -> Vec<Octets> {
     let mut texts = Vec::new(answer.alloc);
     if text != "none" {

@@ -1,4 +1,4 @@
-//! Files of rows: each row is told with what comes of it, and printed.
+//! Files of rows: each row is told with its outcome, and printed.
 use crate::answer::{Answer, RowsFault};
 use crate::body_row::tell_body_row;
 use crate::books::report::tell_report_row;
@@ -37,7 +37,7 @@ pub fn show_books(rt: &HostRuntime, answer: &mut Answer, folder: &str) {
     show_rows(rt, answer, folder, "reports", Topic::Reports);
 }
 
-/// Prints each row of a file of this name in a folder, and what comes of it.
+/// Prints each row of a file of this name in a folder, and its outcome.
 pub fn show_rows(rt: &HostRuntime, answer: &mut Answer, folder: &str, name: &str, topic: Topic) {
     let path = path_of(answer, folder, name);
     let rows = read_file(rt, answer, path.as_str());
@@ -55,7 +55,7 @@ fn path_of(answer: &mut Answer, folder: &str, name: &str) -> String {
     path
 }
 
-/// The text of a file; an empty one where it can't be read, which is noted.
+/// Returns the text of a file; an empty one where it can't be read, which is noted.
 pub fn read_file(rt: &HostRuntime, answer: &mut Answer, path: &str) -> String {
     match fs::read_to_string(rt, path) {
         Ok(text) => text,
@@ -66,7 +66,7 @@ pub fn read_file(rt: &HostRuntime, answer: &mut Answer, path: &str) -> String {
     }
 }
 
-/// Tells a row, and what comes of it.
+/// Tells a row, and its outcome.
 fn tell_row(rt: &HostRuntime, answer: &mut Answer, subject: &mut Subject, topic: Topic, row: &str) {
     match topic {
         Topic::Lines => tell_line_row(answer, row),
@@ -80,8 +80,7 @@ fn tell_row(rt: &HostRuntime, answer: &mut Answer, subject: &mut Subject, topic:
     }
 }
 
-/// Tells a row and what comes of it, and what is written down where that is another; a line that is no row stands as
-/// it is.
+/// Tells a row and its outcome, and what is written down where that is another; a line that is no row stands as it is.
 fn tell_given(rt: &HostRuntime, answer: &mut Answer, topic: Topic, row: &str) {
     let Some((given, wanted)) = row.split_once(" => ") else {
         return answer.say(row);

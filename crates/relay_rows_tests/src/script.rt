@@ -1,5 +1,5 @@
-//! What comes of a row of scripts: `LINE` and a line of a script, or `TEXT` and octets in decimal, of which the
-//! text that spells them is written.
+//! The outcome of a row of scripts: `LINE` and a line of a script, or `TEXT` and octets in decimal, of which the text
+//! that spells them is written.
 use crate::answer::{Answer, RowsFault};
 use relay_script::{Event, MOST_NODES, NodeIndex, ScriptLine, push_text, script_line};
 
@@ -16,7 +16,7 @@ pub fn tell_nodes(answer: &mut Answer) {
     }
 }
 
-/// Tells what comes of a row.
+/// Tells the outcome of a row.
 pub fn tell_script(answer: &mut Answer, given: &str) {
     let (word, rest) = given.split_once(' ').unwrap_or((given, ""));
     match word {

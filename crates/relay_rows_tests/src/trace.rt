@@ -1,7 +1,7 @@
-//! What comes of a row of trace. `DATE` stands before a moment, whose date is written; the dates of the rows come
-//! from the calendar of another program, `date -u -d @SECONDS`. `MOMENT` stands before seconds that may be one,
-//! `STAMP` before what a time stamp line says, `HEADER` before a text, of which the `Received:` fields and the
-//! place of the first empty line are told, and `HUNDRED` before a text that is taken a hundred times.
+//! The outcome of a row of trace. `DATE` is before a time, whose date is written; the dates of the rows come from the
+//! calendar of another program, `date -u -d @SECONDS`. `MOMENT` is before seconds that may be one, `STAMP` before what
+//! a time stamp line says, `HEADER` before a text, of which the `Received:` fields and the place of the first empty
+//! line are told, and `HUNDRED` before a text that is taken a hundred times.
 use crate::answer::{Answer, RowsFault};
 use crate::row::octets_in;
 use crate::words::Words;
@@ -10,7 +10,7 @@ use relay_trace::{
     received_line,
 };
 
-/// Tells what comes of a row.
+/// Tells the outcome of a row.
 pub fn tell_trace(answer: &mut Answer, given: &str) {
     let (word, rest) = given.split_once(' ').unwrap_or((given, ""));
     match word {
@@ -26,7 +26,7 @@ pub fn tell_trace(answer: &mut Answer, given: &str) {
     }
 }
 
-/// The date of a moment.
+/// The date of a time.
 fn tell_date(answer: &mut Answer, seconds: &str) {
     match Moment::new(answer.number_in(seconds)) {
         Ok(moment) => tell_date_of(answer, moment),
@@ -41,7 +41,7 @@ fn tell_date_of(answer: &mut Answer, moment: Moment) {
     }
 }
 
-/// The seconds of a moment, or why there is none.
+/// The seconds of a time, or why there is none.
 fn tell_moment(answer: &mut Answer, seconds: &str) {
     match Moment::new(answer.number_in(seconds)) {
         Ok(moment) => answer.count("", moment.seconds()),
@@ -60,7 +60,7 @@ fn tell_stamp(answer: &mut Answer, words: &str) {
     }
 }
 
-/// Client, its address, host, protocol, number and moment, with a space between each two.
+/// Client, its address, host, protocol, number and time, with a space between each two.
 fn stamp_of(words: &str) -> Option<TimeStamp<'_>> {
     let mut words = Words { rest: words };
     Some(TimeStamp {
@@ -90,7 +90,7 @@ fn protocol_of(word: &str) -> Protocol {
     }
 }
 
-/// How many fields of a text, taken so many times, are `Received:`, and where its first empty line stands.
+/// How many fields of a text, taken this many times, are `Received:`, and where its first empty line stands.
 fn tell_header(answer: &mut Answer, written: &str, times: u32) {
     let fields = octets_in(answer, written);
     let mut header: Vec<u8> = Vec::new(answer.alloc);

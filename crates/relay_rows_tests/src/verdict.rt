@@ -44,7 +44,7 @@ pub fn verdict_of(alloc: Global, play: &Play, wanted: &[u8]) -> Result<Verdict, 
     Ok(Verdict::Equal)
 }
 
-/// Whether the octets are this text.
+/// Returns whether the octets are this text.
 pub fn is_text(octets: &Octets, text: &[u8]) -> bool
     ensures { IsTrue result ↔ (octets.now ≡ text.now) }
 {

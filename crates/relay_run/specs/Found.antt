@@ -1,4 +1,4 @@
--- What has come of a client that was to be taken.
+-- The outcome of a client that was to be taken.
 use Rattle.std.specs.declared.net.socket_addr.SocketAddrV4.{SocketAddrV4}
 use Rattle.relay_run.specs.declared.listen.Found.{Found}
 use Rattle.relay_run.specs.declared.listen.Found.TheVariants.{Client, Missed, Nobody, Want}

@@ -37,7 +37,7 @@ pub(crate) struct Door<S = TcpStream> {
     arrivals: Arrivals<S>,
 }
 
-// Written out, so that what drops it calls this, and doesn't look into its parts.
+// Written out, so that the proof of a caller that drops it stops at this function.
 impl<S: Drop> Drop for Door<S> {
     fn drop(self) {
         let Door {
@@ -57,7 +57,7 @@ impl Door {
 }
 
 impl<S: Stream + Drop> Door<S> {
-    /// Clients may be waiting, and connections of these balancers begin with a header. It fails where memory runs out.
+    /// Clients may be waiting, and connections of these balancers begin with a header. Fails if memory runs out.
     pub(crate) fn new(alloc: Global, balancers: Balancers) -> Result<Self, AllocError> {
         Ok(Door {
             alloc,
@@ -84,7 +84,7 @@ impl<S: Stream + Drop> Door<S> {
         self.arrivals.clear();
     }
 
-    /// No client is taken for a moment, or until a connection is closed.
+    /// No client is taken for a short time, or until a connection is closed.
     fn pause(&mut self, now: &Now) {
         self.paused_until = now.tick.saturating_add(WANT_PAUSE);
     }
@@ -94,7 +94,7 @@ impl<S: Stream + Drop> Door<S> {
         self.paused_until = 0;
     }
 
-    /// Whether clients may be waiting that can be taken at once, or a header may have come.
+    /// Returns whether clients may be waiting that can be taken at once, or a header may have come.
     pub(crate) fn is_ready(&self, now: &Now) -> bool {
         self.may_accept(now) || self.arrivals.is_ready()
     }
@@ -103,8 +103,8 @@ impl<S: Stream + Drop> Door<S> {
         self.is_ready && self.paused_until <= now.tick
     }
 
-    /// The tick at which clients are taken again, it is told of those that were refused, or a header is waited for no
-    /// longer, or the given one where that is earlier.
+    /// Returns the tick at which clients are taken again, it is told of those that were refused, or a header is waited
+    /// for no longer, or the given one where that is earlier.
     pub(crate) fn next_deadline(&self, otherwise: u64) -> u64
         ensures { result ≤ otherwise }
     {
@@ -216,7 +216,7 @@ pub(crate) fn refuse_all<S: Stream + Drop, L: Listen<Stream = S>>(listener: &mut
     }
 }
 
-/// Tells a client that there is no room for it. Where many are told so, its connection is closed at once.
+/// Tells a client that there is no room for it. If many are told so, its connection is closed at once.
 fn turn_away<S: Stream + Drop, D: Disk>(
     alloc: Global,
     registry: &S::Registry,

@@ -17,7 +17,7 @@ impl Failures {
         }
     }
 
-    /// The calls that have failed on these files.
+    /// Returns the calls that have failed on these files.
     pub(crate) fn of(disks: &Disks<FileDisk>) -> Self {
         Failures {
             first: disks.first.failures(),
@@ -25,7 +25,7 @@ impl Failures {
         }
     }
 
-    /// The file on which a call has failed since then, if one has.
+    /// Returns the file on which a call has failed since then, if one has.
     pub(crate) fn side(&self, disks: &Disks<FileDisk>) -> Option<Side> {
         let now = Failures::of(disks);
         if self.first != now.first {

@@ -18,7 +18,7 @@ pub(crate) struct Known {
 }
 
 impl Known {
-    /// What a relay knows of its spool.
+    /// Returns what a relay knows of its spool.
     pub(crate) fn of<D: Disk>(relay: &Relay<D>) -> Self
         ensures number { result.next_number ≡ relay.now.node.records.queue.next }
         ensures size { result.size ≡ relay.now.node.records.spool.size }
@@ -32,7 +32,7 @@ impl Known {
         }
     }
 
-    /// The same, where the spool is to be compacted next, which leaves so many octets.
+    /// Returns the same, where the spool is to be compacted next, which leaves this many octets.
     pub(crate) fn compacting(self, left: usize) -> Self
         ensures number { result.next_number ≡ self.next_number }
         ensures size { result.size ≡ self.size }
@@ -44,14 +44,14 @@ impl Known {
         }
     }
 
-    /// How many octets the spool has.
+    /// Returns how many octets the spool has.
     pub(crate) fn size(&self) -> usize
         ensures { result ≡ self.now.size }
     {
         self.size
     }
 
-    /// Whether what was opened may be that spool.
+    /// Returns whether what was opened may be that spool.
     pub(crate) fn is_in(&self, found: &Known) -> bool
         ensures { IsTrue result ↔ IsWhole self.now found.now.next_number found.now.size }
     {
@@ -61,14 +61,14 @@ impl Known {
         }
     }
 
-    /// Whether what was opened has all that was known.
+    /// Returns whether what was opened has all that was known.
     fn is_all_in(&self, found: &Known) -> bool
         ensures { IsTrue result ↔ HasAll self.now.next_number self.now.size found.now.next_number found.now.size }
     {
         self.next_number <= found.next_number && self.size <= found.size
     }
 
-    /// Whether what was opened is the spool from before a compaction or from after it.
+    /// Returns whether what was opened is the spool from before a compaction or from after it.
     fn is_either(&self, left: usize, found: &Known) -> bool
         ensures { IsTrue result ↔ IsEither self.now.next_number self.now.size left
             found.now.next_number found.now.size }

@@ -5,7 +5,7 @@ use mio::{Interest, Registry, Token};
 use std::io::{self, ErrorKind};
 use std::net::{Net, SocketAddr, SocketAddrV4};
 
-/// What has come of a client that was to be taken.
+/// The outcome of a client that was to be taken.
 #[derive(Drop)]
 pub(crate) enum Found<S> {
     /// A client, and its place.
@@ -44,7 +44,7 @@ impl Listen for TcpListener {
     }
 }
 
-/// A listener of the system at this place, of which that tells.
+/// Returns a listener of the system at this place, of which that tells.
 pub(crate) fn listener_at<N: Net>(
     net: &N,
     registry: &Registry,
@@ -55,7 +55,7 @@ pub(crate) fn listener_at<N: Net>(
     Ok(listener)
 }
 
-/// The next client of a listener of the system.
+/// Returns the next client of a listener of the system.
 fn next_client(listener: &TcpListener) -> Found<TcpStream> {
     match listener.accept() {
         Ok((stream, SocketAddr::V4(peer))) => Found::Client(stream, peer),

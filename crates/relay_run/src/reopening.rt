@@ -20,11 +20,11 @@ use std::io::Write;
 use std::rt::Clock;
 use std::time::Duration;
 
-/// How many seconds a spool is left alone the first time that its device has failed. After each further time it is
-/// twice as long, up to the longest.
+/// How many seconds a spool is on hold the first time that its device has failed. After each further time it is twice
+/// as long, up to the longest.
 const FIRST_PAUSE: u64 = 1;
 
-/// The most seconds that a spool is left alone.
+/// The most seconds that a spool is on hold.
 const LONGEST_PAUSE: u64 = 60;
 
 /// The greatest limit that a spool may have.
@@ -36,7 +36,7 @@ const TELLINGS: u64 = 5;
 /// How many milliseconds lie between two of these.
 const TELLING_PAUSE: u64 = 200;
 
-/// How long a spool is left alone whose device has failed.
+/// How long a spool is on hold whose device has failed.
 #[derive(Clone, Copy, Debug)]
 pub(crate) struct Pauses {
     /// How many seconds the next pause has.
@@ -48,7 +48,7 @@ pub(crate) struct Pauses {
 }
 
 impl Pauses {
-    /// The device of a spool of this size hasn't failed yet.
+    /// Returns the device of a spool of this size hasn't failed yet.
     pub(crate) fn new(size: usize) -> Self {
         Pauses {
             seconds: FIRST_PAUSE,
@@ -57,15 +57,15 @@ impl Pauses {
         }
     }
 
-    /// The device has failed, and the spool has this size. Where that is another than when it was opened, there was
-    /// room meanwhile, and the pauses begin anew.
+    /// The device has failed, and the spool has this size. If that is another than when it was opened, there was room
+    /// meanwhile, and the pauses begin anew.
     fn note_failure(&mut self, size: usize) {
         if self.opened_size != size {
             self.seconds = FIRST_PAUSE;
         }
     }
 
-    /// How many seconds the next pause has.
+    /// Returns how many seconds the next pause has.
     fn next(&mut self) -> u64
         ensures pause { result ≡ self.old.seconds }
         ensures longer { self.new.seconds ≡ next_pause self.old.seconds }
@@ -82,7 +82,7 @@ struct Closed {
     disks: Disks<FileDisk>,
 }
 
-// Written out, so that what drops it calls this, and doesn't look into its parts.
+// Written out, so that the proof of a caller that drops it stops at this function.
 impl Drop for Closed {
     fn drop(self) {
         let Closed {
@@ -92,7 +92,7 @@ impl Drop for Closed {
     }
 }
 
-/// What has come of a spool that was to be opened.
+/// The outcome of a spool that was to be opened.
 enum Opening {
     /// It is open.
     Done(Relay<FileDisk>),
@@ -105,12 +105,12 @@ enum Opening {
 pub(crate) enum Why {
     /// Its device has failed.
     Failed,
-    /// There is room again, and it was bounded for want of that.
+    /// There is room again, and it was bounded for lack of that.
     Renewed,
 }
 
-/// Opens the spool of a relay again, which has to be what was known of it: where its device has failed, when a test
-/// finds room, and else at once. All connections are dropped. A sync that has failed is a fault.
+/// Opens the spool of a relay again, which must be what was known of it: where its device has failed, when a test finds
+/// room, and else at once. All connections are dropped. A sync that has failed is a fault.
 pub(crate) fn reopen<C: Clock, E: Write, S: Stream + Drop, L: Listen<Stream = S>>(
     reporter: &mut Reporter<'_, C, E>,
     relay: Relay<FileDisk>,
@@ -132,7 +132,7 @@ pub(crate) fn reopen<C: Clock, E: Write, S: Stream + Drop, L: Listen<Stream = S>
 }
 
 /// Opens the spool of a relay whose device has failed again, after 1 second, 2, 4 and up to 60, as often as it takes
-/// until a test finds room for what comes of an attempt. Lines of the log tell that it has failed, and that it is open
+/// until a test finds room for the outcome of an attempt. Lines of the log tell that it has failed, and that it is open
 /// again. All connections of the relay are dropped, and who comes meanwhile is told so. A sync that has failed is a
 /// fault at once, since octets may be lost then that were written; so is a spool that holds something else than it did,
 /// or less.
@@ -229,7 +229,7 @@ fn wait_for_room<C: Clock, E: Write, S: Stream + Drop, L: Listen<Stream = S>>(
     Err(Fault::Device)
 }
 
-/// The relay, unless its spool isn't what was known.
+/// Returns the relay, unless its spool isn't what was known.
 fn unless_less(
     known: Known,
     relay: Relay<FileDisk>,
@@ -246,7 +246,7 @@ fn unless_less(
     Ok(relay)
 }
 
-/// Lets so many seconds pass, in which those that come are told why they aren't served.
+/// Lets this many seconds pass, in which those that come are told why they aren't served.
 fn pause<C: Clock, S: Stream + Drop, L: Listen<Stream = S>>(
     clock: &C,
     seconds: u64,
@@ -259,7 +259,7 @@ fn pause<C: Clock, S: Stream + Drop, L: Listen<Stream = S>>(
     }
 }
 
-/// The reply with which clients are told that there is no room, code 421.
+/// Returns the reply with which clients are told that there is no room, code 421.
 fn refusal(alloc: Global, config: &Config) -> Result<Vec<u8>, AllocError> {
     let mut line = Vec::new(alloc);
     line.extend_from_slice(b"421 ")?;
@@ -280,7 +280,7 @@ fn sync(disks: &mut Disks<FileDisk>) -> Result<(), Fault>
 }
 
 impl Closed {
-    /// The spool of a node.
+    /// Returns the spool of a node.
     fn of(node: Node<FileDisk>) -> Self
         ensures { result.disks ≡ node.records.spool.disk }
     {

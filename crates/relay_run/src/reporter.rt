@@ -19,7 +19,7 @@ pub(crate) struct Reporter<'a, C: Clock, E: Write> {
 
 impl<'a, C: Clock, E: Write> Reporter<'a, C, E> {
     /// Tells that the device has failed: by this error, where one was seen, on this file of the spool, where that is
-    /// known, which is tried again after so many seconds.
+    /// known, which is tried again after this many seconds.
     pub(crate) fn device_failed(
         &mut self,
         reason: Option<io::Error>,
@@ -57,7 +57,7 @@ impl<'a, C: Clock, E: Write> Reporter<'a, C, E> {
     }
 }
 
-/// The name of a file of the spool.
+/// Returns the name of a file of the spool.
 fn file_name(
     alloc: Global,
     config: &Config,

@@ -14,7 +14,7 @@ use std::rt::Files;
 /// How many seconds lie between two tests of the room, while a relay is short of it.
 const TEST_SECONDS: u64 = 5;
 
-/// How many seconds attempts that run have to end, once there is room again: then the spool is opened under its limit.
+/// How many seconds attempts that run must end, once there is room again: then the spool is opened under its limit.
 const DRAIN_SECONDS: u64 = 5;
 
 /// The room on the disk of a spool. A fault of its file ends nothing: it counts as no ballast, and as no room.
@@ -34,7 +34,7 @@ pub(crate) struct Room<F = RoomFile> {
     renewal: u64,
 }
 
-// Written out, so that what drops it calls this, and doesn't look into its file.
+// Written out, so that the proof of a caller that drops it stops at this function.
 impl<F: Drop> Drop for Room<F> {
     fn drop(self) {
         let Room {
@@ -53,8 +53,8 @@ impl Room {
     ghost use Rattle.relay_room.specs.Standing.{standing_at_failure};
     ghost use Rattle.relay_run.specs.Room.{MayStart};
 
-    /// The room beside the spool of this configuration, in the file with its name and `.room` after that. Nothing was
-    /// tested yet.
+    /// Returns the room beside the spool of this configuration, in the file with its name and `.room` after that.
+    /// Nothing was tested yet.
     pub(crate) fn open<R: Files<File = File>>(
         alloc: Global,
         files: &R,
@@ -77,7 +77,7 @@ impl Room {
 
     /// The device has failed: the ballast is given up, and nothing is known of the room. The system's error of a test
     /// write in the file beside the spool comes back, made before that file gives its octets up: the call that failed
-    /// has told nobody of its own. None where the test write succeeds.
+    /// has told nobody of its own. None if the test write succeeds.
     pub(crate) fn fail(&mut self) -> Option<io::Error>
         ensures standing { self.new.standing ≡ standing_at_failure self.old.standing self.old.size }
         ensures held { (size : ℕ) → ¬ MayStart self.new size }
@@ -94,7 +94,7 @@ impl Room {
 impl<F: Disk> Room<F> {
     ghost use Rattle.relay_run.specs.Room.{IsTested, MayStart, grown_since, next_look};
 
-    /// Tests the room beside a spool of so many octets, where the relay is short of it. A fault of the file counts as
+    /// Tests the room beside a spool of this many octets, where the relay is short of it. A fault of the file counts as
     /// no room.
     pub(crate) fn test(&mut self, spool_size: usize)
         ensures standing { IsTested self.old self.new }
@@ -128,7 +128,7 @@ impl<F: Disk> Room<F> {
         true
     }
 
-    /// Whether the relay is short of room.
+    /// Returns whether the relay is short of room.
     pub(crate) fn is_short(&self) -> bool {
         self.standing != Standing::Roomy
     }
@@ -140,24 +140,24 @@ impl<F: Disk> Room<F> {
         self.renewal = u64::MAX;
     }
 
-    /// Whether the spool is to be opened under its configured limit now.
+    /// Returns whether the spool is to be opened under its configured limit now.
     pub(crate) fn is_renewed(&self, now: &Now) -> bool {
         self.renewal <= now.tick
     }
 
-    /// The spool was written anew, for which it took other room.
+    /// The spool was compacted, for which it took other room.
     pub(crate) fn note_compacted(&mut self) {
         self.next_test = 0;
     }
 
-    /// Whether attempts may begin beside a spool of so many octets.
+    /// Returns whether attempts may begin beside a spool of this many octets.
     pub(crate) fn may_start(&self, spool_size: usize) -> bool
         ensures { IsTrue result ↔ MayStart self.now spool_size }
     {
         self.renewal == u64::MAX && self.standing.may_begin(self.grown(spool_size))
     }
 
-    /// Whether so many octets may be written beside a spool of so many.
+    /// Returns whether this many octets may be written beside a spool of this many.
     pub(crate) fn has_room_for(&self, octets: usize, spool_size: usize) -> bool {
         match self.standing {
             Standing::Roomy => true,
@@ -167,19 +167,19 @@ impl<F: Disk> Room<F> {
         }
     }
 
-    /// How many octets the spool has more than at the last test.
+    /// Returns how many octets the spool has more than at the last test.
     fn grown(&self, spool_size: usize) -> usize
         ensures { result ≡ grown_since self.now spool_size }
     {
         spool_size.saturating_sub(self.tested_size)
     }
 
-    /// The limit of the spool whose files have so many octets together.
+    /// Returns the limit of the spool whose files have this many octets together.
     pub(crate) fn limit(&self, files: u64) -> u64 {
         self.standing.limit(self.configured, files)
     }
 
-    /// The tick at which the room is looked at again, or the given one where that is earlier.
+    /// Returns the tick at which the room is checked again, or the given one where that is earlier.
     pub(crate) fn next_deadline(&self, otherwise: u64) -> u64
         ensures otherwise { result ≤ otherwise }
         ensures look { result ≤ next_look self.now.standing self.now }

@@ -21,15 +21,14 @@ use std::rt::{Clock, Files};
 /// listener, and those of the page.
 const EVENT_COUNT: usize = 4 * SLOT_COUNT + 1 + StatusPage::TOKENS;
 
-/// Serves clients and hands on what they bring, up to 64 sessions and 64 attempts side by side, in one thread. It
-/// returns only with a fault, and a stop at any moment is as safe as at any other. Faults are looked for in this order
-/// before it begins: the configuration file, its content, its limits, the spool, the listener, whose address is waited
-/// for a minute where this machine hasn't got it yet, the page's listener. Then a line
-/// `ready HOST ADDRESS` goes to `writer`, and unless it is `quiet` a line for each thing that was done to `errors`,
-/// with its moment, in the configured form.
+/// Serves clients and relays what they bring, up to 64 sessions and 64 attempts side by side, in one thread. It returns
+/// only with a fault, and a stop at any time is as safe as at any other. Faults are searched for in this order before
+/// it begins: the configuration file, its content, its limits, the spool, the listener, whose address is waited for a
+/// minute where this machine hasn't got it yet, the page's listener. Then a line `ready HOST ADDRESS` goes to `writer`,
+/// and unless it is `quiet` a line for each thing that was done to `errors`, with its time, in the configured form.
 ///
-/// A connection that breaks ends alone. Where the device fails, all do, and the spool is opened again when there may be
-/// room; only a sync that failed, and want of memory or descriptors before the first client, end the relay.
+/// A connection that breaks ends alone. If the device fails, all do, and the spool is opened again when there may be
+/// room; only a sync that failed, and lack of memory or descriptors before the first client, end the relay.
 pub fn run<
     R: Files<File = File> + Clock + Net<Listener = TcpListener, Stream = TcpStream>,
     W: Write,

@@ -41,7 +41,7 @@ pub(crate) struct Shell<S, D: Disk, F> {
 /// That of `run`, over the system's streams and files.
 pub(crate) type SystemShell = Shell<TcpStream, FileDisk, RoomFile>;
 
-// Written out, so that what drops it calls this, and doesn't look into its parts.
+// Written out, so that the proof of a caller that drops it stops at this function.
 impl<S: Drop, D: Disk + Drop, F: Drop> Drop for Shell<S, D, F> {
     fn drop(self) {
         let Shell {
@@ -59,7 +59,7 @@ impl<S: Drop, D: Disk + Drop, F: Drop> Drop for Shell<S, D, F> {
 }
 
 impl<S: Stream + Drop, D: Disk + Drop, F: Disk + Drop> Shell<S, D, F> {
-    /// A relay without a connection, within these limits. It fails where memory runs out.
+    /// Makes a relay without a connection, within these limits. Fails if memory runs out.
     pub(crate) fn new(
         alloc: Global,
         relay: Relay<D>,
@@ -94,12 +94,12 @@ impl<S: Stream + Drop, D: Disk + Drop, F: Disk + Drop> Shell<S, D, F> {
         self.known = Known::of(&self.relay);
     }
 
-    /// Whether the spool is to be opened under its configured limit now.
+    /// Returns whether the spool is to be opened under its configured limit now.
     pub(crate) fn is_renewed(&self, now: &Now) -> bool {
         self.room.is_renewed(now)
     }
 
-    /// Whether attempts may begin.
+    /// Returns whether attempts may begin.
     pub(crate) fn may_start(&self) -> bool
         ensures { IsTrue result ↔ MayStart self.now.room self.now.relay.node.records.spool.size }
     {
@@ -140,7 +140,7 @@ impl<S: Stream + Drop, D: Disk + Drop, F: Disk + Drop> Shell<S, D, F> {
         self.begin(clock, dial, registry, now, log)
     }
 
-    /// Writes the spool anew where that is due after a turn and worth it, and there is room for it. A fault comes of a
+    /// Compacts the spool where that is due after a turn and worth it, and there is room for it. A fault comes of a
     /// compaction alone, whose size is known then.
     pub(crate) fn tidy(&mut self, now: &Now, log: &mut Log<'_, Vec<u8>>) -> Result<(), Fault>
         ensures tidies { OnOk result ((self.new.relay ≡ self.old.relay)
@@ -177,7 +177,7 @@ impl<S: Stream + Drop, D: Disk + Drop, F: Disk + Drop> Shell<S, D, F> {
         Ok(())
     }
 
-    /// Drops some octets of the spool's other file after a turn, where it may have any.
+    /// Drops some octets of the spool's other file after a turn, if it may have any.
     pub(crate) fn trim(&mut self) -> Result<(), Fault>
         ensures trimmed { OnOk result ((self.new.relay ≡ self.old.relay)
             ⊎ MayBeTrimmed D.honest D.words self.old.relay self.new.relay) }
@@ -266,7 +266,7 @@ impl<S: Stream + Drop, D: Disk + Drop, F: Disk + Drop> Shell<S, D, F> {
         }
     }
 
-    /// Begins what is due, and nothing while the room for what comes of it isn't there.
+    /// Begins what is due, and nothing while the room for its outcome isn't there.
     fn begin<C: Clock, N: Dial<Stream = S>>(
         &mut self,
         clock: &C,
@@ -292,9 +292,9 @@ impl<S: Stream + Drop, D: Disk + Drop, F: Disk + Drop> Shell<S, D, F> {
 }
 
 impl<S: Stream + Drop> Shell<S, FileDisk, RoomFile> {
-    /// The same relay with its spool opened again: once its device, where that has failed, has room, or else at once,
-    /// under its configured limit. All connections are closed but the listener, at which clients are told so meanwhile.
-    /// A sync that has failed is a fault, and so is a spool that isn't the one from before.
+    /// Returns the same relay with its spool opened again: once its device, where that has failed, has room, or else at
+    /// once, under its configured limit. All connections are closed but the listener, at which clients are told so
+    /// meanwhile. A sync that has failed is a fault, and so is a spool that isn't the one from before.
     pub(crate) fn reopened<C: Clock, E: Write, L: Listen<Stream = S>>(
         mut self,
         reporter: &mut Reporter<'_, C, E>,

@@ -24,8 +24,8 @@ use std::time::Duration;
 /// each.
 const ADDRESS_SECONDS: u64 = 60;
 
-/// The configuration, the limits and the balancers in the file at this path. Faults are looked for in this order: the
-/// file, the configuration, the limits, the balancers.
+/// Returns the configuration, the limits and the balancers in the file at this path. Faults are searched for in this
+/// order: the file, the configuration, the limits, the balancers.
 pub(crate) fn settings<F: Files<File = File>>(
     alloc: Global,
     files: &F,
@@ -41,7 +41,7 @@ pub(crate) fn settings<F: Files<File = File>>(
     }
 }
 
-/// The form of the log's lines; none where it is quiet.
+/// Returns the form of the log's lines; none if it is quiet.
 pub(crate) fn log_form(quiet: bool, limits: &Limits) -> Option<Form> {
     if quiet {
         return None;
@@ -52,7 +52,7 @@ pub(crate) fn log_form(quiet: bool, limits: &Limits) -> Option<Form> {
     }
 }
 
-/// An open file, of which copies may be made: the configuration's, since that is there.
+/// Returns an open file, of which copies may be made: the configuration's, since that is there.
 pub(crate) fn kept_file<F: Files<File = File>>(files: &F, path: &str) -> Result<File, Fault> {
     match File::open(files, path) {
         Ok(file) => Ok(file),
@@ -68,8 +68,8 @@ fn document(alloc: Global, text: &str) -> Result<toml::Table, Fault> {
     }
 }
 
-/// The relay of the spool that the configuration names, whose files are taken for this process alone, and the room
-/// beside it. Where there is little room, its limit is less than what is configured.
+/// Returns the relay of the spool that the configuration names, whose files are taken for this process alone, and the
+/// room beside it. If there is little room, its limit is less than what is configured.
 pub(crate) fn locked_relay<F: Files<File = File>>(
     alloc: Global,
     files: &F,
@@ -89,7 +89,7 @@ pub(crate) fn locked_relay<F: Files<File = File>>(
     Ok((relay, room))
 }
 
-/// The listener at the configured place. A line of the log says that its address is waited for.
+/// Returns the listener at the configured place. A line of the log says that its address is waited for.
 pub(crate) fn open_listener<R: Clock + Net, E: Write>(
     alloc: Global,
     rt: &R,
@@ -117,7 +117,7 @@ pub(crate) fn open_listener<R: Clock + Net, E: Write>(
     Err(Fault::Socket)
 }
 
-/// The page at the configured port, where there is one.
+/// Returns the page at the configured port, if there is one.
 pub(crate) fn open_page<R: Clock + Net>(
     alloc: Global,
     rt: &R,

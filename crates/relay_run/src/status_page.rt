@@ -21,7 +21,7 @@ use std::net::{Ipv4Addr, Net, SocketAddr, SocketAddrV4};
 /// The page. A fault of it ends nothing but the visit that it befalls.
 pub(crate) struct StatusPage {
     alloc: Global,
-    /// None where there is no page.
+    /// None if there is no page.
     listener: Option<TcpListener>,
     /// Visitors may be waiting at it.
     is_ready: bool,
@@ -30,13 +30,13 @@ pub(crate) struct StatusPage {
     history: History,
     /// When the relay began.
     since: Moment,
-    /// The number of the next change when it was looked at last.
+    /// The number of the next change when it was checked last.
     next_number: u64,
-    /// When it had risen last; none where it hasn't since the relay began.
+    /// When it had risen last; none if it hasn't since the relay began.
     appended: Option<Moment>,
 }
 
-// Written out, so that what drops it calls this, and doesn't look into its parts.
+// Written out, so that the proof of a caller that drops it stops at this function.
 impl Drop for StatusPage {
     fn drop(self) {
         let StatusPage {
@@ -60,7 +60,7 @@ impl StatusPage {
     /// How many tokens it has.
     pub(crate) const TOKENS: usize = 1 + MOST_VISITORS;
 
-    /// The page at this port of 127.0.0.1, or none. It fails where the port can't be had, or memory runs out.
+    /// Returns the page at this port of 127.0.0.1, or none. It fails where the port can't be had, or memory runs out.
     pub(crate) fn open<N: Net>(
         alloc: Global,
         net: &N,
@@ -115,7 +115,7 @@ impl StatusPage {
         }
     }
 
-    /// Takes note of what was done since it was looked at last.
+    /// Takes note of what was done since it was checked last.
     fn note_progress(&mut self, relay: &Relay<FileDisk>, counters: &Counters, now: &Now) {
         let done = Minute {
             accepted: counters.accepted,
@@ -188,8 +188,8 @@ impl StatusPage {
         self.visitors.respond(number, response);
     }
 
-    /// Counts a part of what is queued, and tells whether that was the last. It fails where memory runs out, or the
-    /// device has failed.
+    /// Counts a part of what is queued, and returns whether that was the last. Fails if memory runs out, or the device
+    /// has failed.
     fn count(&mut self, relay: &Relay<FileDisk>, now: &Now) -> Result<bool, AllocError> {
         let node = relay.node();
         if !self.survey.is_counting() {
@@ -211,7 +211,7 @@ impl StatusPage {
         Ok(false)
     }
 
-    /// The response to what was asked for.
+    /// Returns the response to what was asked for.
     fn response(
         &self,
         asked: Asked,
@@ -240,19 +240,19 @@ impl StatusPage {
         )
     }
 
-    /// Whether something can be done at once.
+    /// Returns whether something can be done at once.
     pub(crate) fn is_ready(&self, now: &Now) -> bool {
         self.is_waited_for()
             || self.visitors.is_ready()
             || self.visitors.next_deadline(u64::MAX) <= now.tick
     }
 
-    /// Whether visitors may be waiting that can be taken, or one waits for its response.
+    /// Returns whether visitors may be waiting that can be taken, or one waits for its response.
     fn is_waited_for(&self) -> bool {
         (self.is_ready && self.visitors.free().is_some()) || self.visitors.asked().is_some()
     }
 
-    /// The tick at which the next visitor is sent away, or the given one where that is earlier.
+    /// Returns the tick at which the next visitor is sent away, or the given one where that is earlier.
     pub(crate) fn next_deadline(&self, otherwise: u64) -> u64
         ensures { result ≤ otherwise }
     {
@@ -260,7 +260,7 @@ impl StatusPage {
     }
 }
 
-/// The listener at a port of 127.0.0.1, of which the system tells.
+/// Returns the listener at a port of 127.0.0.1, of which the system tells.
 fn listener_at<N: Net>(net: &N, registry: &Registry, port: u16) -> io::Result<TcpListener> {
     let at = SocketAddrV4::new(Ipv4Addr::LOCALHOST, port);
     let mut listener = TcpListener::bind(net, SocketAddr::V4(at))?;
@@ -268,7 +268,7 @@ fn listener_at<N: Net>(net: &N, registry: &Registry, port: u16) -> io::Result<Tc
     Ok(listener)
 }
 
-/// The stream of a visitor, of which the system tells; none where it doesn't.
+/// Returns the stream of a visitor, of which the system tells; none if it doesn't.
 fn registered(registry: &Registry, stream: TcpStream, number: usize) -> Option<TcpStream> {
     let mut stream = stream;
     let token = Token(StatusPage::TOKEN.saturating_add(1).saturating_add(number));
@@ -279,7 +279,7 @@ fn registered(registry: &Registry, stream: TcpStream, number: usize) -> Option<T
     }
 }
 
-/// The minute of a moment, from 1970.
+/// Returns the minute of a time, from 1970.
 fn minute_of(moment: Moment) -> u64 {
     moment.seconds() / 60
 }

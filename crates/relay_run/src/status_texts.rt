@@ -21,7 +21,7 @@ pub(crate) struct Busy {
     pub(crate) attempts: u64,
 }
 
-/// What is known of a relay at a moment.
+/// What is known of a relay at a time.
 #[derive(Drop)]
 pub(crate) struct State<'a> {
     pub(crate) relay: &'a Relay<FileDisk>,
@@ -36,7 +36,7 @@ pub(crate) struct State<'a> {
     pub(crate) now: Moment,
 }
 
-/// The text that is asked for, and what it is. It fails where memory runs out.
+/// Returns the text that is asked for, and what it is. Fails if memory runs out.
 pub(crate) fn text_of(
     alloc: Global,
     target: Target,
@@ -76,7 +76,7 @@ fn page_of(alloc: Global, state: &State<'_>) -> Result<Vec<u8>, AllocError> {
     page_text(alloc, &view)
 }
 
-/// The recipients that wait longest: the first of the queue.
+/// Returns the recipients that wait longest: the first of the queue.
 fn oldest_of<'a>(alloc: Global, state: &State<'a>) -> Result<Vec<Waiting<'a>>, AllocError> {
     let mut all = Vec::new(alloc);
     let marks = state.survey.marks();
@@ -89,7 +89,7 @@ fn oldest_of<'a>(alloc: Global, state: &State<'a>) -> Result<Vec<Waiting<'a>>, A
     Ok(all)
 }
 
-/// The recipient at a place of the message of this number, where it is queued.
+/// Returns the recipient at a place of the message of this number, if it is queued.
 fn waiting_at(relay: &Relay<FileDisk>, number: u64, place: u8) -> Option<Waiting<'_>> {
     let message = relay.node().message(number)?;
     let index = usize::from(place);
@@ -108,7 +108,7 @@ fn waiting_at(relay: &Relay<FileDisk>, number: u64, place: u8) -> Option<Waiting
     })
 }
 
-/// The first recipients of the queue as JSON, and where the list is cut.
+/// Returns the first recipients of the queue as JSON, and where the list is cut.
 fn list_of(alloc: Global, state: &State<'_>) -> Result<Vec<u8>, AllocError> {
     let node = state.relay.node();
     let mut text = Vec::new(alloc);
@@ -127,7 +127,7 @@ fn list_of(alloc: Global, state: &State<'_>) -> Result<Vec<u8>, AllocError> {
     Ok(text)
 }
 
-/// How many replies to clients have refused something.
+/// Returns how many replies to clients have refused something.
 fn rejections(counters: &Counters) -> u64 {
     let mut sum: u64 = 0;
     for (_cause, count) in rejections_by_cause(counters) {
@@ -136,7 +136,7 @@ fn rejections(counters: &Counters) -> u64 {
     sum
 }
 
-/// How many replies to clients have refused something, by the reply's code and its cause.
+/// Returns how many replies to clients have refused something, by the reply's code and its cause.
 fn rejections_by_cause(counters: &Counters) -> [(&'static [u8], u64); 10] {
     let rejected = counters.rejected;
     [
@@ -164,7 +164,7 @@ fn metrics_of(alloc: Global, state: &State<'_>) -> Result<Vec<u8>, AllocError> {
     Ok(text)
 }
 
-/// Adds what has come of mail.
+/// Adds the outcome of mail.
 fn push_mail(text: &mut Vec<u8>, counters: &Counters) -> Result<(), AllocError> {
     push_count(
         text,
@@ -204,7 +204,7 @@ fn push_mail(text: &mut Vec<u8>, counters: &Counters) -> Result<(), AllocError> 
     )
 }
 
-/// Adds what has come of connections.
+/// Adds the outcome of connections.
 fn push_connections(text: &mut Vec<u8>, counters: &Counters) -> Result<(), AllocError> {
     push_count(
         text,
@@ -259,7 +259,7 @@ fn push_rejections(text: &mut Vec<u8>, counters: &Counters) -> Result<(), AllocE
     Ok(())
 }
 
-/// Adds what the spool has, and what has come of its device.
+/// Adds what the spool has, and the outcome of its device.
 fn push_spool(text: &mut Vec<u8>, state: &State<'_>) -> Result<(), AllocError> {
     let node = state.relay.node();
     push_gauge(

@@ -1,5 +1,5 @@
-//! The spool is written anew where much of it has gone: in a quiet moment, or at once where it is more than half full,
-//! or was full.
+//! The spool is compacted where much of it has gone: in a quiet moment, or at once where it is more than half full, or
+//! was full.
 ghost use Rattle.std.specs.Prelude.{◌≡◌, ◌≤◌, ◌⊎◌, IfErr, List, MatchResult, None, Ok, OnOk, false, true};
 ghost use Rattle.relay_book.specs.declared.change.Change.{Change};
 ghost use Rattle.relay_records.specs.Records.{Compacts, Halted, Keeps};
@@ -13,7 +13,7 @@ use relay_log::Log;
 use relay_loop::Relay;
 use relay_node::NodeFault;
 
-/// The least milliseconds between two times that the spool is written anew.
+/// The least milliseconds between two times that the spool is compacted.
 const PAUSE: u64 = 1_000;
 
 /// While there is something else to do, a spool of which more octets than this would be left isn't compacted, since
@@ -27,7 +27,7 @@ const MOST_TRIMMED: usize = 4 * 1024 * 1024;
 /// How many seconds it isn't told again that the spool is full.
 const TELLING_SECONDS: u64 = 60;
 
-/// What has happened to the spool since it was last looked at.
+/// What has happened to the spool since it was last checked.
 #[derive(Clone, Copy, Debug)]
 pub(crate) struct Tidying {
     /// Something has left it.
@@ -36,7 +36,7 @@ pub(crate) struct Tidying {
     was_full: bool,
     /// The other file may have octets to be dropped before the next compaction.
     has_spare: bool,
-    /// The tick before which it isn't written anew.
+    /// The tick before which it isn't rewritten.
     next: u64,
     /// The tick before which it is not told again that it is full.
     next_telling: u64,
@@ -68,26 +68,27 @@ impl Tidying {
         }
     }
 
-    /// Whether the spool may have to be looked at: it was full, or something has left it, and it wasn't just looked at.
+    /// Returns whether the spool may have to be checked: it was full, or something has left it, and it wasn't just
+    /// checked.
     pub(crate) fn may_be_due(&self, now: &Now) -> bool {
         self.next <= now.tick && (self.was_full || self.has_shrunk)
     }
 
-    /// Whether the spool is to be looked at now: it was full, or something has left it, and nothing else is to be done
-    /// or it is more than half full.
+    /// Returns whether the spool is to be checked now: it was full, or something has left it, and nothing else is to be
+    /// done or it is more than half full.
     pub(crate) fn is_due<D: Disk>(&self, relay: &Relay<D>, is_quiet: bool, now: &Now) -> bool {
         let node = relay.node();
         self.may_be_due(now)
             && (self.was_full || is_quiet || node.config().spool_limit / 2 < node.size() as u64)
     }
 
-    /// There is no room for that: the spool isn't looked at for a moment.
+    /// There is no room for that: the spool isn't checked for a short time.
     pub(crate) fn pause(&mut self, now: &Now) {
         self.next = now.tick.saturating_add(PAUSE);
     }
 
-    /// The tick at which the spool is to be looked at, or the given one where that is earlier. While the other file has
-    /// octets to be dropped, nothing is waited for.
+    /// Returns the tick at which the spool is to be checked, or the given one where that is earlier. While the other
+    /// file has octets to be dropped, nothing is waited for.
     pub(crate) fn next_deadline(&self, otherwise: u64) -> u64
         ensures { result ≤ otherwise }
     {
@@ -100,9 +101,9 @@ impl Tidying {
         }
     }
 
-    /// Compacts the spool, of which so many octets would be left, where that is worth it and costs others no more than
-    /// they may wait for, and returns whether it did. A spool without a second file, one that holds too much, and want
-    /// of memory leave it as it is. Then it isn't due again for a second.
+    /// Compacts the spool, of which this many octets would be left, where that is worth it and costs others no more
+    /// than they may wait for, and returns whether it did. A spool without a second file, one that holds too much, and
+    /// lack of memory leave it as it is. Then it isn't due again for a second.
     pub(crate) fn tidy<D: Disk>(
         &mut self,
         relay: &mut Relay<D>,
@@ -138,8 +139,8 @@ impl Tidying {
         Ok(is_compacted)
     }
 
-    /// Drops some octets of the spool's other file, where it may have any: they count for nothing, and the next
-    /// compaction would begin with all of them.
+    /// Drops some octets of the spool's other file, if it may have any: they count for nothing, and the next compaction
+    /// would begin with all of them.
     pub(crate) fn trim<D: Disk>(&mut self, relay: &mut Relay<D>) -> Result<(), Fault>
         ensures trimmed { OnOk result ((relay.new ≡ relay.old) ⊎ MayBeTrimmed D.honest D.words relay.old relay.new) }
         ensures failed { IfErr result (λ fault. (fault ≡ Fault.Device) × KeepsRest relay.old relay.new) }

@@ -35,7 +35,7 @@ pub(crate) struct System<'a, R> {
     pub(crate) page: StatusPage,
 }
 
-// Written out, so that what drops it calls this, and doesn't look into its parts.
+// Written out, so that the proof of a caller that drops it stops at this function.
 impl<R> Drop for System<'_, R> {
     fn drop(self) {
         let System {
@@ -76,7 +76,7 @@ pub(crate) fn serve<R: Clock + Net, E: Write>(
         );
         shell = behind_turn(alloc, &mut system, shell, end, form, &mut counters, errors)?;
     }
-    // So many turns are never done.
+    // This many turns are never done.
     Err(Fault::Socket)
 }
 
@@ -97,7 +97,7 @@ fn wait<R: Clock>(system: &mut System<'_, R>, shell: &mut SystemShell) {
     }
 }
 
-/// How many milliseconds may be waited, where the page waits too.
+/// Returns how many milliseconds may be waited, where the page waits too.
 fn next_wait(shell: &SystemShell, page: &StatusPage, now: &Now) -> u64
     ensures client { (number : ℕ) → IsLeftClient (clients_of shell.now.clients) shell.now.relay number
         → result ≡ 0 }
@@ -114,7 +114,7 @@ fn next_wait(shell: &SystemShell, page: &StatusPage, now: &Now) -> u64
     wait.min(page.next_deadline(u64::MAX).saturating_sub(now.tick))
 }
 
-/// The relay after a turn that has come to this end. A fault that ends it is logged.
+/// Returns the relay after a turn that has come to this end. A fault that ends it is logged.
 fn behind_turn<R: Clock, E: Write>(
     alloc: Global,
     system: &mut System<'_, R>,
@@ -132,8 +132,8 @@ fn behind_turn<R: Clock, E: Write>(
     behind
 }
 
-/// The relay after a turn that has come to this end: where its device has failed, or has room again, its spool is
-/// opened again.
+/// Returns the relay after a turn that has come to this end: where its device has failed, or has room again, its spool
+/// is opened again.
 fn kept_or_reopened<R: Clock, E: Write>(
     alloc: Global,
     system: &mut System<'_, R>,
@@ -159,8 +159,8 @@ fn kept_or_reopened<R: Clock, E: Write>(
     shell.reopened(&mut reporter, &mut system.listener, why)
 }
 
-/// A turn, whose lines of the log are written then; and what keeps the spool small after it, which may take a while,
-/// and so comes when those lines are out. The page is served last.
+/// Takes a turn, whose lines of the log are written then; and what keeps the spool small after it, which may take a
+/// while, and so comes when those lines are out. The page is served last.
 fn take_turn<R: Clock + Net, E: Write>(
     alloc: Global,
     system: &mut System<'_, R>,
@@ -215,7 +215,7 @@ fn serve_all<R: Clock + Net>(
     )
 }
 
-/// Writes the spool anew where that is due, and gathers the lines of the log.
+/// Compacts the spool where that is due, and gathers the lines of the log.
 fn tidy(
     alloc: Global,
     shell: &mut SystemShell,

@@ -32,7 +32,7 @@ impl<S: Stream + Drop, D: Disk + Drop, F: Disk + Drop> Shell<S, D, F> {
         }
     }
 
-    /// Whether something can be done at once.
+    /// Returns whether something can be done at once.
     pub(crate) fn is_ready(&self, now: &Now) -> bool
         ensures client { (number : ℕ) → IsLeftClient (clients_of self.now.clients) self.now.relay number
             → result ≡ true }
@@ -48,9 +48,9 @@ impl<S: Stream + Drop, D: Disk + Drop, F: Disk + Drop> Shell<S, D, F> {
         self.door.is_ready(now) || self.leaving.is_ready()
     }
 
-    /// How many milliseconds may be waited for the system to tell of something, a minute at most: none while a
+    /// Returns how many milliseconds may be waited for the system to tell of something, a minute at most: none while a
     /// connection was left in mid-read, and never past the tick at which the node has told that work may start, or
-    /// while no attempt may begin, past that at which the room is looked at.
+    /// while no attempt may begin, past that at which the room is checked.
     pub(crate) fn wait(&self, now: &Now) -> u64
         ensures client { (number : ℕ) → IsLeftClient (clients_of self.now.clients) self.now.relay number
             → result ≡ 0 }

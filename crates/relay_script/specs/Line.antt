@@ -9,7 +9,7 @@ use Rattle.relay_script.specs.declared.event.ScriptLine.{ScriptLine}
 use Rattle.relay_script.specs.declared.event.ScriptLine.TheVariants.{Skipped, Nodes, Event as Happens, Ledger, Marks}
 use Rattle.relay_script.specs.declared.event.ScriptLine.TheVariants.{Copies, Lost}
 
--- what stands after a keyword
+-- what is after a keyword
 pub data Operand : Type 0 where
   Node : ℕ → Operand
   Number : ℕ → Operand

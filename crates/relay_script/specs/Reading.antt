@@ -54,7 +54,7 @@ pub record IsNotBehind (keyword text : List ℕ) : Type 0 where
 abbrev pub is_no_space : ℕ → Bool
 is_no_space octet = not (octet == 32)
 
--- no space stands in the text
+-- no space is in the text
 pub record HasNoSpace (text : List ℕ) : Type 0 where
   pub free : list_all is_no_space text ≡ true
 

@@ -1,4 +1,4 @@
--- Words of a line of a script: nodes, numbers, counts of nodes and moments.
+-- Words of a line of a script: nodes, numbers, counts of nodes and times.
 use Rattle.std.specs.Prelude.{◌≡◌, ℕ, ◌+◌, ◌<◌, ◌≤◌, List, [], ◌∷◌, length}
 use Rattle.std.specs.List.{AllPass}
 use Rattle.std.specs.Char.{is_ascii_digit}
@@ -27,7 +27,7 @@ pub record IsNodeCount (word : List ℕ) (count : ℕ) : Type 0 where
   pub some : 2 ≤ count
   pub within : count ≤ most_nodes
 
--- a moment: the number of its seconds from 1970
+-- a time: the number of its seconds from 1970
 pub record IsMoment (word : List ℕ) (seconds : ℕ) : Type 0 where
   pub number : IsNumber word seconds
   pub within : seconds ≤ last_second

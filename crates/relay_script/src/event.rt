@@ -25,7 +25,7 @@ pub enum Event {
     Break {
         link: u64,
     },
-    /// The clock is at this moment.
+    /// The clock is at this time.
     Tick {
         moment: Moment,
     },
@@ -33,7 +33,7 @@ pub enum Event {
     Give {
         node: NodeIndex,
     },
-    /// A node writes its spool anew.
+    /// A node compacts its spool.
     Compact {
         node: NodeIndex,
     },
@@ -51,7 +51,7 @@ pub enum Event {
 pub enum ScriptLine {
     /// The line says nothing: it is empty, or a remark that `#` begins.
     Skipped,
-    /// So many nodes play.
+    /// This many nodes play.
     Nodes {
         count: NodeCount,
     },

@@ -1,4 +1,4 @@
-//! What is true of the lines of a script, whoever reads or writes them.
+//! Laws of the lines of a script, whoever reads or writes them.
 ghost use Rattle.relay_script.specs.Text.{TextTellsOctets};
 ghost use Rattle.relay_script.specs.Line.{TextTellsLine};
 

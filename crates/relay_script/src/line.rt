@@ -16,8 +16,8 @@ use crate::word::{behind, cut_word, read_number};
 use relay_octets::Octets;
 use std::alloc::{AllocError, Global};
 
-/// What a line says, which comes without its LF, or `None` where it is no line of a script. It fails where memory runs
-/// out, which only the text of a `send` takes.
+/// Returns what a line says, which comes without its LF, or `None` where it is no line of a script. Fails if memory
+/// runs out, which only the text of a `send` takes.
 pub fn script_line(alloc: Global, line: &[u8]) -> Result<Option<ScriptLine>, AllocError>
     ensures { IfOk result (λ read. MatchOption read (SpellsNoLine line.now) (λ said. Spells line.now said)) }
 {
@@ -39,7 +39,7 @@ pub fn script_line(alloc: Global, line: &[u8]) -> Result<Option<ScriptLine>, All
     }
 }
 
-/// Whether a line is empty or a remark.
+/// Returns whether a line is empty or a remark.
 fn is_skipped(line: &[u8]) -> bool
     ensures { IsTrue result ↔ IsSkipped line.now }
 {
@@ -49,7 +49,7 @@ fn is_skipped(line: &[u8]) -> bool
     }
 }
 
-/// What a line asks for.
+/// Returns what a line asks for.
 fn read_question(line: &[u8]) -> Option<ScriptLine>
     ensures { MatchOption result (SpellsNoQuestion line.now) (λ question. Spells line.now question) }
 {
@@ -74,14 +74,14 @@ fn read_question(line: &[u8]) -> Option<ScriptLine>
     })
 }
 
-/// Whether a line is that keyword alone.
+/// Returns whether a line is that keyword alone.
 fn is_keyword(line: &[u8], keyword: &[u8]) -> bool
     ensures { IsTrue result ↔ (line.now ≡ keyword.now) }
 {
     line == keyword
 }
 
-/// The event of a line, but for octets that are written on a link.
+/// Returns the event of a line, but for octets that are written on a link.
 fn read_event(line: &[u8]) -> Option<Event>
     ensures { MatchOption result (SpellsNoEvent line.now) (λ event. SpellsEvent line.now event) }
 {
@@ -107,7 +107,7 @@ fn read_event(line: &[u8]) -> Option<Event>
     Some(Event::Stop { node, calls, pick })
 }
 
-/// The link of a `send`, and the octets that are written on it.
+/// Returns the link of a `send`, and the octets that are written on it.
 #[tactic(auto, using(crate::proofs::LineLemmas::several_behind))]
 fn read_send(alloc: Global, line: &[u8]) -> Result<Option<(u64, Octets)>, AllocError>
     ensures { IfOk result (λ read. MatchOption read (LacksWords (codes "send") (NumberKind ∷ TextKind ∷ []) line.now)
@@ -119,7 +119,7 @@ fn read_send(alloc: Global, line: &[u8]) -> Result<Option<(u64, Octets)>, AllocE
     }
 }
 
-/// A number and a text.
+/// Returns a number and a text.
 #[tactic(auto, using(crate::proofs::OperandLemmas::first_and_others))]
 fn number_and_text(alloc: Global, operands: &[u8]) -> Result<Option<(u64, Octets)>, AllocError>
     ensures { IfOk result (λ read. MatchOption read (LacksOperands (NumberKind ∷ TextKind ∷ []) operands.now)

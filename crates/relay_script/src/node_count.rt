@@ -23,7 +23,7 @@ impl NodeCount {
     ghost use Rattle.std.specs.Prelude.{◌≡◌, ◌≤◌};
     ghost use Rattle.relay_script.specs.Word.{most_nodes};
 
-    /// So many nodes.
+    /// Returns this many nodes.
     pub fn new(count: usize) -> Self
         requires some { 2 ≤ count }
         requires within { count ≤ most_nodes }
@@ -32,7 +32,7 @@ impl NodeCount {
         NodeCount { count }
     }
 
-    /// How many they are.
+    /// Returns how many they are.
     pub fn count(self) -> usize
         ensures value { result ≡ self }
         ensures some { 2 ≤ result }

@@ -26,7 +26,7 @@ impl NodeIndex {
     ghost use Rattle.std.specs.Prelude.{◌≡◌, ◌<◌, ◌+◌};
     ghost use Rattle.relay_script.specs.Word.{most_nodes};
 
-    /// The node of that number.
+    /// Returns the node of that number.
     pub fn new(index: usize) -> Self
         requires { index < most_nodes }
         ensures { result ≡ index }
@@ -34,7 +34,7 @@ impl NodeIndex {
         NodeIndex { index }
     }
 
-    /// The node's number.
+    /// Returns the node's number.
     pub fn index(self) -> usize
         ensures value { result ≡ self }
         ensures within { result < most_nodes }
@@ -42,7 +42,7 @@ impl NodeIndex {
         self.index
     }
 
-    /// The node's letter: `a` for the first.
+    /// Returns the node's letter: `a` for the first.
     pub fn letter(self) -> u8
         ensures { result ≡ 97 + self }
     {

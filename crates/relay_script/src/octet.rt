@@ -19,7 +19,7 @@ pub(crate) fn push_octet(out: &mut Vec<u8>, octet: u8) -> Result<(), AllocError>
     }
 }
 
-/// The octet whose spelling a text begins with, and what follows it.
+/// Returns the octet whose spelling a text begins with, and what follows it.
 pub(crate) fn first_octet(text: &[u8]) -> Option<(u8, &[u8])>
     ensures { MatchOption result (BeginsWithNoOctet text.now) (λ parts. BeginsWithOctet text.now parts.0 parts.1.now) }
 {
@@ -34,7 +34,7 @@ pub(crate) fn first_octet(text: &[u8]) -> Option<(u8, &[u8])>
     }
 }
 
-/// The octet that is spelled by a `\` and the text.
+/// Returns the octet that is spelled by a `\` and the text.
 fn escaped_octet(text: &[u8]) -> Option<(u8, &[u8])>
     ensures { MatchOption result (BeginsWithNoOctet (92 ∷ text.now))
         (λ parts. BeginsWithOctet (92 ∷ text.now) parts.0 parts.1.now) }
@@ -48,7 +48,7 @@ fn escaped_octet(text: &[u8]) -> Option<(u8, &[u8])>
     }
 }
 
-/// The octet that is spelled by `\x` and the text.
+/// Returns the octet that is spelled by `\x` and the text.
 fn coded_octet(text: &[u8]) -> Option<(u8, &[u8])>
     ensures { MatchOption result (BeginsWithNoOctet (92 ∷ 120 ∷ text.now))
         (λ parts. BeginsWithOctet (92 ∷ 120 ∷ text.now) parts.0 parts.1.now) }
@@ -65,21 +65,21 @@ fn coded_octet(text: &[u8]) -> Option<(u8, &[u8])>
     }
 }
 
-/// Whether an octet stands as it is: from the space to `~`, but for `\`.
+/// Returns whether an octet stands as it is: from the space to `~`, but for `\`.
 fn is_plain(octet: u8) -> bool
     ensures { result ≡ plain octet }
 {
     matches!(octet, b' '..=b'~') && octet != b'\\'
 }
 
-/// Whether the spelling of an octet is `\x` and two digits.
+/// Returns whether the spelling of an octet is `\x` and two digits.
 fn has_code(octet: u8) -> bool
     ensures { result ≡ has_code octet }
 {
     !is_plain(octet) && octet != b'\r' && octet != b'\n'
 }
 
-/// The hexadecimal digit of a value, in upper case.
+/// Returns the hexadecimal digit of a value, in upper case.
 fn digit_of(value: u8) -> u8
     requires { value < 16 }
     ensures { result ≡ digit value }
@@ -87,7 +87,7 @@ fn digit_of(value: u8) -> u8
     if value < 10 { b'0' + value } else { 55 + value }
 }
 
-/// The value of a hexadecimal digit in upper case.
+/// Returns the value of a hexadecimal digit in upper case.
 fn value_of_digit(octet: u8) -> Option<u8>
     ensures { MatchOption result (IsNoDigit octet) (IsDigitOf octet) }
 {

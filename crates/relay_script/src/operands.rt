@@ -10,7 +10,7 @@ use crate::node_index::NodeIndex;
 use crate::word::{behind, cut_word, read_count, read_moment, read_node, read_number};
 use relay_trace::Moment;
 
-/// A node after the keyword.
+/// Returns a node after the keyword.
 #[tactic(auto, using(crate::proofs::LineLemmas::no_words_behind))]
 pub(crate) fn node_behind(keyword: &[u8], line: &[u8]) -> Option<NodeIndex>
     ensures { MatchOption result (LacksWords keyword.now (NodeKind ∷ []) line.now)
@@ -20,7 +20,7 @@ pub(crate) fn node_behind(keyword: &[u8], line: &[u8]) -> Option<NodeIndex>
     read_node(word)
 }
 
-/// A number after the keyword.
+/// Returns a number after the keyword.
 #[tactic(auto, using(crate::proofs::LineLemmas::no_words_behind))]
 pub(crate) fn number_behind(keyword: &[u8], line: &[u8]) -> Option<u64>
     ensures { MatchOption result (LacksWords keyword.now (NumberKind ∷ []) line.now)
@@ -30,7 +30,7 @@ pub(crate) fn number_behind(keyword: &[u8], line: &[u8]) -> Option<u64>
     read_number(word)
 }
 
-/// A count of nodes after the keyword.
+/// Returns a count of nodes after the keyword.
 #[tactic(auto, using(crate::proofs::LineLemmas::no_words_behind))]
 pub(crate) fn count_behind(keyword: &[u8], line: &[u8]) -> Option<NodeCount>
     ensures { MatchOption result (LacksWords keyword.now (CountKind ∷ []) line.now)
@@ -40,7 +40,7 @@ pub(crate) fn count_behind(keyword: &[u8], line: &[u8]) -> Option<NodeCount>
     read_count(word)
 }
 
-/// A moment after the keyword.
+/// Returns a time after the keyword.
 #[tactic(auto, using(crate::proofs::LineLemmas::no_words_behind))]
 pub(crate) fn moment_behind(keyword: &[u8], line: &[u8]) -> Option<Moment>
     ensures { MatchOption result (LacksWords keyword.now (TimeKind ∷ []) line.now)
@@ -50,7 +50,7 @@ pub(crate) fn moment_behind(keyword: &[u8], line: &[u8]) -> Option<Moment>
     read_moment(word)
 }
 
-/// A node and two numbers after the keyword.
+/// Returns a node and two numbers after the keyword.
 #[tactic(auto, using(crate::proofs::LineLemmas::several_behind))]
 pub(crate) fn node_and_numbers_behind(keyword: &[u8], line: &[u8]) -> Option<(NodeIndex, u64, u64)>
     ensures { MatchOption result (LacksWords keyword.now (NodeKind ∷ NumberKind ∷ NumberKind ∷ []) line.now)
@@ -60,7 +60,7 @@ pub(crate) fn node_and_numbers_behind(keyword: &[u8], line: &[u8]) -> Option<(No
     node_and_numbers(text)
 }
 
-/// A number, a node and a number after the keyword.
+/// Returns a number, a node and a number after the keyword.
 #[tactic(auto, using(crate::proofs::LineLemmas::several_behind))]
 pub(crate) fn node_within_numbers_behind(
     keyword: &[u8],
@@ -73,7 +73,7 @@ pub(crate) fn node_within_numbers_behind(
     node_within_numbers(text)
 }
 
-/// A node and two numbers.
+/// Returns a node and two numbers.
 #[tactic(auto, using(crate::proofs::OperandLemmas::first_and_others))]
 fn node_and_numbers(text: &[u8]) -> Option<(NodeIndex, u64, u64)>
     ensures { MatchOption result (LacksOperands (NodeKind ∷ NumberKind ∷ NumberKind ∷ []) text.now)
@@ -85,7 +85,7 @@ fn node_and_numbers(text: &[u8]) -> Option<(NodeIndex, u64, u64)>
     Some((node, first, second))
 }
 
-/// A number, a node and a number.
+/// Returns a number, a node and a number.
 #[tactic(auto, using(crate::proofs::OperandLemmas::first_and_others))]
 fn node_within_numbers(text: &[u8]) -> Option<(u64, NodeIndex, u64)>
     ensures { MatchOption result (LacksOperands (NumberKind ∷ NodeKind ∷ NumberKind ∷ []) text.now)
@@ -109,7 +109,7 @@ fn two_numbers(text: &[u8]) -> Option<(u64, u64)>
     Some((first, second))
 }
 
-/// A node and a number.
+/// Returns a node and a number.
 #[tactic(auto, using(crate::proofs::OperandLemmas::first_and_others))]
 fn node_and_number(text: &[u8]) -> Option<(NodeIndex, u64)>
     ensures { MatchOption result (LacksOperands (NodeKind ∷ NumberKind ∷ []) text.now)

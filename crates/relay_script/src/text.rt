@@ -10,7 +10,7 @@ use crate::octet::{first_octet, push_octet};
 use relay_octets::Octets;
 use std::alloc::{AllocError, Global};
 
-/// Adds the text that spells the octets. Where memory runs out, some of it may stand there.
+/// Adds the text that spells the octets. If memory runs out, some of it may stand there.
 pub fn push_text(out: &mut Vec<u8>, octets: &[u8]) -> Result<(), AllocError>
     ensures { OnOk result (out.new.items ≡ out.old.items ++ spelled octets.now) }
 {
@@ -20,7 +20,7 @@ pub fn push_text(out: &mut Vec<u8>, octets: &[u8]) -> Result<(), AllocError>
     Ok(())
 }
 
-/// The octets that a text spells, where it spells any.
+/// Returns the octets that a text spells, if it spells any.
 #[tactic(auto, using(crate::proofs::TextLemmas::reading))]
 pub(crate) fn read_text(alloc: Global, text: &[u8]) -> Result<Option<Octets>, AllocError>
     ensures { IfOk result (λ read. MatchOption read (LacksOperand TextKind text.now)

@@ -17,7 +17,7 @@ use std::str;
 /// The most digits of a number.
 const DIGIT_LIMIT: usize = 18;
 
-/// What stands after the keyword and a space that a text begins with.
+/// Returns what is after the keyword and a space that a text begins with.
 #[tactic(auto, using(crate::proofs::WordLemmas::keyword))]
 pub(crate) fn behind<'a>(keyword: &[u8], text: &'a [u8]) -> Option<&'a [u8]>
     ensures { MatchOption result (IsNotBehind keyword.now text.now)
@@ -27,7 +27,7 @@ pub(crate) fn behind<'a>(keyword: &[u8], text: &'a [u8]) -> Option<&'a [u8]>
     more.strip_prefix(b" ")
 }
 
-/// The word before the first space, and what stands after that space.
+/// Returns the word before the first space, and what is after that space.
 #[tactic(auto, using(crate::proofs::CutLemmas::cut_is))]
 pub(crate) fn cut_word(text: &[u8]) -> Option<(&[u8], &[u8])>
     ensures { MatchOption result (HasNoSpace text.now) (λ parts. CutsWord text.now parts.0.now parts.1.now) }
@@ -35,7 +35,7 @@ pub(crate) fn cut_word(text: &[u8]) -> Option<(&[u8], &[u8])>
     text.split_once_str(b" ")
 }
 
-/// The node of a letter.
+/// Returns the node of a letter.
 pub(crate) fn read_node(word: &[u8]) -> Option<NodeIndex>
     ensures { MatchOption result (LacksOperand NodeKind word.now) (λ node. IsOperand word.now (Node node)) }
 {
@@ -45,7 +45,7 @@ pub(crate) fn read_node(word: &[u8]) -> Option<NodeIndex>
     }
 }
 
-/// The node of a letter, `a` to `p`.
+/// Returns the node of a letter, `a` to `p`.
 fn node_of_letter(letter: u8) -> Option<NodeIndex>
     ensures { MatchOption result (LacksOperand NodeKind (letter ∷ [])) (λ node. IsOperand (letter ∷ []) (Node node)) }
 {
@@ -55,7 +55,7 @@ fn node_of_letter(letter: u8) -> Option<NodeIndex>
     }
 }
 
-/// The number of 1 to 18 digits, leading zeros among them.
+/// Returns the number of 1 to 18 digits, leading zeros among them.
 #[tactic(auto, using(crate::proofs::NumberLemmas::no_number))]
 pub(crate) fn read_number(word: &[u8]) -> Option<u64>
     ensures { MatchOption result (LacksOperand NumberKind word.now) (λ number. IsOperand word.now (Number number)) }
@@ -69,7 +69,7 @@ pub(crate) fn read_number(word: &[u8]) -> Option<u64>
     }
 }
 
-/// Whether a word is 1 to 18 digits.
+/// Returns whether a word is 1 to 18 digits.
 #[tactic(auto, unfolding(crate::specs::Reading::are_number_digits))]
 fn are_number_digits(word: &[u8]) -> bool
     ensures { result ≡ are_number_digits word.now }
@@ -80,14 +80,14 @@ fn are_number_digits(word: &[u8]) -> bool
     are_digits(word)
 }
 
-/// Whether each octet is a digit.
+/// Returns whether each octet is a digit.
 fn are_digits(text: &[u8]) -> bool
     ensures { result ≡ list_all is_ascii_digit text.now }
 {
     text.iter().all(|octet| octet.is_ascii_digit())
 }
 
-/// How many nodes a word says, 2 to 16.
+/// Returns how many nodes a word says, 2 to 16.
 #[tactic(auto, using(crate::proofs::NumberLemmas::no_count, crate::proofs::NumberLemmas::other_count))]
 pub(crate) fn read_count(word: &[u8]) -> Option<NodeCount>
     ensures { MatchOption result (LacksOperand CountKind word.now) (λ count. IsOperand word.now (Count count)) }
@@ -100,7 +100,7 @@ pub(crate) fn read_count(word: &[u8]) -> Option<NodeCount>
     }
 }
 
-/// The moment whose seconds from 1970 a word writes.
+/// Returns the time whose seconds from 1970 a word writes.
 #[tactic(auto, using(crate::proofs::NumberLemmas::no_moment, crate::proofs::NumberLemmas::late_moment))]
 pub(crate) fn read_moment(word: &[u8]) -> Option<Moment>
     ensures { MatchOption result (LacksOperand TimeKind word.now) (λ moment. IsOperand word.now (Time moment)) }

@@ -127,7 +127,7 @@ more_said said input answers output offers = record {
 abbrev pub unread_behind : Said → List ℕ → Said
 unread_behind said octets = record said { input = said.input ++ octets }
 
--- what is left of the input is a unit whose offer is unanswered, and stands after the others
+-- what is left of the input is a unit whose offer is unanswered, and is after the others
 pub record IsUnanswered (setup : Setup) (state : State) (rest : List ℕ)
     (unanswered : List Offered) : Type 0 where
   pub client : Client
@@ -141,9 +141,8 @@ abbrev pub IsLeft : Setup → State → List ℕ → List Offered → Type 0
 IsLeft setup state rest unanswered =
     (HasNoUnit state rest × (unanswered ≡ [])) ⊎ IsUnanswered setup state rest unanswered
 
--- What was said is a dialogue: the input is whole units and a rest, the output the greeting and the
--- units' replies in order, and the k-th offer is replied to by the k-th answer; where there is none
--- yet, the input ends with its unit.
+-- What was said is a dialogue: the input is whole units and a rest, the output the greeting and the units' replies in
+-- order, and the k-th offer is replied to by the k-th answer; if there is none yet, the input ends with its unit.
 pub record IsDialogue (setup : Setup) (said : Said) : Type 0 where
   pub turns : List Turn
   pub state : State

@@ -1,4 +1,4 @@
--- What is true of units, turns and dialogues, whatever the pieces that the input comes in.
+-- Laws of units, turns and dialogues, whatever the pieces that the input comes in.
 use Rattle.std.specs.Prelude.{◌≡◌, ◌≢◌, ℕ, ◌^◌, ◌<◌, ◌≤◌, List, [], ◌∷◌, ◌++◌, true, false, length, Some, IsSome, Ok}
 use Rattle.std.specs.List.{AllByRecursion}
 use Rattle.relay_octets.specs.Beginning.{Begins}
@@ -37,7 +37,7 @@ AreNumbered answers = AllByRecursion IsNumbered answers
 abbrev pub NoUnitIsEmpty : Type 0
 NoUnitIsEmpty = (state : State) (unit : List ℕ) → IsUnit state unit → unit ≢ []
 
--- of the units of a state none begins another, and what stands after one is fixed
+-- of the units of a state none begins another, and what is after one is fixed
 abbrev pub NoUnitBeginsAnother : Type 0
 NoUnitBeginsAnother =
     (state : State) (unit other behind rest : List ℕ) → IsUnit state unit → IsUnit state other

@@ -93,8 +93,8 @@ pub record RefusesChunk (limit : ℕ) (row : Row) (behind : Held) (missing : ℕ
   pub course_is : (rest : List ℕ) → course_of_bdat limit rest argument.last old
       ≡ Replies row (Command (command_state_of behind))
 
--- the stage stands in this state, and has used these octets since the last unit, but those of a
--- command line, which stand elsewhere
+-- the stage is in this state, and has used these octets since the last unit, but those of a command line, which stand
+-- elsewhere
 abbrev pub KeepsText : Setup → Stage → State → List ℕ → Type 0
 KeepsText setup (stage.Command now) state octets =
     (state ≡ Command (command_state_of now)) × (octets ≡ [])
@@ -110,7 +110,7 @@ KeepsText setup (stage.Offering transaction content) state octets =
 KeepsText setup stage.Closed state octets = (state ≡ Closed) × (octets ≡ [])
 KeepsText setup stage.Failed state octets = ⊥
 
--- the session stands in this state, and has used these octets since the last unit
+-- the session is in this state, and has used these octets since the last unit
 abbrev pub Keeps : Setup → HeldLine → Stage → State → List ℕ → Type 0
 Keeps setup line (stage.Command now) state octets =
     (state ≡ Command (command_state_of now)) × Holds line octets

@@ -27,7 +27,7 @@ use Rattle.relay_server.specs.State.{Closed}
 use Rattle.relay_server.specs.Unit.{Asked, LongLine, Faulty, Hello, Mail, Rcpt, Data, Bdat, Rset, Noop, Vrfy, Help}
 use Rattle.relay_server.specs.Unit.{Quit}
 
--- what comes of a unit: a reply, and the state after it, or an offer, which its answer replies to
+-- the outcome of a unit: a reply, and the state after it, or an offer, which its answer replies to
 pub data Course : Type 0 where
   Replies : Row → State → Course
   Offers : Client → Envelope → List ℕ → Course
@@ -147,7 +147,7 @@ abbrev pub offer_unless : Option Row → Client → Envelope → List ℕ → Co
 offer_unless None client envelope content = Offers client envelope content
 offer_unless (Some refusal) client envelope content = Replies refusal (Command (Greeted client))
 
--- what comes of the end of a content: after all other faults, one that the rule refuses isn't offered
+-- the outcome of the end of a content: after all other faults, one that the rule refuses isn't offered
 abbrev pub unless_refused : BareNewlines → Course → Course
 unless_refused rule (Replies row next) = Replies row next
 unless_refused rule (Offers client envelope content) = offer_unless (refusal_by rule content) client envelope content

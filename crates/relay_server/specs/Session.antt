@@ -14,7 +14,7 @@ use Rattle.relay_server.specs.Reply.{reply_of}
 use Rattle.relay_server.specs.Setup.{Setup, setup_of}
 use Rattle.relay_server.specs.State.{State, start}
 
--- the session stands after these turns of what was said, and keeps what was read since
+-- the session is after these turns of what was said, and keeps what was read since
 pub record Stands (setup : Setup) (session : Session) (said : Said) : Type 0 where
   pub setup_is : setup ≡ setup_of session.server setup.routes
   pub turns : List Turn
@@ -77,7 +77,7 @@ pub record UsesPiece (old : Session) (told : Next) (len from to : ℕ) : Type 0 
   pub whole : told ≡ next.More → to ≡ len
   pub some : told ≡ next.Offer → from < to + length (open_offers old)
 
--- After what was said these octets were read, and what was written stands after what was written before.
+-- After what was said these octets were read, and what was written is after what was written before.
 pub record SaysMore (said later : Said) (octets before after : List ℕ) : Type 0 where
   pub input : later.input ≡ said.input ++ octets
   pub written : List ℕ

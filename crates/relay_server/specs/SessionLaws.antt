@@ -9,7 +9,7 @@ use Rattle.relay_server.specs.Session.{IsClosed, SaysMore, Stands, next_of, offe
 use Rattle.relay_server.specs.Setup.{Setup}
 use Rattle.relay_server.specs.State.{Closed}
 
--- the caller is told to take an offer exactly where one is open
+-- the caller is told to take an offer exactly if one is open
 abbrev pub OfferIsTold : Type 0
 OfferIsTold =
     (session : Session)

@@ -1,4 +1,4 @@
--- What stands between a server and its client (RFC 5321, sections 3.1, 3.3 and 4.1.4).
+-- What is between a server and its client (RFC 5321, sections 3.1, 3.3 and 4.1.4).
 use Rattle.std.specs.Prelude.{List, ℕ}
 use Rattle.relay_envelope.specs.declared.envelope.Envelope.{Envelope}
 use Rattle.relay_trace.specs.declared.received.Protocol.{Protocol}

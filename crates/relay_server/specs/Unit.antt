@@ -39,8 +39,8 @@ IsUnit Closed unit = ⊥
 abbrev pub HasNoUnit : State → List ℕ → Type 0
 HasNoUnit state octets = (unit rest : List ℕ) → IsUnit state unit → octets ≢ unit ++ rest
 
--- what a command line asks of the server; what stands after a colon is read before the command's
--- place in the order of commands is looked at
+-- what a command line asks of the server; what is after a colon is read before the command's place in the order of
+-- commands is checked
 pub data Asked : Type 0 where
   LongLine : Asked
   Faulty : LineFault → Asked

@@ -5,16 +5,16 @@ use relay_octets::Octets;
 use relay_trace::Protocol;
 use std::alloc::{AllocError, Global};
 
-/// Who is at the other end of a session, as it has said with HELO or EHLO.
+/// The client of a session, by its HELO or EHLO.
 #[derive(Debug)]
 pub struct Client {
-    /// The word that it gave of itself: 1 to 255 octets.
+    /// Its argument: 1 to 255 octets.
     pub word: Octets,
-    /// Which of the two it said.
+    /// Which command it was.
     pub protocol: Protocol,
 }
 
-// Written out, so that what drops a client calls this, and doesn't look into its word.
+// Written out, so that the proof of a caller that drops a client stops at this function.
 impl Drop for Client {
     fn drop(self) {
         let Client {
@@ -25,7 +25,7 @@ impl Drop for Client {
 }
 
 impl Client {
-    /// A client that has said this. It fails where memory runs out.
+    /// Copies the word of a client. Fails if memory runs out.
     pub(crate) fn new(alloc: Global, word: &[u8], protocol: Protocol) -> Result<Self, AllocError>
         ensures { IfOk result (λ client. client ≡ client_of word.now protocol) }
     {
@@ -35,7 +35,7 @@ impl Client {
         })
     }
 
-    /// A copy of what it has said. It fails where memory runs out.
+    /// Copies the client. Fails if memory runs out.
     pub fn copy(&self, alloc: Global) -> Result<Self, AllocError>
         ensures { IfOk result (λ copy. copy ≡ self.now) }
     {

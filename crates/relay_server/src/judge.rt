@@ -1,4 +1,4 @@
-//! Command lines judged by the reply table. No octet is written here.
+//! Judges command lines by the reply table. Nothing is written here.
 ghost use Rattle.std.specs.Prelude.{◌≡◌, ℕ, Ok, IfOk};
 ghost use Rattle.relay_lines.specs.Command as line;
 ghost use Rattle.relay_lines.specs.Command.{reading_of};
@@ -26,18 +26,17 @@ use std::alloc::AllocError;
 /// The most recipients of a transaction. RFC 5321, 4.5.3.1.8, asks for at least as many.
 const RECIPIENT_LIMIT: usize = 100;
 
-/// What a command line leads to.
+/// The result of a command line.
 pub(crate) enum Judged {
     /// The row that answers it, and the state after it.
     Replied(Row, State),
     /// A chunk, which the reader awaits, and whether it ends the content.
     Gathers(Transaction, ChunkReader, bool),
-    /// A chunk of so many octets that is refused: the row that answers it, and the state after it.
+    /// A chunk of this many octets that is refused: the row that answers it, and the state after it.
     Refuses(Row, CommandState, u32),
 }
 
-/// What a command line leads to. Faults of a line come before its place in the order of commands is
-/// looked at.
+/// Returns what a command line leads to. Faults of a line come before its place in the order of commands is checked.
 pub(crate) fn judge(
     server: &Server,
     table: &Table,
@@ -54,7 +53,7 @@ pub(crate) fn judge(
     }
 }
 
-/// What a command leads to.
+/// Judges a command.
 fn judge_command(
     server: &Server,
     table: &Table,
@@ -80,8 +79,7 @@ fn judge_command(
     }
 }
 
-/// A fault of a line is answered. After a bad chunk size nobody knows what follows, and the
-/// connection closes.
+/// Answers a fault of a line. After a bad chunk size nobody knows what follows, so the connection closes.
 fn judge_fault(fault: LineFault, state: CommandState) -> Judged
     ensures course { IsReplied (Replies (row_of_fault fault) (state_behind_fault fault
         (command_state_of state))) result }
@@ -166,7 +164,7 @@ fn judge_rcpt(
     }
 }
 
-/// A recipient is added where there is room, its path isn't refused, and a hop takes its domain.
+/// A recipient is added if there is room, its path isn't refused, and a hop takes its domain.
 fn add(
     server: &Server,
     table: &Table,
@@ -270,7 +268,7 @@ fn reset(state: CommandState) -> CommandState
     }
 }
 
-/// The row of a fault after a colon.
+/// Returns the row of a fault after a colon.
 fn row_of_envelope_fault(fault: EnvelopeFault) -> Row
     ensures { result ≡ row_of_envelope_fault fault }
 {

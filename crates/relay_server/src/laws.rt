@@ -1,4 +1,4 @@
-//! What is true of dialogues, whatever session holds them.
+//! Laws of dialogues, whatever session holds them.
 ghost use Rattle.relay_server.specs.DialogueLaws.{NoUnitIsEmpty, NoUnitBeginsAnother, RunsCompose};
 ghost use Rattle.relay_server.specs.DialogueLaws.{WhatStandsIsADialogue, RowIsFixed, OutputIsFixed};
 ghost use Rattle.relay_server.specs.DialogueLaws.{BeginningsHaveBeginnings, OnlyContentIsOffered, OnlyQueuedIsPositive};
@@ -14,7 +14,7 @@ pub fn no_unit_begins_another()
     ensures { NoUnitBeginsAnother }
 {}
 
-/// Turns, and further turns from the state that they lead to, are turns in one.
+/// Turns, and further turns from the state that they lead to, are turns together.
 pub fn runs_compose()
     ensures { RunsCompose }
 {}
@@ -34,7 +34,7 @@ pub fn output_is_fixed()
     ensures { OutputIsFixed }
 {}
 
-/// Where the input and the output of a dialogue begin another's, so do its answers and its offers.
+/// If the input and the output of a dialogue are prefixes of another's, so are its answers and its offers.
 pub fn beginnings_have_beginnings()
     ensures { BeginningsHaveBeginnings }
 {}

@@ -1,4 +1,5 @@
-//! The server's end of an SMTP session (RFC 5321): octets of any cutting in, replies and offers of mail out.
+//! The server's end of an SMTP session (RFC 5321): it reads octets in any pieces, and returns replies and offers of
+//! mail.
 #![tactic(auto)]
 
 mod client;

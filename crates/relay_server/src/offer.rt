@@ -1,22 +1,23 @@
 use crate::client::Client;
 use relay_envelope::Envelope;
 
-/// A message that the session offers, with its mail data whole: who keeps it answers for it from then on.
+/// A message that the session offers, with its whole mail data. Whoever answers that it is queued is responsible for
+/// it.
 #[derive(Clone, Copy, Debug)]
 pub struct Offer<'a> {
-    /// Who offers it.
+    /// The client that offers it.
     pub client: &'a Client,
-    /// What MAIL and the RCPTs that were accepted said: 1 to 100 recipients.
+    /// The values of MAIL and of the accepted RCPTs: 1 to 100 recipients.
     pub envelope: &'a Envelope,
     /// The mail data as it came, without transparency.
     pub content: &'a [u8],
 }
 
-/// What became of an offer.
+/// The answer to an offer.
 #[derive(Clone, Copy, Debug, Drop, PartialEq, Eq)]
 pub enum Answer {
-    /// The message is kept, under this number.
+    /// The message is queued, under this number.
     Queued(u64),
-    /// There was no room for it, and it isn't kept.
+    /// There was no room for the message: it isn't queued.
     Full,
 }

@@ -7,10 +7,10 @@ use itoa::Buffer;
 use relay_lines::{write_line, write_middle_line};
 use std::alloc::AllocError;
 
-/// What the server answers: one row for each reply.
+/// The reply table: a row for each reply of the server.
 #[derive(Clone, Copy, Drop)]
 pub(crate) enum Row {
-    /// A connection is there.
+    /// The greeting.
     Greeting,
     /// HELO.
     Hello,
@@ -26,7 +26,7 @@ pub(crate) enum Row {
     RoutedAddress,
     /// No next hop takes the recipient's domain.
     NoRoute,
-    /// The command may not come here.
+    /// The command is out of sequence.
     BadSequence,
     /// DATA, and no recipient was accepted.
     NoValidRecipients,
@@ -38,13 +38,13 @@ pub(crate) enum Row {
     ContentTooLarge,
     /// The content has come in a circle: it has 100 `Received:` fields or more.
     TooManyReceived,
-    /// A CR or an LF stands alone in the content, and the configuration refuses that.
+    /// The content has a bare CR or LF, and the configuration refuses that.
     BareLineEnd,
     /// NUL is in the content, and the configuration refuses that.
     NulInContent,
     /// The message is in the queue, under this number.
     Queued(u64),
-    /// The message was not stored, for want of room.
+    /// The message was not stored, for lack of room.
     SpoolFull,
     /// RSET and NOOP.
     Done,
@@ -54,17 +54,17 @@ pub(crate) enum Row {
     SeeStandard,
     /// QUIT.
     Closing,
-    /// The verb is none of ours.
+    /// The verb is unknown.
     UnknownCommand,
     /// The line holds an octet outside 32 to 126.
     BadOctet,
     /// The line has more than 2,048 octets.
     LineTooLong,
-    /// The verb's argument isn't what it must be.
+    /// The verb doesn't take this argument.
     BadArgument,
-    /// No path stands where one must.
+    /// The path is malformed.
     BadPath,
-    /// A parameter's value is none of its keyword.
+    /// A parameter has a value that its keyword doesn't take.
     BadValue,
     /// A parameter is given twice.
     Repeated,
@@ -90,7 +90,7 @@ enum Text {
 }
 
 impl Row {
-    /// Writes the reply at the end of `out`. Where memory runs out, nothing is written.
+    /// Writes the reply at the end of `out`. If memory runs out, nothing is written.
     pub(crate) fn write(self, host: &[u8], out: &mut Vec<u8>) -> Result<(), AllocError>
         ensures ok { OnOk result (out.new.items ≡ out.old.items ++ reply_text (reply_of host.now self)) }
         ensures err { OnErr result (out.new.items ≡ out.old.items) }
@@ -103,7 +103,7 @@ impl Row {
         }
     }
 
-    /// What the reply is made of.
+    /// Returns what the reply is made of.
     #[tactic(auto, unfolding(crate::specs::Reply::reply_of))]
     fn text(self) -> Text
         ensures { IsTextOf self result }
@@ -145,7 +145,7 @@ impl Row {
     }
 }
 
-/// Writes that a message is in the queue, under this number. Where memory runs out, nothing is written.
+/// Writes that a message is in the queue, under this number. If memory runs out, nothing is written.
 fn write_queued(number: u64, out: &mut Vec<u8>) -> Result<(), AllocError>
     ensures ok { OnOk result (out.new.items ≡ out.old.items
         ++ reply_text (one_line 250 (codes "queued as " ++ decimal number))) }
@@ -155,8 +155,8 @@ fn write_queued(number: u64, out: &mut Vec<u8>) -> Result<(), AllocError>
     write_line(out, 250, b"queued as ", digits.format(number).as_bytes())
 }
 
-/// Writes the reply to EHLO (RFC 5321, section 4.1.1.1): the name of the host, and a keyword a
-/// line. Where memory runs out, nothing is written.
+/// Writes the reply to EHLO (RFC 5321, section 4.1.1.1): the name of the host, and a keyword a line. If memory runs
+/// out, nothing is written.
 #[tactic(auto, unfolding(crate::specs::Reply::reply_of))]
 fn write_extensions(host: &[u8], out: &mut Vec<u8>) -> Result<(), AllocError>
     ensures ok { OnOk result (out.new.items
@@ -171,7 +171,7 @@ fn write_extensions(host: &[u8], out: &mut Vec<u8>) -> Result<(), AllocError>
     written
 }
 
-/// Writes the reply to EHLO, or a beginning of it where memory runs out.
+/// Writes the reply to EHLO, or a prefix of it if memory runs out.
 #[tactic(auto, unfolding(crate::specs::Reply::reply_of))]
 fn push_extensions(host: &[u8], out: &mut Vec<u8>) -> Result<(), AllocError>
     ensures ok { OnOk result (out.new.items

@@ -29,23 +29,23 @@ use relay_routes::{BareNewlines, HostName, RoutedPaths, Table};
 use relay_trace::received_count;
 use std::alloc::{AllocError, Global};
 
-/// So many `Received:` fields show that a message goes in a circle (RFC 5321, section 6.3).
+/// This many `Received:` fields show that a message goes in a circle (RFC 5321, section 6.3).
 const RECEIVED_LIMIT: usize = 100;
 
-/// What stays the same through a session.
+/// The constants of a session.
 pub(crate) struct Server {
     pub(crate) alloc: Global,
     /// The name of this host.
     pub(crate) host: HostName,
     /// The most octets of a content.
     pub(crate) max_content: usize,
-    /// What is done with a content in which a CR or an LF stands alone.
+    /// The rule for a content with a bare CR or LF.
     pub(crate) bare_newlines: BareNewlines,
-    /// What is done with a recipient of this client whose path is routed.
+    /// The rule for this client's routed paths.
     pub(crate) routed_paths: RoutedPaths,
 }
 
-// Written out, so that what drops a server calls this, and doesn't look into its host's name.
+// Written out, so that the proof of a caller that drops a server stops at this function.
 impl Drop for Server {
     fn drop(self) {
         let Server {
@@ -123,7 +123,7 @@ impl Server {
         Ok(self.stage_of(next))
     }
 
-    /// The stage of the state that a command has led to.
+    /// Returns the stage of the state that a command has led to.
     fn stage_of(&self, state: State) -> Stage
         requires { IsNextHeld self.now.max_content state }
         ensures begun { (routes : RouteTable)
@@ -144,7 +144,7 @@ impl Server {
         }
     }
 
-    /// Takes octets of mail data up to its end, and answers how many they were.
+    /// Takes octets of mail data up to its end, and returns how many they were.
     pub(crate) fn read_text(
         &self,
         mail: MailData,
@@ -226,8 +226,7 @@ impl Server {
         self.offer(transaction, content, out)
     }
 
-    /// Refuses a content in which a CR or an LF stands alone, or NUL is, where the configuration says so, and offers
-    /// another.
+    /// Refuses a content with a bare CR or LF, or with NUL, if the configuration says so, and offers any other.
     fn offer(
         &self,
         transaction: Transaction,
@@ -249,7 +248,7 @@ impl Server {
         Ok(Stage::Offering(transaction, content))
     }
 
-    /// Takes octets of a chunk up to its end, and answers how many they were.
+    /// Takes octets of a chunk up to its end, and returns how many they were.
     pub(crate) fn read_chunk(
         &self,
         transaction: Transaction,
@@ -319,7 +318,7 @@ impl Server {
         self.reply(Row::ChunkOk, State::Command(state), out)
     }
 
-    /// Drops octets of a chunk that is refused, up to its end, and answers how many they were.
+    /// Drops octets of a chunk that is refused, up to its end, and returns how many they were.
     pub(crate) fn skip(
         &self,
         row: Row,
@@ -352,7 +351,7 @@ impl Server {
     }
 }
 
-/// The row by which this rule refuses a content: a CR or an LF stands alone in it, or NUL is in it.
+/// Returns the row by which this rule refuses a content: for a bare CR or LF, or for NUL.
 fn refusal_by(rule: BareNewlines, content: &[u8]) -> Option<Row>
     ensures { result ≡ refusal_by rule content.now }
 {
@@ -364,7 +363,7 @@ fn refusal_by(rule: BareNewlines, content: &[u8]) -> Option<Row>
     }
 }
 
-/// The row that tells the client what became of an offer.
+/// Returns the row that answers the client by the answer to its offer.
 pub(crate) fn row_of_answer(answer: Answer) -> Row
     ensures { result ≡ row_of_answer answer }
 {

@@ -28,7 +28,7 @@ pub enum Next {
 pub struct Fed {
     /// How many octets of the piece it has used.
     pub used: usize,
-    /// What goes to the client.
+    /// The octets for the client.
     pub out: Vec<u8>,
     /// What the caller does next.
     pub next: Next,
@@ -37,7 +37,7 @@ pub struct Fed {
 /// The server's end of one connection.
 pub struct Session {
     server: Server,
-    /// What has come of a command line, and nothing while mail data or a chunk comes.
+    /// The outcome of a command line, and nothing while mail data or a chunk comes.
     line: LineBuffer,
     stage: Stage,
     ghost bounded: { IsHeldAt server.max_content stage },
@@ -64,7 +64,7 @@ impl Session {
     ghost use Rattle.relay_server.specs.Session.{offered, offers_since, open_offers};
     ghost use Rattle.relay_server.specs.Setup.{Setup};
 
-    /// A session with the client at this address, and the greeting for it. It fails where memory runs out.
+    /// Makes a session with the client at this address, and the greeting for it. Fails if memory runs out.
     pub fn new(
         alloc: Global,
         config: &Config,
@@ -116,10 +116,9 @@ impl Session {
         Ok(Fed { used, out, next })
     }
 
-    /// Feeds what is left of a piece after the octets that are used, counts those that it uses,
-    /// and puts the replies after `out`: for a loop over a whole piece, which answers each offer
-    /// on its way. It answers what the caller does next. Where memory runs out, `out` may have lost
-    /// its end.
+    /// Feeds what is left of a piece after the octets that are used, counts those that it uses, and puts the replies
+    /// after `out`: for a loop over a whole piece, which answers each offer on its way. Returns what the caller does
+    /// next. If memory runs out, `out` may have lost its end.
     pub fn hear(
         &mut self,
         table: &Table,
@@ -147,7 +146,7 @@ impl Session {
         Ok(self.next())
     }
 
-    /// The offer that is open. It takes no memory.
+    /// Returns the offer that is open. Allocates nothing.
     pub fn offer(&self) -> Option<Offer<'_>>
         ensures { MatchOption result (open_offers self.now ≡ [])
             (λ offer. open_offers self.now ≡ offered offer ∷ []) }
@@ -167,7 +166,7 @@ impl Session {
         }
     }
 
-    /// Answers the offer that is open, and gives what goes to the client. It fails where memory runs out.
+    /// Answers the offer that is open, and gives what goes to the client. Fails if memory runs out.
     pub fn answer(&mut self, answer: Answer) -> Result<Vec<u8>, AllocError>
         requires { HasOffer self.old }
         ensures stands { IfOk result (λ out. (setup : Setup) (said : Said) → Stands setup self.old said
@@ -180,8 +179,8 @@ impl Session {
         Ok(out)
     }
 
-    /// Answers the offer that is open, and puts what goes to the client after `out`. Where memory
-    /// runs out, `out` may have lost its end.
+    /// Answers the offer that is open, and puts what goes to the client after `out`. If memory runs out, `out` may have
+    /// lost its end.
     pub fn reply(&mut self, answer: Answer, out: &mut Vec<u8>) -> Result<(), AllocError>
         requires { HasOffer self.old }
         ensures answered { OnOk result ((setup : Setup) (said : Said) → Stands setup self.old said
@@ -208,7 +207,7 @@ impl Session {
         mem::replace(&mut self.stage, Stage::Failed)
     }
 
-    /// Stands in this stage from now on.
+    /// Enters this stage.
     fn enter(&mut self, stage: Stage)
         requires { IsHeldAt self.old.server.max_content stage }
         ensures stage { self.new.stage ≡ stage }
@@ -217,7 +216,7 @@ impl Session {
         self.stage = stage;
     }
 
-    /// What the caller does next.
+    /// Returns what the caller does next.
     fn next(&self) -> Next
         ensures { result ≡ next_of self.now }
     {

@@ -3,12 +3,12 @@ ghost use Rattle.relay_server.specs.SessionLaws.{AnsweredIsSettled, ClosedIsADia
 ghost use Rattle.relay_server.specs.SessionLaws.{MoreIsMore, NoneElseIsOpen, OfferIsTold, OfferIsWithin, OffersAreAnswered};
 ghost use Rattle.relay_server.specs.SessionLaws.{OpenIsNew, OpenMayBeStored, PieceGoesOn};
 
-/// The caller is told to take an offer exactly where one is open.
+/// The caller is told to take an offer exactly if one is open.
 pub fn offer_is_told()
     ensures { OfferIsTold }
 {}
 
-/// Where the caller isn't told to take one, none is open: of offers one is open at most.
+/// If the caller isn't told to take an offer, none is open: at most one offer is open.
 pub fn none_else_is_open()
     ensures { NoneElseIsOpen }
 {}
@@ -33,8 +33,7 @@ pub fn close_is_closed()
     ensures { CloseIsClosed }
 {}
 
-/// After a close what was said is a dialogue that is closed, and octets that nobody reads belong
-/// to its rest.
+/// After a close what was said is a closed dialogue, and unread octets are its rest.
 pub fn closed_is_a_dialogue()
     ensures { ClosedIsADialogue }
 {}
@@ -54,7 +53,7 @@ pub fn offer_is_within()
     ensures { OfferIsWithin }
 {}
 
-/// What was said after more is more, in one.
+/// What was said in two steps was said in one.
 pub fn more_is_more()
     ensures { MoreIsMore }
 {}

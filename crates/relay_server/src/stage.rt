@@ -7,14 +7,14 @@ use crate::state::{CommandState, Transaction};
 use relay_body::{ChunkReader, DotReader};
 use relay_octets::Octets;
 
-/// Mail data on its way.
+/// Mail data that is coming in.
 pub(crate) struct MailData {
     pub(crate) transaction: Transaction,
     pub(crate) reader: DotReader,
     ghost reading: { ¬ IsDone reader },
 }
 
-// Written out, so that what drops mail data calls this, and doesn't look into its parts.
+// Written out, so that the proof of a caller that drops mail data stops at this function.
 impl Drop for MailData {
     fn drop(self) {
         let MailData {
@@ -25,7 +25,7 @@ impl Drop for MailData {
 }
 
 impl MailData {
-    /// The transaction, and the reader of its content.
+    /// Returns the transaction, and the reader of its content.
     pub(crate) fn into_parts(self) -> (Transaction, DotReader)
         ensures { (result.0 ≡ self.transaction) × (result.1 ≡ self.reader) }
     {
@@ -37,7 +37,7 @@ impl MailData {
     }
 }
 
-/// A chunk on its way.
+/// A chunk that is coming in.
 pub(crate) struct Chunk {
     pub(crate) transaction: Transaction,
     pub(crate) reader: ChunkReader,
@@ -46,7 +46,7 @@ pub(crate) struct Chunk {
     ghost reading: { ¬ IsBetweenChunks reader },
 }
 
-// Written out, so that what drops a chunk on its way calls this, and doesn't look into its parts.
+// Written out, so that the proof of a caller that drops a chunk on its way stops at this function.
 impl Drop for Chunk {
     fn drop(self) {
         let Chunk {
@@ -58,7 +58,7 @@ impl Drop for Chunk {
 }
 
 impl Chunk {
-    /// The transaction, the reader of its chunks, and whether this one ends the content.
+    /// Returns the transaction, the reader of its chunks, and whether this one ends the content.
     pub(crate) fn into_parts(self) -> (Transaction, ChunkReader, bool)
         ensures { (result.0 ≡ self.transaction) × (result.1 ≡ self.reader) × (result.2 ≡ self.is_last) }
     {
@@ -71,18 +71,18 @@ impl Chunk {
     }
 }
 
-/// A chunk on its way that is refused.
+/// A refused chunk that is coming in.
 pub(crate) struct Skipped {
     /// The row that answers it.
     pub(crate) row: Row,
     /// The state after it.
     pub(crate) state: CommandState,
-    /// How many octets of it are to come.
+    /// The number of its octets that are still to come.
     pub(crate) missing: u32,
     ghost some: { 0 < missing },
 }
 
-// Written out, so that what drops a refused chunk calls this, and doesn't look into its parts.
+// Written out, so that the proof of a caller that drops a refused chunk stops at this function.
 impl Drop for Skipped {
     fn drop(self) {
         let Skipped {
@@ -94,7 +94,7 @@ impl Drop for Skipped {
 }
 
 impl Skipped {
-    /// The row that answers it, the state after it, and how many octets are to come.
+    /// Returns the row that answers it, the state after it, and how many octets are to come.
     pub(crate) fn into_parts(self) -> (Row, CommandState, u32)
         ensures { (result.0 ≡ self.row) × (result.1 ≡ self.state) × (result.2 ≡ self.missing) }
     {

@@ -5,13 +5,13 @@ use crate::client::Client;
 use relay_body::ChunkReader;
 use relay_envelope::Envelope;
 
-/// A mail transaction (RFC 5321, section 3.3) of a client that has said who it is.
+/// A mail transaction (RFC 5321, section 3.3) of a client that was greeted.
 pub(crate) struct Transaction {
     pub(crate) client: Client,
     pub(crate) envelope: Envelope,
 }
 
-// Written out, so that what drops a transaction calls this, and doesn't look into its envelope.
+// Written out, so that the proof of a caller that drops a transaction stops at this function.
 impl Drop for Transaction {
     fn drop(self) {
         let Transaction {
@@ -42,7 +42,7 @@ pub(crate) struct Gathering {
     ghost kept: { KeepsAll reader },
 }
 
-// Written out, so that what drops a gathering calls this, and doesn't look into its parts.
+// Written out, so that the proof of a caller that drops a gathering stops at this function.
 impl Drop for Gathering {
     fn drop(self) {
         let Gathering {
@@ -53,7 +53,7 @@ impl Drop for Gathering {
 }
 
 impl Gathering {
-    /// The transaction, and the reader of its chunks.
+    /// Returns the transaction, and the reader of its chunks.
     pub(crate) fn into_parts(self) -> (Transaction, ChunkReader)
         ensures { (result.0 ≡ self.transaction) × (result.1 ≡ self.reader) }
     {
@@ -76,10 +76,10 @@ impl Gathering {
     }
 }
 
-/// What stands while a command is awaited.
+/// The state while a command is awaited.
 #[derive(Drop)]
 pub(crate) enum CommandState {
-    /// The client hasn't said who it is.
+    /// No HELO or EHLO has come.
     Fresh,
     /// It has, and no transaction is open.
     Greeted(Client),

@@ -1,4 +1,4 @@
--- Mail that is handed on: what the works of a moment do, one after another (RFC 5321, sections 4.5.4.1 and 6.1).
+-- Mail that is relayed: what the works of a time do, one after another (RFC 5321, sections 4.5.4.1 and 6.1).
 use Rattle.std.specs.Prelude.{◌≡◌, ◌≢◌, ◌⊎◌, ℕ, Bool, false, List, [], ◌∷◌, ◌++◌}
 use Rattle.std.specs.Prelude.{Option, Some, Result, Ok, Err, IfErr, MatchResult}
 use Rattle.relay_disk.specs.Device.{DiskWords}
@@ -30,7 +30,7 @@ pub record StaysBeside {D : Type 0} (old new : NodeState D) : Type 0 where
   pub seats : new.seats ≡ old.seats
   pub attempts : (number : ℕ) → slot_at new.attempts number ≡ slot_at old.attempts number
 
--- the outcome, with the report that is due of it, is the one change more
+-- the outcome, with the report that is owed, is the one change more
 pub record Concludes (reporter : Reporter) (changes later : List Change) (outcome : Outcome) : Type 0 where
   pub report : List ℕ
   pub reported : Reported reporter changes (reported_as outcome report)
@@ -40,12 +40,12 @@ pub record Concludes (reporter : Reporter) (changes later : List Change) (outcom
 abbrev pub IsSameButNote : {D : Type 0} → NodeState D → NodeState D → Type 0
 IsSameButNote old new = new ≡ record old { records = record old.records { noted = new.records.noted } }
 
--- of a link's fault a run is told exactly where it is the device's
+-- of a link's fault a run is told exactly if it is the device's
 abbrev pub TellsDevice : {X Y : Type 0} → Result Pushed LinkFault → Result X Y → Type 0
 TellsDevice pushed result = IfErr pushed (λ fault. MatchResult result (λ _. fault ≢ Device) (λ _. fault ≡ Device))
 
 -- Of an attempt that has begun: what was read and written is its course with these verdicts, at a loss or without one,
--- and the outcome with these, at this moment, is the one change more.
+-- and the outcome with these, at this time, is the one change more.
 pub record Ends (reporter : Reporter) (changes later : List Change) (told : Told) (at : ℕ) : Type 0 where
   pub verdicts : List Verdict
   pub lost : Bool
@@ -64,7 +64,7 @@ module _ {D : Type 0} (honest : Type 0) (words : DiskWords D) (reporter : Report
     pub ends : Ends reporter changes later told at
     pub keeps : Keeps honest words records later
 
-  -- where a fault is told, it is gone without an outcome for want of memory or of room, or the device failed
+  -- where a fault is told, it is gone without an outcome for lack of memory or of room, or the device failed
   abbrev pub HandsOn : Kept D → Result Pushed LinkFault → Type 0
   HandsOn records (Ok pushed) = HasEnded records
   HandsOn records (Err Input) = ⊥
@@ -73,7 +73,7 @@ module _ {D : Type 0} (honest : Type 0) (words : DiskWords D) (reporter : Report
   HandsOn records (Err Full) = Keeps honest words records changes
   HandsOn records (Err Device) = records.spool.live ≡ false
 
--- The words below are of works at a moment, of a node that keeps changes before and later ones after.
+-- The words below are of works at a time, of a node that keeps changes before and later ones after.
 module _ {D : Type 0} (honest : Type 0) (words : DiskWords D) (now : ℕ) where
   -- exactly the held places of the message that have no hop have ended
   pub record GivesUp (number : ℕ) (changes later : List Change) (old : NodeState D) : Type 0 where
@@ -92,7 +92,7 @@ module _ {D : Type 0} (honest : Type 0) (words : DiskWords D) (now : ℕ) where
         at
         ⊎ (later ≡ changes)
 
-  -- the work was done once, or it was left: for want of memory or of room, or since it isn't due any more
+  -- the work was done once, or it was left: for lack of memory or of room, or since it isn't due any more
   abbrev pub Does : Work → List Change → List Change → NodeState D → Type 0
   Does (NoRoute number) changes later old = GivesUp number changes later old ⊎ (later ≡ changes)
   Does (Try number hop) changes later old = Tries number hop changes later old ⊎ (later ≡ changes)
@@ -106,7 +106,7 @@ module _ {D : Type 0} (honest : Type 0) (words : DiskWords D) (now : ℕ) where
   abbrev pub IsDone : Work → List Change → NodeState D → NodeState D → Type 0
   IsDone work changes old new = (later : List Change) × DoesOne work changes later old new
 
-  -- one work was done so; where a fault is told, it was, or the device failed
+  -- one work was done so; if a fault is told, it was, or the device failed
   abbrev pub WorksTo : {X Y : Type 0} → Work → List Change → NodeState D → NodeState D → Result X Y → Type 0
   WorksTo work changes old new result =
       MatchResult result (λ _. IsDone work changes old new)

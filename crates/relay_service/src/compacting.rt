@@ -1,4 +1,4 @@
-//! A spool that is written anew after a round, as small as what it holds.
+//! A spool that is compacted after a round, as small as what it holds.
 ghost use Rattle.std.specs.Prelude.{◌≡◌, List, None, MatchResult};
 ghost use Rattle.relay_book.specs.declared.change.Change.{Change};
 ghost use Rattle.relay_disk.specs.File.{file_words};
@@ -12,8 +12,8 @@ use relay_log::Log;
 use relay_node::{Node, NodeFault};
 use std::io::Write;
 
-/// Writes the spool anew where that is worth it, as `is_worth_compacting` says. A spool without a second file, one that
-/// holds too much, and want of memory leave it as it is.
+/// Compacts the spool where that is worth it, as `is_worth_compacting` says. A spool without a second file, one that
+/// holds too much, and lack of memory leave it as it is.
 pub(crate) fn compact_behind<E: Write>(
     node: &mut Node<FileDisk>,
     was_full: bool,

@@ -21,8 +21,8 @@ impl Unreached {
         }
     }
 
-    /// A connection to the next hop at this place, or what it is lost for. Where no descriptor or no memory is left for
-    /// one, that is the fault of a socket, and not of the next hop.
+    /// Returns a connection to the next hop at this place, or what it is lost for. If no descriptor or no memory is
+    /// left for one, that is the fault of a socket, and not of the next hop.
     pub(crate) fn connect<N: Net<Stream = TcpStream>>(
         &mut self,
         net: &N,
@@ -42,7 +42,7 @@ impl Unreached {
         }
     }
 
-    /// Keeps in mind that the next hop at this place was silent, where it was.
+    /// Keeps in mind that the next hop at this place was silent, if it was.
     pub(crate) fn note_silence(&mut self, at: SocketAddrV4, why: &Why) {
         if why.loss == Some(Loss::Silent) {
             self.note(at, Loss::Silent);
@@ -55,7 +55,7 @@ impl Unreached {
     }
 }
 
-/// A number for each place.
+/// Returns a number for each place.
 fn key_of(at: SocketAddrV4) -> u64 {
     let [a, b, c, d] = at.ip().octets();
     u64::from(u32::from_be_bytes([a, b, c, d])) * 65_536 + u64::from(at.port())

@@ -1,4 +1,4 @@
-//! The programs over sockets: clients are served, and mail is handed on, by a configuration file.
+//! The programs over sockets: clients are served, and mail is relayed, by a configuration file.
 #![tactic(auto)]
 
 mod compacting;

@@ -1,4 +1,4 @@
-//! Mail that is handed on to its next hops.
+//! Mail that is relayed to its next hops.
 ghost use Rattle.std.specs.Prelude.{◌≡◌, ◌≢◌, ℕ, None, true, List, MatchResult};
 ghost use Rattle.relay_report.specs.Report.{reporter_of};
 ghost use Rattle.relay_attempts.specs.Reply.{Told};
@@ -25,13 +25,13 @@ use std::io::{self, Write};
 use std::net::{Net, SocketAddrV4, TcpStream};
 use std::rt::{Clock, Files};
 
-/// Does each work that is due at the clock's moment once, in order: an attempt for each message and hop, and an
-/// end for places without one. A line for each goes to `writer`: `NUMBER HOP ended`, `NUMBER HOP lost`
-/// where the connection couldn't be made or was lost, or `NUMBER noroute`. A work that no memory or no room
-/// was left for has no line, and stays due. A next hop that couldn't be connected to, or was silent for too long, is
-/// not tried again: what else is due for it is lost at once. Where no descriptor is left for a connection, the
-/// push ends, and what is due stays due. The files of the spool are taken for this process alone. Where it `logs`, a
-/// line for each work, with what was said of its places, goes to `errors`.
+/// Does each work that is due at the clock's time once, in order: an attempt for each message and hop, and an end for
+/// places without one. A line for each goes to `writer`: `NUMBER HOP ended`, `NUMBER HOP lost` where the connection
+/// couldn't be made or was lost, or `NUMBER noroute`. A work that no memory or no room was left for has no line, and
+/// stays due. A next hop that couldn't be connected to, or was silent for too long, is not tried again: what else is
+/// due for it is lost at once. If no descriptor is left for a connection, the push ends, and what is due stays due. The
+/// files of the spool are taken for this process alone. Where it `logs`, a line for each work, with what was said of
+/// its places, goes to `errors`.
 pub fn push<R: Files<File = File> + Clock + Net<Stream = TcpStream>, W: Write, E: Write>(
     alloc: Global,
     rt: &R,
@@ -48,8 +48,7 @@ pub fn push<R: Files<File = File> + Clock + Net<Stream = TcpStream>, W: Write, E
     push_due(alloc, rt, &mut node, &mut lines, &mut log)
 }
 
-/// Does each work that is due at the clock's moment once, in order. The line of a work is flushed before the next
-/// begins.
+/// Does each work that is due at the clock's time once, in order. The line of a work is flushed before the next begins.
 pub(crate) fn push_due<R: Clock + Net<Stream = TcpStream>, W: Write, E: Write>(
     alloc: Global,
     rt: &R,
@@ -171,7 +170,7 @@ fn try_hop<R: Clock + Net<Stream = TcpStream>, W: Write, E: Write>(
     conclude(node, number, hop.as_slice(), at, handed, writer, log)
 }
 
-/// What has come of an attempt, and why it has settled less than it might.
+/// The outcome of an attempt, and why it has settled less than it might.
 #[derive(Drop)]
 struct Handed {
     pushed: Result<Pushed, LinkFault>,
@@ -214,12 +213,12 @@ fn hand_on<C: Clock>(
     }
 }
 
-/// Whether the connection was lost before the attempt's end.
+/// Returns whether the connection was lost before the attempt's end.
 fn is_lost(pushed: &Result<Pushed, LinkFault>) -> bool {
     matches!(pushed, Ok(Pushed::Lost))
 }
 
-/// Says what has come of an attempt. Only a device that failed ends more than that.
+/// Says the outcome of an attempt. Only a device that failed ends more than that.
 fn conclude<W: Write, E: Write>(
     node: &mut Node<FileDisk>,
     number: u64,
@@ -247,7 +246,7 @@ fn conclude<W: Write, E: Write>(
     }
 }
 
-/// Logs what came of an attempt.
+/// Logs the outcome of an attempt.
 fn tell<E: Write>(
     number: u64,
     hop: &[u8],
@@ -283,7 +282,7 @@ fn write_end<W: Write>(writer: &mut W, number: u64, hop: &[u8], end: &str) -> io
     writer.flush()
 }
 
-/// The fault of a line that can't be written.
+/// Returns the fault of a line that can't be written.
 fn said(written: io::Result<()>) -> Result<(), Fault> {
     match written {
         Ok(()) => Ok(()),
@@ -291,7 +290,7 @@ fn said(written: io::Result<()>) -> Result<(), Fault> {
     }
 }
 
-/// What a fault of a work is to the others: it stays due, and only a device that failed ends them.
+/// Returns what a fault of a work is to the others: it stays due, and only a device that failed ends them.
 fn left_over(fault: NodeFault) -> Result<(), Fault>
     ensures { MatchResult result (λ _. fault ≢ NodeFault.Stopped) (λ ended. (fault ≡ NodeFault.Stopped)
         × (ended ≡ Fault.Device)) }
@@ -302,7 +301,7 @@ fn left_over(fault: NodeFault) -> Result<(), Fault>
     }
 }
 
-/// What a fault of a link is to the other works: only a device that failed ends them.
+/// Returns what a fault of a link is to the other works: only a device that failed ends them.
 fn unless_device(fault: LinkFault) -> Result<(), Fault>
     ensures { MatchResult result (λ _. fault ≢ LinkFault.Device) (λ _. fault ≡ LinkFault.Device) }
 {

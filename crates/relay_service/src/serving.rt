@@ -1,4 +1,4 @@
-//! A relay that serves its clients, one after another or so many side by side, and hands on what they brought.
+//! A relay that serves its clients, one after another or this many side by side, and relays what they brought.
 ghost use Rattle.std.specs.Prelude.{◌≡◌, List};
 ghost use Rattle.relay_book.specs.declared.change.Change.{Change};
 ghost use Rattle.relay_links.specs.Link.{LinkHasEnded, start_at};
@@ -27,19 +27,19 @@ use std::thread::Threads;
 pub struct ServeOptions {
     /// How many rounds, 1 to 1,000,000; after each the work that is due is done.
     pub rounds: u32,
-    /// How many clients a round takes, 1 to 64; more count as 64. Where it is more than one, each is served by a thread
-    /// of its own, and none before all have connected.
+    /// How many clients a round takes, 1 to 64; more count as 64. If it is more than one, each is served by a thread of
+    /// its own, and none before all have connected.
     pub workers: u8,
     /// Whether a line is written for each thing that was done.
     pub log: bool,
 }
 
-/// Serves clients in rounds: in each round so many clients as the options say, each to its end; after it the work that
-/// is due is done, once, and the spool is written anew where much of it has gone. What that work leads to waits for the
-/// next round. The files of the spool are taken for this process alone, and a line for each work goes to `writer`; with
-/// `options.log` a line for each thing that was done goes to `errors`. Faults are looked for in this order: the
+/// Serves clients in rounds: in each round this many clients as the options say, each to its end; after it the work
+/// that is due is done, once, and the spool is compacted where much of it has gone. What that work leads to waits for
+/// the next round. The files of the spool are taken for this process alone, and a line for each work goes to `writer`;
+/// with `options.log` a line for each thing that was done goes to `errors`. Faults are searched for in this order: the
 /// configuration file, its content, the spool, the listener. A connection that breaks ends alone. A client that can't
-/// be had counts as none; where 64 in a row can't, that is the fault of a socket.
+/// be had counts as none; if 64 in a row can't, that is the fault of a socket.
 pub fn serve<
     R: Files<File = File>
         + Clock
@@ -96,7 +96,7 @@ fn serve_next<C: Clock, E: Write>(
     serve_stream(alloc, clock, node, stream, peer, log)
 }
 
-/// Does the work that is due. Where memory, or a descriptor for a connection, is wanting, the push ends alone.
+/// Does the work that is due. If memory, or a descriptor for a connection, is wanting, the push ends alone.
 fn push_behind<R: Clock + Net<Stream = TcpStream>, W: Write, E: Write>(
     alloc: Global,
     rt: &R,

@@ -26,7 +26,7 @@ const FIRST_WAIT: u64 = 100;
 /// The most milliseconds that are waited after a client that was missed.
 const LONGEST_WAIT: u64 = 1_000;
 
-/// A listener at this place.
+/// Returns a listener at this place.
 pub(crate) fn listener<N: Net<Listener = TcpListener, Stream = TcpStream>>(
     net: &N,
     at: SocketAddrV4,
@@ -37,8 +37,8 @@ pub(crate) fn listener<N: Net<Listener = TcpListener, Stream = TcpStream>>(
     }
 }
 
-/// The next client of a listener, and its place. A client that can't be had, since it went away or descriptors or
-/// memory are short, is missed: the next is waited for a little later. Where 64 in a row were missed, it is the fault
+/// Returns the next client of a listener, and its place. A client that can't be had, since it went away or descriptors
+/// or memory are short, is missed: the next is waited for a little later. If 64 in a row were missed, it is the fault
 /// of a socket.
 pub(crate) fn next_client<C: Clock>(
     clock: &C,
@@ -58,7 +58,7 @@ pub(crate) fn next_client<C: Clock>(
     }
 }
 
-/// A client of a listener, and its place.
+/// Returns a client of a listener, and its place.
 fn accept(listener: &TcpListener) -> io::Result<(TcpStream, SocketAddrV4)> {
     match listener.accept()? {
         (stream, SocketAddr::V4(peer)) => {
@@ -70,7 +70,7 @@ fn accept(listener: &TcpListener) -> io::Result<(TcpStream, SocketAddrV4)> {
     }
 }
 
-/// A connection to the next hop at this place.
+/// Returns a connection to the next hop at this place.
 pub(crate) fn connect<N: Net<Stream = TcpStream>>(
     net: &N,
     at: SocketAddrV4,

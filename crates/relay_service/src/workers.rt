@@ -40,7 +40,7 @@ pub(crate) struct Service<'a, R> {
     pub(crate) config: &'a Config,
 }
 
-// Written out, since what stands after `rt` need not be droppable itself.
+// Written out, since what is after `rt` need not be droppable itself.
 impl<R> Drop for Service<'_, R> {
     fn drop(self) {
         let Service {
@@ -52,7 +52,7 @@ impl<R> Drop for Service<'_, R> {
 }
 
 impl<R: Clock + Threads + Wait + Sync> Service<'_, R> {
-    /// Serves the next clients of a listener, so many, side by side. It gives the node back, and whether mail was
+    /// Serves the next clients of a listener, this many, side by side. It gives the node back, and whether mail was
     /// refused because the spool is full. Connections are closed when the last of them has ended.
     pub(crate) fn serve_next<E: Write>(
         &self,
@@ -67,7 +67,7 @@ impl<R: Clock + Threads + Wait + Sync> Service<'_, R> {
         self.serve_clients(node, clients.as_slice(), log)
     }
 
-    /// Serves these clients. Where there is no memory for that, each is cut off unheard.
+    /// Serves these clients. If there is no memory for that, each is cut off unheard.
     fn serve_clients<E: Write>(
         &self,
         node: Node<FileDisk>,
@@ -98,7 +98,7 @@ impl<R: Clock + Threads + Wait + Sync> Service<'_, R> {
     }
 }
 
-/// The next clients of a listener, so many, in the order in which they came.
+/// Returns the next clients of a listener, this many, in the order in which they came.
 fn next_clients<C: Clock>(
     alloc: Global,
     clock: &C,
@@ -116,7 +116,7 @@ fn next_clients<C: Clock>(
     Ok(clients)
 }
 
-/// A link for each client, in their order. It fails where memory runs out.
+/// Returns a link for each client, in their order. Fails if memory runs out.
 fn links_of(alloc: Global, clients: &[Client]) -> Result<Vec<ClientLink<'_>>, AllocError>
     ensures { IfOk result (λ links. vec_len links ≡ length clients.now) }
 {
@@ -131,8 +131,8 @@ fn links_of(alloc: Global, clients: &[Client]) -> Result<Vec<ClientLink<'_>>, Al
     Ok(links)
 }
 
-/// What a round ends the service with: receipts that aren't what the node has taken, or a device that failed. All else
-/// ends with its own connection.
+/// Returns what a round ends the service with: receipts that aren't what the node has taken, or a device that failed.
+/// All else ends with its own connection.
 fn end_of<D: Disk, R, W>(ended: &Ended<D, R, W>) -> Result<(), Fault>
     ensures { IsEndOf ended.now.agrees ended.now.links.items result }
 {
@@ -147,7 +147,7 @@ fn end_of<D: Disk, R, W>(ended: &Ended<D, R, W>) -> Result<(), Fault>
     Ok(())
 }
 
-/// Whether a client was told that the spool is full.
+/// Returns whether a client was told that the spool is full.
 fn was_full<R>(links: &[Served<R, ClientWriter<'_>>]) -> bool {
     for link in links {
         if link.writer.was_full() {
@@ -175,7 +175,7 @@ fn tell<E: Write>(
     }
 }
 
-/// Tells how a connection has ended. Where memory runs out the line is left out.
+/// Tells how a connection has ended. If memory runs out the line is left out.
 fn tell_client<E: Write>(
     alloc: Global,
     node: &Node<FileDisk>,
@@ -197,7 +197,7 @@ fn tell_client<E: Write>(
     log.client(node, &connection);
 }
 
-/// The numbers of the messages, in the order of their receipts. It fails where memory runs out.
+/// Returns the numbers of the messages, in the order of their receipts. Fails if memory runs out.
 fn numbers_of(alloc: Global, receipts: &[Receipt]) -> Result<Vec<u64>, AllocError> {
     let mut numbers = Vec::with_capacity(alloc, receipts.len())?;
     for receipt in receipts {

@@ -1,8 +1,8 @@
--- Numbered slots: what stands in each.
+-- Numbered slots, and what each holds.
 use Rattle.std.specs.Prelude.{◌≡◌, ◌≢◌, ◌<◌, ℕ, List, [], ◌∷◌, length, Option, None, Some, slice_index_or}
 use Rattle.relay_slots.specs.declared.slots.TheConstants.{SLOT_COUNT}
 
--- what stands in the slot of this number; there is nothing after the last
+-- the value of the slot of this number; none after the last slot
 abbrev pub slot_at : {A : Type 0} → List (Option A) → ℕ → Option A
 slot_at slots number = slice_index_or slots number None
 
@@ -10,7 +10,7 @@ slot_at slots number = slice_index_or slots number None
 abbrev pub OthersStay : {A : Type 0} → List (Option A) → List (Option A) → ℕ → Type 0
 OthersStay old new number = (other : ℕ) → other ≢ number → slot_at new other ≡ slot_at old other
 
--- nothing stands in any slot
+-- each slot is free
 abbrev pub AreFree : {A : Type 0} → List (Option A) → Type 0
 AreFree [] = Unit {0}
 AreFree (None ∷ slots) = AreFree slots
@@ -20,7 +20,7 @@ AreFree (Some value ∷ slots) = ⊥
 abbrev pub HasPlaces : {A : Type 0} → List (Option A) → Type 0
 HasPlaces slots = length slots ≡ SLOT_COUNT
 
--- there are 64 slots, and something stands in each
+-- there are 64 slots, and none is free
 abbrev pub IsFull : {A : Type 0} → List (Option A) → Type 0
 IsFull slots =
     HasPlaces slots × ((number : ℕ) → number < SLOT_COUNT → slot_at slots number ≢ None)

@@ -1,4 +1,4 @@
-//! Sixty-four numbered slots: a table of what is open, such as sessions, whose numbers come again.
+//! A table of 64 numbered slots for what is open, such as sessions. Numbers are used again.
 #![tactic(auto)]
 
 pub mod laws;

@@ -5,17 +5,17 @@ use std::alloc::{AllocError, Global};
 use std::marker::Model;
 use std::mem;
 
-/// How many slots there are, and so how many of what they hold are open at a time.
+/// The number of slots, and so the most sessions or attempts that are open at a time.
 pub const SLOT_COUNT: usize = 64;
 
-/// Slots, numbered from 0 to 63, of which each is free or holds a value. All are there from the start, so that none
-/// takes memory later.
+/// Slots numbered from 0 to 63, each free or with a value. All are allocated at the start, so that filling one needs
+/// no memory.
 #[derive(Debug)]
 pub struct Slots<T> {
     slots: Vec<Option<T>>,
 }
 
-// Written out, so that what drops slots calls this, and doesn't look into what they hold.
+// Written out, so that the proof of a caller that drops slots stops at this function.
 impl<T: Drop> Drop for Slots<T> {
     fn drop(self) {
         let Slots { slots: _slots } = self;
@@ -34,7 +34,7 @@ impl<T> Model for Slots<T> {
 }
 
 impl<T: Drop> Slots<T> {
-    /// Free slots. It fails where memory runs out.
+    /// Makes 64 free slots. Fails if memory runs out.
     pub fn new(alloc: Global) -> Result<Self, AllocError>
         ensures free { IfOk result AreFree }
         ensures places { IfOk result HasPlaces }
@@ -46,14 +46,14 @@ impl<T: Drop> Slots<T> {
         Ok(Slots { slots })
     }
 
-    /// All slots, in order.
+    /// Returns all slots, by number.
     pub fn as_slice(&self) -> &[Option<T>]
         ensures { result.now ≡ self.now }
     {
         self.slots.as_slice()
     }
 
-    /// The least number of a free slot.
+    /// Returns the least number of a free slot, or `None` if all are taken.
     pub fn free(&self) -> Option<usize>
         ensures least { MatchOption result (IsFull self.now) (IsLeastFree self.now) }
         ensures within { MatchOption result (Unit {0}) (λ number. number < length self.now) }
@@ -68,7 +68,7 @@ impl<T: Drop> Slots<T> {
         None
     }
 
-    /// Takes the value of this number out, if there is one. It takes no memory.
+    /// Removes and returns the value under this number, if there is one.
     pub fn take(&mut self, number: usize) -> Option<T>
         ensures taken { result ≡ slot_at self.old number }
         ensures rest { self.new ≡ slice_set self.old number None }
@@ -80,7 +80,7 @@ impl<T: Drop> Slots<T> {
         }
     }
 
-    /// Puts a value under this number, in the place of what stands there. It takes no memory.
+    /// Puts a value under this number, in place of the one that is there.
     pub fn put(&mut self, number: usize, value: T)
         requires { number < length self.old }
         ensures { self.new ≡ slice_set self.old number (Some value) }

@@ -1,4 +1,4 @@
--- The heads of a spool's disks, and a disk that is written anew with one body.
+-- The heads of a spool's disks, and a disk that is rewritten with one body.
 use Rattle.std.specs.Prelude.{◌≡◌, ◌≢◌, ◌⊎◌, ℕ, ◌≤◌, List, [], ◌∷◌, ◌++◌, length, take, drop, slice_index, Option, None}
 use Rattle.std.specs.Prelude.{Some}
 use Rattle.std.specs.Int.{w64, from_be_bytes}
@@ -24,7 +24,7 @@ pub record HasOpenHead (image : List ℕ) : Type 0 where
 abbrev pub IsNotOpen : List ℕ → Type 0
 IsNotOpen image = HasOpenHead image → ⊥
 
--- the image begins with the signature and a head gate: its disk can be written anew
+-- the image begins with the signature and a head gate: its disk can be rewritten
 pub record HasHeadGate (image : List ℕ) : Type 0 where
   pub long : 9 ≤ length image
   pub signed : take 8 image ≡ signature
@@ -76,7 +76,7 @@ pub record IsFilled (image octets : List ℕ) : Type 0 where
 abbrev pub IsClosedOr : List ℕ → List ℕ → Type 0
 IsClosedOr old image = IsNotOpen image ⊎ (image ≡ old)
 
--- what it may leave of a disk that is written anew: the image is as it was, or isn't open, or is the new one
+-- what it may leave of a disk that is rewritten: the image is as it was, or isn't open, or is the new one
 abbrev pub IsOldOrNew : List ℕ → List ℕ → List ℕ → Type 0
 IsOldOrNew old new image = (image ≡ old) ⊎ IsClosedOr new image
 
@@ -84,8 +84,8 @@ IsOldOrNew old new image = (image ≡ old) ⊎ IsClosedOr new image
 abbrev pub KeepsHead : List ℕ → List ℕ → Type 0
 KeepsHead old new = take 17 new ≡ take 17 old
 
--- how many calls of the device write a disk anew that has this head gate: two more where it has to be closed first,
--- and none where there is none
+-- how many calls of the device rewrite a disk that has this head gate: two more where it must be closed first, and none
+-- if there is none
 abbrev pub renewal_calls : Option HeadGate → ℕ
 renewal_calls None = 0
 renewal_calls (Some Closed) = 5

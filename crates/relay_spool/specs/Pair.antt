@@ -62,11 +62,11 @@ pub record Describes (taken : Taken) (images : Images) : Type 0 where
   pub generation_is : generation_of (mine taken.side images) ≡ taken.generation
   pub other_gate : IsGateOf (other taken.side images) taken.other
 
--- which disk is taken once the other is written anew: that one, and the head of this one is open
+-- which disk is taken once the other is rewritten: that one, and the head of this one is open
 abbrev pub renewed_taken : Taken → Taken
 renewed_taken taken = record { side = turned taken.side; generation = taken.generation + 1; other = Some Open }
 
--- the other can't be written anew with a body of so many octets: they pass 4,294,967,295, or no generation is left
+-- the other can't be rewritten with a body of this many octets: they pass 4,294,967,295, or no generation is left
 abbrev pub IsTooMuch : Taken → ℕ → Type 0
 IsTooMuch taken size = (2 ^ 32 ≤ size) ⊎ (taken.generation ≡ 2 ^ 64 - 1)
 

@@ -7,6 +7,6 @@ use Rattle.relay_spool.specs.Walk.{bodies_in}
 unfoldable pub bodies_of_chain : List ℕ → List (List ℕ)
 bodies_of_chain chain = bodies_in (length chain) (chain ++ 0 ∷ [])
 
--- where there are links, an octet more asks for no memory
+-- if there are links, an octet more asks for no memory
 abbrev pub HasRoomToClose : Vec ℕ Global → Type 0
 HasRoomToClose links = 0 < length links.items → length links.items < vec_capacity links

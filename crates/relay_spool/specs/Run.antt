@@ -1,4 +1,4 @@
--- Calls of one disk of a spool: what a stop leaves of it at each moment, and what they keep.
+-- Calls of one disk of a spool: what a stop leaves of it at each time, and what they keep.
 use Rattle.std.specs.Prelude.{◌≡◌, ℕ, ◌-◌, ◌≤◌, List, length, Result, OnOk, Some}
 use Rattle.std.specs.Option.{option_map}
 use Rattle.relay_disk.specs.declared.disks.Disks.{Disks}
@@ -22,12 +22,12 @@ IsShort image = length image ≤ 18
 
 -- The words below take those of a disk's type, and then the disk, or the disk before and after.
 module _ {D : Type 0} (words : DiskWords D) where
-  -- at each moment from the old disk on, and now, a stop leaves an image with P
+  -- at each time from the old disk on, and now, a stop leaves an image with P
   pub record AtEachMoment (old new : D) (P : List ℕ → Type 0) : Type 0 where
     pub since : EachImageSince words old new P
     pub now : EachImage words new P
 
-  -- the disk is only read: a read gives the same, and at each moment a stop leaves an image of before
+  -- the disk is only read: a read gives the same, and at each time a stop leaves an image of before
   pub record OnlyReads (old new : D) : Type 0 where
     pub reads : words.seen new ≡ words.seen old
     pub stop : AtEachMoment old new (words.may_leave old)
@@ -36,24 +36,24 @@ module _ {D : Type 0} (words : DiskWords D) where
   abbrev pub EachOnlyReads : Disks D → Disks D → Type 0
   EachOnlyReads old new = OnlyReads old.first new.first × OnlyReads old.second new.second
 
-  -- at each moment a stop leaves short images of both
+  -- at each time a stop leaves short images of both
   abbrev pub EachStaysShort : Disks D → Disks D → Type 0
   EachStaysShort old new = AtEachMoment old.first new.first IsShort × AtEachMoment old.second new.second IsShort
 
-  -- so many calls went to the device
+  -- this many calls went to the device
   abbrev pub Calls : ℕ → D → D → Type 0
   Calls count old new = words.calls_left new ≡ option_map (λ calls. calls - count) (words.calls_left old)
 
-  -- so many at most
+  -- this many at most
   abbrev pub CallsUpTo : ℕ → D → D → Type 0
   CallsUpTo most old new = (count : ℕ) × (count ≤ most) × Calls count old new
 
-  -- so many went there, and the fuse let all of them pass: it had as many left
+  -- this many went there, and the fuse let all of them pass: it had as many left
   pub record Passes (count : ℕ) (old new : D) : Type 0 where
     pub calls : Calls count old new
     pub had : (left : ℕ) → words.calls_left old ≡ Some left → count ≤ left
 
-  -- so many, which all passed, and fewer where the answer is a fault
+  -- this many, which all passed, and fewer where the answer is a fault
   pub record Makes {T E : Type 0} (count : ℕ) (old new : D) (result : Result T E) : Type 0 where
     pub at_most : CallsUpTo count old new
     pub ok : OnOk result (Passes count old new)

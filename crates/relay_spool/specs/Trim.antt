@@ -1,5 +1,5 @@
 -- The disk that isn't taken is made shorter, a turn at a time. Its octets count for nothing, and all but its head gate
--- are dropped before it is written anew.
+-- are dropped before it is rewritten.
 use Rattle.std.specs.Prelude.{◌≡◌, ◌↔◌, ℕ, ◌-◌, ◌<◌, max, Bool, true, false, List, [], ◌∷◌, length, take, Option, None}
 use Rattle.std.specs.Prelude.{Some, IsTrue}
 use Rattle.relay_disk.specs.Device.{DiskWords, written}
@@ -9,7 +9,7 @@ use Rattle.relay_spool.specs.declared.taken.HeadGate.TheVariants.{Closed, Open}
 use Rattle.relay_spool.specs.declared.taken.Taken.{Taken}
 use Rattle.relay_spool.specs.Spool.{EveryImageHas, Stored}
 
--- the image that a turn leaves of that disk: an open head gate is closed; after a closed one so many octets at most
+-- the image that a turn leaves of that disk: an open head gate is closed; after a closed one this many octets at most
 -- are dropped from the end, and the first 9 stay
 abbrev pub trimmed : ℕ → HeadGate → List ℕ → List ℕ
 trimmed most Open image = written image 8 (0 ∷ [])

@@ -1,4 +1,4 @@
-// A spool made as small as one body.
+// Compaction: one body in place of all.
 ghost use Rattle.std.specs.Prelude.{◌≡◌, ◌≢◌, ◌↔◌, ◌+◌, ◌≤◌, None, Err, length, vec_capacity, IfErr, OnOk, IsTrue};
 
 use crate::link::BODY_OVERHEAD;
@@ -14,12 +14,12 @@ impl<D: Disk> Spool<D> {
     ghost use Rattle.relay_spool.specs.Pair.{HasBodies, IsTooMuch};
     ghost use Rattle.relay_spool.specs.Spool.{AtEachMoment, IsBeforeOrOne, IsCompacted, Makes, RefusesToCompact};
 
-    /// Puts this one body in place of all. The spool is written anew on the disk that isn't taken, by
-    /// five calls of the device, or by seven where its head is open: after `Ok` every stop leaves the one
-    /// body. At `Device` the spool is spent, and a stop leaves the list as it was or the one body; at
-    /// `NoMemory`, `NoSecond` and `Full` nothing has changed. `NoSecond` is looked for before `Full`. A
-    /// body that isn't too long for one makes no spool of more than 2^40 octets. It is written out
-    /// of the body's own memory, and asks for none where that has room for `RENEWAL_OVERHEAD` octets more.
+    /// Puts this one body in place of all. The spool is compacted on the disk that isn't taken, by five calls of the
+    /// device, or by seven where its head is open: after `Ok` every stop leaves the one body. At `Device` the spool is
+    /// spent, and a stop leaves the list as it was or the one body; at `NoMemory`, `NoSecond` and `Full` nothing has
+    /// changed. `NoSecond` is searched for before `Full`. A body that isn't too long for one makes no spool of more
+    /// than 2^40 octets. It is written out of the body's own memory, and asks for none if that has room for
+    /// `RENEWAL_OVERHEAD` octets more.
     pub fn compact(&mut self, body: Vec<u8>) -> Result<(), SpoolFault>
         requires { IsTrue self.old.live }
         ensures compacted { OnOk result (IsCompacted D.honest D.words self.old body.items self.new) }

@@ -1,4 +1,4 @@
-// An empty spool on two empty disks.
+// Makes an empty spool on two empty disks.
 ghost use Rattle.std.specs.Prelude.{◌≡◌, ◌≢◌, [], length, OnOk, IfErr, IfOk, MatchBool, MatchResult};
 ghost use Rattle.relay_disk.specs.Device.{CountsFailure as CountsDiskFailure, IsSettled as IsDiskSettled};
 ghost use Rattle.relay_disk.specs.Device.{OnlyFuseChanges};
@@ -19,7 +19,7 @@ const FIRST_DISK: [u8; 18] = *b"RELAYQ01\0\0\0\0\0\0\0\0\x01\0";
 /// What the second disk holds: generation 0, and closed gates.
 const SECOND_DISK: [u8; 18] = *b"RELAYQ01\0\0\0\0\0\0\0\0\0\0";
 
-/// Makes two empty disks an empty spool, by eight calls.
+/// Makes an empty spool on two empty disks, by eight calls of the device.
 pub(crate) fn make_spool<D: Disk>(disks: &mut Disks<D>) -> Result<(), SpoolFault>
     ensures created { D.honest → OnOk result (IsMade D.words disks.old disks.new) }
     ensures refused { IfErr result (RefusesToCreate D.honest D.words disks.old disks.new) }
@@ -36,7 +36,7 @@ pub(crate) fn make_spool<D: Disk>(disks: &mut Disks<D>) -> Result<(), SpoolFault
     Ok(())
 }
 
-/// Whether both disks are of size 0.
+/// Returns whether both disks are of size 0.
 fn are_empty<D: Disk>(disks: &mut Disks<D>) -> Result<bool, DiskFault>
     ensures empty { D.honest → IfOk result (λ is_empty. MatchBool is_empty
         (seen_of D.words disks.old ≡ no_octets) (seen_of D.words disks.old ≢ no_octets)) }
@@ -49,7 +49,7 @@ fn are_empty<D: Disk>(disks: &mut Disks<D>) -> Result<bool, DiskFault>
     Ok(first == 0 && second == 0)
 }
 
-/// How many octets the second disk holds.
+/// Returns how many octets the second disk holds.
 fn size_of_second<D: Disk>(disks: &mut Disks<D>) -> Result<usize, DiskFault>
     ensures size { D.honest → IfOk result (λ size. size ≡ length (D.words.seen disks.old.second)) }
     ensures keeps { D.honest → EachOnlyReads D.words disks.old disks.new }

@@ -81,7 +81,7 @@ fn read_second_head<D: Disk>(disks: &mut Disks<D>) -> Result<Head, DiskFault>
     head
 }
 
-/// The choice of the disk of this side, which has this head.
+/// Returns the choice of the disk of this side, which has this head.
 fn choice_of(side: Side, head: OpenHead, other: Head) -> Choice
     ensures { (result.head ≡ head) × (result.taken
         ≡ record { side = side; generation = head.generation; other = other.gate }) }
@@ -96,7 +96,7 @@ fn choice_of(side: Side, head: OpenHead, other: Head) -> Choice
     }
 }
 
-/// Which of two disks with these heads is taken: of those with an open head the one with the greater
+/// Returns which of two disks with these heads is taken: of those with an open head the one with the greater
 /// generation, and at equal ones the first.
 fn choose(first: Head, second: Head) -> Option<Choice>
     ensures { (images : Images) → IsHeadOf images.first first → IsHeadOf images.second second

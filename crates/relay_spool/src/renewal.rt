@@ -1,4 +1,4 @@
-// A spool's body written anew, on the disk that isn't taken.
+// A spool's body compacted, on the disk that isn't taken.
 ghost use Rattle.std.specs.Prelude.{◌≡◌, ◌≢◌, ◌+◌, ◌<◌, ◌≤◌, ◌^◌, [], ◌∷◌, ℕ, List, length, slice_index, vec_capacity};
 ghost use Rattle.std.specs.Prelude.{Some, IfOk, IsOk, OnOk};
 ghost use Rattle.relay_disk.specs.Device.{CountsFailure as CountsDiskFailure, IsSettled, written};
@@ -22,8 +22,8 @@ const FRONT: usize = 13;
 /// How many octets `Spool::compact` puts around the body that it is given, in the memory of that body.
 pub const RENEWAL_OVERHEAD: usize = FRONT + 1;
 
-/// What stands after the head gate of a spool of this generation with this body alone. It is made in the
-/// memory of the body, and fails only where that has no room for these octets and can't be given any.
+/// Returns what is after the head gate of a spool of this generation with this body alone. It is made in the memory of
+/// the body, and fails only if that has no room for these octets and can't be given any.
 pub(crate) fn renewal_of(generation: u64, body: Vec<u8>) -> Result<Vec<u8>, AllocError>
     requires { length body.items < 2 ^ 32 }
     ensures renewal { IfOk result (λ octets. IsRenewal octets.items generation body.items) }
@@ -39,8 +39,8 @@ pub(crate) fn renewal_of(generation: u64, body: Vec<u8>) -> Result<Vec<u8>, Allo
     Ok(octets)
 }
 
-/// Writes a spool with one body to the disk that isn't taken, which is then, by five calls, or by seven
-/// where its head is open. The disk that was taken stays as it is.
+/// Writes a spool with one body to the disk that isn't taken, which is then, by five calls, or by seven where its head
+/// is open. The disk that was taken is unchanged.
 pub(crate) fn renew<D: Disk>(
     disks: &mut Disks<D>,
     taken: Taken,

@@ -30,7 +30,7 @@ impl BodyRow {
     ghost use Rattle.relay_spool.specs.Head.{AreAdded};
     ghost use Rattle.relay_spool.specs.Image.{room_of};
 
-    /// A row without a body. It takes no memory.
+    /// Makes a row without a body. Allocates nothing.
     pub fn new(alloc: Global) -> BodyRow
         ensures { result ≡ [] }
     {
@@ -39,8 +39,7 @@ impl BodyRow {
         }
     }
 
-    /// Puts a body of at most 4,294,967,295 octets after the others. Where memory runs out, the row stays
-    /// as it was.
+    /// Puts a body of at most 4,294,967,295 octets after the others. If memory runs out, the row is unchanged.
     pub fn push(&mut self, body: &[u8]) -> Result<(), AllocError>
         requires { length body.now < 2 ^ 32 }
         ensures pushed { OnOk result (self.new ≡ self.old ++ body.now ∷ []) }
@@ -53,7 +52,7 @@ impl BodyRow {
         }
     }
 
-    /// How many octets of a spool the bodies take.
+    /// Returns how many octets of a spool the bodies take.
     pub fn room(&self) -> usize
         ensures room { result ≡ room_of self.now }
         ensures limit { result < 2 ^ 63 }
@@ -67,8 +66,7 @@ impl BodyRow {
         self.links.is_empty()
     }
 
-    /// What is written for the bodies of a row that has any: their links, and a closed gate. It takes no
-    /// memory.
+    /// What is written for the bodies of a row that has any: their links, and a closed gate. Allocates nothing.
     pub(crate) fn closed(self) -> Vec<u8>
         requires { self ≢ [] }
         ensures { AreAdded result.items self }

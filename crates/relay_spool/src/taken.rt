@@ -12,7 +12,7 @@ pub(crate) enum HeadGate {
     Open,
 }
 
-/// Which disk is taken, and what has to be known of both before the other is written anew.
+/// Which disk is taken, and what must be known of both before the other is rewritten.
 #[derive(Clone, Copy, Drop)]
 pub(crate) struct Taken {
     pub(crate) side: Side,
@@ -26,8 +26,8 @@ impl Taken {
     ghost use Rattle.relay_spool.specs.declared.fault.SpoolFault.TheVariants.{Full, NoSecond};
     ghost use Rattle.relay_spool.specs.Pair.{IsTooMuch};
 
-    /// The head gate of the other disk, where that can be written anew with a body of so many octets.
-    /// `NoSecond` is looked for before `Full`.
+    /// Returns the head gate of the other disk, where that can be rewritten with a body of this many octets. `NoSecond`
+    /// is searched for before `Full`.
     pub(crate) fn gate_for(&self, size: usize) -> Result<HeadGate, SpoolFault>
         ensures gate { IfOk result (λ gate. (self.now.other ≡ Some gate) × (size < 2 ^ 32)
             × (self.now.generation < 2 ^ 64 - 1)) }

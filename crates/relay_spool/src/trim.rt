@@ -21,9 +21,9 @@ impl<D: Disk> Spool<D> {
 
     /// Makes the disk that isn't taken shorter, so that the next compaction has fewer octets to drop, and returns
     /// whether there may be more to drop. One call closes the head of that disk where it is open, by two calls of the
-    /// device; each later one drops `most` octets of it, or all but the head gate where there are fewer, by three. A
-    /// disk without a head gate stays as it is. The bodies stay the same, whatever is answered, and every stop
-    /// leaves just these; at a fault the spool is spent. It takes no memory.
+    /// device; each later one drops `most` octets of it, or all but the head gate if there are fewer, by three. A disk
+    /// without a head gate is unchanged. The bodies stay the same, whatever is answered, and every stop leaves just
+    /// these; at a fault the spool is spent. Allocates nothing.
     pub fn trim(&mut self, most: usize) -> Result<bool, DiskFault>
         requires { IsTrue self.old.live }
         ensures trimmed { IfOk result (IsTrimmed D.honest D.words most self.old self.new) }
@@ -44,8 +44,8 @@ impl<D: Disk> Spool<D> {
     }
 }
 
-/// Makes the disk shorter that isn't taken, and returns whether there may be more to drop. The disk that is taken stays
-/// as it is.
+/// Makes the disk shorter that isn't taken, and returns whether there may be more to drop. The disk that is taken is
+/// unchanged.
 fn trim_other<D: Disk>(
     disks: &mut Disks<D>,
     taken: Taken,
@@ -91,7 +91,7 @@ fn shorten<D: Disk>(disk: &mut D, gate: HeadGate, most: usize) -> Result<bool, D
     }
 }
 
-/// Cuts so many octets at most after a closed head gate, and returns whether there are more.
+/// Cuts this many octets at most after a closed head gate, and returns whether there are more.
 fn cut_back<D: Disk>(disk: &mut D, most: usize) -> Result<bool, DiskFault>
     requires { D.honest → HasHeadGate (D.words.seen disk.old) × (slice_index (D.words.seen disk.old) 8 ≢ 1) }
     ensures trimmed { D.honest → IfOk result (Trims most Closed (D.words.seen disk.old) (D.words.seen disk.new)) }

@@ -1,5 +1,4 @@
--- Dates and times (RFC 5322, section 3.3): the text of what calendar and clock show in UTC at a
--- moment.
+-- Dates and times (RFC 5322, section 3.3): the text of what calendar and clock show in UTC.
 use Rattle.std.specs.Prelude.{◌≡◌, ℕ, ◌+◌, ◌-◌, ◌/◌, ◌%◌, pos, unsigned_abs, List, [], ◌∷◌, ◌++◌, length, codes}
 use Rattle.std.specs.Prelude.{slice_index_or}
 use Rattle.jiff.specs.Words.{weekday_of, civil_seconds}
@@ -18,7 +17,7 @@ month_names =
     codes "Jan" ∷ codes "Feb" ∷ codes "Mar" ∷ codes "Apr" ∷ codes "May" ∷ codes "Jun"
     ∷ codes "Jul" ∷ codes "Aug" ∷ codes "Sep" ∷ codes "Oct" ∷ codes "Nov" ∷ codes "Dec" ∷ []
 
--- the name of a day that is so many days after a Monday
+-- the name of a day that is this many days after a Monday
 abbrev pub day_name : ℕ → List ℕ
 day_name weekday = slice_index_or day_names weekday []
 
@@ -56,22 +55,22 @@ date_time_text shown =
 pub record IsShown (seconds : ℕ) (shown : DateTime) : Type 0 where
   pub since_epoch : civil_seconds shown ≡ pos seconds
 
--- the text of the date and time that are shown at a moment
+-- the text of the date and time that calendar and clock show then
 pub record IsDateText (seconds : ℕ) (text : List ℕ) : Type 0 where
   pub shown : DateTime
   pub at : IsShown seconds shown
   pub text_is : text ≡ date_time_text shown
 
--- the greatest moment: the last second of the year 9998
+-- the last time: the last second of the year 9998
 abbrev pub last_second : ℕ
 last_second = 253_370_764_799
 
--- One moment has one date text.
+-- A time has one date text.
 abbrev pub DateTextIsOne : Type 0
 DateTextIsOne =
     (seconds : ℕ) (text other : List ℕ) → IsDateText seconds text → IsDateText seconds other → text ≡ other
 
--- Two moments with one date text are one moment.
+-- Two times with the same date text are the same.
 abbrev pub DateTextTellsMoment : Type 0
 DateTextTellsMoment =
     (seconds other : ℕ) (text : List ℕ) → IsDateText seconds text → IsDateText other text → seconds ≡ other
@@ -80,6 +79,6 @@ DateTextTellsMoment =
 abbrev pub DateTextHas31Octets : Type 0
 DateTextHas31Octets = (seconds : ℕ) (text : List ℕ) → IsDateText seconds text → length text ≡ 31
 
--- The greatest moment is the last second of 31 December 9998.
+-- The last time is 31 December 9998, 23:59:59.
 abbrev pub LastSecondIsShown : Type 0
 LastSecondIsShown = IsDateText last_second (codes "Thu, 31 Dec 9998 23:59:59 +0000")

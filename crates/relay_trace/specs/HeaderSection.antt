@@ -6,7 +6,7 @@ use Rattle.std.specs.Str.{str_eq_ignore_ascii_case}
 use Rattle.relay_octets.specs.LetterCase.{IsSameWord}
 use Rattle.relay_octets.specs.Line.{crlf, HasNoCrlf, AreLines, lines_text}
 
--- The lines of a text. What stands after its last CR LF is a line too.
+-- The lines of a text. Octets after its last CR LF are a line too.
 pub record HasLines (text : List ℕ) (lines : List (List ℕ)) : Type 0 where
   pub text_is : text ++ crlf ≡ lines_text lines
   pub each : AreLines lines
@@ -37,8 +37,7 @@ is_received line = str_eq_ignore_ascii_case (take 9 line) (codes "Received:")
 unfoldable pub received_count_of : List ℕ → ℕ
 received_count_of text = count_by is_received (before_empty (lines_of text))
 
--- the place of the first empty line, after the lines before it, or the text's length where it has
--- none
+-- the index of the first empty line, after the lines before it, or the text's length if there is none
 unfoldable pub header_end_of : List ℕ → ℕ
 header_end_of text = min (length (lines_text (before_empty (lines_of text)))) (length text)
 
@@ -60,11 +59,11 @@ pub record BeginsWithReceived (line : List ℕ) : Type 0 where
   pub line_is : line ≡ name ++ rest
   pub same : IsSameWord name (codes "Received:")
 
--- The lines that a text is cut into are its lines, and it has no others.
+-- A text splits into its lines in one way.
 abbrev pub LinesAreOne : Type 0
 LinesAreOne = (text : List ℕ) (lines : List (List ℕ)) → HasLines text lines ↔ (lines ≡ lines_of text)
 
--- The test of a line passes exactly where it begins with `Received:`.
+-- The test of a line passes exactly if it begins with `Received:`.
 abbrev pub ReceivedIsTested : Type 0
 ReceivedIsTested = (line : List ℕ) → IsTrue (is_received line) ↔ BeginsWithReceived line
 
@@ -80,7 +79,7 @@ abbrev pub HeaderEndsAtEmptyLine : Type 0
 HeaderEndsAtEmptyLine =
     (rest : List ℕ) → (received_count_of (crlf ++ rest) ≡ 0) × (header_end_of (crlf ++ rest) ≡ 0)
 
--- What stands after the last CR LF is a line of the header section too.
+-- Octets after the last CR LF are a line of the header section too.
 abbrev pub HeaderEndsWithText : Type 0
 HeaderEndsWithText =
     (last : List ℕ) → HasNoCrlf last

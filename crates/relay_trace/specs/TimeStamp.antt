@@ -10,8 +10,8 @@ use Rattle.relay_trace.specs.declared.received.Protocol.{Protocol}
 use Rattle.relay_trace.specs.declared.received.Protocol.TheVariants.{Smtp, Esmtp}
 use Rattle.relay_trace.specs.declared.received.TimeStamp.{TimeStamp}
 
--- what a time stamp line says: the client's word and address, this host, the protocol, the number
--- of the message, and the moment of its acceptance
+-- the values of a time stamp line: the client's word and address, this host, the protocol, the number of the message,
+-- and when it was accepted
 pub record Stamp : Type 0 where
   pub client : List ℕ
   pub peer : List ℕ
@@ -66,7 +66,7 @@ pub record IsPassed (stamp : Stamp) (content text : List ℕ) : Type 0 where
   pub line_is : IsTimeStamp stamp line
   pub text_is : text ≡ line ++ content
 
--- what a value of the code says
+-- the values that a `TimeStamp` of the code has
 abbrev pub stamp_of : TimeStamp → Stamp
 stamp_of stamp = record {
   client = stamp.client.now;
@@ -77,7 +77,7 @@ stamp_of stamp = record {
   accepted = stamp.accepted;
 }
 
--- A stamp has one time stamp line.
+-- A time stamp has one line.
 abbrev pub TimeStampIsOne : Type 0
 TimeStampIsOne =
     (stamp : Stamp) (line other : List ℕ) → IsTimeStamp stamp line → IsTimeStamp stamp other → line ≡ other
@@ -88,13 +88,13 @@ TimeStampIsOneField =
     (stamp : Stamp) (line : List ℕ) → IsStamp stamp → IsTimeStamp stamp line
     → AreFields line × (received_count_of line ≡ 1)
 
--- The count of a passed text is the content's count and 1.
+-- A text with its time stamp line has one `Received:` field more than its content.
 abbrev pub PassingAddsOne : Type 0
 PassingAddsOne =
     (stamp : Stamp) (content text : List ℕ) → IsStamp stamp → IsPassed stamp content text
     → received_count_of text ≡ received_count_of content + 1
 
--- The header section of a passed text is the time stamp line and that of the content.
+-- The header section of a text with its time stamp line is that line and the content's header section.
 abbrev pub PassingKeepsHeader : Type 0
 PassingKeepsHeader =
     (stamp : Stamp) (content text : List ℕ) → IsStamp stamp → (passed : IsPassed stamp content text)

@@ -9,11 +9,11 @@ use jiff::civil::{DateTime, Weekday};
 use jiff::tz::Offset;
 use std::alloc::Global;
 
-/// The octets of a date text.
+/// The length of a date text, in octets.
 const DATE_LEN: usize = 31;
 
-/// The date and time of a moment in UTC (RFC 5322, section 3.3), as `Thu, 01 Jan 1970 00:00:00
-/// +0000`. It fails where memory runs out.
+/// Returns the date and time in UTC (RFC 5322, section 3.3), as `Thu, 01 Jan 1970 00:00:00 +0000`. Fails if memory
+/// runs out.
 pub fn date_text(alloc: Global, moment: Moment) -> Result<Vec<u8>, TraceFault>
     ensures text { IfOk result (λ text. IsDateText moment text.items) }
     ensures fault { IfErr result (λ fault. fault ≡ TraceFault.NoMemory) }
@@ -21,14 +21,14 @@ pub fn date_text(alloc: Global, moment: Moment) -> Result<Vec<u8>, TraceFault>
     Ok(Vec::from_slice(alloc, &date_octets(moment))?)
 }
 
-/// The octets of the date text of a moment.
+/// Returns the date text of a time, without an allocation.
 pub(crate) fn date_octets(moment: Moment) -> [u8; DATE_LEN]
     ensures { IsDateText moment result }
 {
     print(shown_at(moment))
 }
 
-/// What calendar and clock show in UTC at a moment.
+/// Returns what calendar and clock show in UTC.
 fn shown_at(moment: Moment) -> DateTime
     ensures { IsShown moment result }
 {
@@ -38,7 +38,7 @@ fn shown_at(moment: Moment) -> DateTime
     Offset::UTC.to_datetime(instant)
 }
 
-/// The text of a date and time from the year 0 on.
+/// Prints a date and time, from the year 0 on.
 fn print(shown: DateTime) -> [u8; DATE_LEN]
     requires { pos 0 ≤ℤ shown.date.year }
     ensures { result ≡ date_time_text shown }
@@ -58,7 +58,7 @@ fn print(shown: DateTime) -> [u8; DATE_LEN]
     ]
 }
 
-/// The name of a day of the week.
+/// Returns the name of a day of the week (RFC 5322, `day-name`).
 fn day_name(weekday: Weekday) -> &'static [u8; 3]
     ensures { result.now ≡ day_name (monday_zero weekday) }
 {
@@ -73,7 +73,7 @@ fn day_name(weekday: Weekday) -> &'static [u8; 3]
     }
 }
 
-/// The name of a month, by its number from 1.
+/// Returns the name of a month by its number, from 1.
 fn month_name(month: u8) -> &'static [u8; 3]
     requires { IsInRange 1 12 month }
     ensures { result.now ≡ month_name month }
@@ -85,7 +85,7 @@ fn month_name(month: u8) -> &'static [u8; 3]
     NAMES[month as usize - 1]
 }
 
-/// A number in two digits.
+/// Prints a number in two digits.
 fn two_digits(number: u8) -> [u8; 2]
     requires { number < 100 }
     ensures { result ≡ two_digits number }

@@ -4,12 +4,11 @@ ghost use Rattle.relay_trace.specs.HeaderSection.{header_end_of, is_received, re
 use memchr::memmem;
 use relay_octets::find_crlf;
 
-/// The name of a time stamp line's field (RFC 5321, section 4.4), with its colon.
+/// The field name of a time stamp line (RFC 5321, section 4.4), with its colon.
 const RECEIVED: &[u8; 9] = b"Received:";
 
-/// How many lines of the header section begin with `Received:`, in any letter case. The header
-/// section is the lines before the first empty one, and what stands after the last CR LF is a line
-/// too. It takes no memory.
+/// Counts the lines of the header section that begin with `Received:`, in any letter case. The header section is the
+/// lines before the first empty one; octets after the last CR LF are a line too.
 pub fn received_count(text: &[u8]) -> usize
     ensures { result ≡ received_count_of text.now }
 {
@@ -27,8 +26,7 @@ pub fn received_count(text: &[u8]) -> usize
     if is_received(rest) { count + 1 } else { count }
 }
 
-/// The place of the first empty line, at which the header section ends, or the text's length where
-/// it has none. It takes no memory.
+/// Returns the index of the first empty line, which ends the header section, or the text's length if there is none.
 pub fn header_end(text: &[u8]) -> usize
     ensures { result ≡ header_end_of text.now }
 {
@@ -41,7 +39,7 @@ pub fn header_end(text: &[u8]) -> usize
     }
 }
 
-/// Whether a line begins with `Received:`, in any letter case (RFC 5322, section 1.2.2).
+/// Returns whether a line begins with `Received:`, in any letter case (RFC 5322, section 1.2.2).
 #[tactic(auto, unfolding(crate::specs::HeaderSection::is_received))]
 fn is_received(line: &[u8]) -> bool
     ensures { result ≡ is_received line.now }

@@ -1,4 +1,4 @@
-//! What is true of dates, header sections and time stamp lines, whoever writes them.
+//! Laws of dates, header sections and time stamp lines.
 ghost use Rattle.relay_trace.specs.DateTime.{DateTextHas31Octets, DateTextIsOne, DateTextTellsMoment};
 ghost use Rattle.relay_trace.specs.DateTime.{LastSecondIsShown};
 ghost use Rattle.relay_trace.specs.DateLine.{DateTextHasNoCrlf};
@@ -7,12 +7,12 @@ ghost use Rattle.relay_trace.specs.HeaderSection.{ReceivedIsTested};
 ghost use Rattle.relay_trace.specs.TimeStamp.{PassingAddsOne, PassingKeepsHeader, TimeStampIsOne, TimeStampIsOneField};
 ghost use Rattle.relay_trace.specs.TimeStamp.{TimeStampIsShort};
 
-/// A moment has one date text.
+/// A time has one date text.
 pub fn date_text_is_one()
     ensures { DateTextIsOne }
 {}
 
-/// Two moments with one date text are one moment.
+/// Two times with the same date text are the same.
 pub fn date_text_tells_moment()
     ensures { DateTextTellsMoment }
 {}
@@ -22,27 +22,27 @@ pub fn date_text_has_31_octets()
     ensures { DateTextHas31Octets }
 {}
 
-/// No CR LF stands in a date text.
+/// A date text has no CR LF.
 pub fn date_text_has_no_crlf()
     ensures { DateTextHasNoCrlf }
 {}
 
-/// The greatest moment is the last second of 31 December 9998.
+/// The last time is 31 December 9998, 23:59:59.
 pub fn last_second_is_shown()
     ensures { LastSecondIsShown }
 {}
 
-/// A text is cut into its lines, and it has no others.
+/// A text splits into lines in one way.
 pub fn lines_are_one()
     ensures { LinesAreOne }
 {}
 
-/// A line passes for a `Received:` field exactly where it begins with that, in any letter case.
+/// A line counts as a `Received:` field exactly if it begins with that, in any letter case.
 pub fn received_is_tested()
     ensures { ReceivedIsTested }
 {}
 
-/// Lines that aren't empty belong to the header section.
+/// A line which isn't empty continues the header section.
 pub fn header_goes_on()
     ensures { HeaderGoesOn }
 {}
@@ -52,17 +52,17 @@ pub fn header_ends_at_empty_line()
     ensures { HeaderEndsAtEmptyLine }
 {}
 
-/// What stands after the last CR LF is a line too.
+/// Octets after the last CR LF are a line of the header section too.
 pub fn header_ends_with_text()
     ensures { HeaderEndsWithText }
 {}
 
-/// A stamp has one time stamp line.
+/// A time stamp has one line.
 pub fn time_stamp_is_one()
     ensures { TimeStampIsOne }
 {}
 
-/// A time stamp line has no empty line in it, and it is one `Received:` field.
+/// A time stamp line has no empty line in it, and is one `Received:` field.
 pub fn time_stamp_is_one_field()
     ensures { TimeStampIsOneField }
 {}
@@ -72,12 +72,12 @@ pub fn time_stamp_is_short()
     ensures { TimeStampIsShort }
 {}
 
-/// A passed text has one `Received:` field more than its content.
+/// A text with its time stamp line has one `Received:` field more than its content.
 pub fn passing_adds_one()
     ensures { PassingAddsOne }
 {}
 
-/// The header section of a passed text is the time stamp line and that of the content.
+/// The header section of such a text is the time stamp line and the content's header section.
 pub fn passing_keeps_header()
     ensures { PassingKeepsHeader }
 {}

@@ -1,5 +1,4 @@
-//! Moments and the clock, time stamp lines, their dates, and the header section that they stand in (RFC 5321,
-//! section 4.4; RFC 5322, sections 2.2 and 3.3).
+//! Times, dates, time stamp lines and header sections (RFC 5321, section 4.4; RFC 5322, sections 2.2 and 3.3).
 #![tactic(auto)]
 
 mod clock;

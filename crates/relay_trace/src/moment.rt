@@ -2,10 +2,10 @@ use std::alloc::AllocError;
 use std::marker::Model;
 use thiserror::Error;
 
-/// The seconds of the greatest moment: 31 December 9998, 23:59:59.
+/// The last time, in seconds from 1970: 31 December 9998, 23:59:59 UTC.
 pub const LAST_SECOND: u64 = 253_370_764_799;
 
-/// A moment: whole seconds from 1 January 1970, 00:00:00, in UTC, to the end of the year 9998.
+/// A time in whole seconds from 1 January 1970, 00:00:00 UTC, up to the end of the year 9998.
 #[derive(Clone, Copy, Debug, PartialEq, Eq, PartialOrd, Ord)]
 pub struct Moment {
     seconds: u64,
@@ -24,10 +24,10 @@ impl Model for Moment {
     ghost inverse = { λ seconds. record { seconds = seconds } };
 }
 
-/// Why a call on moments and trace lines gives no answer.
+/// Why a call on times and trace lines fails.
 #[derive(Clone, Copy, Debug, PartialEq, Eq, Error)]
 pub enum TraceFault {
-    /// The seconds are past the greatest moment.
+    /// The seconds are after [`LAST_SECOND`].
     #[error("moment out of range")]
     OutOfRange,
     /// Memory ran out.
@@ -50,7 +50,7 @@ impl Moment {
     ghost use Rattle.std.specs.Prelude.{◌≡◌, ◌≤◌, ◌<◌, min, MatchResult};
     ghost use Rattle.relay_trace.specs.DateTime.{last_second};
 
-    /// The moment that many seconds from 1970. It takes no memory.
+    /// Makes a time from seconds from 1970. Fails after [`LAST_SECOND`].
     pub fn new(seconds: u64) -> Result<Self, TraceFault>
         ensures { MatchResult result (λ moment. (seconds ≤ last_second) × (moment ≡ seconds))
             (λ fault. (last_second < seconds) × (fault ≡ TraceFault.OutOfRange)) }
@@ -61,7 +61,7 @@ impl Moment {
         Ok(Moment { seconds })
     }
 
-    /// The moment that is nearest to this many seconds from 1970: the greatest one where there are more.
+    /// Makes a time from seconds from 1970, or the last time if there are more.
     pub fn nearest(seconds: u64) -> Self
         ensures { result ≡ min seconds last_second }
     {
@@ -70,7 +70,7 @@ impl Moment {
         }
     }
 
-    /// The seconds from 1970.
+    /// Returns the seconds from 1970.
     pub fn seconds(self) -> u64
         ensures seconds { result ≡ self }
         ensures within { result ≤ last_second }

@@ -8,10 +8,10 @@ use crate::moment::{Moment, TraceFault};
 use itoa::Buffer;
 use std::alloc::{AllocError, Global};
 
-/// The octets of most time stamp lines.
+/// The octets that most time stamp lines fit into.
 const USUAL_LEN: usize = 160;
 
-/// How a session was opened: by HELO, or by EHLO.
+/// The command that opened a session.
 #[derive(Clone, Copy, Debug, PartialEq, Eq)]
 pub enum Protocol {
     /// HELO.
@@ -20,10 +20,10 @@ pub enum Protocol {
     Esmtp,
 }
 
-/// What a time stamp line says (RFC 5321, section 4.4).
+/// The values of a time stamp line (RFC 5321, section 4.4).
 #[derive(Clone, Copy, Debug)]
 pub struct TimeStamp<'a> {
-    /// The word that the client gave of itself with HELO or EHLO.
+    /// The client's word with HELO or EHLO.
     pub client: &'a [u8],
     /// The IPv4 address that the client connected from.
     pub peer: [u8; 4],
@@ -33,12 +33,11 @@ pub struct TimeStamp<'a> {
     pub protocol: Protocol,
     /// The number of the message.
     pub number: u64,
-    /// The moment at which the message was accepted.
+    /// When the message was accepted.
     pub accepted: Moment,
 }
 
-/// The time stamp line: a `Received:` field of three lines, each with its CR LF. It fails where
-/// memory runs out.
+/// Returns the time stamp line: a `Received:` field of three lines, each with its CR LF. Fails if memory runs out.
 pub fn received_line(alloc: Global, stamp: &TimeStamp<'_>) -> Result<Vec<u8>, TraceFault>
     ensures line { IfOk result (λ line. IsTimeStamp (stamp_of stamp.now) line.items) }
     ensures fault { IfErr result (λ fault. fault ≡ TraceFault.NoMemory) }
@@ -79,7 +78,7 @@ fn push_by(line: &mut Vec<u8>, stamp: &TimeStamp<'_>) -> Result<(), AllocError>
     line.extend_from_slice(b";\r\n")
 }
 
-/// Writes an address: its octets in decimal, and periods between them.
+/// Writes an IPv4 address: its octets in decimal, separated by periods.
 #[tactic(auto, unfolding(crate::specs::TimeStamp::address_text))]
 fn push_address(line: &mut Vec<u8>, peer: [u8; 4]) -> Result<(), AllocError>
     ensures { OnOk result (line.new.items ≡ line.old.items ++ address_text peer) }
@@ -100,7 +99,7 @@ fn push_number(line: &mut Vec<u8>, octet: u8) -> Result<(), AllocError>
     line.extend_from_slice(Buffer::new().format(octet).as_bytes())
 }
 
-/// The word of a protocol.
+/// Returns the name of a protocol.
 fn protocol_word(protocol: Protocol) -> &'static [u8]
     ensures { result.now ≡ protocol_word protocol }
 {

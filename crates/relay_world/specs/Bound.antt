@@ -49,7 +49,7 @@ pub record IsListOf (records : List (List ℕ)) (changes : List Change) : Type 0
   pub fitting : Fitting changes
   pub records_are : records ≡ map encode changes
 
--- each outcome of the changes after these has the report that is due of it, and none where none is due
+-- each outcome of the changes after these has the report that is owed, and none if none is due
 abbrev pub ReportsBehind : Reporter → List Change → List Change → Type 0
 ReportsBehind reporter front [] = Unit {0}
 ReportsBehind reporter front (change ∷ changes) =
@@ -84,7 +84,7 @@ module _ {D : Type 0} (honest : Type 0) (words : DiskWords D) where
     pub holds : StateKeeps host.config host.state changes
     pub reports : ReportsBehind (reporter_of host.config) [] changes
 
--- a node that is up has this session, which stands after what was said
+-- a node that is up has this session, which is after what was said
 abbrev pub SaysThere : {D : Type 0} → Host D → Option ℕ → List ℕ → Said → Type 0
 SaysThere {D} host None peer said = Unit {0}
 SaysThere {D} host (Some session) peer said =

@@ -49,7 +49,7 @@ abbrev pub IsChain : {D : Type 0} → World D → ℕ × ℕ → List (ℕ × �
 IsChain world first [] = Unit {0}
 IsChain world first (child ∷ children) = IsChild world first child × IsChain world child children
 
--- the message has so many `Received:` fields, as it is stored
+-- the message has this many `Received:` fields, as it is stored
 pub record HasFields (lists : List (List Change)) (message : ℕ × ℕ) (count : ℕ) : Type 0 where
   pub changes : List Change
   pub list_at : slice_get lists message.0 ≡ Some changes

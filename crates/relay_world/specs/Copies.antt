@@ -30,7 +30,7 @@ pub record PassesPlace {D : Type 0} (world : World D) (lists : List (List Change
   pub are_its : AreChildPlaces host changes link attempt places
   pub holds : Contains places place
 
--- By these replies, which are all that the attempt has read, it passes the place exactly where the RCPT of that was
+-- By these replies, which are all that the attempt has read, it passes the place exactly if the RCPT of that was
 -- answered 2yz. Each of them has answered something.
 pub record IsDecidedBy {D : Type 0} (world : World D) (lists : List (List Change)) (node message place : ℕ)
     (attempt : Attempt) (replies : List Reply) : Type 0 where
@@ -53,7 +53,7 @@ CopiesByAll world lists node message place (attempt ∷ attempts) count =
     (mine others : ℕ) × CopiesBy world lists node message place attempt mine
     × CopiesByAll world lists node message place attempts others × (count ≡ mine + others)
 
--- so many copies of the message of a node hold the place
+-- this many copies of the message of a node hold the place
 abbrev pub Copies : {D : Type 0} → World D → List (List Change) → ℕ → ℕ → ℕ → ℕ → Type 0
 Copies world lists node message place count = CopiesByAll world lists node message place world.attempts count
 

@@ -25,7 +25,7 @@ CrashingHappens {D} honest words =
     × (CrashesReading honest words old new number count → Happen honest words (suc (suc zero)) old new)
     × (CrashesLosing honest words old new number → Happen honest words (suc (suc zero)) old new)
 
--- So is a crash between two calls, while places without a hop are given up, or while a spool is written anew.
+-- So is a crash between two calls, while places without a hop are given up, or while a spool is compacted.
 abbrev pub RestingCrashHappens : {D : Type 0} → Type 0 → DiskWords D → Type 0
 RestingCrashHappens {D} honest words =
     (old new : World D) (node message : ℕ)
@@ -33,7 +33,7 @@ RestingCrashHappens {D} honest words =
     × (CrashesGivingUp honest words old new node message → Happen honest words (suc (suc zero)) old new)
     × (CrashesCompacting honest words old new node → Happen honest words (suc (suc zero)) old new)
 
--- A spool that is written anew is one event; and a node that crashes in that call and is then opened is a run of three.
+-- A spool that is compacted is one event; and a node that crashes in that call and is then opened is a run of three.
 abbrev pub CompactingHappens : {D : Type 0} → Type 0 → DiskWords D → Type 0
 CompactingHappens {D} honest words =
     (old between new : World D) (node : ℕ)

@@ -72,7 +72,7 @@ pub record CrashesAtRest {D : Type 0} (honest : Type 0) (words : DiskWords D) (o
   pub left : IsLeftBy honest words before.records disk
   pub down : GoesDown old new node host disk None
 
--- A node crashed in a call that adds no change: its device failed while its spool was written anew.
+-- A node crashed in a call that adds no change: its device failed while its spool was compacted.
 pub record CrashesCompacting {D : Type 0} (honest : Type 0) (words : DiskWords D) (old new : World D) (node : ℕ)
     : Type 0 where
   pub host : Host D
@@ -142,7 +142,7 @@ pub record CrashesReading {D : Type 0} (honest : Type 0) (words : DiskWords D) (
   pub cuts : (changes : List Change) (told : Told) → Keeps honest words of.before.records changes
       → Tells of.before.config.host changes of.before.attempts of.slot told
       → CutsReply honest words (reporter_of of.before.config) old.clock changes of.slot told (waiting_down count
-        of.link) stopped
+      of.link) stopped
   pub crash : CrashesEnding honest words old new number of stopped (FromReplies number of.place of.attempt.message)
 
 -- and so, as its device failed, by the loss of its link

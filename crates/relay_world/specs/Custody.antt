@@ -1,5 +1,5 @@
 -- Custody of each recipient that a node acknowledged (RFC 5321, section 6.1): it is held, or the next hop has taken it,
--- or it has ended for a cause, and then the report that is due was queued in the same change.
+-- or it has ended for a cause, and then the report that is owed was queued in the same change.
 use Rattle.std.specs.Prelude.{◌≡◌, ◌↔◌, ℕ, zero, suc, ◌+◌, ◌<◌, ◌≤◌, false, List, [], ◌∷◌, ◌++◌, length, take, Some}
 use Rattle.std.specs.Prelude.{Option}
 use Rattle.std.specs.Prelude.{slice_get}
@@ -30,7 +30,7 @@ use Rattle.relay_world.specs.Bound.{IsBound, StandsAt, StandsForUnlessDecided}
 use Rattle.relay_world.specs.Ledger.{accepts_on}
 use Rattle.relay_world.specs.World.{Down, Host, Undecided, Up, World, link_at}
 
--- The node wrote on a link that a message of so many places is queued under this number: a dialogue with what it has
+-- The node wrote on a link that a message of this many places is queued under this number: a dialogue with what it has
 -- read there, all of whose output was written, ends with that answer.
 pub record Acknowledged {D : Type 0} (world : World D) (node number places : ℕ) : Type 0 where
   pub on : ℕ
@@ -68,7 +68,7 @@ AcceptedIsAcknowledged {D} honest words =
     → link.broken ≡ false → (number places : ℕ)
     → Contains {X = ℕ × ℕ} (accepts_on on world.ledger) (number, places) → Acknowledged world end.node number places
 
--- why a place that was accepted at one moment leaves at another in this way by a verdict: it was taken; or it was
+-- why a place that was accepted at one time leaves at another in this way by a verdict: it was taken; or it was
 -- refused, can't be sent, has no hop, or was tried for too long
 abbrev pub HasCause : ℕ → ℕ → Way → Verdict → Type 0
 HasCause accepted at ByTransfer (Taken dsn) = Unit {0}
@@ -84,7 +84,7 @@ abbrev pub changes_before : ℕ → List Change → List Change
 changes_before zero changes = []
 changes_before (suc n) changes = take n changes
 
--- A place has left by the change of this number for a cause, and that change has the report that is due of it.
+-- A place has left by the change of this number for a cause, and that change has the report that is owed.
 pub record LeftFor (reporter : Reporter) (changes : List Change) (at number place : ℕ) (way : Way) : Type 0 where
   pub leaves : LeavesAt changes at number place way
   pub cause : HasCause leaves.accept.at leaves.outcome.at way leaves.verdict
@@ -108,7 +108,7 @@ pub record KeepsCustody {D : Type 0} (honest : Type 0) (words : DiskWords D) (wo
   -- of a node that is down every image stands for its changes, or for these and the one that its next opening decides
   pub images_down : honest → (disk : Disks D) (undecided : Option Undecided) → host.state ≡ Down disk undecided
       → EveryImageHas words disk (StandsForUnlessDecided changes undecided)
-  -- each that has left has left for a cause, with the report that is due
+  -- each that has left has left for a cause, with the report that is owed
   pub left : (at number place : ℕ) (way : Way) → LeavesAt changes at number place way
       → LeftFor (reporter_of host.config) changes at number place way
 

@@ -11,7 +11,8 @@ use Rattle.relay_world.specs.Steps.{HasGivenUp, HasHeard, HasLost, HasRead}
 use Rattle.relay_world.specs.Stops.{HasCompacted}
 use Rattle.relay_world.specs.World.{World}
 
--- so many calls went to the device of a node, and a stop that was set let all of them pass: it has so many less left
+-- this many calls went to the device of a node, and a stop that was set let all of them pass: it has this many less
+-- left
 abbrev pub CountsDown : {D : Type 0} → DiskWords D → ℕ → NodeState D → NodeState D → Type 0
 CountsDown words calls before after = Passes words calls before.records.spool.disk after.records.spool.disk
 
@@ -21,10 +22,9 @@ calls_of None = 0
 calls_of (Some change) = 4
 
 -- Where a node of a bound world goes on after what it heard or read, a stop that was set comes nearer by four calls
--- where that made a change, and by none where it made none; after the loss of a link, or the end of places without a
--- hop, by four; and after its spool was written anew, by those calls that write a disk anew. Of the other events
--- that steps of a pair are made of, one sets a stop, some stop a node or open it, and all others leave its records as
--- they are.
+-- where that made a change, and by none if it made none; after the loss of a link, or the end of places without a hop,
+-- by four; and after its spool was compacted, by those calls that rewrite a disk. Of the other events that steps of a
+-- pair are made of, one sets a stop, some stop a node or open it, and all others leave its records as they are.
 abbrev pub StopsCountDown : {D : Type 0} → Type 0 → DiskWords D → Type 0
 StopsCountDown {D} honest words =
     (old new : World D) (lists : List (List Change)) (number count node message change : ℕ)

@@ -56,7 +56,7 @@ abbrev pub IsOnBroken : List Link → Piece → Type 0
 IsOnBroken links piece = (link : Link) → link_at links piece.number ≡ Some link → link.broken ≡ true
 
 module _ {D : Type 0} (honest : Type 0) (words : DiskWords D) where
-  -- the note stands after those of the row
+  -- the note is after those of the row
   abbrev pub IsNotedBehind : Kept D → Row → Row → Noted → Type 0
   IsNotedBehind old row left note =
       (changes pending : List Change) → Awaits honest words old changes pending row
@@ -74,7 +74,7 @@ module _ {D : Type 0} (honest : Type 0) (words : DiskWords D) where
       (record of.host { state = Up after; records = of.host.records ++ noted.octets ∷ [] })
       × (new.ledger ≡ old.ledger ++ Accepted of.end.node change noted.accepted number ∷ [])
 
-  -- A node has heard octets of a link at a moment, by one call, without a fault, and put the record of what it accepted
+  -- A node has heard octets of a link at a time, by one call, without a fault, and put the record of what it accepted
   -- after a row. Outside sees nothing of it yet.
   pub record HasHeardInto (at : ℕ) (old new : World D) (node : ℕ) (piece : Piece) (row left : Row) : Type 0 where
     pub of : SessionOf old piece.number
@@ -113,7 +113,7 @@ module _ {D : Type 0} (honest : Type 0) (words : DiskWords D) where
       × (new.attempts ≡ old.attempts)
   OutcomeInto old new number of after row left (Some change) = EndsInto old new number of after row left change
 
-  -- An attempt of a node has read replies on a link at a moment, by one call, without a fault, and the record of its
+  -- An attempt of a node has read replies on a link at a time, by one call, without a fault, and the record of its
   -- outcome, if they have ended it, was put after a row. Outside sees nothing of it yet.
   pub record HasReadInto (at : ℕ) (old new : World D) (node : ℕ) (piece : Piece) (row left : Row) : Type 0 where
     pub of : AttemptOf old piece.number
@@ -170,9 +170,9 @@ module _ {D : Type 0} (honest : Type 0) (words : DiskWords D) where
 
   -- A node has stopped while the records of all that it had accepted, and of all outcomes, were brought into its spool,
   -- and now is opened again. In between it did nothing, so this is one event at its opening. Its links broke in the
-  -- call, so nobody was handed what it would have written. Where its next number is as before it turned to them, none
-  -- of the records is there, and it is as if it had heard and read nothing; and where it comes after all of them, all
-  -- are there.
+  -- call, so nobody was handed what it would have written. If its next number is as before it turned to them, none of
+  -- the records is there, and it is as if it had heard and read nothing; and where it comes after all of them, all are
+  -- there.
   pub record HasReopenedBehindGroup (old new : World D) (node : ℕ) (pieces : List Piece) : Type 0 where
     pub before : IsUp old node
     pub broken : AllByRecursion (IsOnBroken old.links) pieces

@@ -13,7 +13,7 @@ use Rattle.relay_world.specs.Bound.{IsBound}
 use Rattle.relay_world.specs.Stops.{NoAttempt, NoSession}
 use Rattle.relay_world.specs.World.{World, link_at}
 
--- a server end without its session, where it is this node's
+-- a server end without its session, if it is this node's
 abbrev pub hung_up_end : ℕ → ServerEnd → ServerEnd
 hung_up_end node end = if nat_eq end.node node then record end { session = None } else end
 
@@ -27,7 +27,7 @@ dropped (Replied number) = Replied number
 dropped (Lost number) = Lost number
 dropped Dropped = Dropped
 
--- an attempt that is dropped, where it is this node's
+-- an attempt that is dropped, if it is this node's
 abbrev pub hung_up_attempt : ℕ → Attempt → Attempt
 hung_up_attempt node attempt =
     if nat_eq attempt.node node then record attempt { fate = dropped attempt.fate } else attempt

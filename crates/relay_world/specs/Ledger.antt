@@ -11,7 +11,7 @@ use Rattle.relay_world.specs.declared.line.Line.{Line}
 use Rattle.relay_world.specs.declared.line.Line.TheVariants.{Accepted, Became}
 use Rattle.relay_world.specs.World.{FromClient, FromLoss, FromNoHop, FromReplies, Origin, Undecided}
 
--- a message was accepted with so many places; or a place of a message left, or was reported as delayed, and a report
+-- a message was accepted with this many places; or a place of a message left, or was reported as delayed, and a report
 -- was queued under this number (0: none)
 pub data Step : Type 0 where
   Accepts : (number places : ℕ) → Step

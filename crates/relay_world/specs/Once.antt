@@ -78,7 +78,7 @@ pub record HasNoHops (routes : RouteTable) (changes : List Change) (outcome : Ou
   pub each : (place : ℕ) (verdict : Verdict) → Contains outcome.rulings (record { place = place; verdict = verdict })
       → (verdict ≡ NoRoute) × (hop_of_place routes accept.envelope.recipients place ≡ None)
 
--- the record is of a change that, where it is an outcome, is such a one
+-- the record is of a change that, if it is an outcome, is such a one
 pub record GivesUpNoHops (routes : RouteTable) (changes : List Change) (octets : List ℕ) : Type 0 where
   pub one : Change
   pub valid : IsChange one
@@ -159,7 +159,7 @@ SourcesAreKept {D} honest words =
     (old new : World D) (lists later : List (List Change)) → IsBound honest words old lists → IsTriedOnce old lists
     → HasSources old lists → Happens honest words old new → IsBound honest words new later → HasSources new later
 
--- so many events, one after another, have made the other world of the one
+-- this many events, one after another, have made the other world of the one
 abbrev pub Happen : {D : Type 0} → Type 0 → DiskWords D → ℕ → World D → World D → Type 0
 Happen honest words zero old new = new ≡ old
 Happen {D} honest words (suc count) old new =

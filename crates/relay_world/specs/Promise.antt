@@ -26,8 +26,8 @@ use Rattle.relay_world.specs.Transfers.{HasPassedOn}
 use Rattle.relay_world.specs.World.{Host, World, link_at}
 use Rattle.relay_report.specs.Report.{reporter_of}
 
--- what has come of a recipient: its node holds it, its next hop has accepted it, or it has ended for a cause, with the
--- report that is due: by a verdict that an attempt for its message was given by what it has read, or since it has no
+-- the outcome of a recipient: its node holds it, its next hop has accepted it, or it has ended for a cause, with the
+-- report that is owed: by a verdict that an attempt for its message was given by what it has read, or since it has no
 -- hop
 pub data HasCome {D : Type 0} (world : World D) (lists : List (List Change)) (node : ℕ) (host : Host D)
     (changes : List Change)
@@ -68,7 +68,7 @@ pub record KeepsPromise {D : Type 0} (honest : Type 0) (words : DiskWords D) (wo
       → (place : ℕ) (verdict : Verdict) → RepliesGave changes attempt place verdict
       → ((dsn : Bool) → verdict ≢ Taken dsn)
       → NoChildHolds world host changes link attempt place
-  -- what a node holds stands in its queue, and in every image that a stop may leave
+  -- what a node holds is in its queue, and in every image that a stop may leave
   pub custody : (node : ℕ) (host : Host D) (changes : List Change) → StandsAt world lists node host changes
       → KeepsCustody honest words world node host changes
   -- there is one copy at most, and one more for each reply that was lost

@@ -120,7 +120,7 @@ pub record HasWritten {D : Type 0} (old new : World D) (number : ℕ) (octets : 
   pub put : IsPutAt old.links links number written
   pub new_is : new ≡ record old { links = links }
 
--- the octets that a call of a server end is handed: so many of those that wait, or all
+-- the octets that a call of a server end is handed: this many of those that wait, or all
 abbrev pub waiting_up : ℕ → Link → List ℕ
 waiting_up count link = take count (drop link.up_read link.up)
 
@@ -173,8 +173,7 @@ pub record HasHeard {D : Type 0} (honest : Type 0) (words : DiskWords D) (old ne
   pub records : RecordsHeard old new of.end.node number of.host after received.change
   pub rest : (new.attempts ≡ old.attempts) × (new.clock ≡ old.clock) × (length new.hosts ≡ length old.hosts)
 
--- what stands on a link after the reply with which its server end closes unasked, if it does: on a broken link nothing
--- more
+-- what is on a link after the reply with which its server end closes unasked, if it does: on a broken link nothing more
 abbrev pub closed_down : Link → Option Reply → List ℕ
 closed_down link None = link.down
 closed_down link (Some reply) = link.down ++ unless_broken link (reply_text reply)
@@ -210,7 +209,7 @@ pub record CutsOff {D : Type 0} (old new : World D) (number : ℕ) (reply : Repl
   pub code : reply.code ≡ 421
   pub ends : EndsWith old new number (Some reply)
 
--- the octets that a call of a client end is handed: so many of those that wait, or all
+-- the octets that a call of a client end is handed: this many of those that wait, or all
 abbrev pub waiting_down : ℕ → Link → List ℕ
 waiting_down count link = take count (drop link.down_read link.down)
 
@@ -269,7 +268,7 @@ pub record HasLost {D : Type 0} (honest : Type 0) (words : DiskWords D) (old new
   pub loses : (changes : List Change) (told : Told) → Keeps honest words of.before.records changes
       → Tells of.before.config.host changes of.before.attempts of.slot told
       → IsLost honest words (reporter_of of.before.config) old.clock changes of.slot told of.before.records
-        after.records
+      after.records
       after.attempts change
   pub others : OthersStay of.before.attempts after.attempts of.slot
   pub config : after.config ≡ of.before.config
@@ -353,7 +352,7 @@ pub record HasGivenUp {D : Type 0} (honest : Type 0) (words : DiskWords D) (old 
     pub after : NodeState D
     pub gives_up : (changes : List Change) → Keeps honest words before.records changes
         → AddsUnroutable honest words (reporter_of before.config) before.config.routes message old.clock changes
-          before.records
+        before.records
         after.records change
     pub config : after.config ≡ before.config
     pub seats : after.seats ≡ before.seats

@@ -85,8 +85,8 @@ pub record HasStopped {D : Type 0} (honest : Type 0) (words : DiskWords D) (old 
   pub hosts : IsPut old.hosts new.hosts node (record host { state = Down disk None })
   pub rest : OnlyHostsChange old new
 
--- A node that is up stays so: its disks will fail at a later call, or its spool was written anew. It keeps the changes
--- that it kept, and all else is the same.
+-- A node that is up stays so: its disks will fail at a later call, or its spool was compacted. It keeps the changes
+-- that it kept, and nothing else changes.
 pub record StaysUp {D : Type 0} (honest : Type 0) (words : DiskWords D) (old new : World D) (node : ℕ) : Type 0 where
   pub host : Host D
   pub host_at : slice_get old.hosts node ≡ Some host
@@ -107,7 +107,7 @@ pub record HasArmed {D : Type 0} (honest : Type 0) (words : DiskWords D) (old ne
   pub stays : StaysUp honest words old new node
   pub fused : IsFused stays.before.records stays.after.records
 
--- And so it does where its spool was written anew, as one body of all that its queue holds.
+-- And so it does where its spool was compacted, as one body of all that its queue holds.
 pub record HasCompacted {D : Type 0} (honest : Type 0) (words : DiskWords D) (old new : World D) (node : ℕ)
     : Type 0 where
   pub stays : StaysUp honest words old new node
@@ -168,7 +168,7 @@ pub record StopsReading {D : Type 0} (honest : Type 0) (words : DiskWords D) (ol
   pub cuts : (changes : List Change) (told : Told) → Keeps honest words of.before.records changes
       → Tells of.before.config.host changes of.before.attempts of.slot told
       → CutsReply honest words (reporter_of of.before.config) old.clock changes of.slot told (waiting_down count
-        of.link) stopped
+      of.link) stopped
   pub drops : DropsAtStop honest words old new number of stopped (FromReplies number of.place of.attempt.message)
 
 -- A node has stopped in the call that told it of the loss of an attempt's link, as its device failed while the outcome
@@ -225,7 +225,7 @@ abbrev pub StopsAgain : {D : Type 0} → Type 0 → DiskWords D → World D → 
 StopsAgain honest words old new node = StaysDown honest words old new node
 
 -- A node that is down couldn't be opened: its disks were refused, for this cause. That is a failure of the device,
--- which has counted it, want of memory, or the size of the spool, and of an honest disk never the octets.
+-- which has counted it, lack of memory, or the size of the spool, and of an honest disk never the octets.
 pub record IsRefused {D : Type 0} (honest : Type 0) (words : DiskWords D) (old new : World D) (node : ℕ) : Type 0 where
   pub stays : StaysDown honest words old new node
   pub cause : Cause
@@ -233,7 +233,7 @@ pub record IsRefused {D : Type 0} (honest : Type 0) (words : DiskWords D) (old n
   pub failures : FailsFor words stays.disk stays.again cause
   pub not_octets : honest → IsNoFaultOfImage cause
 
--- an outcome is found: so many octets more were read on the link, and the attempt at this place has this fate
+-- an outcome is found: this many octets more were read on the link, and the attempt at this place has this fate
 pub record FindsOutcome {D : Type 0} (old new : World D) (number place used : ℕ) (fate : Fate) : Type 0 where
   pub link : Link
   pub link_is : link_at old.links number ≡ Some link
@@ -242,7 +242,7 @@ pub record FindsOutcome {D : Type 0} (old new : World D) (number place used : �
   pub attempt_at : slice_get old.attempts place ≡ Some attempt
   pub attempts : IsPut old.attempts new.attempts place (record attempt { fate = fate })
 
--- an accept is found: so many octets more were read on the link
+-- an accept is found: this many octets more were read on the link
 pub record FindsAccept {D : Type 0} (old new : World D) (number used : ℕ) : Type 0 where
   pub link : Link
   pub link_is : link_at old.links number ≡ Some link
@@ -274,7 +274,7 @@ pub record HasNotFound {D : Type 0} (old new : World D) (node : ℕ) (host : Hos
   pub attempts : new.attempts ≡ old.attempts
   pub ledger : new.ledger ≡ old.ledger
 
--- The change is there exactly where the next number is above its own.
+-- The change is there exactly if the next number is above its own.
 abbrev pub Decides : {D : Type 0} → World D → World D → ℕ → Host D → NodeState D → Option Undecided → Type 0
 Decides old new node host after None = HasNotFound old new node host after
 Decides old new node host after (Some undecided) =
@@ -337,7 +337,7 @@ ReopeningKeeps {D} honest words =
     → HasReopened honest words old new node
     → (later : List (List Change)) × IsBound honest words new later
 
--- A node that is down can be opened: what refuses its disks is the device, want of memory, or their size, and never the
+-- A node that is down can be opened: what refuses its disks is the device, lack of memory, or their size, and never the
 -- octets.
 abbrev pub DownIsNotRefused : {D : Type 0} → Type 0 → DiskWords D → Type 0
 DownIsNotRefused {D} honest words =

@@ -33,7 +33,7 @@ pub record Host (D : Type 0) : Type 0 where
   pub state : HostState D
   pub records : List (List ℕ)
 
--- all of it, at a moment of its clock
+-- all of it, at a time of its clock
 pub record World (D : Type 0) : Type 0 where
   pub hosts : List (Host D)
   pub links : List Link

@@ -31,7 +31,7 @@ pub struct Attempt {
     pub fate: Fate,
 }
 
-// Written out, so that what drops an attempt calls this, and doesn't look into each part of it.
+// Written out, so that the proof of a caller that drops an attempt stops at this function.
 impl Drop for Attempt {
     fn drop(self) {
         let Attempt {

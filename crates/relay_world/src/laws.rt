@@ -150,7 +150,7 @@ pub fn reopening_behind_group_keeps<D: Disk>()
     ensures { D.honest → ReopeningBehindGroupKeeps D.honest D.words }
 {}
 
-/// A node that is down isn't refused for the octets of its disks, where they are honest.
+/// A node that is down isn't refused for the octets of its disks, if they are honest.
 pub fn down_is_not_refused<D: Disk>()
     ensures { D.honest → DownIsNotRefused D.honest D.words }
 {}

@@ -1,4 +1,4 @@
-//! Two relays, the links between them and to outside, and what has come of their mail: the values, what ties them
+//! Two relays, the links between them and to outside, and the outcome of their mail: the values, what ties them
 //! together, and what follows for each recipient (RFC 5321, section 6.1).
 #![tactic(auto)]
 

@@ -5,7 +5,7 @@ use relay_book::PlaceStep;
 /// order in which they came.
 #[derive(Clone, Copy, Debug)]
 pub enum Line {
-    /// A node accepted a message of so many places.
+    /// A node accepted a message of this many places.
     Accepted {
         /// The node, by its place among the nodes, from 0.
         node: usize,
@@ -26,7 +26,7 @@ pub enum Line {
         number: u64,
         /// The place, from 0.
         place: u8,
-        /// The number of the link that decided it, from 1; 0 where there was no hop.
+        /// The number of the link that decided it, from 1; 0 if there was no hop.
         link: usize,
         /// The number of the report that the same change queued; 0 where it queued none.
         report: u64,

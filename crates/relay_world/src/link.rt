@@ -16,9 +16,9 @@ pub struct ServerEnd {
 /// neither end writes or reads any more.
 #[derive(Debug)]
 pub struct Link {
-    /// The attempt at the client end, by its place among the attempts, from 0; none where the client is outside.
+    /// The attempt at the client end, by its place among the attempts, from 0; none if the client is outside.
     pub client: Option<usize>,
-    /// The node at the server end; none where the server is outside.
+    /// The node at the server end; none if the server is outside.
     pub server: Option<ServerEnd>,
     /// What the client end wrote.
     pub up: Octets,
@@ -32,7 +32,7 @@ pub struct Link {
     pub broken: bool,
 }
 
-// Written out, so that what drops a link calls this, and doesn't look into each part of it.
+// Written out, so that the proof of a caller that drops a link stops at this function.
 impl Drop for Link {
     fn drop(self) {
         let Link {

@@ -158,8 +158,8 @@ pub fn grown_lists_begin<D: Disk>()
     ensures { GrownListsBegin D.honest D.words }
 {}
 
-/// After any number of events each recipient that a node acknowledged, and each of a report, is held there, accepted
-/// by its next hop with the values that it has, or has ended for a cause with the report that is due; what a node's
+/// After any number of events each recipient that a node acknowledged, and each of a report, is held there, accepted by
+/// its next hop with the values that it has, or has ended for a cause with the report that is owed; what a node's
 /// replies refused it doesn't hold; there is one copy at most, and one more for each lost reply; nothing else was
 /// passed on; each line of the ledger has its source; and attempts have gone on, or have come to their ends.
 pub fn promise_is_kept<D: Disk>()
@@ -176,13 +176,13 @@ pub fn crashing_happens<D: Disk>()
     ensures { CrashingHappens D.honest D.words }
 {}
 
-/// A node that crashes between two calls, while it gives up places without a hop, or while its spool is written anew,
-/// is a run of two events.
+/// A node that crashes between two calls, while it gives up places without a hop, or while its spool is compacted, is a
+/// run of two events.
 pub fn resting_crash_happens<D: Disk>()
     ensures { RestingCrashHappens D.honest D.words }
 {}
 
-/// A node whose spool is written anew is one event; one that crashes in that call and is then opened is a run of three.
+/// A node whose spool is compacted is one event; one that crashes in that call and is then opened is a run of three.
 pub fn compacting_happens<D: Disk>()
     ensures { CompactingHappens D.honest D.words }
 {}

@@ -25,8 +25,8 @@ fn main(rt: HostRuntime) -> ExitCode {
     ExitCode::from(status)
 }
 
-/// The words that the program is started with, its own name first. It fails where memory runs out,
-/// and where a word isn't UTF-8.
+/// Returns the words that the program is started with, its own name first. Fails if memory runs out, and where a word
+/// isn't UTF-8.
 fn given_words(rt: &HostRuntime) -> io::Result<Vec<String>> {
     Ok(env::args(rt)?.collect(rt.alloc())?)
 }

@@ -1,4 +1,4 @@
-//! The first moment at which a place of a book is due.
+//! The first second at which a place of a book is due.
 ghost use Rattle.std.specs.Prelude.{◌≡◌};
 ghost use Rattle.relay_book.specs.Moments.{IsLeastOf, moments_of, waits_from, waits_of};
 ghost use Rattle.relay_book.specs.Queue.{message_of};
@@ -8,9 +8,9 @@ use crate::message::Message;
 use crate::question::PlaceQuestion;
 
 impl Book {
-    /// The least moment at which a held place is due of which a question holds, in seconds from 1970: it may pass
-    /// the greatest moment. None where the question holds of no held place. It asks of the places in the order of
-    /// their moments, and of none after the answer's, and takes no memory.
+    /// Returns the least time at which a held place is due of which a question holds, in seconds from 1970: it may pass
+    /// the last time. None if the question holds of no held place. It asks of the places in the order of their times,
+    /// and of none after the answer's, and takes no memory.
     pub fn first_due_where<Q: PlaceQuestion>(&self, question: &Q) -> Option<u64>
         ensures { IsLeastOf (moments_of (Q.holds question.now) self.now.queue.messages) result }
     {
@@ -22,7 +22,7 @@ impl Book {
         None
     }
 
-    /// Whether a held place of this message is due then of which the question holds.
+    /// Returns whether a held place of this message is due then of which the question holds.
     fn waits_where<Q: PlaceQuestion>(&self, question: &Q, due: u64, number: u64) -> bool
         ensures { result
             ≡ waits_of (Q.holds question.now) due number (message_of self.now.queue.messages number) }
@@ -34,7 +34,7 @@ impl Book {
     }
 }
 
-/// Whether a held place of a message is due then of which the question holds.
+/// Returns whether a held place of a message is due then of which the question holds.
 fn any_waits<Q: PlaceQuestion>(question: &Q, due: u64, number: u64, message: &Message) -> bool
     ensures { result ≡ waits_from (Q.holds question.now number message.now) due 0 message.now.places }
 {

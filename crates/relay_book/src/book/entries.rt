@@ -8,7 +8,7 @@ use crate::change::Outcome;
 use crate::message::Message;
 use indexmap::IndexMap;
 
-/// What an outcome leaves of an entry.
+/// Returns what an outcome leaves of an entry.
 pub(super) fn slot_after(slot: Option<Message>, outcome: &Outcome) -> Option<Message>
     ensures { result ≡ slot_after outcome.now slot }
 {

@@ -12,8 +12,8 @@ use relay_pieces::Pieces;
 use std::alloc::Global;
 
 impl Book {
-    /// The book that a first body leaves: of the queue of which it is the snapshot, or of the one change that it
-    /// records. It fails with `BadRecord` exactly where it is neither, and where memory runs out.
+    /// Returns the book that a first body leaves: of the queue of which it is the snapshot, or of the one change that
+    /// it records. It fails with `BadRecord` exactly if it is neither, and if memory runs out.
     #[tactic(auto, using(crate::proofs::FirstLemmas::first_records))]
     pub fn read_first(alloc: Global, mut body: Pieces) -> Result<Self, BookFault>
         ensures reads { IfOk result (λ book. ReadsFirst (text_of body) book.queue) }
@@ -30,7 +30,7 @@ impl Book {
     }
 
     /// Applies the change that a body records; a message that it queues keeps the body's memory. It fails with
-    /// `BadRecord` exactly where the body records none that fits, and where memory runs out.
+    /// `BadRecord` exactly if the body records none that fits, and if memory runs out.
     #[tactic(auto, using(crate::proofs::FirstLemmas::no_record))]
     pub fn read_next(&mut self, alloc: Global, body: Vec<u8>) -> Result<(), BookFault>
         ensures reads { OnOk result (ReadsBody self.old.queue body.items self.new.queue) }
@@ -42,7 +42,7 @@ impl Book {
     }
 }
 
-/// Whether the first octet is that of a snapshot.
+/// Returns whether the first octet is that of a snapshot.
 fn is_of_snapshot(octets: &[u8]) -> bool
     ensures { result ≡ is_of_snapshot octets.now }
 {

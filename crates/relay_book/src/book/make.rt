@@ -43,8 +43,7 @@ pub(super) fn accepted(alloc: Global, number: u64, accept: Accept) -> Result<Mes
     })
 }
 
-/// The envelope of a report: from the null reverse path to the one of the message reported, without
-/// parameters.
+/// Returns the envelope of a report: from the null reverse path to the one of the message reported, without parameters.
 fn report_envelope(alloc: Global, path: &PathBuf) -> Result<Envelope, AllocError>
     ensures { IfOk result (λ envelope. envelope ≡ report_envelope path.now) }
 {
@@ -62,7 +61,7 @@ fn report_envelope(alloc: Global, path: &PathBuf) -> Result<Envelope, AllocError
     })
 }
 
-/// What an outcome for a message queues; the report's text is moved, not copied.
+/// Returns what an outcome for a message queues; the report's text is moved, not copied.
 #[tactic(auto, using(crate::proofs::ReadyLemmas::none_reported, crate::proofs::ReadyLemmas::one_reported))]
 pub(super) fn made_of(
     alloc: Global,
@@ -88,7 +87,7 @@ pub(super) fn made_of(
     Ok(Made::Reported(outcome, report))
 }
 
-/// The places of a message after an outcome.
+/// Returns the places of a message after an outcome.
 pub(super) fn places_behind(
     alloc: Global,
     message: &Message,
@@ -101,7 +100,7 @@ pub(super) fn places_behind(
     Ok(places)
 }
 
-/// When places are due.
+/// Returns when places are due.
 pub(super) fn moments_of(alloc: Global, places: &Places) -> Result<Vec<u64>, AllocError> {
     let mut moments = Vec::new(alloc);
     for place in places.as_slice() {

@@ -10,7 +10,7 @@ use indexmap::IndexMap;
 use std::alloc::{AllocError, Global};
 
 impl Book {
-    /// The numbers of the messages of which a question holds, in order, by one walk over them. It fails where memory
+    /// Returns the numbers of the messages of which a question holds, in order, by one walk over them. Fails if memory
     /// runs out.
     pub fn numbers_where<Q: Question>(
         &self,
@@ -24,7 +24,7 @@ impl Book {
     }
 }
 
-/// The numbers of the entries whose messages haven't ended and of which a question holds, in order.
+/// Returns the numbers of the entries whose messages haven't ended and of which a question holds, in order.
 fn numbers_among<Q: Question>(
     alloc: Global,
     question: &Q,

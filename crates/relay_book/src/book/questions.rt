@@ -10,7 +10,7 @@ use indexmap::IndexMap;
 use std::alloc::{AllocError, Global};
 use std::collections::BTreeSet;
 
-/// The places that are held, in order.
+/// Returns the places that are held, in order.
 pub(super) fn held_places(
     alloc: Global,
     messages: &IndexMap<u64, Option<Message>>,
@@ -27,7 +27,7 @@ pub(super) fn held_places(
     Ok(marks)
 }
 
-/// The numbers of the messages that may have a place due by then: no other message has one.
+/// Returns the numbers of the messages that may have a place due by then: no other message has one.
 pub(super) fn numbers_until(
     alloc: Global,
     waiting: &BTreeSet<(u64, u64), Global>,

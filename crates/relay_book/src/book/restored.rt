@@ -7,14 +7,14 @@ use crate::message::Message;
 use std::alloc::AllocError;
 
 impl Book {
-    /// Makes room for so many messages. Where memory runs out, there may be none.
+    /// Makes room for this many messages. If memory runs out, there may be none.
     pub(super) fn make_room(&mut self, count: usize) -> Result<(), AllocError>
         ensures { self.new.queue ≡ self.old.queue }
     {
         self.messages.reserve(count)
     }
 
-    /// Lets numbers go by, up to one that isn't below the next. It takes no memory.
+    /// Lets numbers go by, up to one that isn't below the next. Allocates nothing.
     #[tactic(auto, using(crate::proofs::LiveLemmas::rise_to))]
     pub(super) fn skip_to(&mut self, number: u64)
         requires { self.old.queue.next ≤ number }
@@ -24,7 +24,7 @@ impl Book {
         self.next = number;
     }
 
-    /// Puts a message after the others, with its own number and places. Where memory runs out, none is put there.
+    /// Puts a message after the others, with its own number and places. If memory runs out, none is put there.
     pub(super) fn restore(&mut self, message: Message) -> Result<(), AllocError>
         requires rise { self.old.queue.next ≤ message.number }
         requires few { message.number ≤ last_number }

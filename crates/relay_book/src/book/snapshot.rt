@@ -29,8 +29,8 @@ use std::alloc::{AllocError, Global};
 const HEAD_LENGTH: usize = 13;
 
 impl Book {
-    /// The snapshot of the queue by the second version, from which `decode_snapshot` makes the same queue, with room
-    /// for so many octets more after it. It fails where memory runs out, and counts 2^32 messages and more as that.
+    /// Returns the snapshot of the queue by the second version, from which `decode_snapshot` makes the same queue, with
+    /// room for this many octets more after it. Fails if memory runs out, and counts 2^32 messages and more as that.
     pub fn encode_snapshot(&self, alloc: Global, more: usize) -> Result<Vec<u8>, AllocError>
         requires { IsQueue self.now.queue }
         ensures { IfOk result (λ octets. octets.items ≡ snapshot self.now.queue) }
@@ -38,7 +38,7 @@ impl Book {
         write_snapshot(alloc, self.next, &self.messages, more)
     }
 
-    /// How many octets the snapshot takes. It takes no memory, and 2^64 - 1 octets stand for as many and more.
+    /// Returns how many octets the snapshot takes. Allocates nothing, and 2^64 - 1 octets stand for as many and more.
     #[tactic(auto, using(crate::proofs::SnapshotLengthLemmas::length_is))]
     pub fn snapshot_length(&self) -> usize
         requires { IsQueue self.now.queue }
@@ -47,9 +47,9 @@ impl Book {
         length_of(&self.messages)
     }
 
-    /// The book of the queue of which these octets are the snapshot, with one copy of each text; their pieces are
-    /// freed as they are read. It fails with `BadRecord` exactly where they are no snapshot of a queue, and where
-    /// memory runs out; where what stands before the messages can be read at once, memory is wanted only after it.
+    /// Returns the book of the queue of which these octets are the snapshot, with one copy of each text; their pieces
+    /// are freed as they are read. It fails with `BadRecord` exactly if they are no snapshot of a queue, and if memory
+    /// runs out; if what is before the messages can be read at once, memory is wanted only after it.
     #[tactic(auto, using(crate::proofs::SnapshotReadLemmas::refused_snapshots))]
     pub fn decode_snapshot(alloc: Global, mut octets: Pieces) -> Result<Self, BookFault>
         ensures snapshot { IfOk result (λ book. IsSnapshotOf (text_of octets) book.queue) }
@@ -65,8 +65,8 @@ impl Book {
         Ok(book)
     }
 
-    /// Reads so many messages into an empty book, and takes this next number; the whole text is these messages. Memory
-    /// is asked for no more messages than may stand in the text.
+    /// Reads this many messages into an empty book, and takes this next number; the whole text is these messages.
+    /// Memory is asked for no more messages than may stand in the text.
     #[tactic(auto, using(crate::proofs::SnapshotReadLemmas::counted_entries))]
     fn read_entries(
         &mut self,
@@ -101,7 +101,7 @@ impl Book {
     }
 }
 
-/// The version of a snapshot, the next number and the count of messages, which are let go.
+/// Returns the version of a snapshot, the next number and the count of messages, which are let go.
 #[tactic(auto, using(crate::proofs::PieceLemmas::heads_in_pieces))]
 fn next_head(octets: &mut Pieces) -> Result<(Version, u64, u32), BookFault>
     ensures head { IfOk result (λ parts.
@@ -119,7 +119,8 @@ fn next_head(octets: &mut Pieces) -> Result<(Version, u64, u32), BookFault>
     Ok((version, next, count))
 }
 
-/// The version of a snapshot, by its first octet, the next number, the count of messages, and what follows them.
+/// Returns the version of a snapshot, by its first octet, the next number, the count of messages, and what follows
+/// them.
 #[tactic(auto, using(crate::proofs::SnapshotReadLemmas::snapshot_heads))]
 fn read_head(octets: &[u8]) -> Option<(Version, u64, u32, &[u8])>
     ensures { MatchOption result (SpellsNoSnapshot octets.now)
@@ -131,7 +132,7 @@ fn read_head(octets: &[u8]) -> Option<(Version, u64, u32, &[u8])>
     Some((version, next, count, rest))
 }
 
-/// The version of a snapshot with this first octet.
+/// Returns the version of a snapshot with this first octet.
 #[tactic(auto, using(crate::proofs::SnapshotReadLemmas::no_version))]
 fn version_of(kind: u8) -> Option<Version>
     ensures { MatchOption result ((version : AnyVersion) → kind ≢ snapshot_kind version)
@@ -144,7 +145,7 @@ fn version_of(kind: u8) -> Option<Version>
     }
 }
 
-/// The next number, the count of messages, and what follows them.
+/// Returns the next number, the count of messages, and what follows them.
 fn read_counts(text: &[u8]) -> Option<(u64, u32, &[u8])>
     ensures { MatchOption result (SpellsNoCounts text.now)
         (λ parts. SpellsCounts text.now parts.0 parts.1 parts.2.now) }
@@ -154,7 +155,7 @@ fn read_counts(text: &[u8]) -> Option<(u64, u32, &[u8])>
     Some((next, count, rest))
 }
 
-/// Writes the snapshot of a map's messages and a next number, with room for so many octets more.
+/// Writes the snapshot of a map's messages and a next number, with room for this many octets more.
 fn write_snapshot(
     alloc: Global,
     next: u64,
@@ -177,7 +178,7 @@ fn write_snapshot(
     Ok(out)
 }
 
-/// How many octets the snapshot of these messages takes.
+/// Returns how many octets the snapshot of these messages takes.
 fn length_of(messages: &IndexMap<u64, Option<Message>>) -> usize
     ensures { result ≡ min (13 + entries_length (live messages.now.entries)) (2 ^ 64 - 1) }
 {
@@ -191,7 +192,7 @@ fn length_of(messages: &IndexMap<u64, Option<Message>>) -> usize
     total
 }
 
-/// How many octets the message of an entry takes, if it hasn't ended.
+/// Returns how many octets the message of an entry takes, if it hasn't ended.
 fn length_of_slot(slot: &Option<Message>) -> usize
     ensures { result ≡ min (entries_length (if_there 0 slot.now)) (2 ^ 64 - 1) }
 {
@@ -201,7 +202,7 @@ fn length_of_slot(slot: &Option<Message>) -> usize
     }
 }
 
-/// How many messages haven't ended.
+/// Returns how many messages haven't ended.
 #[tactic(auto, using(crate::proofs::SnapshotWriteLemmas::count_end))]
 fn queued_count(messages: &IndexMap<u64, Option<Message>>) -> usize
     ensures { result ≡ length (live messages.now.entries) }
@@ -216,7 +217,7 @@ fn queued_count(messages: &IndexMap<u64, Option<Message>>) -> usize
     count
 }
 
-/// How many messages an entry has that haven't ended.
+/// Returns how many messages an entry has that haven't ended.
 fn count_of(slot: &Option<Message>) -> usize
     ensures { result ≡ length (if_there 0 slot.now) }
 {

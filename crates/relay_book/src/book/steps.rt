@@ -11,7 +11,7 @@ use crate::version::Version;
 use relay_trace::Moment;
 use std::alloc::{AllocError, Global};
 
-/// What the verdicts of an outcome make of the places of a message, in order.
+/// Returns what the verdicts of an outcome make of the places of a message, in order.
 pub(super) fn place_steps_by(
     alloc: Global,
     message: &Message,
@@ -30,7 +30,7 @@ pub(super) fn place_steps_by(
     Ok(steps)
 }
 
-/// What a verdict makes of a place.
+/// Returns what a verdict makes of a place.
 fn place_step(version: Version, message: &Message, at: Moment, ruling: &Ruling) -> Option<PlaceStep>
     ensures { result ≡ place_step version message.now at ruling.now }
 {

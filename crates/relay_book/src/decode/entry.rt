@@ -20,8 +20,8 @@ use relay_pieces::Pieces;
 use relay_trace::Moment;
 use std::alloc::Global;
 
-/// The fields of a message: its number, its moment, the three of MAIL, the recipients, their places, the stored text,
-/// and what follows them.
+/// The fields of a message: its number, its time, the three of MAIL, the recipients, their places, the stored text, and
+/// what follows them.
 type EntryFields<'a> = (
     u64,
     u64,
@@ -66,7 +66,7 @@ fn split_entry(alloc: Global, version: Version, text: &[u8]) -> Result<EntryFiel
     }
 }
 
-/// A message, with a copy of its stored text, and what follows it.
+/// Returns a message, with a copy of its stored text, and what follows it.
 #[tactic(auto, using(crate::proofs::EntryFieldLemmas::refused_entries))]
 fn read_entry(alloc: Global, version: Version, text: &[u8]) -> Result<(Message, &[u8]), BookFault>
     ensures entry { IfOk result (λ parts. IsQueuedBy version (numbered parts.0)
@@ -102,7 +102,7 @@ fn read_entry(alloc: Global, version: Version, text: &[u8]) -> Result<(Message, 
     ))
 }
 
-/// A message of a number from a least one to below the next, and what follows it.
+/// Returns a message of a number from a least one to below the next, and what follows it.
 #[tactic(auto, using(crate::proofs::EntryFieldLemmas::none_in, crate::proofs::EntryFieldLemmas::out_of_row))]
 fn read_entry_in(
     alloc: Global,
@@ -123,7 +123,7 @@ fn read_entry_in(
     Ok((message, rest))
 }
 
-/// The same at the front of what is held of a text, where it is let go.
+/// Returns the same at the front of what is held of a text, if it is let go.
 #[tactic(auto, using(crate::proofs::PieceLemmas::behind_first, crate::proofs::PieceLemmas::first_behind))]
 fn read_front(
     alloc: Global,
@@ -145,7 +145,7 @@ fn read_front(
     Ok(message)
 }
 
-/// The same at the front of a text, where it is let go. Its pieces are put together only where a message stands in
+/// Returns the same at the front of a text, if it is let go. Its pieces are put together only if a message is in
 /// several.
 #[tactic(auto, using(crate::proofs::PieceLemmas::none_in_all))]
 pub(crate) fn next_entry(

@@ -10,7 +10,7 @@ ghost use Rattle.relay_book.specs.Fields.{HasMailFields, IsMail, IsNoMail};
 
 use relay_envelope::{Mail, Path, Ret, is_envid, is_reverse_path};
 
-/// The reverse path that the whole text is.
+/// Returns the reverse path that the whole text is.
 fn reverse_path(text: &[u8]) -> Option<Path<'_>>
     ensures { MatchOption result (¬ IsReversePath text.now)
         (λ path. IsReversePath text.now × (text.now ≡ path_text (value_of path))) }
@@ -22,7 +22,7 @@ fn reverse_path(text: &[u8]) -> Option<Path<'_>>
     }
 }
 
-/// The RET of a number.
+/// Returns the RET of a number.
 fn ret_of(number: u8) -> Option<Option<Ret>>
     ensures { MatchOption result ((ret : Option AnyRet) → number ≢ ret_number ret)
         (λ ret. number ≡ ret_number ret) }
@@ -35,7 +35,7 @@ fn ret_of(number: u8) -> Option<Option<Ret>>
     }
 }
 
-/// ENVID as it was written, or none where the text is empty.
+/// ENVID as it was written, or none if the text is empty.
 fn envid_of(text: &[u8]) -> Option<Option<&[u8]>>
     ensures { MatchOption result
         ((envid : Option (List ℕ)) → may_be_envid envid ≡ true → text.now ≢ written envid)
@@ -51,7 +51,7 @@ fn envid_of(text: &[u8]) -> Option<Option<&[u8]>>
     }
 }
 
-/// What MAIL said, by the fields of a record.
+/// Returns what MAIL said, by the fields of a record.
 #[tactic(auto, using(crate::proofs::MailFieldLemmas::refused_mail))]
 pub(super) fn mail_of<'a>(path: &'a [u8], ret: u8, envid: &'a [u8]) -> Option<Mail<'a>>
     ensures { MatchOption result

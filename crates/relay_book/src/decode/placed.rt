@@ -22,7 +22,7 @@ use std::alloc::{AllocError, Global};
 /// The most Later verdicts that a place counts.
 const LATER_LIMIT: u8 = 4;
 
-/// The place of these fields.
+/// Returns the place of these fields.
 fn place_of(held: u8, laters: u8, delayed: u8, due: u64) -> Option<Place>
     ensures { MatchOption result (IsNoPlace held laters delayed due)
         (λ place. IsPlace place × HasPlaceFields place held laters delayed due) }
@@ -34,7 +34,7 @@ fn place_of(held: u8, laters: u8, delayed: u8, due: u64) -> Option<Place>
     }
 }
 
-/// A place that left, of which no Later verdict counts, which wasn't reported as delayed and isn't due.
+/// Returns a place that left, of which no Later verdict counts, which wasn't reported as delayed and isn't due.
 fn left_place(laters: u8, delayed: u8, due: u64) -> Option<Place>
     ensures { MatchOption result (IsNoPlace 0 laters delayed due)
         (λ place. IsPlace place × HasPlaceFields place 0 laters delayed due) }
@@ -46,7 +46,7 @@ fn left_place(laters: u8, delayed: u8, due: u64) -> Option<Place>
     }
 }
 
-/// A place that is held.
+/// Returns a place that is held.
 fn held_place(laters: u8, delayed: u8, due: u64) -> Option<Place>
     ensures { MatchOption result (IsNoPlace 1 laters delayed due)
         (λ place. IsPlace place × HasPlaceFields place 1 laters delayed due) }
@@ -72,7 +72,8 @@ fn waiting_place(laters: u8, delayed: bool, due: u64) -> Place
     }
 }
 
-/// Whether a place was reported as delayed, and what follows it: the first version says nothing, which counts as 0.
+/// Returns whether a place was reported as delayed, and what follows it: the first version says nothing, which counts
+/// as 0.
 #[tactic(auto, using(crate::proofs::PlacedLemmas::said_of_delay))]
 fn split_delay(version: Version, text: &[u8]) -> Option<(u8, &[u8])>
     ensures { MatchOption result (HasNoDelay version text.now)
@@ -87,7 +88,7 @@ fn split_delay(version: Version, text: &[u8]) -> Option<(u8, &[u8])>
     }
 }
 
-/// The fields of a place, and what follows them.
+/// Returns the fields of a place, and what follows them.
 #[tactic(auto, using(crate::proofs::PlacedLemmas::place_fields))]
 fn split_place(version: Version, text: &[u8]) -> Option<(u8, u8, u8, u64, &[u8])>
     ensures { MatchOption result (HasNoPlaceFields version text.now)
@@ -102,7 +103,7 @@ fn split_place(version: Version, text: &[u8]) -> Option<(u8, u8, u8, u64, &[u8])
     }
 }
 
-/// A place, and what follows it.
+/// Returns a place, and what follows it.
 #[tactic(auto, using(crate::proofs::PlacedLemmas::judged_places))]
 fn read_place(version: Version, text: &[u8]) -> Option<(Place, &[u8])>
     ensures { MatchOption result (HasNone (IsPlaceBy version) (place_octets version) text.now)
@@ -113,7 +114,7 @@ fn read_place(version: Version, text: &[u8]) -> Option<(Place, &[u8])>
     Some((place, rest))
 }
 
-/// A recipient and its place, and what follows them.
+/// Returns a recipient and its place, and what follows them.
 #[tactic(auto, using(crate::proofs::PlacedLemmas::placed_recipients))]
 fn read_one(version: Version, text: &[u8]) -> Option<(Rcpt<'_>, Place, &[u8])>
     ensures { MatchOption result (HasNone (IsPlacedBy version) (placed_octets version) text.now)
@@ -135,7 +136,7 @@ fn push_place(places: &mut Vec<Place>, place: Place) -> Result<(), AllocError>
     Ok(())
 }
 
-/// So many recipients and their places, and what follows them.
+/// Returns this many recipients and their places, and what follows them.
 fn read_row(
     alloc: Global,
     version: Version,

@@ -17,7 +17,7 @@ use crate::field::read_sized_2;
 use relay_envelope::{Notify, Outcomes, Path, Rcpt, Recipient, Recipients, is_orcpt};
 use std::alloc::Global;
 
-/// The NOTIFY of a number.
+/// Returns the NOTIFY of a number.
 fn notify_of(number: u8) -> Option<Option<Notify>>
     ensures { MatchOption result
         ((notify : Option AnyNotify) → may_be_notify notify ≡ true → number ≢ notify_number notify)
@@ -47,7 +47,7 @@ fn on(success: bool, failure: bool, delay: bool) -> Notify
     })
 }
 
-/// The forward path that the whole text is.
+/// Returns the forward path that the whole text is.
 fn forward_path(text: &[u8]) -> Option<Path<'_>>
     ensures { MatchOption result (¬ IsWrittenPath is_forward text.now)
         (λ path. IsWrittenPath is_forward text.now × (text.now ≡ path_text (value_of path))) }
@@ -60,7 +60,7 @@ fn forward_path(text: &[u8]) -> Option<Path<'_>>
     }
 }
 
-/// ORCPT as it was written, or none where the text is empty.
+/// ORCPT as it was written, or none if the text is empty.
 fn orcpt_of(text: &[u8]) -> Option<Option<&[u8]>>
     ensures { MatchOption result
         ((orcpt : Option (List ℕ)) → may_be_orcpt orcpt ≡ true → text.now ≢ written orcpt)
@@ -76,7 +76,7 @@ fn orcpt_of(text: &[u8]) -> Option<Option<&[u8]>>
     }
 }
 
-/// A text after its length, an octet, a text after its length, and what follows them: what MAIL says, or a
+/// Returns a text after its length, an octet, a text after its length, and what follows them: what MAIL says, or a
 /// recipient.
 #[tactic(auto, using(crate::proofs::FieldLemmas::recipient_fields))]
 pub(crate) fn read_fields(text: &[u8]) -> Option<(&[u8], u8, &[u8], &[u8])>
@@ -90,7 +90,7 @@ pub(crate) fn read_fields(text: &[u8]) -> Option<(&[u8], u8, &[u8], &[u8])>
     Some((path, *number, orcpt, behind))
 }
 
-/// The recipient of these fields.
+/// Returns the recipient of these fields.
 #[tactic(auto, using(crate::proofs::FieldLemmas::refused_recipients))]
 fn recipient_of<'a>(path: &'a [u8], number: u8, orcpt: &'a [u8]) -> Option<Rcpt<'a>>
     ensures { MatchOption result
@@ -108,7 +108,7 @@ fn recipient_of<'a>(path: &'a [u8], number: u8, orcpt: &'a [u8]) -> Option<Rcpt<
     })
 }
 
-/// A recipient, and what follows it.
+/// Returns a recipient, and what follows it.
 #[tactic(auto, using(crate::proofs::FieldLemmas::judged_recipients))]
 pub(super) fn read_recipient(text: &[u8]) -> Option<(Rcpt<'_>, &[u8])>
     ensures { MatchOption result
@@ -121,7 +121,7 @@ pub(super) fn read_recipient(text: &[u8]) -> Option<(Rcpt<'_>, &[u8])>
     Some((rcpt, behind))
 }
 
-/// So many recipients, and what follows them.
+/// Returns this many recipients, and what follows them.
 fn read_row(alloc: Global, count: u8, text: &[u8]) -> Result<(Recipients, &[u8]), BookFault>
     ensures row { IfOk result (λ parts. AreSoMany IsRecipient count parts.0
         × (text.now ≡ flat_map recipient_octets parts.0 ++ parts.1.now)) }

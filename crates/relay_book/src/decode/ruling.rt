@@ -13,7 +13,7 @@ use crate::limits::{REFUSAL_LIMIT, is_printable, is_reply_code};
 use relay_octets::Octets;
 use std::alloc::Global;
 
-/// A refusal's code and its text, and what follows them.
+/// Returns a refusal's code and its text, and what follows them.
 #[tactic(auto, using(crate::proofs::RefusalLemmas::malformed_refusals))]
 fn read_refusal(text: &[u8]) -> Option<(u16, &[u8], &[u8])>
     ensures { MatchOption result (HasNoRefusal text.now)
@@ -36,7 +36,7 @@ fn read_refusal(text: &[u8]) -> Option<(u16, &[u8], &[u8])>
     Some((code, field, rest))
 }
 
-/// A verdict, and what follows it.
+/// Returns a verdict, and what follows it.
 #[tactic(auto, using(crate::proofs::RefusalLemmas::malformed_verdicts))]
 fn read_verdict(alloc: Global, text: &[u8]) -> Result<(Verdict, &[u8]), BookFault>
     ensures verdict { IfOk result (λ parts.
@@ -57,7 +57,7 @@ fn read_verdict(alloc: Global, text: &[u8]) -> Result<(Verdict, &[u8]), BookFaul
     }
 }
 
-/// A refusal with a copy of its text, and what follows it.
+/// Returns a refusal with a copy of its text, and what follows it.
 fn read_refused(alloc: Global, text: &[u8]) -> Result<(Verdict, &[u8]), BookFault>
     ensures verdict { IfOk result (λ parts.
         IsVerdict parts.0 × (3 ∷ text.now ≡ verdict_octets parts.0 ++ parts.1.now)) }
@@ -70,7 +70,7 @@ fn read_refused(alloc: Global, text: &[u8]) -> Result<(Verdict, &[u8]), BookFaul
     Ok((Verdict::Refused { code, text }, rest))
 }
 
-/// A place and its verdict, and what follows them.
+/// Returns a place and its verdict, and what follows them.
 #[tactic(auto, using(crate::proofs::RefusalLemmas::no_place, crate::proofs::RefusalLemmas::no_verdict))]
 fn read_ruling(alloc: Global, text: &[u8]) -> Result<(Ruling, &[u8]), BookFault>
     ensures ruling { IfOk result (λ parts.
@@ -90,7 +90,7 @@ fn read_ruling(alloc: Global, text: &[u8]) -> Result<(Ruling, &[u8]), BookFault>
     ))
 }
 
-/// So many verdicts, and what follows them.
+/// Returns this many verdicts, and what follows them.
 fn read_row(alloc: Global, count: u8, text: &[u8]) -> Result<(Rulings, &[u8]), BookFault>
     ensures row { IfOk result (λ parts. AreSoMany IsRuling count parts.0
         × (text.now ≡ flat_map ruling_octets parts.0 ++ parts.1.now)) }

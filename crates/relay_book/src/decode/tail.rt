@@ -3,8 +3,8 @@ ghost use Rattle.std.specs.Prelude.{◌≡◌, ◌≤◌, drop, length};
 
 use std::collections::VecDeque;
 
-/// What stands after so many octets. It takes no memory: in a ring the octets before it go after it and are cut off,
-/// and it moves down at once.
+/// Returns what is after this many octets. Allocates nothing: in a ring the octets before it go after it and are cut
+/// off, and it moves down at once.
 #[tactic(auto, using(crate::proofs::TailLemmas::cut_turned))]
 pub(super) fn behind(text: Vec<u8>, count: usize) -> Vec<u8>
     requires { count ≤ length text.items }

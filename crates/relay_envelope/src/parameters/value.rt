@@ -13,7 +13,7 @@ const ENVID_LIMIT: usize = 100;
 /// The most octets of ORCPT as it is written (RFC 3461, section 4.2).
 const ORCPT_LIMIT: usize = 500;
 
-/// Whether the value is one of ENVID (RFC 3461, section 4.4). It takes no memory.
+/// Returns whether the value is one of ENVID (RFC 3461, section 4.4). Allocates nothing.
 #[tactic(auto, unfolding(crate::specs::Parameters::is_envid))]
 pub fn is_envid(value: &[u8]) -> bool
     ensures { result ≡ is_envid value.now }
@@ -21,7 +21,7 @@ pub fn is_envid(value: &[u8]) -> bool
     1 <= value.len() && value.len() <= ENVID_LIMIT && is_readable_xtext(value)
 }
 
-/// Whether the value is one of ORCPT (RFC 3461, section 4.2): a type, `;` and an address. It takes no memory.
+/// Returns whether the value is one of ORCPT (RFC 3461, section 4.2): a type, `;` and an address. Allocates nothing.
 #[tactic(auto, unfolding(crate::specs::Parameters::is_orcpt))]
 pub fn is_orcpt(value: &[u8]) -> bool
     ensures { result ≡ is_orcpt value.now }
@@ -30,7 +30,7 @@ pub fn is_orcpt(value: &[u8]) -> bool
     value.len() <= ORCPT_LIMIT && is_address_type(address_type) && is_original_address(address)
 }
 
-/// What stands before the first `;` of ORCPT, and after it; nothing stands after it where there is none.
+/// Returns what is before the first `;` of ORCPT, and after it; nothing is after it if there is none.
 pub(crate) fn type_and_address(value: &[u8]) -> (&[u8], &[u8])
     ensures address_type { result.0.now ≡ address_type_of value.now }
     ensures address { result.1.now ≡ address_of value.now }
@@ -61,7 +61,7 @@ fn is_original_address(text: &[u8]) -> bool
     0 < text.len() && is_readable_xtext(text)
 }
 
-/// The text is xtext, and what it stands for is printable.
+/// Returns whether the text is xtext, and what it stands for is printable.
 #[tactic(auto, unfolding(crate::specs::Parameters::is_readable_xtext))]
 fn is_readable_xtext(text: &[u8]) -> bool
     ensures { result ≡ is_readable_xtext text.now }

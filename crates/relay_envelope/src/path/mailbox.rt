@@ -24,7 +24,7 @@ pub struct Mailbox<'a> {
 }
 
 impl<'a> Mailbox<'a> {
-    /// The mailbox that the whole text is.
+    /// Returns the mailbox that the whole text is.
     pub(super) fn read(text: &'a [u8]) -> Option<Self>
         ensures { MatchOption result
             ((route : List ℕ) (local : List ℕ) (domain : List ℕ) → text.now ≡ mailbox_text route local domain
@@ -47,14 +47,14 @@ impl<'a> Mailbox<'a> {
         }
     }
 
-    /// The domain.
+    /// Returns the domain.
     pub(super) fn domain(&self) -> &'a [u8]
         ensures { result.now ≡ self.now.domain.now }
     {
         self.domain
     }
 
-    /// The mailbox as it came, with its brackets.
+    /// Returns the mailbox as it came, with its brackets.
     pub(super) fn text(&self) -> &'a [u8]
         ensures value { result.now ≡ mailbox_text self.now.route.now self.now.local.now self.now.domain.now }
         ensures within { length result.now ≤ 256 }
@@ -63,7 +63,7 @@ impl<'a> Mailbox<'a> {
     }
 }
 
-/// The source route of a body that begins with one, and the address after it.
+/// Returns the source route of a body that begins with one, and the address after it.
 fn split_route(body: &[u8]) -> Option<(&[u8], &[u8])>
     ensures { MatchOption result
         ((route : List ℕ) (address : List ℕ) → ¬ SplitsRoute body.now route address)
@@ -78,7 +78,7 @@ fn split_route(body: &[u8]) -> Option<(&[u8], &[u8])>
     }
 }
 
-/// What stands before the last `@`, and after it.
+/// Returns what is before the last `@`, and after it.
 fn split_at_last_at(body: &[u8]) -> Option<(&[u8], &[u8])>
     ensures { MatchOption result
         (stands_in 64 body.now ≡ false)
@@ -88,7 +88,7 @@ fn split_at_last_at(body: &[u8]) -> Option<(&[u8], &[u8])>
     Some((&body[..place], &body[place + 1..]))
 }
 
-/// What stands after the last `@`.
+/// Returns what is after the last `@`.
 pub(super) fn behind_last_at(text: &[u8]) -> Option<&[u8]>
     ensures { MatchOption result
         (list_any is_at text.now ≡ false)
@@ -99,22 +99,22 @@ pub(super) fn behind_last_at(text: &[u8]) -> Option<&[u8]>
     Some(behind)
 }
 
-/// A local part is not empty, and a row of plain octets and quoted strings.
+/// Returns whether a local part is not empty, and a row of plain octets and quoted strings.
 fn is_local_part(local: &[u8]) -> bool
     ensures { IsTrue result ↔ IsLocalPart local.now }
 {
     !local.is_empty() && is_row(local)
 }
 
-/// Whether the text is what may stand after the `@` of a mailbox (RFC 5321, section 4.1.2): a domain, or an address
-/// literal. It takes no memory.
+/// Returns whether the text is what may stand after the `@` of a mailbox (RFC 5321, section 4.1.2): a domain, or an
+/// address literal. Allocates nothing.
 pub fn is_domain(domain: &[u8]) -> bool
     ensures { IsTrue result ↔ IsDomain domain.now }
 {
     is_domain_name(domain) || is_address_literal(domain)
 }
 
-/// A domain is not empty, and has letters, digits, `-`, `.` and `_` alone.
+/// Returns whether a domain is not empty, and has letters, digits, `-`, `.` and `_` alone.
 fn is_domain_name(domain: &[u8]) -> bool
     ensures { IsTrue result ↔ IsDomainName domain.now }
 {

@@ -17,7 +17,7 @@ pub struct Postmaster<'a> {
 }
 
 impl<'a> Postmaster<'a> {
-    /// The postmaster's path that the whole text is.
+    /// Returns the postmaster's path that the whole text is.
     pub(super) fn read(text: &'a [u8]) -> Option<Self>
         ensures { MatchOption result
             ((word : List ℕ) → IsPostmaster word → text.now ≢ in_brackets word)
@@ -31,7 +31,7 @@ impl<'a> Postmaster<'a> {
         }
     }
 
-    /// The path as it came, with its brackets.
+    /// Returns the path as it came, with its brackets.
     pub(super) fn text(&self) -> &'a [u8]
         ensures value { result.now ≡ in_brackets self.now.word.now }
         ensures within { length result.now ≤ 256 }
@@ -40,7 +40,7 @@ impl<'a> Postmaster<'a> {
     }
 }
 
-/// The word is the postmaster's, in any letter case.
+/// Returns whether the word is the postmaster's, in any letter case.
 fn is_postmaster(word: &[u8]) -> bool
     ensures { IsTrue result ↔ IsPostmaster word.now }
 {

@@ -34,7 +34,7 @@ const SENDER_OK: &[u8] = b"250 sender OK\r\n";
 /// How many places an attempt that waits has.
 const PLACES: u8 = 100;
 
-/// Hands a text on so many times: by DATA where it ends in CR LF, and else by BDAT.
+/// Hands a text on this many times: by DATA where it ends in CR LF, and else by BDAT.
 pub fn hand_texts_on(told: &mut Told, times: u64, text: &[u8]) -> Result<(), Fail> {
     let envelope = envelope_of(told.alloc, 1)?;
     let mut octets: u64 = 0;
@@ -66,7 +66,7 @@ fn hand_on(alloc: Global, envelope: &Envelope, stored_text: &[u8]) -> Result<u64
     Ok(octets)
 }
 
-/// How many octets are written after this reply.
+/// Returns how many octets are written after this reply.
 fn count_written(
     attempt: &mut Attempt,
     mail: &MailObject<'_>,
@@ -76,7 +76,7 @@ fn count_written(
     Ok(driven.out.len() as u64)
 }
 
-/// An attempt to hand a message on for its first places.
+/// Returns an attempt to hand a message on for its first places.
 fn attempt_of(alloc: Global, count: u8) -> Result<Attempt, AllocError> {
     let mut places = Vec::new(alloc);
     for place in 0..count {
@@ -85,7 +85,7 @@ fn attempt_of(alloc: Global, count: u8) -> Result<Attempt, AllocError> {
     Attempt::begin(alloc, b"relay.example", places)
 }
 
-/// Lets so many attempts with 100 places wait.
+/// Lets this many attempts with 100 places wait.
 pub fn hold_attempts(told: &mut Told, count: u64) -> Result<(), Fail> {
     let envelope = envelope_of(told.alloc, PLACES)?;
     let mut held: Vec<Attempt> = Vec::new(told.alloc);
@@ -97,8 +97,8 @@ pub fn hold_attempts(told: &mut Told, count: u64) -> Result<(), Fail> {
     Ok(())
 }
 
-/// An attempt that waits for the reply to the last of its RCPTs. To the others the server said that they may be tried
-/// again.
+/// Returns an attempt that waits for the reply to the last of its RCPTs. To the others the server said that they may be
+/// tried again.
 fn waiting(alloc: Global, envelope: &Envelope) -> Result<Attempt, AllocError> {
     let mail = MailObject {
         envelope,

@@ -5,7 +5,7 @@ use relay_octets::Octets;
 use std::alloc::{AllocError, Global};
 use std::test::Fail;
 
-/// Fills a book with so many messages of this text, and transfers each, if it is to be drained.
+/// Fills a book with this many messages of this text, and transfers each, if it is to be drained.
 pub fn fill_book(told: &mut Told, count: u64, text: &[u8], is_drained: bool) -> Result<(), Fail> {
     let mut book = Book::new(told.alloc);
     fill(told.alloc, &mut book, count, text)?;
@@ -33,7 +33,7 @@ fn drain(alloc: Global, book: &mut Book, count: u64) -> Result<(), Fail> {
     Ok(())
 }
 
-/// The outcome by which the place of a message goes on to a hop.
+/// Returns the outcome by which the place of a message goes on to a hop.
 fn transfer_of(alloc: Global, message: u64) -> Result<Change, AllocError> {
     let mut rulings = Rulings::new(alloc);
     rulings.push(Ruling {
@@ -50,7 +50,7 @@ fn transfer_of(alloc: Global, message: u64) -> Result<Change, AllocError> {
     }))
 }
 
-/// Decodes a record so many times.
+/// Decodes a record this many times.
 pub fn decode_record(told: &mut Told, times: u64, record: &[u8]) -> Result<(), Fail> {
     let mut octets: u64 = 0;
     for _ in 0..times {
@@ -62,7 +62,7 @@ pub fn decode_record(told: &mut Told, times: u64, record: &[u8]) -> Result<(), F
     Ok(())
 }
 
-/// How many octets of text an accept has that is decoded from a record.
+/// Returns how many octets of text an accept has that is decoded from a record.
 fn text_of(alloc: Global, record: &[u8]) -> u64 {
     match decode_change(alloc, record) {
         Ok(Change::Accept(accept)) => accept.stored_text.len() as u64,

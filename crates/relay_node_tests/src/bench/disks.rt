@@ -2,7 +2,7 @@ use relay_disk::{Disks, FileDisk};
 use std::fs;
 use std::test::Fail;
 
-/// The two files of the spool at this path, which are made where they aren't there.
+/// Returns the two files of the spool at this path, which are made where they aren't there.
 pub fn files(rt: &HostRuntime, path: &str) -> Result<Disks<FileDisk>, Fail> {
     let second = second_of(rt, path)?;
     Ok(Disks {
@@ -11,7 +11,7 @@ pub fn files(rt: &HostRuntime, path: &str) -> Result<Disks<FileDisk>, Fail> {
     })
 }
 
-/// Takes away the files of the spool at this path, where they are there.
+/// Takes away the files of the spool at this path, if they are there.
 pub fn forget(rt: &HostRuntime, path: &str) -> Result<(), Fail> {
     let _ = fs::remove_file(rt, path);
     let _ = fs::remove_file(rt, second_of(rt, path)?.as_str());

@@ -9,7 +9,7 @@ use std::test::Fail;
 /// When a message of a book comes, and what becomes of it.
 pub const AT: u64 = 1_000;
 
-/// A message for so many recipients, of which a report returns the whole text.
+/// Returns a message for this many recipients, of which a report returns the whole text.
 pub fn envelope_of(alloc: Global, count: u8) -> Result<Envelope, Fail> {
     let mut envelope = Envelope::new(alloc, read_mail(b"<a@example.org> RET=FULL")?)?;
     for _ in 0..count {
@@ -28,7 +28,7 @@ pub fn accept_of(alloc: Global, text: &[u8]) -> Result<Change, Fail> {
     }))
 }
 
-/// The moment of so many seconds, the first where there is none.
+/// Returns the time of this many seconds, the first if there is none.
 pub fn moment(seconds: u64) -> Moment {
     Moment::new(seconds).unwrap_or(first_moment())
 }

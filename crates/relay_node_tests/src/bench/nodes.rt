@@ -20,8 +20,8 @@ const BLOCK: usize = 65_536;
 /// The limits are those of a configuration that says nothing of them, but for the spool's.
 const KEYS: &str = "spool_limit = 549755813888";
 
-/// Makes a node in these files, which are to be empty, and hands it the commands and the content of a message so many
-/// times on one session. The first ten come at the moment 0, and the others later.
+/// Makes a node in these files, which are to be empty, and hands it the commands and the content of a message this many
+/// times on one session. The first ten come at the time 0, and the others later.
 pub fn accept_messages(
     rt: &HostRuntime,
     told: &mut Told,
@@ -42,7 +42,7 @@ pub fn tell_messages(told: &mut Told, count: u64, node: &Node<FileDisk>) {
     told.say(" octets");
 }
 
-/// Gives a node the commands and the content so many times, and counts the messages that were queued.
+/// Gives a node the commands and the content this many times, and counts the messages that were queued.
 fn accept_each(node: &mut Node<FileDisk>, count: u64, transaction: &[u8]) -> Result<u64, Fail> {
     let session = greeted(node)?;
     let later = moment(LATER);
@@ -64,7 +64,7 @@ pub fn open_node(rt: &HostRuntime, told: &mut Told, path: &str) -> Result<(), Fa
     Ok(())
 }
 
-/// Opens the node in these files, and writes its spool anew.
+/// Opens the node in these files, and compacts its spool.
 pub fn compact_node(rt: &HostRuntime, told: &mut Told, path: &str) -> Result<(), Fail> {
     let (before, behind) = opened(rt, path)?.compact()?;
     told.count("", before as u64);
@@ -73,7 +73,7 @@ pub fn compact_node(rt: &HostRuntime, told: &mut Told, path: &str) -> Result<(),
     Ok(())
 }
 
-/// A node without mail, on the files of this path, which are to be empty.
+/// Returns a node without mail, on the files of this path, which are to be empty.
 fn created(rt: &HostRuntime, path: &str) -> Result<Node<FileDisk>, Fail> {
     match Node::create(rt.alloc(), config(rt)?, files(rt, path)?) {
         Ok(node) => Ok(node),
@@ -81,7 +81,7 @@ fn created(rt: &HostRuntime, path: &str) -> Result<Node<FileDisk>, Fail> {
     }
 }
 
-/// The node in the files of this path.
+/// Returns the node in the files of this path.
 pub fn opened(rt: &HostRuntime, path: &str) -> Result<Node<FileDisk>, Fail> {
     match Node::open(rt.alloc(), config(rt)?, files(rt, path)?) {
         Ok(node) => Ok(node),
@@ -93,7 +93,7 @@ fn config(rt: &HostRuntime) -> Result<Config, Fail> {
     config_of(rt.alloc(), KEYS, "* next.example")
 }
 
-/// The number of a session of which the client has said its name.
+/// Returns the number of a session of which the client has said its name.
 fn greeted(node: &mut Node<FileDisk>) -> Result<usize, Fail> {
     let session = node.connect(CLIENT)?.session;
     give(node, session, first_moment(), b"HELO x\r\n")?;

@@ -9,8 +9,8 @@ use relay_trace::Moment;
 use std::alloc::Global;
 use std::test::Fail;
 
-/// When the messages are due that came at the moment 0, and the others aren't yet. A place that is lost at the moment 0
-/// is due before it again.
+/// When the messages are due that came at the time 0, and the others aren't yet. A place that is lost at the time 0 is
+/// due before it again.
 const DUE: u64 = 20_000;
 
 /// What a next hop says to each group of commands.
@@ -21,7 +21,7 @@ const REPLIES: [&[u8]; 4] = [
     b"250 queued as 1\r\n",
 ];
 
-/// Asks the node in these files so many times what there is to do, when ten messages are due at most.
+/// Asks the node in these files this many times what there is to do, when ten messages are due at most.
 pub fn ask_for_works(
     rt: &HostRuntime,
     told: &mut Told,
@@ -39,7 +39,7 @@ pub fn ask_for_works(
     Ok(())
 }
 
-/// Begins so many times an attempt for each message of the node in these files that is due then, and loses it.
+/// Begins this many times an attempt for each message of the node in these files that is due then, and loses it.
 pub fn begin_attempts(
     rt: &HostRuntime,
     told: &mut Told,
@@ -65,12 +65,12 @@ pub fn deliver_messages(rt: &HostRuntime, told: &mut Told, path: &str) -> Result
     Ok(())
 }
 
-/// What there is to do at a moment.
+/// Returns what there is to do at a time.
 fn works_at(alloc: Global, node: &Node<FileDisk>, now: Moment) -> Result<Vec<Work>, NodeFault> {
     node.due(alloc, now)
 }
 
-/// Begins an attempt for each message that is due, and loses it at the moment 0.
+/// Begins an attempt for each message that is due, and loses it at the time 0.
 fn begin_and_lose(alloc: Global, node: &mut Node<FileDisk>) -> Result<u64, NodeFault> {
     let now = moment(DUE);
     let works = works_at(alloc, node, now)?;

@@ -7,7 +7,7 @@ use relay_routes::ReportForm;
 use std::alloc::{AllocError, Global};
 use std::test::Fail;
 
-/// Makes the report of a message's refusal so many times: report 2, which returns all of its stored text.
+/// Makes the report of a message's refusal this many times: report 2, which returns all of its stored text.
 pub fn make_reports(told: &mut Told, times: u64, stored_text: &[u8]) -> Result<(), Fail> {
     let mut book = Book::new(told.alloc);
     book.apply(told.alloc, accept_of(told.alloc, stored_text)?)?;
@@ -22,7 +22,7 @@ pub fn make_reports(told: &mut Told, times: u64, stored_text: &[u8]) -> Result<(
     }
 }
 
-/// Makes the report of message 1 so many times, and counts its octets.
+/// Makes the report of message 1 this many times, and counts its octets.
 fn count_octets(
     alloc: Global,
     times: u64,
@@ -46,7 +46,7 @@ fn count_octets(
     Ok(octets)
 }
 
-/// The verdict of a hop that refused the place.
+/// Returns the verdict of a hop that refused the place.
 fn refusal(alloc: Global) -> Result<Rulings, AllocError> {
     let text = Octets::from_slice(alloc, b"no such user")?;
     let mut rulings = Rulings::new(alloc);

@@ -20,7 +20,7 @@ pub fn open_spool(rt: &HostRuntime, told: &mut Told, path: &str) -> Result<(), F
     }
 }
 
-/// Makes a spool in these files, which are to be empty, and appends a body so many times.
+/// Makes a spool in these files, which are to be empty, and appends a body this many times.
 pub fn append_bodies(
     rt: &HostRuntime,
     told: &mut Told,
@@ -34,7 +34,7 @@ pub fn append_bodies(
     }
 }
 
-/// Appends a body so many times.
+/// Appends a body this many times.
 fn append_each(
     told: &mut Told,
     mut spool: Spool<FileDisk>,
@@ -50,7 +50,7 @@ fn append_each(
     Ok(())
 }
 
-/// Appends a body so many times, and says whether the spool took each.
+/// Appends a body this many times, and says whether the spool took each.
 fn takes_each(spool: &mut Spool<FileDisk>, times: u64, body: &[u8]) -> bool {
     if u32::try_from(body.len()).is_err() {
         return false;
@@ -63,8 +63,8 @@ fn takes_each(spool: &mut Spool<FileDisk>, times: u64, body: &[u8]) -> bool {
     true
 }
 
-/// Does on a bare file what the device does for so many appends that add as many octets each, and no more: the octets,
-/// a sync, an octet before them, a sync.
+/// Does on a bare file what the device does for this many appends that add as many octets each, and no more: the
+/// octets, a sync, an octet before them, a sync.
 pub fn sync_twice(
     rt: &HostRuntime,
     told: &mut Told,

@@ -36,8 +36,8 @@ impl Read for Trickle<'_> {
     }
 }
 
-/// How many of the octets that are left a read gives at most: as many as the trial says, or those of a line where it
-/// gives lines.
+/// Returns how many of the octets that are left a read gives at most: as many as the trial says, or those of a line
+/// where it gives lines.
 fn most_of(left: &[u8], trial: Trial) -> usize {
     if !trial.by_lines {
         return trial.most;
@@ -48,8 +48,8 @@ fn most_of(left: &[u8], trial: Trial) -> usize {
     }
 }
 
-/// Takes at most three octets at a call, and fails once where a trial says so: where it holds so many octets, or at the
-/// flush of that number.
+/// Takes at most three octets at a call, and fails once where a trial says so: where it holds this many octets, or at
+/// the flush of that number.
 #[derive(Drop)]
 pub(crate) struct Narrow {
     held: Vec<u8>,
@@ -67,8 +67,8 @@ impl Narrow {
         }
     }
 
-    /// How many octets it holds, where these begin what is to be written, and none was flushed after the flush that
-    /// failed.
+    /// Returns how many octets it holds, where these begin what is to be written, and none was flushed after the flush
+    /// that failed.
     pub(crate) fn count(&self, expected: &[u8]) -> Option<usize> {
         if expected.starts_with(self.held.as_slice()) && self.flushes <= self.trial.bad_flush {
             Some(self.held.len())

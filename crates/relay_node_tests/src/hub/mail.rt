@@ -12,8 +12,8 @@ pub(crate) const REPLIES: &[u8] =
 /// What the next hop says: its greeting, and a line each to EHLO, MAIL, RCPT, DATA and the content.
 pub(crate) const HOP_REPLIES: &[u8] = b"220 n\r\n250 n\r\n250 ok\r\n250 ok\r\n354 go\r\n250 ok\r\n";
 
-/// What the attempt writes to that, 188 octets. The time stamp line stands in three lines before the
-/// content, which is empty.
+/// What the attempt writes to that, 188 octets. The time stamp line is in three lines before the content, which is
+/// empty.
 pub(crate) const HOP_COMMANDS: &[u8] =
     b"EHLO relay.example\r\nMAIL FROM:<a@example.org>\r\nRCPT TO:<b@example.org>\r\nDATA\r\n\
 Received: from x ([127.0.0.1])\r\n by relay.example with SMTP id 1;\r\n Thu, 01 Jan 1970 00:00:00 +0000\r\n\

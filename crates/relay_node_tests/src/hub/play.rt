@@ -1,4 +1,4 @@
-//! What comes of a link whose peer ends or fails.
+//! The outcome of a link whose peer ends or fails.
 use crate::calls::{MemoryNode, count_changes, count_held, empty_node};
 use crate::hub::ends::{Narrow, Trickle};
 use crate::hub::mail::{COMMANDS, HOP_COMMANDS, HOP_REPLIES, REPLIES};
@@ -10,7 +10,7 @@ use std::alloc::Global;
 use std::sync::Wait;
 use std::test::Fail;
 
-/// What came of a link.
+/// The outcome of a link.
 #[derive(Clone, Copy)]
 struct Came {
     /// How it ended.
@@ -23,7 +23,7 @@ struct Came {
     changes: u64,
 }
 
-/// The first number of a row by which something else comes than is written down.
+/// Returns the first number of a row by which something else comes than is written down.
 pub(crate) fn difference_of<T: Wait>(
     rt: &T,
     alloc: Global,

@@ -1,13 +1,13 @@
 use crate::words::Words;
 
-/// A row of links.in: which link is tried, and where it ends or fails, the first and the last number of that, and
-/// what is to come of each.
+/// A row of links.in: which link is tried, and where it ends or fails, the first and the last number of that, and the
+/// outcome of each.
 ///
 /// The link is `serve` or `push`, or `hub`, a client's under a hub, whose client says line by line; `full` is the same
-/// over a node that has no number for a change any more. After `size` the peer gives so many octets at a call, and
-/// after `input` it ends after so many; after `read` a read fails once where so many are read, after `write` a write
-/// where so many are written, and after `flush` the flush of that number, counted from 1, where the peer says line by
-/// line.
+/// over a node that has no number for a change any more. After `size` the peer gives this many octets at a call, and
+/// after `input` it ends after this many; after `read` a read fails once where this many are read, after `write` a
+/// write where this many are written, and after `flush` the flush of that number, counted from 1, where the peer says
+/// line by line.
 #[derive(Clone, Copy)]
 pub(crate) struct Row<'a> {
     pub(crate) link: Link,
@@ -15,9 +15,9 @@ pub(crate) struct Row<'a> {
     pub(crate) first: usize,
     pub(crate) last: usize,
     /// How the link ends: `ended`, `input`, `output` or `fault` where a client is served, and `ended`, `lost` or
-    /// `unwritten` where mail is handed on.
+    /// `unwritten` where mail is relayed.
     pub(crate) end: &'a str,
-    /// How many octets it writes: as many as the number says, where none stands here.
+    /// How many octets it writes: as many as the number says, if none stands here.
     pub(crate) written: Option<usize>,
     /// How many places are held then.
     pub(crate) held: usize,
@@ -74,7 +74,7 @@ impl<'a> Row<'a> {
         }
     }
 
-    /// What is tried by this number.
+    /// Returns what is tried by this number.
     pub(crate) fn trial(self, number: usize) -> Trial {
         let by_lines = self.what == "flush" || matches!(self.link, Link::Hub | Link::Full);
         let mut trial = Trial {

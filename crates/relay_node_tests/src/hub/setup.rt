@@ -1,4 +1,4 @@
-//! A node over memory at the first moment that has taken a message, and an attempt for that. Each call of a link stands
+//! A node over memory at the first second that has taken a message, and an attempt for that. Each call of a link stands
 //! here alone, in a function without clauses: what calls these sees none of their contracts.
 use crate::calls::{MemoryNode, connect, due, empty_node, first_moment, start};
 use crate::hub::mail::COMMANDS;
@@ -8,7 +8,7 @@ use std::alloc::Global;
 use std::io::{Read, Write};
 use std::test::Fail;
 
-/// A node that has taken the message.
+/// Returns a node that has taken the message.
 pub fn node_with_mail(alloc: Global) -> Result<MemoryNode, Fail> {
     let mut node = empty_node(alloc)?;
     let mut input = COMMANDS;
@@ -30,7 +30,7 @@ pub fn serve<R: Read, W: Write>(
     }
 }
 
-/// The number of the attempt that begins for the one work that is due.
+/// Returns the number of the attempt that begins for the one work that is due.
 pub fn begin(alloc: Global, node: &mut MemoryNode) -> Result<usize, Fail> {
     for work in due(alloc, node, first_moment())?.as_slice() {
         if let Work::Try(message, hop) = work {

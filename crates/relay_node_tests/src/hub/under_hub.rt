@@ -20,7 +20,7 @@ use std::test::Fail;
 const LAST: &[u8] =
     b"RELAYQ01\x01\0\0\0\0\0\0\0\x01\x01\0\0\0\x0d\x05\x40\0\0\0\0\0\0\x01\0\0\0\0\0";
 
-/// A node without mail that has no number for a change any more.
+/// Returns a node without mail that has no number for a change any more.
 pub(crate) fn full_node(alloc: Global) -> Result<MemoryNode, Fail> {
     let disks = Disks {
         first: MemoryDisk::with_image(alloc, LAST)?,
@@ -44,7 +44,7 @@ pub(crate) fn serve_under_hub<T: Wait>(
     serve(rt, alloc, node, &config, reader, writer)
 }
 
-/// The same, by this configuration.
+/// Returns the same, by this configuration.
 fn serve<T: Wait>(
     rt: &T,
     alloc: Global,
@@ -56,7 +56,7 @@ fn serve<T: Wait>(
     serve_by::<Brand, T>(rt, alloc, node, Blank::new(1), config, reader, writer)
 }
 
-/// The same, of any ledger.
+/// Returns the same, of any ledger.
 fn serve_by<J: Opening, T: Wait>(
     rt: &T,
     alloc: Global,

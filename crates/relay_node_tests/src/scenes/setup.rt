@@ -1,4 +1,4 @@
-//! A relay over memory at the first moment. Each call of it stands here alone, in a function without clauses: what
+//! A relay over memory at the first second. Each call of it stands here alone, in a function without clauses: what
 //! calls these sees none of their contracts.
 use crate::calls::{CLIENT, due, empty_node_with, first_moment};
 use crate::told::Told;
@@ -15,8 +15,8 @@ pub type MemoryRelay = Relay<MemoryDisk>;
 /// A limit of the spool that no message comes to.
 pub(crate) const WIDE: u64 = 1_048_576;
 
-/// A relay without changes, with this limit of its spool in octets, whose device takes so many calls and no more, if
-/// that is said.
+/// Returns a relay without changes, with this limit of its spool in octets, whose device takes this many calls and no
+/// more, if that is said.
 pub(crate) fn relay_with(
     alloc: Global,
     limit: u64,
@@ -28,7 +28,7 @@ pub(crate) fn relay_with(
     }
 }
 
-/// The number of a new client's session.
+/// Returns the number of a new client's session.
 pub(crate) fn accept(relay: &mut MemoryRelay) -> Result<usize, NodeFault> {
     relay.accept(CLIENT)
 }
@@ -81,8 +81,7 @@ pub(crate) fn write_to_hop(relay: &mut MemoryRelay, attempt: usize, told: &mut T
     relay.wrote_to_hop(attempt, count);
 }
 
-/// The number of the attempt that begins for the one work that is due.
-/// It is unknown where nothing is due.
+/// Returns the number of the attempt that begins for the one work that is due. It is unknown where nothing is due.
 pub(crate) fn begin(alloc: Global, relay: &mut MemoryRelay) -> Result<usize, NodeFault> {
     for work in due(alloc, relay.node(), first_moment())?.as_slice() {
         if let Work::Try(message, hop) = work {

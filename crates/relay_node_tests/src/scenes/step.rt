@@ -22,13 +22,13 @@ use crate::told::Told;
 use relay_loop::{Answered, Closing, Group, Heard, Outbox, Piece, ReplyPiece, closing_line};
 use relay_node::NodeFault;
 
-/// The number at the front of this text, 0 where there is none, and what follows it.
+/// Returns the number at the front of this text, 0 if there is none, and what follows it.
 fn numbered(text: &str) -> (usize, &str) {
     let (number, rest) = text.split_once(' ').unwrap_or((text, ""));
     (number.parse::<usize>().unwrap_or(0), rest)
 }
 
-/// Takes a step, and tells what came of it.
+/// Takes a step, and tells its outcome.
 pub(crate) fn take_step(relay: &mut MemoryRelay, step: &str, told: &mut Told) {
     let (word, rest) = step.split_once(' ').unwrap_or((step, ""));
     let (number, text) = numbered(rest);
@@ -110,7 +110,8 @@ fn tell_each(told: &mut Told, clients: &[Client]) {
     }
 }
 
-/// Octets of several clients and next hops are heard at once. What came of each is told, and how many notes there are.
+/// Octets of several clients and next hops are heard at once. The outcome of each is told, and how many notes there
+/// are.
 fn hear_group(relay: &mut MemoryRelay, rest: &str, told: &mut Told) {
     let mut pieces = Vec::new(told.alloc);
     let mut replies = Vec::new(told.alloc);

@@ -20,7 +20,7 @@ impl Drop for Client {
 }
 
 impl Client {
-    /// A client that was told nothing.
+    /// Makes a client that was told nothing.
     pub(crate) fn new(alloc: Global, session: usize) -> Self {
         Client {
             session,
@@ -36,7 +36,8 @@ impl Client {
     }
 }
 
-/// A client says a piece. What was written to it comes at the end of the line. It tells whether its session has closed.
+/// Returns a client says a piece. What was written to it comes at the end of the line. Returns whether its session has
+/// closed.
 pub(crate) fn client_says(
     relay: &mut MemoryRelay,
     session: usize,
@@ -57,8 +58,8 @@ pub(crate) fn client_says(
     Ok(false)
 }
 
-/// A next hop says a piece. What was written to it comes at the end of the line, and a fault. It tells whether its
-/// attempt has ended.
+/// Returns whether a next hop says a piece. What was written to it comes at the end of the line, and a fault. Returns
+/// whether its attempt has ended.
 pub(crate) fn hop_says(
     relay: &mut MemoryRelay,
     attempt: usize,

@@ -3,7 +3,7 @@ ghost use Rattle.std.specs.Prelude.{◌<◌, IfSome};
 
 use crate::answer::Answer;
 
-/// The value of a digit in lower case.
+/// Returns the value of a digit in lower case.
 fn digit(octet: u8) -> Option<u8>
     ensures { IfSome result (λ value. value < 16) }
 {
@@ -14,7 +14,7 @@ fn digit(octet: u8) -> Option<u8>
     }
 }
 
-/// The octets that a text writes, two digits each. What is no digit, and a last one alone, are passed over.
+/// Returns the octets that a text writes, two digits each. What is no digit, and a last one alone, are passed over.
 pub fn octets_of(answer: &mut Answer, text: &str) -> Vec<u8> {
     let mut octets = Vec::new(answer.alloc);
     let mut high = 0u8;

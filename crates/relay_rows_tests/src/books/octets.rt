@@ -3,7 +3,7 @@ use crate::answer::{Answer, RowsFault};
 use crate::books::snapshot::is_snapshot;
 use relay_book::{Book, decode_change};
 
-/// Whether the octets are a snapshot, or the record of a change that fits the book, which stays as it is.
+/// Returns whether the octets are a snapshot, or the record of a change that fits the book, which is unchanged.
 pub fn fits(answer: &mut Answer, book: &mut Book, record: &[u8]) -> bool {
     is_snapshot(answer, record) || is_prepared(answer, book, record)
 }
@@ -30,7 +30,7 @@ pub fn tell_values(answer: &mut Answer, book: &mut Book, record: &[u8], place: u
     }
 }
 
-/// The same, and nothing where there is no such value. The octet is left at its last value.
+/// The same, and nothing if there is no such value. The octet is left at its last value.
 fn tell_runs(answer: &mut Answer, book: &mut Book, record: &mut [u8], place: usize) {
     let mut run: Option<(u8, u8)> = None;
     for value in 0..=u8::MAX {
@@ -48,7 +48,7 @@ fn tell_runs(answer: &mut Answer, book: &mut Book, record: &mut [u8], place: usi
     tell_run(answer, run);
 }
 
-/// The first value of a run that goes on with this one.
+/// Returns the first value of a run that goes on with this one.
 fn first_of(run: Option<(u8, u8)>, value: u8) -> u8 {
     match run {
         Some((first, _)) => first,

@@ -1,4 +1,4 @@
-//! What comes of a row of reports.
+//! The outcome of a row of reports.
 use crate::answer::{Answer, RowsFault};
 use crate::books::hex::octets_of;
 use crate::books::subject::read_into;
@@ -12,9 +12,9 @@ use std::alloc::{AllocError, Global};
 /// The name of the host that makes the reports.
 const HOST: &[u8] = b"relay.example";
 
-/// Tells what comes of a row: `report ACCEPT OUTCOME` or `rich ACCEPT OUTCOME`, two records, of which the first is change
-/// 1 and the report's number is 2, or `boundary NUMBER PART PART PART`. A line that begins with `#` says what the next row shows, and
-/// stands as it is.
+/// Tells the outcome of a row: `report ACCEPT OUTCOME` or `rich ACCEPT OUTCOME`, two records, of which the first is
+/// change 1 and the report's number is 2, or `boundary NUMBER PART PART PART`. A line that begins with `#` says what
+/// the next row shows, and stands as it is.
 pub fn tell_report_row(answer: &mut Answer, row: &str) {
     let mut words = Words { rest: row };
     match words.word() {

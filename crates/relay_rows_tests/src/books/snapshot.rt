@@ -20,7 +20,7 @@ pub fn tell_snapshot(answer: &mut Answer, row: &str) {
     }
 }
 
-/// The snapshot that a record leaves, and a second one, where that isn't empty.
+/// Returns the snapshot that a record leaves, and a second one, where that isn't empty.
 fn snapshot_of(alloc: Global, first: Vec<u8>, second: Vec<u8>) -> Result<Vec<u8>, BookFault> {
     let mut book = Book::read_first(alloc, Pieces::of_one(alloc, first))?;
     if !second.is_empty() {
@@ -37,7 +37,7 @@ fn tell_hex(answer: &mut Answer, octets: &[u8]) {
     }
 }
 
-/// The octets in pieces of so many, so that what stands before the messages and each message stand in several.
+/// Returns the octets in pieces of this many, so that what is before the messages and each message stand in several.
 fn in_pieces(alloc: Global, octets: &[u8]) -> Result<Pieces, AllocError> {
     let mut pieces = Pieces::new(alloc);
     for piece in octets.chunks(PIECE) {
@@ -46,14 +46,14 @@ fn in_pieces(alloc: Global, octets: &[u8]) -> Result<Pieces, AllocError> {
     Ok(pieces)
 }
 
-/// The book of a snapshot, and whether it is written as these octets again.
+/// Returns the book of a snapshot, and whether it is written as these octets again.
 pub fn book_of(alloc: Global, octets: &[u8]) -> Result<(Book, bool), BookFault> {
     let book = Book::decode_snapshot(alloc, in_pieces(alloc, octets)?)?;
     let is_same = book.encode_snapshot(alloc, 0)?.as_slice() == octets;
     Ok((book, is_same))
 }
 
-/// Whether the octets are a snapshot.
+/// Returns whether the octets are a snapshot.
 pub fn is_snapshot(answer: &mut Answer, octets: &[u8]) -> bool {
     match in_pieces(answer.alloc, octets) {
         Ok(pieces) => {
@@ -76,7 +76,7 @@ pub fn tell_cuts(answer: &mut Answer, octets: &[u8]) {
     answer.count(" of ", octets.len() as u64);
 }
 
-/// Tells a fault in a word; want of memory ends the program.
+/// Tells a fault in a word; lack of memory ends the program.
 pub fn tell_fault(answer: &mut Answer, fault: BookFault) {
     if fault == BookFault::BadRecord {
         answer.say("BadRecord");

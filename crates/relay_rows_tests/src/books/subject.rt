@@ -1,4 +1,4 @@
-//! What comes of a row about a book.
+//! The outcome of a row about a book.
 use crate::answer::{Answer, RowsFault};
 use crate::books::hex::octets_of;
 use crate::books::octets::{fits, tell_values};
@@ -13,7 +13,7 @@ pub struct Subject {
     record: Vec<u8>,
 }
 
-// Written out, so that what drops a subject calls this, and doesn't look into the book.
+// Written out, so that the proof of a caller that drops a subject stops at this function.
 impl Drop for Subject {
     fn drop(self) {
         let Subject {
@@ -24,7 +24,7 @@ impl Drop for Subject {
 }
 
 impl Subject {
-    /// An empty book, and no record.
+    /// Makes an empty book, and no record.
     pub fn new(alloc: Global) -> Self {
         Subject {
             book: Book::new(alloc),
@@ -32,7 +32,7 @@ impl Subject {
         }
     }
 
-    /// Tells a row, and what comes of it.
+    /// Tells a row, and its outcome.
     pub fn tell_row(&mut self, row: &str, answer: &mut Answer) {
         let mut came = Answer::new(answer.alloc);
         self.answer(row, &mut came);
@@ -42,7 +42,7 @@ impl Subject {
         answer.stop_as(&came);
     }
 
-    /// Tells what comes of a row: a word, places as `NUMBER.PLACE`, or values of an octet.
+    /// Tells the outcome of a row: a word, places as `NUMBER.PLACE`, or values of an octet.
     fn answer(&mut self, row: &str, answer: &mut Answer) {
         let (word, rest) = row.split_once(' ').unwrap_or((row, ""));
         match word {
@@ -87,7 +87,7 @@ impl Subject {
         }
     }
 
-    /// Tells the places that are due at the moment of so many seconds.
+    /// Tells the places that are due at the time of this many seconds.
     fn tell_due(&mut self, seconds: &str, answer: &mut Answer) {
         match Moment::new(answer.number_in(seconds)) {
             Ok(moment) => {
@@ -125,7 +125,7 @@ impl Subject {
     }
 }
 
-/// Tells whether octets were written again as they are, of so many.
+/// Returns whether octets were written again as they are, of this many.
 fn tell_again(
     answer: &mut Answer,
     is_same: Result<bool, BookFault>,
@@ -140,8 +140,7 @@ fn tell_again(
     }
 }
 
-/// Reads a record and applies its change. Where memory runs out it does so once more, since the book is to be
-/// as it was.
+/// Reads a record and applies its change. If memory runs out it does so once more, since the book is to be as it was.
 fn applied(alloc: Global, book: &mut Book, record: &[u8]) -> Result<(), BookFault> {
     match read_into(alloc, book, record) {
         Err(BookFault::NoMemory) => read_into(alloc, book, record),
@@ -154,7 +153,7 @@ pub fn read_into(alloc: Global, book: &mut Book, record: &[u8]) -> Result<(), Bo
     book.apply(alloc, decode_change(alloc, record)?)
 }
 
-/// Whether the change of a record is written as that record.
+/// Returns whether the change of a record is written as that record.
 fn is_written_again(alloc: Global, record: &[u8]) -> Result<bool, BookFault> {
     let change = decode_change(alloc, record)?;
     Ok(encode_change(alloc, &change)?.as_slice() == record)

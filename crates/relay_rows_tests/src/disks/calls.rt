@@ -3,7 +3,7 @@
 use relay_disk::Disk;
 use relay_spool::{BodyRow, Spool, SpoolFault};
 
-/// Appends a body. It answers nothing where the spool is spent, or the body too long for any.
+/// Appends a body. It answers nothing if the spool is spent, or the body too long for any.
 pub fn append<D: Disk>(spool: &mut Spool<D>, body: &[u8]) -> Option<Result<(), SpoolFault>> {
     if !spool.is_live() || u32::try_from(body.len()).is_err() {
         return None;
@@ -11,7 +11,7 @@ pub fn append<D: Disk>(spool: &mut Spool<D>, body: &[u8]) -> Option<Result<(), S
     Some(spool.append(body))
 }
 
-/// Appends a row of bodies. It answers nothing where the spool is spent.
+/// Appends a row of bodies. It answers nothing if the spool is spent.
 pub fn append_all<D: Disk>(spool: &mut Spool<D>, row: BodyRow) -> Option<Result<(), SpoolFault>> {
     if !spool.is_live() {
         return None;
@@ -19,7 +19,7 @@ pub fn append_all<D: Disk>(spool: &mut Spool<D>, row: BodyRow) -> Option<Result<
     Some(spool.append_all(row))
 }
 
-/// Puts a body in place of all. It answers nothing where the spool is spent.
+/// Puts a body in place of all. It answers nothing if the spool is spent.
 pub fn compact<D: Disk>(spool: &mut Spool<D>, body: Vec<u8>) -> Option<Result<(), SpoolFault>> {
     if !spool.is_live() {
         return None;

@@ -13,7 +13,7 @@ use relay_disk::{Disk, DiskFault, Disks, MemoryDisk, Reboot};
 use relay_pieces::Pieces;
 use relay_spool::SpoolFault;
 
-/// The number that a text writes, where `N` is this one.
+/// Returns the number that a text writes, where `N` is this one.
 pub fn number_of(text: &str, number: u64) -> u64 {
     if text == "N" {
         number
@@ -64,7 +64,7 @@ fn call_at(answer: &mut Answer, disk: &mut MemoryDisk, name: &str, text: &str, n
     }
 }
 
-/// Tells whether these octets are read, at a place within the disk.
+/// Returns whether these octets are read, at a place within the disk.
 fn read(answer: &mut Answer, disk: &mut MemoryDisk, place: usize, octets: &[u8]) {
     let mut into = Vec::new(answer.alloc);
     for octet in octets {
@@ -77,7 +77,7 @@ fn read(answer: &mut Answer, disk: &mut MemoryDisk, place: usize, octets: &[u8])
     }
 }
 
-/// Reads octets. It answers nothing where they pass the end.
+/// Reads octets. It answers nothing if they pass the end.
 fn read_into(
     disk: &mut MemoryDisk,
     place: usize,
@@ -139,7 +139,7 @@ fn tell_unless_spent(answer: &mut Answer, appended: Option<Result<(), SpoolFault
     }
 }
 
-/// Tells whether the body of this index has these octets.
+/// Returns whether the body of this index has these octets.
 fn ask_body(answer: &mut Answer, bodies: &[Pieces], text: &str) {
     let (index, octets) = text.split_once(' ').unwrap_or((text, "-"));
     let octets = octets_of(answer, octets);

@@ -21,7 +21,7 @@ impl Drop for Mounted {
 }
 
 impl Mounted {
-    /// The disks of the spool.
+    /// Returns the disks of the spool.
     pub fn into_disks(self) -> Disks<MemoryDisk> {
         let Mounted { spool, bodies: _ } = self;
         spool.into_disk()
@@ -48,7 +48,7 @@ impl Drop for Held {
 }
 
 impl Held {
-    /// What becomes of the thing in hand by a step.
+    /// Returns what becomes of the thing in hand by a step.
     pub fn turned(self, answer: &mut Answer, name: &str, text: &str, number: u64) -> Self {
         match self {
             Held::Nothing => {

@@ -26,13 +26,13 @@ pub fn take_step(held: &mut Held, step: &str, number: u64, answer: &mut Answer) 
     *held = mem::replace(held, Held::Nothing).turned(answer, name, text, number);
 }
 
-/// A disk with the image that a text writes.
+/// Returns a disk with the image that a text writes.
 pub fn disk_of_text(answer: &mut Answer, text: &str) -> MemoryDisk {
     let image = octets_of(answer, text);
     disk_of(answer, image.as_slice())
 }
 
-/// A disk with this image.
+/// Returns a disk with this image.
 fn disk_of(answer: &mut Answer, image: &[u8]) -> MemoryDisk {
     match MemoryDisk::with_image(answer.alloc, image) {
         Ok(disk) => disk,
@@ -43,7 +43,7 @@ fn disk_of(answer: &mut Answer, image: &[u8]) -> MemoryDisk {
     }
 }
 
-/// What becomes of a disk by a step.
+/// Returns what becomes of a disk by a step.
 pub fn turn_disk(
     answer: &mut Answer,
     mut disk: MemoryDisk,
@@ -83,7 +83,7 @@ fn stop_disk(answer: &mut Answer, disk: MemoryDisk, pick: u64) -> Held {
     }
 }
 
-/// What becomes of two disks by a step.
+/// Returns what becomes of two disks by a step.
 pub fn turn_disks(
     answer: &mut Answer,
     mut disks: Disks<MemoryDisk>,
@@ -140,7 +140,7 @@ fn stop_disks(answer: &mut Answer, disks: Disks<MemoryDisk>, pick: u64) -> Held 
     }
 }
 
-/// What becomes of a spool by a step.
+/// Returns what becomes of a spool by a step.
 pub fn turn_spool(answer: &mut Answer, mut mounted: Mounted, name: &str, text: &str) -> Held {
     if name == "unmount" {
         answer.say("ok");
@@ -164,7 +164,7 @@ fn opened(answer: &mut Answer, disks: Disks<MemoryDisk>) -> Held {
     }
 }
 
-/// Whether disks hold no spool, or one without a body.
+/// Returns whether disks hold no spool, or one without a body.
 fn is_bodiless(alloc: Global, disks: Disks<MemoryDisk>) -> bool {
     match Spool::open(alloc, disks) {
         Ok(opened) => opened.bodies.is_empty(),

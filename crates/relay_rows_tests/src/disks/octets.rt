@@ -2,7 +2,7 @@
 //! rises from 0 to 250 again and again, or a word that stands for itself. `-` is no octet.
 use crate::answer::Answer;
 
-/// The octets that a text writes.
+/// Returns the octets that a text writes.
 pub fn octets_of(answer: &mut Answer, text: &str) -> Vec<u8> {
     let mut octets: Vec<u8> = Vec::new(answer.alloc);
     if text != "-" {

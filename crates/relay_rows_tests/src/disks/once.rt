@@ -1,7 +1,7 @@
-//! The step `once CALLS CALL` of two disks: a call of a spool on them, of which the device fails one call after so
+//! The step `once CALLS CALL` of two disks: a call of a spool on them, of which the device fails one call after this
 //! many and goes on. `create` and `open` are the calls, and `append OCTETS` and `compact OCTETS`, which `open` goes
-//! before. It answers what the call answers, and how many bodies the same disks open to after that, or the fault of
-//! that opening.
+//! before. Returns what the call answers, and how many bodies the same disks open to after that, or the fault of that
+//! opening.
 use crate::answer::Answer;
 use crate::disks::calls::{append, compact};
 use crate::disks::octets::octets_of;
@@ -46,7 +46,7 @@ fn bare(disks: FailingDisks) -> Disks<MemoryDisk> {
     }
 }
 
-/// How many bodies the disks open to.
+/// Returns how many bodies the disks open to.
 fn count_bodies(alloc: Global, disks: Disks<MemoryDisk>) -> Result<usize, SpoolFault> {
     match Spool::open(alloc, disks) {
         Ok(opened) => Ok(opened.bodies.len()),

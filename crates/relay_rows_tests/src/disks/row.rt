@@ -2,8 +2,8 @@ use crate::answer::Answer;
 use crate::disks::held::Held;
 use crate::disks::mount::take_step;
 
-/// A row: the first and the last number by which it is played, steps between ` ; `, and after ` => ` as many
-/// answers between ` ; `. Where the word `N` stands in a step, it is the number.
+/// A row: the first and the last number by which it is played, steps between ` ; `, and after ` => ` as many answers
+/// between ` ; `. Where the word `N` is in a step, it is the number.
 #[derive(Clone, Copy)]
 pub struct Row<'a> {
     first: u64,
@@ -26,8 +26,8 @@ impl<'a> Row<'a> {
         }
     }
 
-    /// The first number by which the row comes otherwise than it is written down, where there is one. What came by it
-    /// is the answer.
+    /// Returns the first number by which the row comes otherwise than it is written down, if there is one. What came by
+    /// it is the answer.
     pub fn difference(self, answer: &mut Answer) -> Option<u64> {
         for number in self.first..=self.last {
             answer.text.clear();

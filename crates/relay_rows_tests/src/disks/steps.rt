@@ -1,6 +1,6 @@
-//! Takes steps on a spool in two files: a line each, and a line of what came of it. The second file's name is that of
-//! the first with `.2` after it. tests/spool_on_a_file.sh takes steps so, with the calls that they make of the
-//! device written down.
+//! Takes steps on a spool in two files: a line each, and a line of its outcome. The second file's name is that of the
+//! first with `.2` after it. tests/spool_on_a_file.sh takes steps so, with the calls that they make of the device
+//! written down.
 //!
 //! - `remove`: removes the files, where there are any;
 //! - `create`: opens the files, which are to be empty, and makes a spool there;
@@ -55,7 +55,7 @@ pub fn take_steps(rt: &HostRuntime, answer: &mut Answer, path: &str, lines: &str
     }
 }
 
-/// Takes the step of this line, and prints what came of it, where that is something.
+/// Takes the step of this line, and prints its outcome, where that is something.
 fn show_step(rt: &HostRuntime, paths: Paths<'_>, held: &mut Held, line: &str, answer: &mut Answer) {
     take_step(rt, paths, held, line, answer);
     if !answer.text.is_empty() {
@@ -116,7 +116,7 @@ impl Held {
     }
 }
 
-/// Takes a step on the spool that is held, and tells what came of it.
+/// Takes a step on the spool that is held, and tells its outcome.
 fn change(held: &mut Held, step: &str, text: &str, answer: &mut Answer) {
     let Held::Spool(spool) = held else {
         return answer.say("there is no spool");
@@ -141,7 +141,7 @@ fn tell_size(answer: &mut Answer, words: &str, size: usize) {
     answer.say(" octets");
 }
 
-/// What a call of a spool answers; nothing where it is spent.
+/// Returns what a call of a spool answers; nothing if it is spent.
 fn call(
     spool: &mut Spool<FileDisk>,
     step: &str,
@@ -159,7 +159,7 @@ fn call(
     }
 }
 
-/// A body of this text.
+/// Returns a body of this text.
 fn body_of(text: &str, answer: &mut Answer) -> Vec<u8> {
     let mut body = Vec::new(answer.alloc);
     let said = body.extend_from_slice(text.as_bytes());
@@ -198,7 +198,7 @@ fn tell_opened(answer: &mut Answer, size: usize, bodies: &[Pieces]) {
     }
 }
 
-/// The bodies of a row, which are the words of this text.
+/// Returns the bodies of a row, which are the words of this text.
 fn row_of(text: &str, answer: &mut Answer) -> BodyRow {
     let mut row = BodyRow::new(answer.alloc);
     for body in text.split(' ') {

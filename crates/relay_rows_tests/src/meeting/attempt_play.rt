@@ -7,14 +7,14 @@ use relay_client::{Attempt, Driven, MailObject, Verdicts};
 use relay_envelope::Envelope;
 use std::alloc::{AllocError, Global};
 
-/// An attempt of a transcript, and what has come of it.
+/// An attempt of a transcript, and its outcome.
 struct AttemptPlay<'a> {
     alloc: Global,
     transcript: &'a Transcript,
     envelope: &'a Envelope,
     attempt: Attempt,
     written: Vec<u8>,
-    /// A line for each verdict, where it has ended.
+    /// A line for each verdict, if it has ended.
     verdicts: Option<Vec<u8>>,
     /// Nothing but what is written down has come so far.
     is_right: bool,
@@ -35,7 +35,7 @@ impl Drop for AttemptPlay<'_> {
 }
 
 impl<'a> AttemptPlay<'a> {
-    /// A play that has begun.
+    /// Makes a play that has begun.
     fn new(
         alloc: Global,
         transcript: &'a Transcript,
@@ -53,7 +53,7 @@ impl<'a> AttemptPlay<'a> {
         })
     }
 
-    /// Gives the next octets of the server, which begin after so many.
+    /// Gives the next octets of the server, which begin after this many.
     fn give(&mut self, start: usize, piece: &[u8]) {
         let had_ended = self.verdicts.is_some();
         let mail = MailObject {
@@ -71,7 +71,7 @@ impl<'a> AttemptPlay<'a> {
         }
     }
 
-    /// Whether as much is used as is to be of a piece of so many octets.
+    /// Returns whether as much is used as is to be of a piece of this many octets.
     fn is_used(&self, driven: &Driven, had_ended: bool, start: usize, length: usize) -> bool {
         let has_ended = driven.verdicts.is_some();
         if had_ended {
@@ -83,7 +83,7 @@ impl<'a> AttemptPlay<'a> {
         }
     }
 
-    /// Takes what came of a feed.
+    /// Takes the outcome of a feed.
     fn take(&mut self, driven: Driven) {
         let Driven {
             used: _,
@@ -106,7 +106,7 @@ impl<'a> AttemptPlay<'a> {
         }
     }
 
-    /// Whether after so many octets of the server that is written which is to be.
+    /// Returns whether after this many octets of the server that is written which is to be.
     fn is_written_behind(&self, said: usize) -> bool {
         self.written.len() == written_behind(self.transcript.marks.as_slice(), said)
             && self
@@ -129,7 +129,7 @@ impl<'a> AttemptPlay<'a> {
             && are_equal(self.written.as_slice(), self.transcript.written.as_slice())
     }
 
-    /// Whether the verdicts are those that are written down.
+    /// Returns whether the verdicts are those that are written down.
     fn is_told(&self) -> bool {
         match &self.verdicts {
             Some(verdicts) => {
@@ -141,7 +141,7 @@ impl<'a> AttemptPlay<'a> {
     }
 }
 
-/// Whether these are the same octets.
+/// Returns whether these are the same octets.
 fn are_equal(one: &[u8], other: &[u8]) -> bool {
     one == other
 }
@@ -165,14 +165,14 @@ pub fn verdict_of(
     }
 }
 
-/// Whether all comes as it is written down in two pieces.
+/// Returns whether all comes as it is written down in two pieces.
 fn is_right_in_two(mut play: AttemptPlay<'_>, said: &[u8], place: usize) -> bool {
     play.give(0, said.get(..place).unwrap_or(&[]));
     play.give(place, said.get(place..).unwrap_or(&[]));
     play.is_as_written()
 }
 
-/// Whether all comes as it is written down octet by octet.
+/// Returns whether all comes as it is written down octet by octet.
 fn is_right_by_octets(mut play: AttemptPlay<'_>, said: &[u8]) -> bool {
     for (place, octet) in said.iter().enumerate() {
         play.give(place, &[*octet]);

@@ -7,8 +7,8 @@ use relay_octets::Octets;
 use relay_server::Offer;
 use std::alloc::{AllocError, Global};
 
-/// Whether the offer has MAIL's values, the recipients with a hop, in order and with their parameters, and the text. It
-/// isn't so where memory ran out.
+/// Returns whether the offer has MAIL's values, the recipients with a hop, in order and with their parameters, and the
+/// text. It isn't so if memory ran out.
 pub fn is_child(alloc: Global, errand: &Errand, row: Row<'_>, offer: &Offer<'_>) -> bool {
     offer.content == errand.text.as_slice()
         && are_one(
@@ -23,7 +23,7 @@ pub fn is_child(alloc: Global, errand: &Errand, row: Row<'_>, offer: &Offer<'_>)
         )
 }
 
-/// Whether a text is there, and is this one.
+/// Returns whether a text is there, and is this one.
 fn is_text(written: Result<Octets, AllocError>, text: &[u8]) -> bool {
     match written {
         Ok(written) => written.as_slice() == text,
@@ -31,7 +31,8 @@ fn is_text(written: Result<Octets, AllocError>, text: &[u8]) -> bool {
     }
 }
 
-/// Whether two texts are there, and are one: of two MAILs or RCPTs, that they have one path and the same parameters.
+/// Returns whether two texts are there, and are one: of two MAILs or RCPTs, that they have one path and the same
+/// parameters.
 fn are_one(one: Result<Octets, AllocError>, other: Result<Octets, AllocError>) -> bool {
     match one {
         Ok(one) => is_text(other, one.as_slice()),
@@ -39,7 +40,7 @@ fn are_one(one: Result<Octets, AllocError>, other: Result<Octets, AllocError>) -
     }
 }
 
-/// Whether those that are offered are the recipients with a hop.
+/// Returns whether those that are offered are the recipients with a hop.
 fn are_wanted(
     alloc: Global,
     row: Row<'_>,
@@ -65,8 +66,8 @@ fn is_wanted(alloc: Global, recipient: &Recipient, offered: Option<&Recipient>) 
     }
 }
 
-/// Whether of the replies that these octets begin with those after the first three are to all RCPTs, by the server's
-/// table.
+/// Returns whether of the replies that these octets begin with those after the first three are to all RCPTs, by the
+/// server's table.
 pub fn are_rcpts(alloc: Global, row: Row<'_>, octets: &[u8]) -> bool {
     let mut reader = ReplyReader::new(alloc);
     let mut used = 0usize;
@@ -82,12 +83,12 @@ pub fn are_rcpts(alloc: Global, row: Row<'_>, octets: &[u8]) -> bool {
     true
 }
 
-/// The code of the reply to the RCPT of this place.
+/// Returns the code of the reply to the RCPT of this place.
 fn code_of(row: Row<'_>, place: usize) -> u16 {
     if row.goes(place) { 250 } else { 550 }
 }
 
-/// The code of the whole reply that the octets begin with, and how many it has.
+/// Returns the code of the whole reply that the octets begin with, and how many it has.
 fn next_code(reader: &mut ReplyReader, octets: &[u8]) -> Option<(usize, u16)> {
     match reader.feed(octets) {
         Ok(

@@ -44,7 +44,7 @@ impl Dialogue {
         })
     }
 
-    /// Holds the dialogue once for each cutting. It fails where memory runs out.
+    /// Holds the dialogue once for each cutting. Fails if memory runs out.
     pub fn verdict(&self, alloc: Global, config: &Config) -> Result<Verdict, AllocError>
         ensures { IfOk result (λ verdict. verdict ≡ Verdict.Equal
             → IsTranscript (setup_for config.now CLIENT) self.now.input.items self.now.replies.items
@@ -64,7 +64,7 @@ impl Dialogue {
         }
     }
 
-    /// A play of the dialogue, cut into two pieces.
+    /// Returns a play of the dialogue, cut into two pieces.
     fn cut_at<'a>(
         &self,
         alloc: Global,
@@ -81,7 +81,7 @@ impl Dialogue {
         Ok(play)
     }
 
-    /// A play of the dialogue in pieces of one octet.
+    /// Returns a play of the dialogue in pieces of one octet.
     fn octet_by_octet<'a>(&self, alloc: Global, config: &'a Config) -> Result<Play<'a>, AllocError>
         ensures { IfOk result (λ play. Plays (setup_for config.now CLIENT) play self.now.input.items) }
     {
@@ -92,7 +92,7 @@ impl Dialogue {
         Ok(play)
     }
 
-    /// Whether the replies and the offers of the play are those that are written down.
+    /// Returns whether the replies and the offers of the play are those that are written down.
     fn is_as_written(&self, play: &Play<'_>) -> bool
         ensures { IsTrue result
             ↔ ((play.now.replies.items ≡ self.now.replies.items)
@@ -102,7 +102,7 @@ impl Dialogue {
     }
 }
 
-/// One of the files of a dialogue.
+/// Returns one of the files of a dialogue.
 fn file(rt: &HostRuntime, name: &str, end: &str) -> Result<Vec<u8>, RowsFault> {
     let path = format!(in rt.alloc(); "{name}.{end}")?;
     Ok(fs::read(rt, path.as_str())?)

@@ -116,7 +116,7 @@ impl<'a> Ends<'a> {
     }
 
     /// Cuts this end off at each place where its pieces end: before it reads the next one, the other end reads all that
-    /// came, and then all must be as it is for ends of which this one reads nothing more. It answers how often this was
+    /// came, and then all must be as it is for ends of which this one reads nothing more. Returns how often this was
     /// so, or that something else came.
     pub fn count_cuts(&mut self, end: End, cutting: Cutting) -> Option<usize> {
         let mut count = 0usize;
@@ -135,7 +135,7 @@ impl<'a> Ends<'a> {
         Some(count)
     }
 
-    /// Whether what this end has read ends where pieces end.
+    /// Returns whether what this end has read ends where pieces end.
     fn is_cut(&self, end: End, cutting: Cutting) -> bool {
         match end {
             End::Server => self.up.is_cut(cutting),
@@ -164,7 +164,7 @@ impl<'a> Ends<'a> {
         }
     }
 
-    /// The client reads a piece.
+    /// Returns whether the client reads a piece.
     fn listen(&mut self, cutting: Cutting) -> bool {
         if self.verdicts.is_some() {
             return false;
@@ -182,7 +182,7 @@ impl<'a> Ends<'a> {
         has_read
     }
 
-    /// Takes what came of a feed of the client.
+    /// Takes the outcome of a feed of the client.
     fn take(&mut self, driven: Driven) {
         let Driven {
             used,
@@ -194,7 +194,7 @@ impl<'a> Ends<'a> {
         self.up.write(out.as_slice());
     }
 
-    /// The server reads a piece.
+    /// Returns whether the server reads a piece.
     fn hear(&mut self, cutting: Cutting) -> bool {
         if self.is_closed {
             return false;
@@ -212,7 +212,7 @@ impl<'a> Ends<'a> {
         }
     }
 
-    /// Gives the server octets, and answers the offers on the way.
+    /// Gives the server octets, and returns the offers on the way.
     fn give(&mut self, piece: &[u8]) {
         let mut used = 0usize;
         for _ in 0..piece.len() {
@@ -232,7 +232,7 @@ impl<'a> Ends<'a> {
         }
     }
 
-    /// The server reads octets. It answers how many it has used, and what comes next.
+    /// Returns the server reads octets. Returns how many it has used, and what comes next.
     fn feed(&mut self, octets: &[u8]) -> (usize, Next) {
         let table = self.meeting.config.accepted_table(CLIENT);
         match self.session.feed(table, octets) {
@@ -279,9 +279,9 @@ impl<'a> Ends<'a> {
         }
     }
 
-    /// Whether all is as it must be, of ends of which one may be cut off: what was said begins what ends that are not
-    /// cut off say, there is at most the one offer that may come, and the verdicts are the table's. Where no reply has
-    /// ended the attempt, all places may be tried again. It isn't so where memory ran out.
+    /// Returns whether all is as it must be, of ends of which one may be cut off: what was said begins what ends that
+    /// are not cut off say, there is at most the one offer that may come, and the verdicts are the table's. If no reply
+    /// has ended the attempt, all places may be tried again. It isn't so if memory ran out.
     pub fn are_lawful(&self) -> bool {
         let row = self.meeting.row;
         let are_said = self.up.is_wanted() && self.down.is_wanted() && !self.is_short;
@@ -299,13 +299,13 @@ impl<'a> Ends<'a> {
         }
     }
 
-    /// Whether the two have said all, and as many offers were made as there are to be.
+    /// Returns whether the two have said all, and as many offers were made as there are to be.
     pub fn are_done(&self) -> bool {
         self.is_closed && self.verdicts.is_some() && self.offers == self.meeting.row.offers
     }
 }
 
-/// An attempt of this host at these places that waits for the greeting.
+/// Returns an attempt of this host at these places that waits for the greeting.
 pub fn begun(alloc: Global, host: &[u8], places: &[u8]) -> Result<Attempt, AllocError> {
     Attempt::begin(alloc, host, Vec::from_slice(alloc, places)?)
 }

@@ -18,7 +18,7 @@ const MAIL: &[u8] = b"<sender@client.example> RET=HDRS ENVID=e+2B1";
 /// The name of the client's host.
 pub const HOST: &[u8] = b"client.example";
 
-/// What a client has to do: a message, and its places.
+/// What a client must do: a message, and its places.
 pub struct Errand {
     pub envelope: Envelope,
     pub text: Vec<u8>,
@@ -37,7 +37,7 @@ impl Drop for Errand {
 }
 
 impl Errand {
-    /// The errand of a row.
+    /// Returns the errand of a row.
     pub fn of_row(answer: &mut Answer, row: Row<'_>) -> Result<Self, RowsFault> {
         let mut errand = Errand {
             envelope: envelope_of(answer.alloc, MAIL)?,
@@ -78,7 +78,7 @@ impl Errand {
         }
     }
 
-    /// Adds 100 `Received:` fields, and what stands after them.
+    /// Adds 100 `Received:` fields, and what is after them.
     fn push_circling(&mut self, answer: &mut Answer, behind: &[u8]) {
         self.push_count(answer, b"received:\r\n", 100);
         self.push_count(answer, behind, 1);
@@ -93,7 +93,7 @@ impl Errand {
     }
 }
 
-/// The envelope that the text of a MAIL says, without a recipient.
+/// Returns the envelope that the text of a MAIL says, without a recipient.
 pub fn envelope_of(alloc: Global, text: &[u8]) -> Result<Envelope, RowsFault> {
     match read_mail(text) {
         Ok(mail) => Ok(Envelope::new(alloc, mail)?),

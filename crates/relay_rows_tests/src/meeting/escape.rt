@@ -2,7 +2,7 @@
 use crate::escape::escaped;
 use std::alloc::AllocError;
 
-/// Puts the octets that this text stands for after what stands in `out`.
+/// Puts the octets that this text stands for after what is in `out`.
 pub fn push_unescaped(out: &mut Vec<u8>, text: &[u8]) -> Result<(), AllocError> {
     let mut is_escaped = false;
     for octet in text {

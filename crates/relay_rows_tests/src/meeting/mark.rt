@@ -1,11 +1,11 @@
-/// When something is to be written: after so many octets of the server, so many octets are written in all.
+/// When something is to be written: after this many octets of the server, this many octets are written in all.
 #[derive(Clone, Copy)]
 pub struct Mark {
     pub said: usize,
     pub written: usize,
 }
 
-/// How many octets are to be written after so many of the server. The marks rise.
+/// Returns how many octets are to be written after this many of the server. The marks rise.
 pub fn written_behind(marks: &[Mark], said: usize) -> usize {
     let mut written = 0;
     for mark in marks {

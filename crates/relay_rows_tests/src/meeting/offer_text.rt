@@ -10,7 +10,7 @@ use relay_octets::Octets;
 use relay_server::{Offer, Protocol};
 use std::alloc::{AllocError, Global};
 
-/// The lines of an offer. It fails where memory runs out.
+/// Returns the lines of an offer. Fails if memory runs out.
 pub fn written_offer(alloc: Global, offer: &Offer<'_>) -> Result<Octets, AllocError>
     ensures { IfOk result (λ text. text ≡ offer_text (offered offer.now)) }
 {
@@ -19,7 +19,7 @@ pub fn written_offer(alloc: Global, offer: &Offer<'_>) -> Result<Octets, AllocEr
     Ok(text)
 }
 
-/// Adds what stands after the first words of an offer.
+/// Adds what is after the first words of an offer.
 fn push_offer(alloc: Global, text: &mut Octets, offer: &Offer<'_>) -> Result<(), AllocError>
     ensures { OnOk result (text.new ≡ offer_behind text.old (offered offer.now)) }
 {
@@ -36,7 +36,7 @@ fn push_offer(alloc: Global, text: &mut Octets, offer: &Offer<'_>) -> Result<(),
     Ok(())
 }
 
-/// The word of a protocol.
+/// Returns the word of a protocol.
 fn word_of(protocol: Protocol) -> &'static [u8]
     ensures { result.now ≡ protocol_word protocol }
 {

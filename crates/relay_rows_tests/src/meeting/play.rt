@@ -45,7 +45,7 @@ impl Drop for Play<'_> {
 }
 
 impl<'a> Play<'a> {
-    /// A play that has begun: its replies are the greeting. It fails where memory runs out.
+    /// Makes a play that has begun: its replies are the greeting. Fails if memory runs out.
     pub fn new(alloc: Global, config: &'a Config) -> Result<Self, AllocError>
         ensures { IfOk result (λ play. Plays (setup_for config.now CLIENT) play []) }
     {
@@ -61,21 +61,21 @@ impl<'a> Play<'a> {
         })
     }
 
-    /// The replies that have come out.
+    /// Returns the replies that have come out.
     pub fn replies(&self) -> &[u8]
         ensures { result.now ≡ self.now.replies.items }
     {
         self.replies.as_slice()
     }
 
-    /// The offers that have come out.
+    /// Returns the offers that have come out.
     pub fn offers(&self) -> &[u8]
         ensures { result.now ≡ self.now.offers }
     {
         self.offers.as_slice()
     }
 
-    /// Gives the client's next octets. Those after a close nobody reads. It fails where memory runs out.
+    /// Gives the client's next octets. Those after a close nobody reads. Fails if memory runs out.
     pub fn give(&mut self, piece: &[u8]) -> Result<(), AllocError>
         ensures { OnOk result ((setup : Setup) (octets : List ℕ) → Plays setup self.old octets
             → Plays setup self.new (octets ++ piece.now)) }
@@ -128,7 +128,7 @@ impl<'a> Play<'a> {
         Ok(())
     }
 
-    /// The answer to an offer of this content: the next number, or that there is no room.
+    /// Returns the answer to an offer of this content: the next number, or that there is no room.
     fn answer_to(&self, content: &[u8]) -> Answer {
         if content == UNWANTED {
             Answer::Full
@@ -137,7 +137,7 @@ impl<'a> Play<'a> {
         }
     }
 
-    /// The number of the last message that was queued, with this answer.
+    /// Returns the number of the last message that was queued, with this answer.
     fn queued_with(&self, answer: Answer) -> u64 {
         match answer {
             Answer::Queued(number) => number,

@@ -9,7 +9,7 @@ pub enum Routed {
     All,
 }
 
-/// What the places whose RCPT was accepted are to have in the end.
+/// What the places whose RCPT was accepted are to have at last.
 #[derive(Clone, Copy)]
 pub enum Last {
     /// The server has it, and offers DSN.
@@ -19,7 +19,7 @@ pub enum Last {
     Refused(u16),
 }
 
-/// A row of the data: an errand, the answer to an offer, and what is to come of it.
+/// A row of the data: an errand, the answer to an offer, and its outcome.
 #[derive(Clone, Copy)]
 pub struct Row<'a> {
     /// How many recipients there are: 1 to 100.
@@ -48,7 +48,7 @@ impl<'a> Row<'a> {
         }
     }
 
-    /// Whether the server has a hop for this place.
+    /// Returns whether the server has a hop for this place.
     pub fn goes(self, place: usize) -> bool {
         match self.routed {
             Routed::None => false,

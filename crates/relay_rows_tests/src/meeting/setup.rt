@@ -80,7 +80,7 @@ max_content = 2000
 "example.org" = { name = "next.example", at = "127.0.0.1:2526" }
 "#;
 
-/// The configuration that a text says.
+/// Returns the configuration that a text says.
 pub fn configuration(alloc: Global, text: &str) -> Result<Config, RowsFault> {
     match Config::read(alloc, text) {
         Ok(config) => Ok(config),

@@ -5,7 +5,7 @@ use relay_book::Verdict;
 /// What a server without a hop says.
 const NO_ROUTE: &[u8] = b"no route";
 
-/// Whether each place without a hop was refused, and the others have the last verdict.
+/// Returns whether each place without a hop was refused, and the others have the last verdict.
 pub fn are_by_table(row: Row<'_>, verdicts: &[Verdict]) -> bool {
     for (place, verdict) in verdicts.iter().enumerate() {
         let is_right = if row.goes(place) {
@@ -20,7 +20,7 @@ pub fn are_by_table(row: Row<'_>, verdicts: &[Verdict]) -> bool {
     verdicts.len() == usize::from(row.recipients)
 }
 
-/// Whether each place may be tried again.
+/// Returns whether each place may be tried again.
 pub fn are_all_later(row: Row<'_>, verdicts: &[Verdict]) -> bool {
     for verdict in verdicts {
         if !is_last(verdict, Last::Later) {

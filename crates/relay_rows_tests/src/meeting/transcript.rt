@@ -42,7 +42,7 @@ pub struct Transcript {
     pub verdicts: Vec<u8>,
 }
 
-// Written out, so that what drops a transcript calls this, and doesn't look into each part of it.
+// Written out, so that the proof of a caller that drops a transcript stops at this function.
 impl Drop for Transcript {
     fn drop(self) {
         let Transcript {
@@ -62,7 +62,7 @@ impl Drop for Transcript {
 }
 
 impl Transcript {
-    /// A transcript of which no line is read.
+    /// Makes a transcript of which no line is read.
     pub fn new(alloc: Global) -> Self {
         Transcript {
             name: String::new(alloc),
@@ -109,7 +109,7 @@ impl Transcript {
         answer.note(taken);
     }
 
-    /// Takes what stands after the colon of MAIL.
+    /// Takes what is after the colon of MAIL.
     fn take_mail(&mut self, answer: &mut Answer, text: &[u8]) {
         match envelope_of(answer.alloc, text) {
             Ok(envelope) => self.envelope = Some(envelope),
@@ -117,7 +117,7 @@ impl Transcript {
         }
     }
 
-    /// Takes what stands after the colon of RCPT.
+    /// Takes what is after the colon of RCPT.
     fn take_rcpt(&mut self, answer: &mut Answer, text: &[u8]) {
         match &mut self.envelope {
             Some(envelope) => {
@@ -158,7 +158,7 @@ fn end_of(word: &str) -> End {
     }
 }
 
-/// Puts the octets of a line after what stands in `out`.
+/// Puts the octets of a line after what is in `out`.
 fn push_line(out: &mut Vec<u8>, text: &[u8]) -> Result<(), AllocError> {
     push_unescaped(out, text)?;
     out.extend_from_slice(b"\r\n")

@@ -9,12 +9,12 @@ const SIZES: [usize; 3] = [1, 7, 64];
 /// What a row came to.
 #[derive(Clone, Copy)]
 pub enum Outcome {
-    /// All was as it must be: whole, and with the server cut off after each of so many octets that it reads, and the
-    /// client after each of so many.
+    /// All was as it must be: whole, and with the server cut off after each of this many octets that it reads, and the
+    /// client after each of this many.
     Lawful { up: usize, down: usize },
-    /// Where nothing is cut off, in pieces of so many octets, something else came.
+    /// Where nothing is cut off, in pieces of this many octets, something else came.
     DiffersWhole(usize),
-    /// Where the server is cut off, in pieces of so many octets, something else came, or not each octet was tried.
+    /// Where the server is cut off, in pieces of this many octets, something else came, or not each octet was tried.
     DiffersUp(usize),
     /// The same of the client.
     DiffersDown(usize),
@@ -88,7 +88,7 @@ fn outcome_beside<'a>(
     Ok(Outcome::Lawful { up, down })
 }
 
-/// Whether all is as it must be where nothing is cut off.
+/// Returns whether all is as it must be where nothing is cut off.
 fn is_whole<'a>(meeting: Meeting<'a>, said: Said<'a>, size: usize) -> Result<bool, AllocError> {
     let mut ends = Ends::new(meeting, said)?;
     ends.take_turns(Cutting { size, rest: 0 });

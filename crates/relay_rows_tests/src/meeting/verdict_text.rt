@@ -4,7 +4,7 @@ use relay_book::Verdict;
 use relay_client::Verdicts;
 use std::alloc::{AllocError, Global};
 
-/// A line for each verdict.
+/// Returns a line for each verdict.
 pub fn verdict_lines(alloc: Global, verdicts: Verdicts) -> Result<Vec<u8>, AllocError> {
     let mut out = Vec::new(alloc);
     let verdicts = verdicts.into_vec();
@@ -15,7 +15,7 @@ pub fn verdict_lines(alloc: Global, verdicts: Verdicts) -> Result<Vec<u8>, Alloc
     Ok(out)
 }
 
-/// The words of a verdict.
+/// Returns the words of a verdict.
 fn push_verdict(out: &mut Vec<u8>, verdict: &Verdict) -> Result<(), AllocError> {
     match verdict {
         Verdict::Taken { dsn: true } => out.extend_from_slice(b"Taken, DSN offered"),

@@ -1,6 +1,6 @@
 use std::alloc::Global;
 
-/// How octets come: in pieces of at most so many, which end at each place that leaves this rest.
+/// How octets come: in pieces of at most this many, which end at each place that leaves this rest.
 #[derive(Clone, Copy)]
 pub struct Cutting {
     pub size: usize,
@@ -9,7 +9,7 @@ pub struct Cutting {
 }
 
 impl Cutting {
-    /// The first place after this one at which a piece ends.
+    /// Returns the first place after this one at which a piece ends.
     fn end_after(self, place: usize) -> usize {
         let behind = self.size.saturating_sub(self.rest);
         let over = place.saturating_add(behind).checked_rem(self.size);
@@ -59,7 +59,7 @@ impl<'a> Wire<'a> {
         self.octets.as_slice().get(..self.read).unwrap_or(&[])
     }
 
-    /// Whether all that is written begins what is to be.
+    /// Returns whether all that is written begins what is to be.
     pub fn is_wanted(&self) -> bool {
         match self.wanted {
             Some(wanted) => !self.is_short && wanted.starts_with(self.octets.as_slice()),
@@ -74,18 +74,18 @@ impl<'a> Wire<'a> {
         }
     }
 
-    /// The next piece that is there.
+    /// Returns the next piece that is there.
     pub fn piece(&self, cutting: Cutting) -> &[u8] {
         let end = cutting.end_after(self.read).min(self.octets.len());
         self.octets.as_slice().get(self.read..end).unwrap_or(&[])
     }
 
-    /// So many octets more are read.
+    /// This many octets more are read.
     pub fn pass(&mut self, count: usize) {
         self.read = self.read.saturating_add(count);
     }
 
-    /// Whether what is read ends at a place where pieces end.
+    /// Returns whether what is read ends at a place where pieces end.
     pub fn is_cut(&self, cutting: Cutting) -> bool {
         self.read.checked_rem(cutting.size) == Some(cutting.rest)
     }

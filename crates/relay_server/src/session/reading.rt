@@ -21,7 +21,7 @@ use relay_routes::Table;
 use std::alloc::AllocError;
 
 impl Session {
-    /// Uses octets of a piece up to an offer or a close, or all of them, and answers how many.
+    /// Uses octets of a piece up to an offer or a close, or all of them, and returns how many.
     pub(super) fn read(
         &mut self,
         table: &Table,
@@ -45,7 +45,7 @@ impl Session {
         Ok(used)
     }
 
-    /// Whether octets are read.
+    /// Returns whether octets are read.
     fn is_reading(&self) -> bool
         ensures { result ≡ is_reading self.now.stage }
     {
