@@ -1,4 +1,4 @@
-//! What lies under the lock.
+//! What the lock of a hub guards.
 ghost use Rattle.std.specs.Prelude.{◌≡◌, ◌+◌, List, length, vec_len, IfErr, IfOk, MatchResult};
 ghost use Rattle.relay_book.specs.declared.change.Change.{Change};
 ghost use Rattle.relay_hub.specs.Admission.{IsOfAdmission, Notes};
@@ -18,13 +18,13 @@ use relay_trace::Moment;
 use std::marker::Model;
 use std::sync::ledger::{Book, Share};
 
-/// A node, and what was counted of the mail that it took since threads began to share it.
+/// A node, and a ledger of the messages that it queued since threads began to share it.
 pub(crate) struct Desk<D: Disk, J: Opening> {
     node: Node<D>,
-    /// The number of the first message of these threads.
+    /// The number of the first message that a thread can queue.
     first: u64,
     queued: Book<J>,
-    /// What the passes have left of the ledger's share: nothing.
+    /// What is left of the ledger's share after the passes took theirs: nothing.
     rest: Share<J>,
 }
 
@@ -54,7 +54,7 @@ impl<D: Disk, J: Opening> Model for Desk<D, J> {
 }
 
 impl<D: Disk, J: Opening> Desk<D, J> {
-    /// Makes a node that threads begin to share, after whose passes nothing is left of the ledger's share.
+    /// Wraps a node for threads to share. The passes hold the whole share of the ledger.
     pub(crate) fn new(node: Node<D>, queued: Book<J>, rest: Share<J>) -> Desk<D, J>
         requires none { queued.total ≡ 0 }
         requires rest { (rest.parts ≡ 0) × (rest.amount ≡ 0) }
@@ -72,8 +72,8 @@ impl<D: Disk, J: Opening> Desk<D, J> {
         }
     }
 
-    /// Takes an offer into the node. The receipt and its room are taken before that, so that nothing can fail
-    /// after it.
+    /// Takes an offer into the node. Makes the receipt and reserves its room first, so that nothing can fail once the
+    /// message is queued.
     pub(crate) fn admit(
         &mut self,
         pass: &mut Pass<J>,
@@ -107,8 +107,8 @@ impl<D: Disk, J: Opening> Desk<D, J> {
         }
     }
 
-    /// Returns the node, and the number of the first message that the threads gave. The passes are all that there are,
-    /// so their receipts are as many as the accepts that were added.
+    /// Returns the node, and the number of the first message that a thread could queue. `passes` are all there are, so
+    /// they hold as many receipts as the ledger has counted.
     pub(crate) fn close(self, passes: &mut Vec<Pass<J>>) -> (Node<D>, u64)
         requires { vec_len passes.old ≡ J.parts }
         ensures grown { HasGrown D.honest D.words J.starts (count_of passes.old.items) result.0.records }

@@ -1,4 +1,4 @@
-//! A node under a lock.
+//! A node that threads share under a lock.
 ghost use Rattle.std.specs.Prelude.{◌≡◌, ◌+◌, List, length, vec_len, IfErr, IfOk, MatchResult};
 ghost use Rattle.relay_book.specs.declared.change.Change.{Change};
 ghost use Rattle.relay_hub.specs.Admission.{IsOfAdmission, Notes};
@@ -20,19 +20,19 @@ use std::alloc::{AllocError, Global};
 use std::sync::ledger::{Blank, Share};
 use std::sync::{Mutex, Wait};
 
-/// A node that threads share: one call at a time has it.
+/// A node that threads share: each call locks it.
 #[derive(Drop)]
 pub struct Hub<D: Disk, J: Opening> {
     desk: Mutex<Desk<D, J>>,
 }
 
-/// The receipts of the threads aren't what the node has accepted.
+/// The threads' receipts disagree with what the node has accepted.
 pub struct Mismatch<D: Disk, J: Opening> {
     pub node: Node<D>,
     pub passes: Vec<Pass<J>>,
 }
 
-// Written out, so that what drops one calls this.
+// Written out, so that the proof of a caller that drops one stops at this function.
 impl<D: Disk + Drop, J: Opening> Drop for Mismatch<D, J> {
     fn drop(self) {
         let Mismatch {
@@ -43,7 +43,6 @@ impl<D: Disk + Drop, J: Opening> Drop for Mismatch<D, J> {
 }
 
 impl<D: Disk, J: Opening> Mismatch<D, J> {
-    /// Returns the node and the passes.
     pub fn into_parts(self) -> (Node<D>, Vec<Pass<J>>)
         ensures { (result.0 ≡ self.node) × (result.1.items ≡ self.passes.items) }
     {
@@ -53,8 +52,8 @@ impl<D: Disk, J: Opening> Mismatch<D, J> {
 }
 
 impl<D: Disk, J: Opening> Hub<D, J> {
-    /// Puts a node under a lock, with a pass for each of this many threads. If memory runs out the node comes back. The
-    /// blank ledger has a part for each thread.
+    /// Puts a node under a lock, and makes a pass for each of `threads` threads. The blank ledger must have that many
+    /// parts. Returns the node if memory runs out.
     pub fn new(
         alloc: Global,
         node: Node<D>,
@@ -82,9 +81,8 @@ impl<D: Disk, J: Opening> Hub<D, J> {
         ))
     }
 
-    /// Takes an offer into the node, and adds its receipt to the pass where it is queued. The receipt's room is taken
-    /// first, and if memory runs out for it that is answered, whatever the node would have answered. After `Queued`
-    /// each stop leaves the message.
+    /// Takes an offer into the node. If the node queues the message, adds its receipt to the pass; the message then
+    /// survives every stop. Fails if memory for the receipt runs out, before the node sees the offer.
     pub fn admit<R: Wait>(
         &self,
         rt: &R,
@@ -103,9 +101,10 @@ impl<D: Disk, J: Opening> Hub<D, J> {
         self.desk.lock(rt).admit(pass, offer, peer, now)
     }
 
-    /// Takes the node back, with all passes. After each list of changes that it kept at the start it has one accept for
-    /// each receipt, at its number and as that tells it, and no other change; live or stopped. If that isn't so by
-    /// their numbers and texts, node and passes come back as a mismatch. Allocates nothing.
+    /// Takes the node back, live or stopped, together with all passes. The node has accepted exactly one message for
+    /// each receipt since threads began to share it, under the receipt's number and with the receipt's content, and
+    /// nothing else has changed. If the numbers or contents disagree, returns node and passes as a mismatch. Allocates
+    /// nothing.
     pub fn close(self, passes: Vec<Pass<J>>) -> Result<(Node<D>, Vec<Pass<J>>), Mismatch<D, J>>
         requires { vec_len passes ≡ J.parts }
         ensures closed { (changes : List Change) → J.starts changes
@@ -128,7 +127,7 @@ impl<D: Disk, J: Opening> Hub<D, J> {
     }
 }
 
-/// Returns a pass for each of this many threads, and what is left of their share. Fails if memory runs out.
+/// Returns a pass for each of `threads` threads, and the rest of their share. Fails if memory runs out.
 fn passes_of<J: Opening>(
     alloc: Global,
     share: Share<J>,

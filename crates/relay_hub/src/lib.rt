@@ -1,4 +1,4 @@
-//! A node that threads share: each serves a client of its own, and the node is locked for each message alone.
+//! A node that threads share: each thread serves a client of its own, and locks the node once for each message.
 #![tactic(auto)]
 
 mod desk;

@@ -1,4 +1,4 @@
-//! A link of a thread: its session is the thread's own, and the node is locked for each offer alone.
+//! A client's link on a thread: the session belongs to the thread, which locks the node once for each offer.
 ghost use Rattle.std.specs.Prelude.{◌≡◌, ◌≤◌, ◌<◌, [], ℕ, List, Option, drop, length, true, false, IfErr, IfOk, OnOk};
 ghost use Rattle.std.specs.Prelude.{MatchResult};
 ghost use Rattle.relay_server.specs.Session.{HasOffer, IsClosed, offered, open_offers};
@@ -21,25 +21,27 @@ use std::alloc::Global;
 use std::io::{ErrorKind, Read, Write};
 use std::sync::Wait;
 
-/// How many reads a link does at most: 2^40.
+/// The most reads of one link: 2^40.
 const READS: u64 = 1_099_511_627_776;
 
-/// What a link works by.
+/// What a link needs beside its session, reader and writer.
 #[derive(Drop)]
 struct Terms<'a> {
     alloc: Global,
     config: &'a Config,
     /// The IPv4 address of the client.
     peer: [u8; 4],
-    /// When its mail counts as accepted.
+    /// The acceptance time of its mail.
     at: Moment,
 }
 
-/// Serves a client: writes the greeting, reads commands and mail from `reader`, and writes the replies to `writer`, all
-/// of them before the next read and after each message. Each message is given to the hub, and only those that it queued
-/// add their receipts to the pass, in order; the client is told what the hub answered. It ends at a close, and at the
-/// end of the input; and where the hub refuses to take a message, without another octet. If memory runs out after the
-/// hub's answer, the client isn't told of it, and the message stays queued. All mail counts as accepted at `now`.
+/// Serves a client: writes the greeting, reads commands and mail from `reader`, and writes the replies to `writer`.
+/// Replies are written before the next read and after each message. Each message is offered to the hub, whose answer
+/// the client gets; a queued message adds its receipt to the pass, in order.
+///
+/// Returns when the session closes or the input ends. If the hub refuses to take a message, fails without writing
+/// another octet. If memory runs out after the hub has answered, the client gets no reply, but the message stays
+/// queued. `now` is the acceptance time of all mail.
 pub fn hub_link<D: Disk, J: Opening, T: Wait, R: Read, W: Write>(
     rt: &T,
     alloc: Global,
@@ -66,7 +68,7 @@ pub fn hub_link<D: Disk, J: Opening, T: Wait, R: Read, W: Write>(
     converse(rt, hub, pass, &terms, &mut session, reader, writer)
 }
 
-/// Goes on after what was said, up to a close or the end of the input.
+/// Serves a session, whose greeting is written, until it closes or the input ends.
 fn converse<D: Disk, J: Opening, T: Wait, R: Read, W: Write>(
     rt: &T,
     hub: &Hub<D, J>,
@@ -101,8 +103,8 @@ fn converse<D: Disk, J: Opening, T: Wait, R: Read, W: Write>(
     Err(LinkFault::Input)
 }
 
-/// Reads once into the block, and returns what was read. Returns whether the link has come to its end: by a close, or
-/// by the end of the input. A read that was interrupted has read nothing.
+/// Reads once into the block, and answers what was read. Returns whether the link has ended, by a close or by the end
+/// of the input. An interrupted read counts as no octets.
 fn exchange_block<D: Disk, J: Opening, T: Wait, R: Read, W: Write>(
     rt: &T,
     hub: &Hub<D, J>,
@@ -137,7 +139,7 @@ fn exchange_block<D: Disk, J: Opening, T: Wait, R: Read, W: Write>(
     answer_block(rt, hub, pass, terms, session, &block[..count], writer)
 }
 
-/// Answers octets that were read, all of them or up to a close. Returns whether there was one.
+/// Answers the octets of a block up to its end or a close. Returns whether the session closed.
 fn answer_block<D: Disk, J: Opening, T: Wait, W: Write>(
     rt: &T,
     hub: &Hub<D, J>,
@@ -165,8 +167,8 @@ fn answer_block<D: Disk, J: Opening, T: Wait, W: Write>(
     Ok(false)
 }
 
-/// Answers octets after those that are used, all of them or up to an offer or a close. Returns whether there was a
-/// close.
+/// Answers octets from `used` on, up to their end, an offer or a close, and writes the replies. Returns whether the
+/// session closed.
 fn answer<D: Disk, J: Opening, T: Wait, W: Write>(
     rt: &T,
     hub: &Hub<D, J>,
@@ -195,8 +197,8 @@ fn answer<D: Disk, J: Opening, T: Wait, W: Write>(
     Ok(is_last)
 }
 
-/// Hears octets after those that are used, all of them or up to an offer or a close, and puts the replies after `out`.
-/// Returns whether there was a close.
+/// Feeds octets from `used` on to the session, up to their end, an offer or a close, and appends the replies to `out`.
+/// Returns whether the session closed.
 fn hear<D: Disk, J: Opening, T: Wait>(
     rt: &T,
     hub: &Hub<D, J>,
@@ -233,7 +235,7 @@ fn hear<D: Disk, J: Opening, T: Wait>(
     }
 }
 
-/// Gives the open offer to the hub, and puts the reply after `out`.
+/// Gives the open offer to the hub, and appends the reply to `out`.
 fn take_offer<D: Disk, J: Opening, T: Wait>(
     rt: &T,
     hub: &Hub<D, J>,
@@ -266,7 +268,7 @@ fn take_offer<D: Disk, J: Opening, T: Wait>(
     }
 }
 
-/// Returns what the hub answers to an offer. If it takes none, the link ends.
+/// Returns the hub's answer to an offer. Fails if the hub doesn't take the offer, which ends the link.
 #[tactic(auto, using(crate::proofs::LinkLemmas::refusal_of))]
 fn ask<D: Disk, J: Opening, T: Wait>(
     rt: &T,

@@ -1,10 +1,10 @@
-//! What the threads of a hub agree on.
+//! What the contracts of a hub's threads refer to.
 use std::marker::Brand;
 use std::sync::ledger::Ledger;
 
-/// Names the ledger of a hub, the lists of changes that its node kept when threads began to share it, and what it has
-/// answered: to a client at this address, at a time, to this offer. It exists in proofs alone. Nothing else is known of
-/// what a hub has answered, so what is held to it asks the hub.
+/// Names the ledger of a hub, the lists of changes that its node kept when threads began to share it, and the answers
+/// that it has given: to which client, when, to which offer. Exists in proofs alone. A contract learns of an answer in
+/// no other way, so whoever claims one must have asked the hub.
 pub trait Opening: Ledger {
     ghost use Rattle.std.specs.Prelude.{List, ℕ};
     ghost use Rattle.relay_book.specs.declared.change.Change.{Change};

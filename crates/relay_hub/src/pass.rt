@@ -8,8 +8,8 @@ use std::alloc::{AllocError, Global};
 use std::marker::Model;
 use std::sync::ledger::{Book, Share};
 
-/// A thread's right to give mail, and its receipts, which contracts see. Its share of the ledger says how many these
-/// are.
+/// A thread's right to give mail to a hub, with the receipts of that mail. Contracts see the receipts; the share of the
+/// ledger counts them.
 pub struct Pass<J: Opening> {
     pub(crate) receipts: Vec<Receipt>,
     pub(crate) share: Share<J>,
@@ -56,7 +56,7 @@ impl<J: Opening> Pass<J> {
         self.receipts.as_slice()
     }
 
-    /// Returns the receipts, and no pass any more. Allocates nothing.
+    /// Consumes the pass and returns its receipts. Allocates nothing.
     pub fn into_receipts(self) -> Vec<Receipt>
         ensures { result.items ≡ self }
     {
@@ -68,8 +68,8 @@ impl<J: Opening> Pass<J> {
     }
 }
 
-/// States that the ledger has counted as many messages as the passes have receipts, where no pass is missing: beside
-/// those whose shares are in `seen`. Does nothing.
+/// States that the ledger has counted as many messages as the passes have receipts, if these passes and the shares in
+/// `seen` are all there are. Does nothing.
 #[cycle(audit)]
 pub(crate) fn audit<J: Opening>(book: &mut Book<J>, seen: &mut Share<J>, passes: &mut [Pass<J>])
     requires parts { seen.old.parts + length passes.old ≡ J.parts }
@@ -85,7 +85,7 @@ pub(crate) fn audit<J: Opening>(book: &mut Book<J>, seen: &mut Share<J>, passes:
     }
 }
 
-/// The same, of a pass and others: its share is lent to `seen` as long as the others are checked.
+/// States the same of a pass and the rest; `seen` borrows the pass's share while the rest are audited.
 #[cycle(audit)]
 fn lend<J: Opening>(
     book: &mut Book<J>,

@@ -1,9 +1,9 @@
-//! What a thread was told of the mail that it gave.
+//! The receipt for a message that a thread queued.
 use relay_book::Accept;
 
-/// A message that was queued.
+/// A queued message, as the thread that gave it knows it.
 pub struct Receipt {
-    /// Its number.
+    /// The message's number.
     pub number: u64,
     /// The IPv4 address of the client that gave it.
     pub peer: [u8; 4],

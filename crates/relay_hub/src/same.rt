@@ -1,4 +1,4 @@
-//! Whether two accepts are the same, part by part. Allocates nothing.
+//! Comparison of two accepts, part by part. Allocates nothing.
 ghost use Rattle.std.specs.Prelude.{◌≡◌, ◌↔◌, IsTrue};
 ghost use Rattle.std.specs.Option.{option_copied};
 
@@ -27,7 +27,7 @@ fn is_same_envelope(one: &Envelope, other: &Envelope) -> bool
         && are_same_recipients(one.recipients.as_slice(), other.recipients.as_slice())
 }
 
-/// Returns whether two rows of recipients are the same.
+/// Returns whether two lists of recipients are the same, in order.
 fn are_same_recipients(one: &[Recipient], other: &[Recipient]) -> bool
     ensures { IsTrue result ↔ (one.now ≡ other.now) }
 {
@@ -54,7 +54,7 @@ fn is_same_recipient(one: &Recipient, other: &Recipient) -> bool
         )
 }
 
-/// Returns whether two texts that may be missing are the same.
+/// Returns whether two optional texts are the same.
 fn is_same_text(one: Option<&[u8]>, other: Option<&[u8]>) -> bool
     ensures { IsTrue result ↔ (option_copied one.entry ≡ option_copied other.entry) }
 {

@@ -1,4 +1,4 @@
-//! Whether receipts are what a node has accepted. Allocates nothing.
+//! Compares receipts with what a node has accepted. Allocates nothing.
 ghost use Rattle.std.specs.Prelude.{◌≡◌, ◌↔◌, ◌+◌, ◌≤◌, ◌<◌, ℕ, IsTrue, if◌then◌else◌};
 ghost use Rattle.std.specs.List.{AllByRecursion};
 ghost use Rattle.relay_hub.specs.Receipts.{AreReceipts, AreTrueOf, IsRising, IsTrueOf, Rise, times, times_in};
@@ -10,7 +10,7 @@ use crate::same::is_same_accept;
 use relay_disk::Disk;
 use relay_node::Node;
 
-/// Returns whether the numbers rise from a least one on, and are below a bound.
+/// Returns whether the numbers of the receipts rise strictly, from `least` or more, and stay below `bound`.
 fn rise(receipts: &[Receipt], least: u64, bound: u64) -> bool
     ensures { IsTrue result ↔ Rise least bound receipts.now }
 {
@@ -24,7 +24,7 @@ fn rise(receipts: &[Receipt], least: u64, bound: u64) -> bool
     true
 }
 
-/// Returns whether one of the receipts has a number. Their numbers rise, and so no two have the same.
+/// Returns whether one of the receipts has this number. Their numbers rise strictly; the search is by halves.
 fn has_number(receipts: &[Receipt], number: u64) -> bool
     requires { IsRising receipts.now }
     ensures { times_in number receipts.now ≡ (if result then 1 else 0) }
@@ -34,7 +34,7 @@ fn has_number(receipts: &[Receipt], number: u64) -> bool
         .is_ok()
 }
 
-/// Returns whether just one receipt of all passes has a number. The numbers of each pass rise.
+/// Returns whether exactly one receipt of all passes has this number. The numbers of each pass rise.
 fn comes_once<J: Opening>(passes: &[Pass<J>], number: u64) -> bool
     requires { AllByRecursion IsRising passes.now }
     ensures { IsTrue result ↔ (times number passes.now ≡ 1) }
@@ -51,8 +51,8 @@ fn comes_once<J: Opening>(passes: &[Pass<J>], number: u64) -> bool
     found
 }
 
-/// Returns whether each number from the first on, and below a bound, is that of just one receipt of all passes. The
-/// numbers of each pass rise.
+/// Returns whether exactly one receipt of all passes has each number from `first` on and below `bound`. The numbers of
+/// each pass rise.
 fn each_comes_once<J: Opening>(passes: &[Pass<J>], first: u64, bound: u64) -> bool
     requires { AllByRecursion IsRising passes.now }
     ensures { IsTrue result ↔ ((number : ℕ) → first ≤ number → number < bound → times number passes.now ≡ 1) }
@@ -65,7 +65,7 @@ fn each_comes_once<J: Opening>(passes: &[Pass<J>], first: u64, bound: u64) -> bo
     true
 }
 
-/// Returns whether the message of its number was accepted as the receipt says.
+/// Returns whether the node has a message of the receipt's number, accepted as the receipt records.
 fn is_true<D: Disk>(node: &Node<D>, receipt: &Receipt) -> bool
     ensures { IsTrue result ↔ IsTrueOf node.now.records.queue receipt.now }
 {
@@ -75,7 +75,7 @@ fn is_true<D: Disk>(node: &Node<D>, receipt: &Receipt) -> bool
     }
 }
 
-/// Returns whether so it is of all receipts of a pass.
+/// Returns whether all receipts of a pass agree with the node, as [`is_true`] says.
 fn are_true<D: Disk>(node: &Node<D>, receipts: &[Receipt]) -> bool
     ensures { IsTrue result ↔ AreTrueOf node.now.records.queue receipts.now }
 {
@@ -87,7 +87,7 @@ fn are_true<D: Disk>(node: &Node<D>, receipts: &[Receipt]) -> bool
     true
 }
 
-/// Returns whether so it is of the receipts of all passes.
+/// Returns whether the receipts of all passes agree with the node.
 fn are_all_true<D: Disk, J: Opening>(node: &Node<D>, passes: &[Pass<J>]) -> bool
     ensures { IsTrue result
         ↔ AllByRecursion (λ receipts. AreTrueOf node.now.records.queue receipts) passes.now }
@@ -100,7 +100,7 @@ fn are_all_true<D: Disk, J: Opening>(node: &Node<D>, passes: &[Pass<J>]) -> bool
     true
 }
 
-/// Returns whether the numbers of each pass rise from a least one on, and are below a bound.
+/// Returns whether the numbers of each pass rise, from `least` or more, and stay below `bound`.
 fn each_rises<J: Opening>(passes: &[Pass<J>], least: u64, bound: u64) -> bool
     ensures { IsTrue result ↔ AllByRecursion (λ receipts. Rise least bound receipts) passes.now }
 {
@@ -112,8 +112,8 @@ fn each_rises<J: Opening>(passes: &[Pass<J>], least: u64, bound: u64) -> bool
     true
 }
 
-/// Returns whether the receipts of all passes, by number, are the messages that the node has from the first number on,
-/// each once, and those of each pass rise.
+/// Returns whether the receipts of all passes are exactly the node's messages from number `first` on, each once, and
+/// the numbers of each pass rise.
 pub(crate) fn are_receipts<D: Disk, J: Opening>(
     node: &Node<D>,
     first: u64,
@@ -122,7 +122,7 @@ pub(crate) fn are_receipts<D: Disk, J: Opening>(
     ensures { IsTrue result ↔ AreReceipts first node.now.records.queue passes.now }
 {
     let next = node.next_number();
-    // Only in passes that rise a number is searched for by halves.
+    // The search by halves needs rising numbers.
     if !each_rises(passes, first, next) {
         return false;
     }

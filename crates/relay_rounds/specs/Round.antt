@@ -1,4 +1,4 @@
--- What the links of a round have come to.
+-- What a round does with its links.
 use Rattle.std.specs.Prelude.{◌≡◌, ◌+◌, ◌≤◌, ℕ, Bool, true, false, List, [], ◌∷◌, length, Option, None, Some, Result}
 use Rattle.std.specs.Prelude.{vec_len, vec_capacity}
 use Rattle.relay_routes.specs.declared.config.Config.{Config}
@@ -19,13 +19,13 @@ use Rattle.relay_hub.specs.Hub.{GrowsBy, HasTaken}
 use Rattle.relay_hub.specs.Link.{HasEnded, link_start}
 use Rattle.relay_hub.specs.Receipts.{AreReceipts, count_of}
 
--- The words below take what the hub has answered, what a reader of a link still has, and what its writer holds.
+-- Below: what the hub has answered, what a link's reader has left, and what its writer holds.
 module _ {R W : Type 0} (has_answered : List ℕ → ℕ → Offered → Answer → Type 0) (remaining : R → Option (List ℕ))
     (contents : W → Option (List ℕ)) where
-  -- of links of this configuration, whose mail counts as accepted at a time
+  -- for links of this configuration and acceptance time
   module _ (config : Config) (at : ℕ) where
-    -- How a link ended that ran, with a client at this address. One that had no thread has read and written nothing,
-    -- and nothing was queued on it.
+    -- How a link ended, whose client is at this address. One that got no thread has read and written nothing, and has
+    -- queued nothing.
     abbrev pub EndsBy : List ℕ → R → W → List Receipt → R → W → List Receipt
         → Option (Result (Unit {0}) LinkFault) → Type 0
     EndsBy peer old_reader old_writer old_receipts reader writer receipts None =
@@ -34,29 +34,29 @@ module _ {R W : Type 0} (has_answered : List ℕ → ℕ → Offered → Answer 
         HasEnded has_answered config peer at (link_start (remaining old_reader) (contents old_writer) old_receipts)
         (remaining reader) (contents writer) receipts result
 
-    -- the link was served, or it had no thread
+    -- the lane was served, or it got no thread and is unchanged
     pub record IsServed {J : Type 0} (old new : Lane J R W) : Type 0 where
       pub peer : new.peer ≡ old.peer
       pub ends : EndsBy old.peer old.reader old.writer old.pass new.reader new.writer new.pass new.ended
 
-    -- it runs, or it had no thread
+    -- the lane's thread runs, or the lane got no thread
     abbrev pub IsBegun : {J : Type 0} → Lane J R W → Started J R W → Type 0
     IsBegun old (Running handle) =
         (handle.promise.lane.value ≡ old) × (handle.promise.config.value ≡ config) × (handle.promise.at ≡ at)
     IsBegun old (Idle lane) = IsServed old lane
 
-  -- whatever lane began so, this is what it has come to
+  -- the lane that comes back is the outcome of whatever lane was begun
   abbrev pub Ends : {J : Type 0} → Started J R W → Lane J R W → Type 0
   Ends {J} started new =
       (config : Config) (at : ℕ) (old : Lane J R W) → IsBegun config at old started → IsServed config at old new
 
-  -- how a link has come out, with its receipts
+  -- the outcome of a link, with its receipts
   pub record HasComeOut (config : Config) (at : ℕ) (link : Link R W) (served : Served R W) : Type 0 where
     pub peer : served.peer ≡ link.peer
     pub ends : EndsBy config at link.peer link.reader link.writer [] served.reader served.writer
         served.receipts.items served.ended
 
-  -- so it is of each link, in order
+  -- each link has its outcome, in order
   abbrev pub HaveComeOut : Config → ℕ → List (Link R W) → List (Served R W) → Type 0
   HaveComeOut config at [] [] = Unit {0}
   HaveComeOut config at [] (one ∷ served) = ⊥
@@ -78,7 +78,7 @@ module _ {J R W : Type 0} where
     pub pass : lane.pass ≡ []
     pub ended : lane.ended ≡ None
 
-  -- this many words, and room for as many lanes that have begun and have ended
+  -- this many flags, and room for as many lanes that have begun and have ended
   pub record MayBegin (count word_count : ℕ) (started : List (Started J R W)) (started_room : ℕ)
       (ended : List (Lane J R W)) (ended_room : ℕ) : Type 0 where
     pub words : count ≤ word_count
@@ -87,14 +87,14 @@ module _ {J R W : Type 0} where
     pub none_ended : ended ≡ []
     pub room_to_end : count ≤ ended_room
 
-  -- what is told of a lane, but for its pass
+  -- all of a lane but its pass
   pub record IsRestOf (lane : Lane J R W) (rest : Served R W) : Type 0 where
     pub peer : rest.peer ≡ lane.peer
     pub reader : rest.reader ≡ lane.reader
     pub writer : rest.writer ≡ lane.writer
     pub ended : rest.ended ≡ lane.ended
 
-  -- the passes of the lanes, and what else is told of them
+  -- the passes of the lanes, and the rest of each
   abbrev pub AreApart : List (Lane J R W) → List (List Receipt) → List (Served R W) → Type 0
   AreApart [] [] [] = Unit {0}
   AreApart [] [] (rest ∷ rests) = ⊥
@@ -104,7 +104,7 @@ module _ {J R W : Type 0} where
   AreApart (lane ∷ lanes) (pass ∷ passes) (rest ∷ rests) =
       (pass ≡ lane.pass) × IsRestOf lane rest × AreApart lanes passes rests
 
--- the rest, with these receipts
+-- a result with these receipts in place of its own
 pub record IsWith {R W : Type 0} (pass : List Receipt) (rest one : Served R W) : Type 0 where
   pub receipts : one.receipts.items ≡ pass
   pub peer : one.peer ≡ rest.peer
@@ -112,7 +112,7 @@ pub record IsWith {R W : Type 0} (pass : List Receipt) (rest one : Served R W) :
   pub writer : one.writer ≡ rest.writer
   pub ended : one.ended ≡ rest.ended
 
--- the receipts of the passes, each with the rest
+-- each pass's receipts joined with the rest of its lane
 abbrev pub AreTogether : {R W : Type 0} → List (List Receipt) → List (Served R W) → List (Served R W) → Type 0
 AreTogether [] [] [] = Unit {0}
 AreTogether [] [] (one ∷ served) = ⊥
@@ -121,7 +121,7 @@ AreTogether (pass ∷ passes) [] served = ⊥
 AreTogether (pass ∷ passes) (rest ∷ rests) [] = ⊥
 AreTogether (pass ∷ passes) (rest ∷ rests) (one ∷ served) = IsWith pass rest one × AreTogether passes rests served
 
--- room for this many links
+-- reserved room for this many links
 pub record HasRoom {J R W : Type 0} (count : ℕ) (room : Room J R W) : Type 0 where
   pub words : vec_len room.have_threads ≡ count
   pub no_lanes : room.lanes.items ≡ []
@@ -137,8 +137,8 @@ pub record HasRoom {J R W : Type 0} (count : ℕ) (room : Room J R W) : Type 0 w
   pub none_served : room.served.items ≡ []
   pub served : count ≤ vec_capacity room.served
 
--- What a node has accepted after these changes agrees with these receipts: it is one accept for each of them. Or it
--- doesn't, and there too it is as many accepts as there are receipts.
+-- Whether these receipts agree with what the node has accepted after these changes. If so, it is one accept for each
+-- receipt. If not, it is still as many accepts as there are receipts.
 abbrev pub HasRun :
     {D : Type 0} → Type 0 → DiskWords D → List Change → List (List Receipt) → Kept D → Bool → Type 0
 HasRun honest words changes receipts records true = HasTaken honest words changes receipts records

@@ -16,18 +16,18 @@ use std::sync::Wait;
 use std::sync::atomic::{AtomicBool, Ordering};
 use std::thread::{Promise, PromisedHandle, Scope, Threads};
 
-/// A link, and the pass of the thread that is to serve it.
+/// A link, and the pass of the thread that serves it.
 pub(crate) struct Lane<J: Opening, R, W> {
     pub(crate) pass: Pass<J>,
     /// The IPv4 address of its client.
     pub(crate) peer: [u8; 4],
     pub(crate) reader: R,
     pub(crate) writer: W,
-    /// How it ended; none if it had no thread.
+    /// The result of the link; `None` if no thread served it.
     pub(crate) ended: Option<Result<(), LinkFault>>,
 }
 
-// Written out, so that what drops a lane calls this.
+// Written out, so that the proof of a caller that drops a lane stops at this function.
 impl<J: Opening, R: Drop, W: Drop> Drop for Lane<J, R, W> {
     fn drop(self) {
         let Lane {
@@ -41,7 +41,7 @@ impl<J: Opening, R: Drop, W: Drop> Drop for Lane<J, R, W> {
 }
 
 impl<J: Opening, R, W> Lane<J, R, W> {
-    /// Returns the pass, and what else is to be told of the lane, without receipts.
+    /// Splits the lane into its pass and the rest, which has no receipts yet.
     pub(crate) fn into_parts(self, alloc: Global) -> (Pass<J>, Served<R, W>)
         ensures pass { result.0 ≡ self.pass }
         ensures rest { IsRestOf self result.1 }
@@ -64,17 +64,17 @@ impl<J: Opening, R, W> Lane<J, R, W> {
     }
 }
 
-/// What all threads of a round work with.
+/// What all threads of a round share.
 pub(crate) struct Shop<'a, D: Disk, J: Opening, T> {
     pub(crate) rt: &'a T,
     pub(crate) alloc: Global,
     pub(crate) hub: &'a Hub<D, J>,
     pub(crate) config: &'a Config,
-    /// When the mail of the round counts as accepted.
+    /// The acceptance time of the round's mail.
     pub(crate) at: Moment,
 }
 
-// Written out, since what the threads work with need not be droppable itself.
+// Written out, since its parts need not be droppable themselves.
 impl<D: Disk, J: Opening, T> Drop for Shop<'_, D, J, T> {
     fn drop(self) {
         let Shop {
@@ -87,7 +87,7 @@ impl<D: Disk, J: Opening, T> Drop for Shop<'_, D, J, T> {
     }
 }
 
-/// What a thread's result is held to: the lane that it was given, and what it works by.
+/// What a thread's result is judged by: the lane that it was given, the configuration and the acceptance time.
 #[derive(Drop)]
 pub(crate) struct WasLane<J: Opening, R, W> {
     lane: Snapshot<Lane<J, R, W>>,
@@ -102,14 +102,14 @@ impl<J: Opening, R: Read, W: Write> Promise<Lane<J, R, W>> for WasLane<J, R, W> 
         was.lane.value served };
 }
 
-/// A lane that a thread serves, or one that had none.
+/// A lane that a thread serves, or that got no thread.
 #[derive(Drop)]
 pub(crate) enum Started<J: Opening, R: Read, W: Write> {
     Running(PromisedHandle<Lane<J, R, W>, WasLane<J, R, W>>),
     Idle(Lane<J, R, W>),
 }
 
-/// Serves a lane, unless it has no thread.
+/// Serves a lane, or returns it unchanged if `has_thread` is false.
 pub(crate) fn serve_lane<D: Disk, J: Opening, T: Wait, R: Read, W: Write>(
     shop: &Shop<'_, D, J, T>,
     lane: Lane<J, R, W>,
@@ -137,8 +137,8 @@ pub(crate) fn serve_lane<D: Disk, J: Opening, T: Wait, R: Read, W: Write>(
     lane
 }
 
-/// Gives a lane to a thread of its own. If none is given, the lane comes back as it was: `has_thread` says so to what
-/// the thread would have run, which is then called here.
+/// Spawns a thread that serves the lane. If no thread is available, the lane comes back unchanged: `has_thread` is set
+/// to false before the closure, which came back unrun, is called here.
 pub(crate) fn start_lane<
     's,
     E,
@@ -169,7 +169,7 @@ pub(crate) fn start_lane<
     }
 }
 
-/// Returns a lane whose thread has ended, or that had none.
+/// Waits for the lane's thread, if it has one, and returns the lane.
 pub(crate) fn end_lane<J: Opening, T: Threads, R: Read + Drop, W: Write + Drop>(
     rt: &T,
     started: Started<J, R, W>,

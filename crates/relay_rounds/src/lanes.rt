@@ -1,4 +1,4 @@
-//! Rows of lanes: each of a link and a pass, each served by a thread, and each taken apart again.
+//! Lists of lanes: joined from links and passes, served by a thread each, and split again.
 ghost use Rattle.std.specs.Prelude.{◌≡◌, ◌≤◌, ◌<◌, [], length, vec_len, vec_capacity};
 ghost use Rattle.relay_hub.specs.Receipts.{AreNew};
 ghost use Rattle.relay_rounds.specs.Round.{AreApart, AreTogether, Ends, IsBegun, IsLaneOf, IsServed, MayBegin};
@@ -16,7 +16,7 @@ use std::sync::atomic::AtomicBool;
 use std::thread;
 use std::thread::{Scope, Threads};
 
-/// Returns each link with a pass that has no receipts.
+/// Joins each link with a pass without receipts, in order.
 pub(crate) fn lanes_of<J: Opening, R: Drop, W: Drop>(
     links: Vec<Link<R, W>>,
     passes: Vec<Pass<J>>,
@@ -39,7 +39,7 @@ pub(crate) fn lanes_of<J: Opening, R: Drop, W: Drop>(
     lanes
 }
 
-/// Serves each lane by a thread of its own.
+/// Serves each lane on a thread of its own, and waits for all of them.
 pub(crate) fn serve_lanes<
     D: Disk + Drop + Send,
     J: Opening + Send + Sync,
@@ -75,7 +75,7 @@ pub(crate) fn serve_lanes<
     )
 }
 
-/// Gives each lane to a thread.
+/// Spawns a thread for each lane.
 fn start_lanes<
     's,
     E,
@@ -109,7 +109,7 @@ fn start_lanes<
     )
 }
 
-/// Waits for each thread.
+/// Waits for each thread, in order.
 fn end_lanes<J: Opening, T: Threads, R: Read + Drop, W: Write + Drop>(
     rt: &T,
     started: Vec<Started<J, R, W>>,
@@ -130,7 +130,7 @@ fn end_lanes<J: Opening, T: Threads, R: Read + Drop, W: Write + Drop>(
     )
 }
 
-/// Returns the passes of the lanes, and what else is to be told of them.
+/// Splits each lane into its pass and the rest.
 pub(crate) fn take_apart<J: Opening, R: Drop, W: Drop>(
     alloc: Global,
     lanes: Vec<Lane<J, R, W>>,
@@ -152,7 +152,7 @@ pub(crate) fn take_apart<J: Opening, R: Drop, W: Drop>(
     (passes, rests)
 }
 
-/// Returns the receipts of each pass, with what else is told of its lane.
+/// Joins the receipts of each pass with the rest of its lane.
 pub(crate) fn put_together<J: Opening, R: Drop, W: Drop>(
     passes: Vec<Pass<J>>,
     rests: Vec<Served<R, W>>,

@@ -1,4 +1,4 @@
-//! Rounds of links on threads: each thread serves one client, and all of them give their mail to one hub.
+//! Rounds of links on threads: each thread serves one client, and all threads give their mail to one hub.
 #![tactic(auto)]
 
 mod lane;

@@ -1,4 +1,4 @@
-//! Links that threads serve side by side, over a node that they share.
+//! A round: links served concurrently, on a thread each, over one shared node.
 ghost use Rattle.std.specs.Prelude.{◌≡◌, ◌≤◌, [], List, length, vec_len, vec_capacity, IfErr, IfOk};
 ghost use Rattle.relay_book.specs.declared.change.Change.{Change};
 ghost use Rattle.relay_records.specs.Records.{Keeps};
@@ -23,22 +23,22 @@ use std::sync::atomic::AtomicBool;
 use std::sync::ledger::Blank;
 use std::thread::Threads;
 
-/// What a round has come to.
+/// The result of a round.
 pub struct Ended<D: Disk, R, W> {
     pub node: Node<D>,
-    /// The links, in their order.
+    /// The served links, in the order in which they came.
     pub links: Vec<Served<R, W>>,
-    /// Whether the receipts are what the node has accepted.
+    /// Whether the receipts are exactly what the node has accepted.
     pub agrees: bool,
 }
 
-/// A round that didn't begin for lack of memory: no link has run.
+/// A round that couldn't begin because memory ran out. No link was read or written.
 pub struct NotBegun<D: Disk, R, W> {
     pub node: Node<D>,
     pub links: Vec<Link<R, W>>,
 }
 
-// Written out, so that what drops one of these calls this.
+// Written out, so that the proof of a caller that drops one stops at this function.
 impl<D: Disk + Drop, R: Drop, W: Drop> Drop for Ended<D, R, W> {
     fn drop(self) {
         let Ended {
@@ -58,7 +58,7 @@ impl<D: Disk + Drop, R: Drop, W: Drop> Drop for NotBegun<D, R, W> {
     }
 }
 
-/// Room for what a round makes of its links, taken before the first of them runs.
+/// Memory for all that a round makes of its links, reserved before the first link runs.
 pub(crate) struct Room<J: Opening, R: Read, W: Write> {
     pub(crate) have_threads: Vec<AtomicBool>,
     pub(crate) lanes: Vec<Lane<J, R, W>>,
@@ -84,7 +84,7 @@ impl<J: Opening, R: Read + Drop, W: Write + Drop> Drop for Room<J, R, W> {
 }
 
 impl<D: Disk, R, W> Ended<D, R, W> {
-    /// Returns the node, the links in their order, and whether the receipts are what the node has accepted.
+    /// Returns the node, the served links in order, and whether the receipts are exactly what the node has accepted.
     pub fn into_parts(self) -> (Node<D>, Vec<Served<R, W>>, bool)
         ensures { (result.0 ≡ self.node) × (result.1.items ≡ self.links.items) × (result.2 ≡ self.agrees) }
     {
@@ -107,8 +107,8 @@ impl<D: Disk, R, W> NotBegun<D, R, W> {
     }
 }
 
-/// Serves each link, 1 to 64 of them, by a thread of its own, and gives the node back when all have ended. A link
-/// whose thread isn't given is left as it was. All mail counts as accepted at `now`.
+/// Serves each of 1 to 64 links on a thread of its own, and returns the node when all have ended. A link for which no
+/// thread is available comes back untouched. `now` is the acceptance time of all mail.
 pub fn round<
     D: Disk + Drop + Send,
     T: Threads + Wait + Sync,
@@ -136,7 +136,7 @@ pub fn round<
     round_by::<Brand, D, T, R, W>(rt, alloc, node, blank, config, links, now)
 }
 
-/// Returns the same, of any ledger.
+/// Serves the links, with the ledger that `J` names.
 fn round_by<
     J: Opening + Send + Sync,
     D: Disk + Drop + Send,
@@ -176,7 +176,7 @@ fn round_by<
     Ok(room.run(rt, alloc, hub, passes, config, links, now))
 }
 
-/// Returns room for this many links. Fails if memory runs out.
+/// Reserves memory for a round of this many links. Fails if memory runs out.
 fn room_for<J: Opening, R: Read + Drop, W: Write + Drop>(
     alloc: Global,
     count: usize,
@@ -195,7 +195,7 @@ fn room_for<J: Opening, R: Read + Drop, W: Write + Drop>(
     })
 }
 
-/// Returns this many words, each of which says that a lane has its thread. Fails if memory runs out.
+/// Returns `count` flags, all set: each says that its lane has a thread. Fails if memory runs out.
 fn words(alloc: Global, count: usize) -> Result<Vec<AtomicBool>, AllocError>
     ensures { IfOk result (λ words. vec_len words ≡ count) }
 {
@@ -253,7 +253,7 @@ impl<J: Opening + Send + Sync, R: Read + Send + Drop, W: Write + Send + Drop> Ro
         }
     }
 
-    /// Serves the links. It gives the passes, what else is to be told of the links, and room for both in one.
+    /// Serves the links. Returns the passes, the rest of each lane, and the room to join both.
     fn serve<D: Disk + Drop + Send, T: Threads + Wait + Sync>(
         self,
         shop: &Shop<'_, D, J, T>,

@@ -1,8 +1,8 @@
-//! Rows that have room for what is put into them.
+//! Vectors with reserved room.
 ghost use Rattle.std.specs.Prelude.{◌≡◌, ◌+◌, ◌++◌, ◌≤◌, ◌<◌, ℕ, [], ◌∷◌, vec_len, vec_capacity};
 ghost use Rattle.relay_rounds.specs.Row.{EachIs};
 
-/// Puts one more after a row that has room for it.
+/// Appends an item to a vector that has room for it.
 pub(crate) fn put<T: Drop>(row: &mut Vec<T>, one: T)
     requires { vec_len row.old < vec_capacity row.old }
     ensures items { row.new.items ≡ row.old.items ++ one ∷ [] }
@@ -14,7 +14,7 @@ pub(crate) fn put<T: Drop>(row: &mut Vec<T>, one: T)
     };
 }
 
-/// Puts what is made of each of a row, by its place, into one that has room for all.
+/// Appends `make(place, item)` for each item of `row` to an empty vector that has room for all.
 pub(crate) fn map_into<T: Drop, U: Drop, F: Fn(usize, T) -> U>(
     row: Vec<T>,
     made: Vec<U>,

@@ -1,4 +1,4 @@
-//! A link of a round, before it and after it.
+//! A link before and after its round.
 ghost use Rattle.std.specs.Prelude.{◌≡◌, []};
 ghost use Rattle.relay_rounds.specs.Round.{IsLaneOf, IsWith};
 
@@ -6,7 +6,7 @@ use crate::lane::Lane;
 use relay_hub::{Opening, Pass, Receipt};
 use relay_links::LinkFault;
 
-/// A connection that is to be served.
+/// A client's connection, before it is served.
 pub struct Link<R, W> {
     /// The IPv4 address of its client.
     pub peer: [u8; 4],
@@ -14,19 +14,19 @@ pub struct Link<R, W> {
     pub writer: W,
 }
 
-/// What a link has come to.
+/// A client's connection, after it was served.
 pub struct Served<R, W> {
     /// The IPv4 address of its client.
     pub peer: [u8; 4],
     pub reader: R,
     pub writer: W,
-    /// Of the mail that was queued on it, in order.
+    /// The receipts of the mail that it queued, in order.
     pub receipts: Vec<Receipt>,
-    /// How it ended; none if it had no thread, and then nothing was read or written.
+    /// The result of the link; `None` if no thread was available, and then nothing was read or written.
     pub ended: Option<Result<(), LinkFault>>,
 }
 
-// Written out, so that what drops one of these calls this.
+// Written out, so that the proof of a caller that drops one stops at this function.
 impl<R: Drop, W: Drop> Drop for Link<R, W> {
     fn drop(self) {
         let Link {
@@ -50,7 +50,7 @@ impl<R: Drop, W: Drop> Drop for Served<R, W> {
 }
 
 impl<R, W> Link<R, W> {
-    /// Returns a lane of this link, with a pass, that hasn't begun.
+    /// Joins the link with a pass into a lane that hasn't begun.
     pub(crate) fn into_lane<J: Opening>(self, pass: Pass<J>) -> Lane<J, R, W>
         requires { pass ≡ [] }
         ensures { IsLaneOf self result }
@@ -71,7 +71,7 @@ impl<R, W> Link<R, W> {
 }
 
 impl<R, W> Served<R, W> {
-    /// Returns the same, with these receipts in place of its own.
+    /// Returns the same result with these receipts.
     pub(crate) fn with(self, receipts: Vec<Receipt>) -> Served<R, W>
         ensures { IsWith receipts.items self result }
     {
