@@ -43,6 +43,7 @@ impl<D: Disk + Drop, J: Opening> Drop for Mismatch<D, J> {
 }
 
 impl<D: Disk, J: Opening> Mismatch<D, J> {
+    /// Splits the mismatch into the node and the passes.
     pub fn into_parts(self) -> (Node<D>, Vec<Pass<J>>)
         ensures { (result.0 ≡ self.node) × (result.1.items ≡ self.passes.items) }
     {

@@ -18,16 +18,16 @@ pub record IsAcceptedAs (config : Config) (peer : List ℕ) (changes : List Chan
   pub is_accept : IsAcceptOf (acceptance_by config peer number at) offer accept
   pub change_is : change_at changes number ≡ Some (change.Accept accept)
 
--- each of these offers is accepted by the change of the number beside it
+-- each of these offers is accepted by the change of its number
 abbrev pub AreAcceptedAs : Config → List ℕ → List Change → List (ℕ × Offered) → Type 0
 AreAcceptedAs config peer changes queued =
     AllByRecursion (λ one. IsAcceptedAs config peer changes one.0 one.1) queued
 
--- so is each offer that was answered by a number
+-- each offer of the exchange that was answered by a number is accepted by the change of that number
 abbrev pub AreAccepted : Config → List ℕ → List Change → Said → Type 0
 AreAccepted config peer changes said = AreAcceptedAs config peer changes (queued_in said)
 
--- the list has grown by an accept, the change of this number, or hasn't
+-- the list has grown by an accept, which is the change of this number, or is the same
 abbrev pub GrowsBy : List Change → Option ℕ → List Change → Type 0
 GrowsBy changes None later = later ≡ changes
 GrowsBy changes (Some number) later =

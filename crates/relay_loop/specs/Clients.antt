@@ -1,5 +1,5 @@
--- What a relay does on the connection of a client. What was read of the connection and what was written to it are the
--- caller's to know: the input of what was said, and a list of octets.
+-- What a relay does on the connection of a client. The caller knows what was read from the connection, which is the
+-- input of the exchange, and what was written to it, which is a list of octets.
 use Rattle.std.specs.Prelude.{◌≡◌, ◌≢◌, ◌⊎◌, ℕ, ◌<◌, ◌≤◌, Bool, true, false, List, [], ◌++◌, take, Option, None, Some}
 use Rattle.std.specs.Prelude.{Result, Err, IfErr}
 use Rattle.relay_disk.specs.Device.{DiskWords}
@@ -18,12 +18,11 @@ use Rattle.relay_loop.specs.Accepted.{AreAccepted, GrowsBy}
 use Rattle.relay_loop.specs.Outboxes.{unwritten_at}
 use Rattle.relay_loop.specs.Relay.{RelayState}
 
--- The words below are of the session of a number, whose client is at this address, of a relay whose node keeps these
--- changes.
+-- Below: the session of this number, whose client is at this address, of a relay whose node keeps these changes.
 module _ {D : Type 0} (changes : List Change) (relay : RelayState D) (session : ℕ) (peer : List ℕ) (said : Said)
     (written : List ℕ) where
-  -- The session has said this, of which this was written to its connection, and the rest waits; each offer that was
-  -- answered by a number is accepted by the change of that number.
+  -- The session's exchange with its client: this much of its output was written, the rest is unwritten. Each offer that
+  -- was answered by a number is accepted by the change of that number.
   pub record TalksTo : Type 0 where
     pub seat : SeatHasSaid relay.node.config relay.node.seats session peer said
     pub waiting : List ℕ
@@ -31,8 +30,8 @@ module _ {D : Type 0} (changes : List Change) (relay : RelayState D) (session : 
     pub output : said.output ≡ written ++ waiting
     pub accepted : AreAccepted relay.node.config peer changes said
 
-  -- The session has said this, and closed, and its connection is gone: of what it said this was written, and the rest
-  -- are its last octets.
+  -- The session has closed, and its connection is gone: this much of its output was written, and the rest are its last
+  -- octets.
   pub record HasLeft (last : List ℕ) : Type 0 where
     pub closed : HasClosed (setup_for relay.node.config peer) said
     pub seat : slot_at relay.node.seats session ≡ None
@@ -40,14 +39,14 @@ module _ {D : Type 0} (changes : List Change) (relay : RelayState D) (session : 
     pub output : said.output ≡ written ++ last
     pub accepted : AreAccepted relay.node.config peer changes said
 
-  -- it goes on, or it has closed with these last octets
+  -- the session goes on, or has closed with these last octets
   abbrev pub GoesOn : Option (List ℕ) → Type 0
   GoesOn None = TalksTo
   GoesOn (Some last) = HasLeft last
 
--- What a read at a time did, after what was said and written, where nothing waited: the octets of the piece that it
--- used are read after the input. Each offer but the last found no room. The list of changes is as before, or has grown
--- by the accept of the last offer, whose number is the answer.
+-- What a read does, after this exchange, if nothing was unwritten: the octets of the piece that it used follow the
+-- input. Each offer but the last found no room. The list of changes is the same, or has grown by the accept of the last
+-- offer, whose number is the answer.
 module _ {D : Type 0} (honest : Type 0) (words : DiskWords D) (changes : List Change) (session : ℕ) (peer : List ℕ)
     (at : ℕ) (said : Said) (written : List ℕ) where
   pub record Reads (piece : List ℕ) (old new : RelayState D) (heard : Heard) : Type 0 where
@@ -62,8 +61,8 @@ module _ {D : Type 0} (honest : Type 0) (words : DiskWords D) (changes : List Ch
     pub keeps : Keeps honest words new.node.records list
     pub goes_on : GoesOn list new session peer later written heard.last
 
--- Octets of a piece of this length were used: where a change was made, one at least, and where nothing waited, no
--- change was made and nothing closed, all. No call of the device has failed.
+-- How much of a piece of this length a read uses: at least one octet if a change was added; the whole piece if nothing
+-- was unwritten, no change was added and the session didn't close. No call of the device has failed.
 pub record UsesOctets {D : Type 0} (words : DiskWords D) (session len : ℕ) (old new : RelayState D) (heard : Heard)
     : Type 0 where
   pub within : heard.used ≤ len
@@ -75,8 +74,8 @@ pub record UsesOctets {D : Type 0} (words : DiskWords D) (session len : ℕ) (ol
 abbrev pub IsUnknown : {D : Type 0} → RelayState D → ℕ → Type 0
 IsUnknown relay session = (slot_at relay.clients session ≡ None) ⊎ (slot_at relay.node.seats session ≡ None)
 
--- A read is refused so: the connection is gone, and a node that is stopped is unchanged. A live one leaves what its own
--- call does, as if the session were unknown where only the connection is.
+-- A read is refused: the connection is gone. A stopped node is unchanged; a live one is as its own call leaves it, or,
+-- if only the connection was unknown, as a call on an unknown session leaves it.
 pub record RefusesToRead {D T : Type 0} (words : DiskWords D) (session : ℕ) (old new : RelayState D)
     (result : Result T NodeFault)
     : Type 0 where
@@ -85,18 +84,18 @@ pub record RefusesToRead {D T : Type 0} (words : DiskWords D) (session : ℕ) (o
   pub stopped : old.node.records.spool.live ≡ false → new.node ≡ old.node
   pub unknown : result ≡ Err Unknown → IsUnknown old session
 
--- The end of a client is refused so: its node is unchanged, and it is stopped, or doesn't have the session.
+-- The end of a session is refused: the node is unchanged, and is stopped or doesn't have the session.
 abbrev pub RefusesToEnd : {D : Type 0} → ℕ → RelayState D → RelayState D → NodeFault → Type 0
 RefusesToEnd session old new Stopped = (old.node.records.spool.live ≡ false) × (new.node ≡ old.node)
 RefusesToEnd session old new Unknown = IsUnknown old session × (new.node ≡ old.node)
 RefusesToEnd session old new other = ⊥
 
--- what was heard is what was received, but for what goes to the client
+-- the result of a read is that of the node's call, without the octets for the client
 pub record IsHeardFrom (received : Received) (heard : Heard) : Type 0 where
   pub used : heard.used ≡ received.used
   pub change : heard.change ≡ received.change
 
--- the connection of a session was closed, with these last octets, or these wait to be written to it
+-- these octets are to be written to the session's connection, or, if it was closed, are its last ones
 abbrev pub IsSetTo : Bool → ℕ → List ℕ → Option (List ℕ) → List (Option (List ℕ)) → Type 0
 IsSetTo true session out last clients = (slot_at clients session ≡ None) × (last ≡ Some out)
 IsSetTo false session out last clients = (slot_at clients session ≡ Some out) × (last ≡ None)

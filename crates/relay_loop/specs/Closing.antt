@@ -1,11 +1,11 @@
--- The reply with which the relay closes a connection by itself (RFC 5321, section 3.8).
+-- The reply with which the relay closes a connection unasked (RFC 5321, section 3.8).
 use Rattle.std.specs.Prelude.{ℕ, List, ◌++◌, codes}
 use Rattle.relay_envelope.specs.HostName.{IsHostName}
 use Rattle.relay_lines.specs.Reply.{IsReply, one_line, reply_text}
 use Rattle.relay_loop.specs.declared.closing.Closing.{Closing}
 use Rattle.relay_loop.specs.declared.closing.Closing.TheVariants.{TooMany, Timeout}
 
--- what is after the name of the host
+-- the text after the name of the host
 abbrev pub text_of : Closing → List ℕ
 text_of TooMany = codes " too many connections, closing"
 text_of Timeout = codes " timeout, closing"
@@ -14,7 +14,7 @@ text_of Timeout = codes " timeout, closing"
 abbrev pub closing_of : List ℕ → Closing → List ℕ
 closing_of host why = reply_text (one_line 421 (host ++ text_of why))
 
--- It is one reply.
+-- The text is one reply.
 abbrev pub ClosingIsReply : Type 0
 ClosingIsReply =
     (host : List ℕ) (why : Closing) → IsHostName host → IsReply (one_line 421 (host ++ text_of why))

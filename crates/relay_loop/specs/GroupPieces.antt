@@ -1,5 +1,4 @@
--- What a relay does with the octets of several clients, one after another, whose changes come into its records
--- together.
+-- What a relay does with the octets of several clients, one after another, if their changes go to the spool together.
 use Rattle.std.specs.Prelude.{◌≡◌, ◌≢◌, ◌⊎◌, ℕ, ◌+◌, ◌≤◌, ◌<◌, ◌^◌, List, [], ◌∷◌, ◌++◌, length, take, None, Result, Ok}
 use Rattle.std.specs.Prelude.{Err}
 use Rattle.std.specs.List.{AllByRecursion}
@@ -20,28 +19,28 @@ use Rattle.relay_loop.specs.Clients.{GoesOn, IsUnknown, TalksTo}
 use Rattle.relay_loop.specs.Outboxes.{unwritten_at}
 use Rattle.relay_loop.specs.Relay.{OnlyClient, RelayState}
 
--- no more is read after a row: it has 64 changes, or their records take 4 MiB of a spool
+-- the row is full: it has 64 changes, or 4 MiB of records
 abbrev pub IsLaden : Row → Type 0
 IsLaden row = (64 ≤ length row.notes) ⊎ (2 ^ 22 ≤ room_of row.bodies)
 
--- nothing of a piece was used
+-- the result for a piece of which nothing was used
 abbrev pub unread : Heard
 unread = record { used = 0; change = None; last = None }
 
--- none of these pieces is of this session
+-- none of these pieces belongs to this session
 abbrev pub AreOfOthers : ℕ → List Piece → Type 0
 AreOfOthers session pieces = AllByRecursion (λ piece. session ≢ piece.session) pieces
 
--- no call went to a device yet
+-- the device wasn't called yet
 pub record IsUndone {D : Type 0} (old new : RelayState D) : Type 0 where
   pub spool : new.node.records.spool ≡ old.node.records.spool
   pub noted : new.node.records.noted ≡ old.node.records.noted
 
--- The words below are of a call at a time, of a relay whose node keeps these changes and awaits those that are pending,
--- which the row records. What one piece stages are the changes that it adds to these, one at most.
+-- Below: a call at a time, of a relay whose node keeps these changes and has the pending ones staged in the row. One
+-- piece stages at most one more change.
 module _ {D : Type 0} (honest : Type 0) (words : DiskWords D) (changes : List Change) (at : ℕ) where
-  -- What was read of a client, after what was said and written, where nothing waited: the octets of the piece that
-  -- were used are read after the input. Each offer but the last found no room. The last one's change is pending too.
+  -- A client was read, after this exchange, with nothing unwritten: the used octets of the piece follow the input. Each
+  -- offer but the last found no room. If the last one was accepted, its change is pending too.
   pub record ReadsInto (pending : List Change) (session : ℕ) (peer : List ℕ) (said : Said) (written piece : List ℕ)
       (old : RelayState D) (row : Row) (new : RelayState D) (left : Row) (more : List Change) (heard : Heard)
       : Type 0 where
@@ -53,8 +52,8 @@ module _ {D : Type 0} (honest : Type 0) (words : DiskWords D) (changes : List Ch
         new.node.records left more heard.change
     pub goes_on : GoesOn (changes ++ (pending ++ more)) new session peer later written heard.last
 
-  -- The piece was heard: it is left unread where octets wait for its client, or the row is laden. Otherwise it is used
-  -- up, unless a change or a close stopped that.
+  -- A piece has a result: it was left unread if octets for its client were unwritten or the row was full. Otherwise it
+  -- was used up, or up to a change or a close.
   pub record ReadsOne (pending : List Change) (piece : Piece) (old : RelayState D) (row : Row) (new : RelayState D)
       (left : Row) (more : List Change) (heard : Heard)
       : Type 0 where
@@ -70,7 +69,7 @@ module _ {D : Type 0} (honest : Type 0) (words : DiskWords D) (changes : List Ch
         (written : List ℕ) → TalksTo (changes ++ pending) old piece.session peer said written
         → ReadsInto pending piece.session peer said written piece.octets.now old row new left more heard
 
-  -- the piece was refused: its connection is gone, and the node leaves what its own call does
+  -- the piece was refused: its connection is gone, and the node is as its own call leaves it
   pub record RefusesOne (pending : List Change) (piece : Piece) (old : RelayState D) (row : Row) (new : RelayState D)
       (left : Row) (more : List Change) (fault : NodeFault)
       : Type 0 where
@@ -88,7 +87,7 @@ module _ {D : Type 0} (honest : Type 0) (words : DiskWords D) (changes : List Ch
   AnswersBy pending piece old row new left more (Ok heard) = ReadsOne pending piece old row new left more heard
   AnswersBy pending piece old row new left more (Err fault) = RefusesOne pending piece old row new left more fault
 
-  -- the piece has this answer, with these changes more, and nothing else happened
+  -- the piece has this result and has staged these changes, and nothing else happened
   pub record AnswersOne (pending : List Change) (piece : Piece) (old : RelayState D) (row : Row) (new : RelayState D)
       (left : Row) (more : List Change) (answer : Result Heard NodeFault)
       : Type 0 where
@@ -96,8 +95,8 @@ module _ {D : Type 0} (honest : Type 0) (words : DiskWords D) (changes : List Ch
     pub only : OnlyClient old new piece.session
     pub awaits : Awaits honest words new.node.records changes (pending ++ more) left
 
-  -- The pieces have these answers, one after another. The first found these changes pending; all are those after the
-  -- last.
+  -- The pieces have these results, one after another; the first list are the changes pending before them, the last
+  -- those pending after them.
   abbrev pub AnswersEach
       : List Piece → List (Result Heard NodeFault) → List Change → RelayState D → Row → RelayState D → Row
       → List Change → Type 0

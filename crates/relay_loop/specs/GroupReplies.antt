@@ -1,5 +1,5 @@
--- What a relay does with the octets of several next hops, one after another, where the outcomes of their attempts come
--- into its records together.
+-- What a relay does with the octets of several next hops, one after another, if the outcomes of their attempts go to
+-- the spool together.
 use Rattle.std.specs.Prelude.{◌≡◌, ◌≢◌, ◌⊎◌, ℕ, ◌+◌, ◌≤◌, false, List, [], ◌∷◌, ◌++◌, length, take, Option, None, Some}
 use Rattle.std.specs.Prelude.{Result, Ok, Err}
 use Rattle.std.specs.List.{AllByRecursion}
@@ -24,27 +24,27 @@ use Rattle.relay_loop.specs.Outboxes.{unwritten_at}
 use Rattle.relay_loop.specs.Relay.{OnlyHop, RelayState}
 use Rattle.relay_report.specs.Report.{reporter_of}
 
--- nothing of a reply was used
+-- the result for a reply of which nothing was used
 abbrev pub unheard : Answered
 unheard = record { used = 0; change = None; last = None }
 
--- none of these replies is to this attempt
+-- none of these replies belongs to this attempt
 abbrev pub AreToOthers : ℕ → List ReplyPiece → Type 0
 AreToOthers attempt replies = AllByRecursion (λ reply. attempt ≢ reply.attempt) replies
 
--- the changes that a reply stages: none, or an outcome, whose number comes next
+-- the changes that a reply stages: none, or one outcome, whose number is the next
 abbrev pub IsEnding : ℕ → Option ℕ → List Change → Type 0
 IsEnding next None more = more ≡ []
 IsEnding next (Some number) more =
     (outcome : Outcome) × (number ≡ next) × (more ≡ change.Outcome outcome ∷ [])
 
--- The words below are of a call at a time, of a relay whose node keeps these changes and awaits those that are pending,
--- which the row records. What one reply stages are the changes that it adds to these, one at most.
+-- Below: a call at a time, of a relay whose node keeps these changes and has the pending ones staged in the row. One
+-- reply stages at most one more change.
 module _ {D : Type 0} (honest : Type 0) (words : DiskWords D) (changes : List Change) (at : ℕ) where
-  -- The words below are of a reply to an attempt of which this is told and written, where nothing waited.
+  -- Below: a reply to an attempt with this history and these octets written, with nothing unwritten.
   module _ (pending : List Change) (attempt : ℕ) (told : Told) (written piece : List ℕ) (old : RelayState D) (row : Row)
       (new : RelayState D) (left : Row) (more : List Change) (answered : Answered) where
-    -- it goes on after the whole piece, and the records and the row are the same
+    -- the attempt goes on after the whole piece; records and row are unchanged
     pub record HandsOnBehind : Type 0 where
       pub used : answered.used ≡ length piece
       pub same : new.node.records ≡ old.node.records
@@ -53,8 +53,8 @@ module _ {D : Type 0} (honest : Type 0) (words : DiskWords D) (changes : List Ch
       pub out : List ℕ
       pub hands : HandsTo (changes ++ pending) new attempt (told_more told (take answered.used piece) out) written
 
-    -- It has ended, with these last octets: the one outcome of its course is pending too, with the report that is owed,
-    -- as the change of this number. The attempt and its connection are gone.
+    -- The attempt has ended, with these last octets: its one outcome, with the report that is owed, is pending as the
+    -- change of this number. The attempt and its connection are gone.
     pub record HandsLastBehind (number : ℕ) : Type 0 where
       pub last : List ℕ
       pub last_is : answered.last ≡ Some last
@@ -71,8 +71,8 @@ module _ {D : Type 0} (honest : Type 0) (words : DiskWords D) (changes : List Ch
     HandsBy None = HandsOnBehind
     HandsBy (Some number) = HandsLastBehind number
 
-  -- The reply was heard: it is left unread where octets wait for its next hop, or the row is laden. Otherwise it is
-  -- used up, unless the attempt has ended, which is gone then.
+  -- A reply has a result: it was left unread if octets for its next hop were unwritten or the row was full. Otherwise
+  -- it was used up, or up to the end of the attempt, which is gone then.
   pub record HearsReply (pending : List Change) (reply : ReplyPiece) (old : RelayState D) (row : Row)
       (new : RelayState D) (left : Row) (more : List Change) (answered : Answered)
       : Type 0 where
@@ -91,7 +91,7 @@ module _ {D : Type 0} (honest : Type 0) (words : DiskWords D) (changes : List Ch
         → HandsTo (changes ++ pending) old reply.attempt told written
         → HandsBy pending reply.attempt told written reply.octets.now old row new left more answered answered.change
 
-  -- the reply was refused: its connection is gone, and the node leaves what its own call does
+  -- the reply was refused: its connection is gone, and the node is as its own call leaves it
   pub record RefusesReply (pending : List Change) (reply : ReplyPiece) (old : RelayState D) (row : Row)
       (new : RelayState D) (left : Row) (more : List Change) (fault : NodeFault)
       : Type 0 where
@@ -110,7 +110,7 @@ module _ {D : Type 0} (honest : Type 0) (words : DiskWords D) (changes : List Ch
   RepliesBy pending reply old row new left more (Ok answered) = HearsReply pending reply old row new left more answered
   RepliesBy pending reply old row new left more (Err fault) = RefusesReply pending reply old row new left more fault
 
-  -- the reply has this answer, with these changes more, and nothing else happened
+  -- the reply has this result and has staged these changes, and nothing else happened
   pub record RepliesOne (pending : List Change) (reply : ReplyPiece) (old : RelayState D) (row : Row)
       (new : RelayState D) (left : Row) (more : List Change) (answer : Result Answered NodeFault)
       : Type 0 where
@@ -118,8 +118,8 @@ module _ {D : Type 0} (honest : Type 0) (words : DiskWords D) (changes : List Ch
     pub only : OnlyHop old new reply.attempt
     pub awaits : Awaits honest words new.node.records changes (pending ++ more) left
 
-  -- The replies have these answers, one after another. The first found these changes pending; all are those after the
-  -- last.
+  -- The replies have these results, one after another; the first list are the changes pending before them, the last
+  -- those pending after them.
   abbrev pub RepliesEach
       : List ReplyPiece → List (Result Answered NodeFault) → List Change → RelayState D → Row → RelayState D → Row
       → List Change → Type 0

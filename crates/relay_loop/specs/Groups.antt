@@ -1,4 +1,4 @@
--- What a relay does with the octets of several clients and next hops, whose changes come into its records together.
+-- What a relay does with the octets of several clients and next hops, if their changes go to the spool together.
 use Rattle.std.specs.Prelude.{◌≡◌, ℕ, false, true, List, [], Option, None, Result}
 use Rattle.std.specs.List.{AllByRecursion}
 use Rattle.relay_disk.specs.Device.{DiskWords}
@@ -19,10 +19,10 @@ use Rattle.relay_loop.specs.GroupPieces.{AnswersEach, AreOfOthers, IsUndone}
 use Rattle.relay_loop.specs.GroupReplies.{AreToOthers, RepliesEach}
 use Rattle.relay_loop.specs.Relay.{RelayState}
 
--- The words below are of a call at a time, of a relay whose node keeps these changes.
+-- Below: a call at a time, of a relay whose node keeps these changes.
 module _ {D : Type 0} (honest : Type 0) (words : DiskWords D) (changes : List Change) (at : ℕ) where
-  -- The pieces have these answers, and the replies, after them, these. No call went to a device yet; these changes are
-  -- pending then, which the row records.
+  -- The pieces, and after them the replies, have these results. The device wasn't called yet, and the row has these
+  -- changes pending.
   pub record AnswersAll (pieces : List Piece) (replies : List ReplyPiece) (heard : List (Result Heard NodeFault))
       (answered : List (Result Answered NodeFault)) (old before : RelayState D) (row : Row) (pending : List Change)
       : Type 0 where
@@ -33,8 +33,8 @@ module _ {D : Type 0} (honest : Type 0) (words : DiskWords D) (changes : List Ch
     pub replies_each : RepliesEach honest words changes at replies answered staged between beside before row pending
     pub undone : IsUndone old before
 
-  -- The changes of the pieces and of the replies were added at once: after the answers nothing else happened, and a
-  -- stop at any time of the call leaves none of them or all.
+  -- All changes of the pieces and replies were added at once, and nothing else happened after the results; a stop at
+  -- any time of the call leaves all of them or none.
   pub record ReadsAll (pieces : List Piece) (replies : List ReplyPiece) (old new : RelayState D) (group : Group)
       : Type 0 where
     pub pending : List Change
@@ -51,7 +51,7 @@ module _ {D : Type 0} (honest : Type 0) (words : DiskWords D) (changes : List Ch
     pub stop : honest → AtEachMoment words old.node.records.spool.disk new.node.records.spool.disk
         (HasBodies (StandsForOrWithAll changes pending))
 
-  -- A stop came while these changes were added: none of them stays, or all.
+  -- A stop came while these changes were added: it leaves all of them or none.
   pub record CutsGroup (pieces : List Piece) (replies : List ReplyPiece) (old new : RelayState D) : Type 0 where
     pub heard : List (Result Heard NodeFault)
     pub answered : List (Result Answered NodeFault)
@@ -64,7 +64,7 @@ module _ {D : Type 0} (honest : Type 0) (words : DiskWords D) (changes : List Ch
     pub stop : honest → AtEachMoment words old.node.records.spool.disk new.node.records.spool.disk
         (HasBodies (StandsForOrWithAll changes pending))
 
--- what a call on these sessions and attempts leaves of all others and their connections, and of the configuration
+-- a call on these sessions and attempts changes no other, nor its connection, nor the configuration
 pub record OnlyTheirs {D : Type 0} (old new : RelayState D) (pieces : List Piece) (replies : List ReplyPiece)
     : Type 0 where
   pub sessions : (session : ℕ) → AreOfOthers session pieces
@@ -79,12 +79,12 @@ pub record OnlyTheirs {D : Type 0} (old new : RelayState D) (pieces : List Piece
 abbrev pub AllAreGone : List (Option (List ℕ)) → List Piece → Type 0
 AllAreGone clients pieces = AllByRecursion (λ piece. slot_at clients piece.session ≡ None) pieces
 
--- so are those of the replies
+-- the connections of the replies are gone
 abbrev pub HopsAreGone : List (Option (List ℕ)) → List ReplyPiece → Type 0
 HopsAreGone hops replies = AllByRecursion (λ reply. slot_at hops reply.attempt ≡ None) replies
 
--- A call on these pieces and replies is refused so: for lack of memory nothing changes, and where the node is stopped,
--- or stops, no connection of theirs is left, so that no octet of what was pending goes out.
+-- A call on these pieces and replies is refused. If memory ran out, nothing has changed. If the node was or is now
+-- stopped, all their connections are gone, so that no octet that depends on a pending change goes out.
 abbrev pub RefusesToReadAll
     : {D : Type 0} → List Piece → List ReplyPiece → RelayState D → RelayState D → NodeFault → Type 0
 RefusesToReadAll pieces replies old new NoMemory = (new ≡ old) × (old.node.records.spool.live ≡ true)

@@ -18,8 +18,8 @@ use Rattle.relay_loop.specs.Outboxes.{unwritten_at}
 use Rattle.relay_loop.specs.Relay.{RelayState}
 use Rattle.relay_report.specs.Report.{reporter_of}
 
--- This is told of the attempt of a number, by these changes: of what it wrote this was written to its connection, and
--- the rest waits.
+-- The history of the attempt of a number, by these changes: this much of what it wrote was written to its connection,
+-- the rest is unwritten.
 pub record HandsTo {D : Type 0} (changes : List Change) (relay : RelayState D) (attempt : ℕ) (told : Told)
     (written : List ℕ)
     : Type 0 where
@@ -28,8 +28,8 @@ pub record HandsTo {D : Type 0} (changes : List Change) (relay : RelayState D) (
   pub connection : slot_at relay.hops attempt ≡ Some waiting
   pub output : told.output ≡ written ++ waiting
 
--- an attempt has begun for a message and a hop at a time, for at most this many places, and nothing is written to its
--- connection, and nothing waits
+-- An attempt has begun for a message and a hop, for at most this many places; nothing was written to its connection,
+-- and nothing is to be written.
 pub record StartsToAtMost {D : Type 0} (changes : List Change) (message : ℕ) (hop : List ℕ) (most : Option ℕ) (now : ℕ)
     (old new : RelayState D) (started : Started)
     : Type 0 where
@@ -40,10 +40,10 @@ pub record StartsToAtMost {D : Type 0} (changes : List Change) (message : ℕ) (
 abbrev pub StartsTo : {D : Type 0} → List Change → ℕ → List ℕ → ℕ → RelayState D → RelayState D → Started → Type 0
 StartsTo changes message hop = StartsToAtMost changes message hop None
 
--- The words below are of a reply at a time, to an attempt of which this is told and written, where nothing waited.
+-- Below: a reply at a time, to an attempt with this history and these octets written, with nothing unwritten.
 module _ {D : Type 0} (honest : Type 0) (words : DiskWords D) (changes : List Change) (attempt now : ℕ) (told : Told)
     (written : List ℕ) where
-  -- it goes on after the whole piece, and the records are the same
+  -- the attempt goes on after the whole piece, and the records are the same
   pub record HandsOn (piece : List ℕ) (old new : RelayState D) (answered : Answered) : Type 0 where
     pub used : answered.used ≡ length piece
     pub same : new.node.records ≡ old.node.records
@@ -51,7 +51,7 @@ module _ {D : Type 0} (honest : Type 0) (words : DiskWords D) (changes : List Ch
     pub out : List ℕ
     pub hands : HandsTo changes new attempt (told_more told (take answered.used piece) out) written
 
-  -- It has ended, with these last octets: the one outcome of its course was added, with the report that is owed, as the
+  -- The attempt has ended, with these last octets: its one outcome, with the report that is owed, was added as the
   -- change of this number. The attempt and its connection are gone.
   pub record HandsLast (piece : List ℕ) (old new : RelayState D) (answered : Answered) (change : ℕ) : Type 0 where
     pub last : List ℕ
@@ -71,8 +71,9 @@ module _ {D : Type 0} (honest : Type 0) (words : DiskWords D) (changes : List Ch
   abbrev pub Replies : List ℕ → RelayState D → RelayState D → Answered → Type 0
   Replies piece old new answered = RepliesBy piece old new answered answered.change
 
--- Octets of a piece of this length were used: where nothing waited and the attempt goes on, all. If it has ended, it is
--- gone; the records are the same, or have grown by its outcome, and no call of the device has failed.
+-- How much of a piece of this length a reply uses: the whole piece if nothing was unwritten and the attempt goes on. An
+-- attempt that has ended is gone. The records are the same, or have grown by its outcome, and no call of the device has
+-- failed.
 pub record UsesReply {D : Type 0} (words : DiskWords D) (now attempt len : ℕ) (old new : RelayState D)
     (answered : Answered)
     : Type 0 where
@@ -88,9 +89,8 @@ pub record UsesReply {D : Type 0} (words : DiskWords D) (now attempt len : ℕ) 
 abbrev pub IsUnknown : {D : Type 0} → RelayState D → ℕ → Type 0
 IsUnknown relay attempt = (slot_at relay.hops attempt ≡ None) ⊎ (slot_at relay.node.attempts attempt ≡ None)
 
--- A reply to an attempt, or the loss of its connection, is refused so: the connection is gone, and a node that is
--- stopped is unchanged. A live one leaves what its own call does, as if the attempt were unknown where only the
--- connection is.
+-- A reply, or the loss of a connection, is refused: the connection is gone. A stopped node is unchanged; a live one is
+-- as its own call leaves it, or, if only the connection was unknown, as a call on an unknown attempt leaves it.
 pub record RefusesHop {D T : Type 0} (words : DiskWords D) (attempt : ℕ) (old new : RelayState D)
     (result : Result T NodeFault)
     : Type 0 where
@@ -99,13 +99,13 @@ pub record RefusesHop {D T : Type 0} (words : DiskWords D) (attempt : ℕ) (old 
   pub stopped : old.node.records.spool.live ≡ false → new.node ≡ old.node
   pub unknown : result ≡ Err Unknown → IsUnknown old attempt
 
--- what was answered is what was replied, but for what goes to the next hop
+-- the result of a reply is that of the node's call, without the octets for the next hop
 pub record IsAnsweredBy (replied : Replied) (answered : Answered) : Type 0 where
   pub used : answered.used ≡ replied.used
   pub change : answered.change ≡ replied.change
 
--- the connection of an attempt that has ended by a change is gone, with these last octets, or these wait to be written
--- to it
+-- these octets are to be written to the attempt's connection, or, if the attempt has ended by a change, are its last
+-- ones
 abbrev pub IsSetTo : Option ℕ → ℕ → List ℕ → Option (List ℕ) → List (Option (List ℕ)) → Type 0
 IsSetTo (Some change) attempt out last hops = (slot_at hops attempt ≡ None) × (last ≡ Some out)
 IsSetTo None attempt out last hops = (slot_at hops attempt ≡ Some out) × (last ≡ None)

@@ -1,4 +1,4 @@
--- Laws of the connections of a relay, whatever calls are made.
+-- Laws of a relay's connections, whatever calls are made.
 use Rattle.std.specs.Prelude.{◌≡◌, ◌≢◌, ◌⊎◌, ℕ, List, [], ◌∷◌, ◌++◌}
 use Rattle.std.specs.List.{Contains}
 use Rattle.relay_octets.specs.Beginning.{Begins}
@@ -14,7 +14,7 @@ use Rattle.relay_loop.specs.Clients.{TalksTo}
 use Rattle.relay_loop.specs.Hops.{HandsTo}
 use Rattle.relay_loop.specs.Relay.{OnlyClient, OnlyHop, RelayState}
 
--- What was said to a client is a dialogue, and what was written to it is a prefix of its output.
+-- The exchange with a client is a dialogue, and what was written to the client is a prefix of its output.
 abbrev pub TalksAreDialogues : Type 0 → Type 0
 TalksAreDialogues D =
     (changes : List Change) (relay : RelayState D) (session : ℕ) (peer : List ℕ) (said : Said) (written : List ℕ)
@@ -29,8 +29,8 @@ QueuedAreAccepted D =
     → Contains {X = ℕ × Offered} (queued_in said) (number, offer)
     → IsAcceptedAs relay.node.config peer changes number offer
 
--- A client is talked to as before while changes are added, as long as its session, its connection and the configuration
--- are the same.
+-- A client's exchange goes on unchanged while changes are added, as long as its session, its connection and the
+-- configuration are the same.
 abbrev pub TalksStay : Type 0 → Type 0
 TalksStay D =
     (changes added : List Change) (old new : RelayState D) (session : ℕ) (peer : List ℕ) (said : Said)
@@ -39,7 +39,7 @@ TalksStay D =
     → slot_at new.clients session ≡ slot_at old.clients session → new.node.config ≡ old.node.config
     → TalksTo changes old session peer said written → TalksTo (changes ++ added) new session peer said written
 
--- So it is where a call was on another session, or on an attempt.
+-- It also goes on unchanged through a call on another session, or on an attempt.
 abbrev pub OthersTalk : Type 0 → Type 0
 OthersTalk D =
     (changes added : List Change) (old new : RelayState D) (called session : ℕ) (peer : List ℕ) (said : Said)
@@ -52,7 +52,7 @@ abbrev pub StaysOrGrows : List Change → List Change → Type 0
 StaysOrGrows changes later =
     (later ≡ changes) ⊎ ((change : Change) × (later ≡ changes ++ change ∷ []) × Fitting later)
 
--- To a next hop mail is relayed as before while changes are added, as long as its attempt, its connection and the
+-- The relaying to a next hop goes on unchanged while changes are added, as long as its attempt, its connection and the
 -- configuration are the same.
 abbrev pub HandsStay : Type 0 → Type 0
 HandsStay D =
@@ -62,7 +62,7 @@ HandsStay D =
     → slot_at new.hops attempt ≡ slot_at old.hops attempt → new.node.config ≡ old.node.config
     → HandsTo changes old attempt told written → HandsTo later new attempt told written
 
--- So it is where a call was on another attempt, or on a session.
+-- It also goes on unchanged through a call on another attempt, or on a session.
 abbrev pub OthersHand : Type 0 → Type 0
 OthersHand D =
     (changes later : List Change) (old new : RelayState D) (called attempt : ℕ) (told : Told) (written : List ℕ)

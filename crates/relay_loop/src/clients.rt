@@ -23,20 +23,19 @@ use relay_node::Received;
 use relay_records::NodeFault;
 use relay_trace::Moment;
 
-/// What was done with octets of a client.
+/// What a read did with the octets of a client.
 #[derive(Debug, Drop)]
 pub struct Heard {
-    /// How many octets of the piece were used.
+    /// How many octets of the piece were used, from its start.
     pub used: usize,
-    /// The number of the change that was made, if one was.
+    /// The number of the change that was added, if any.
     pub change: Option<u64>,
-    /// The session has closed, and its number is free: these are the last octets of its connection, which the relay
-    /// has no more.
+    /// If the session has closed: the unwritten octets of its connection, which the relay has forgotten.
     pub last: Option<Outbox>,
 }
 
 impl Heard {
-    /// Nothing was used, and nothing was done.
+    /// Returns a result for a piece of which no octet was used.
     pub(crate) fn nothing() -> Self
         ensures { result ≡ record { used = 0; change = None; last = None } }
     {
@@ -49,9 +48,9 @@ impl Heard {
 }
 
 impl<D: Disk> Relay<D> {
-    /// Opens a session for a client at this address, under the least free number, which is the answer. Its greeting
-    /// waits to be written. The first fault in this order is answered, and nothing is changed then: `Stopped`,
-    /// `TooMany` where 64 sessions are open, and lack of memory.
+    /// Opens a session for a client at this IPv4 address, under the lowest free number, and returns the number. The
+    /// greeting is ready to be written. Fails, in this order, with `Stopped`, with `TooMany` if 64 sessions are open,
+    /// or if memory runs out; nothing changes then.
     pub fn accept(&mut self, peer: [u8; 4]) -> Result<usize, NodeFault>
         ensures talks { IfOk result (λ session. (changes : List Change) → TalksTo changes self.new session peer
             (greeted_by (unwritten_at self.new.clients session)) []) }
@@ -71,10 +70,11 @@ impl<D: Disk> Relay<D> {
         Ok(connected.session)
     }
 
-    /// Uses octets of a client, all of them or up to a change or a close; what they lead to waits to be written. While
-    /// octets wait to be written to the connection none is used, and nothing changes. Otherwise it is a
-    /// [`Node::receive`](relay_node::Node::receive), whose faults are answered. `Unknown` is answered first, where no
-    /// such connection stands. At a fault the connection is gone.
+    /// Uses octets of a client, up to their end, a change or a close; the replies are ready to be written. Uses none,
+    /// and changes nothing, while octets for the client are unwritten.
+    ///
+    /// Fails with `Unknown` if there is no such connection, else as [`Node::receive`](relay_node::Node::receive). After
+    /// a fault the connection is gone.
     pub fn read(&mut self, session: usize, piece: &[u8], now: Moment) -> Result<Heard, NodeFault>
         ensures reads { (changes : List Change) (peer : List ℕ) (said : Said) (written : List ℕ)
             → Keeps D.honest D.words self.old.node.records changes
@@ -113,14 +113,14 @@ impl<D: Disk> Relay<D> {
         }
     }
 
-    /// Returns what waits to be written to a client; nothing if no such connection stands.
+    /// Returns the unwritten octets for a client; none if there is no such connection.
     pub fn to_client(&self, session: usize) -> &[u8]
         ensures { result.now ≡ unwritten_at self.now.clients session }
     {
         self.clients.to_write(session)
     }
 
-    /// This many of the octets that wait for a client were written. Allocates nothing.
+    /// Drops the first `count` unwritten octets for a client, which were written. Allocates nothing.
     pub fn wrote_to_client(&mut self, session: usize, count: usize)
         requires { count ≤ length (unwritten_at self.old.clients session) }
         ensures talks { (changes : List Change) (peer : List ℕ) (said : Said) (written : List ℕ)
@@ -135,10 +135,10 @@ impl<D: Disk> Relay<D> {
         self.clients.wrote(session, count);
     }
 
-    /// Ends the session of a client, whose input has come to its end, or whom the relay cuts off. Its connection is
-    /// gone, and what still waits for it comes back. An offer that isn't whole is dropped with it. `Unknown` is
-    /// answered if there is no such connection or session, and `Stopped` by a node that is stopped; the connection is
-    /// gone then too. Allocates nothing.
+    /// Ends the session of a client, because its input has ended or the relay cuts it off, and returns the unwritten
+    /// octets of its connection. An offer that isn't whole is dropped. Fails with `Unknown` if there is no such
+    /// connection or session, and with `Stopped` if the node is stopped; the connection is gone then too. Allocates
+    /// nothing.
     pub fn end_client(&mut self, session: usize) -> Result<Outbox, NodeFault>
         ensures last { IfOk result (λ last. slot_at self.old.clients session ≡ Some last) }
         ensures talked { (changes : List Change) (peer : List ℕ) (said : Said) (written : List ℕ)
@@ -161,7 +161,7 @@ impl<D: Disk> Relay<D> {
     }
 }
 
-/// Sets a connection by what was received: what that leads to waits to be written, or comes back where it closed.
+/// Makes the octets that the session wrote ready for the client, or hands them out if the session has closed.
 pub(crate) fn set_by(clients: &mut Outboxes, session: usize, received: Received) -> Heard
     requires { session < SLOT_COUNT }
     ensures heard { IsHeardFrom received result }

@@ -1,4 +1,4 @@
-//! What the relay says where it closes a connection by itself (RFC 5321, section 3.8).
+//! The reply with which the relay closes a connection unasked (RFC 5321, section 3.8).
 ghost use Rattle.std.specs.Prelude.{◌≡◌, IfOk};
 ghost use Rattle.relay_loop.specs.Closing.{closing_of, text_of};
 
@@ -6,17 +6,17 @@ use relay_lines::write_line;
 use relay_routes::HostName;
 use std::alloc::{AllocError, Global};
 
-/// Why the relay closes a connection by itself.
+/// Why the relay closes a connection unasked.
 #[derive(Clone, Copy, Debug, Drop, PartialEq, Eq)]
 pub enum Closing {
-    /// As many connections stand as may.
+    /// The greatest number of connections is open.
     TooMany,
-    /// The client was silent for too long, or took what was written for it too slowly.
+    /// The client was silent for too long, or took its octets too slowly.
     Timeout,
 }
 
-/// Returns the reply with which the relay closes a connection by itself, code 421: the name of its host, and why. Fails
-/// if memory runs out.
+/// Returns the reply that closes a connection unasked: code 421, the name of the host, and why. Fails if memory runs
+/// out.
 pub fn closing_line(alloc: Global, host: &HostName, why: Closing) -> Result<Vec<u8>, AllocError>
     ensures { IfOk result (λ line. line.items ≡ closing_of host.now why) }
 {
@@ -26,7 +26,7 @@ pub fn closing_line(alloc: Global, host: &HostName, why: Closing) -> Result<Vec<
 }
 
 impl Closing {
-    /// Returns what is after the name of the host.
+    /// Returns the text after the name of the host.
     fn text(self) -> &'static [u8]
         ensures { result.now ≡ text_of self }
     {

@@ -1,4 +1,4 @@
-//! Octets of several clients and next hops at once.
+//! Octets of several clients and next hops in one call.
 ghost use Rattle.std.specs.Prelude.{◌≡◌, ◌⊎◌, ◌+◌, ◌↔◌, ◌≤◌, ◌^◌, [], ℕ, List, false, length, vec_capacity, vec_len};
 ghost use Rattle.std.specs.Prelude.{Err, IfErr, IfOk, IsTrue};
 ghost use Rattle.relay_book.specs.declared.change.Change.{Change};
@@ -21,43 +21,44 @@ use relay_records::list_laws::none_is_awaited;
 use relay_records::{NodeFault, Noted};
 use relay_trace::Moment;
 
-/// This many changes of a group come into the spool together, and no more.
+/// The most changes that share one pair of syncs.
 const MOST_CHANGES: usize = 64;
 
-/// Once the records of a group take this many octets of the spool, 4 MiB, no more is read into it.
+/// How many octets of records, 4 MiB, end the reading of a group.
 const MOST_ROOM: usize = 4_194_304;
 
-/// Octets of a client.
+/// Octets that a client wrote.
 #[derive(Clone, Copy, Debug, Drop)]
 pub struct Piece<'a> {
     /// The number of the client's session.
     pub session: usize,
-    /// What was read of its connection, and isn't used yet.
+    /// Octets read from its connection, and not used yet.
     pub octets: &'a [u8],
 }
 
-/// What was done with octets of several clients and next hops.
+/// What a call did with the octets of several clients and next hops.
 #[derive(Drop)]
 pub struct Group {
-    /// What was done with each piece, in their order: what [`Relay::read`] answers.
+    /// The result for each piece, in their order, as of [`Relay::read`].
     pub heard: Vec<Result<Heard, NodeFault>>,
-    /// What was done with each reply, in their order: what [`Relay::reply`] answers.
+    /// The result for each reply, in their order, as of [`Relay::reply`].
     pub answered: Vec<Result<Answered, NodeFault>>,
-    /// A note of each change that was made, in the order of their numbers.
+    /// A note of each change that was added, in the order of their numbers.
     pub notes: Vec<Noted>,
 }
 
 impl<D: Disk> Relay<D> {
-    /// Uses octets of several clients, one after another, each as [`Relay::read`] does, and after them the replies of
-    /// next hops, each as [`Relay::reply`] does. It brings the changes that all of them lead to into the spool after
-    /// one pair of syncs: from then on every stop leaves them, and before that no octet can be written that tells of
-    /// them. A piece or a reply is left unread, as one whose connection has octets waiting, once the group has 64
-    /// changes or their records take 4 MiB. A fault of one is its answer, which ends its connection alone: `Unknown`,
-    /// and lack of memory, of a number for its mail, or of room for its outcome.
+    /// Uses octets of several clients, each as [`Relay::read`] does, and then the replies of next hops, each as
+    /// [`Relay::reply`] does. All resulting changes go to the spool with one pair of syncs. When the call returns they
+    /// survive every stop; before that no octet that depends on them can be written.
     ///
-    /// The first fault in this order is the call's: `Stopped`, where the node was; lack of memory for the answers, at
-    /// which nothing changes; and `Stopped`, where the device fails: a stop leaves none of the changes or all. At
-    /// `Stopped` the connections of all pieces and replies are gone.
+    /// A piece or a reply is left unread while octets for its connection are unwritten, and once the group has 64
+    /// changes or 4 MiB of records. A fault of one piece is the result for that piece, and ends its connection alone:
+    /// `Unknown`, or too little memory, change numbers or space in the spool.
+    ///
+    /// The call itself fails, in this order, with `Stopped` if the node was stopped; if memory for the results runs
+    /// out, and then nothing changes; or with `Stopped` if the device fails, and then a stop leaves all of the changes
+    /// or none. After `Stopped` the connections of all pieces and replies are gone.
     pub fn read_all(
         &mut self,
         pieces: &[Piece<'_>],
@@ -81,7 +82,7 @@ impl<D: Disk> Relay<D> {
             drop_hops(&mut self.hops, replies);
             return Err(NodeFault::Stopped);
         }
-        // All memory for the answers comes first: no change could be taken back out of the queue after the first.
+        // Memory for the results comes first, because a change can't be taken back once it is in the queue.
         let Ok(mut heard) = Vec::with_capacity(self.alloc, pieces.len()) else {
             return Err(NodeFault::NoMemory);
         };
@@ -105,8 +106,8 @@ impl<D: Disk> Relay<D> {
         }
     }
 
-    /// Uses octets of several clients, one after another; their changes come after those of a row. There is room
-    /// for the answers.
+    /// Uses octets of several clients, one after another; their changes are staged after those of `row`. There is room
+    /// for the results.
     fn read_each(
         &mut self,
         row: &mut Staged,
@@ -135,8 +136,8 @@ impl<D: Disk> Relay<D> {
         }
     }
 
-    /// Uses octets of a client as [`Relay::read`] does; their change comes after those of a row. The piece is
-    /// left unread where the row is laden.
+    /// Uses octets of a client as [`Relay::read`] does; the change is staged after those of `row`. The piece is left
+    /// unread if the row is full.
     fn read_into(
         &mut self,
         row: &mut Staged,
@@ -171,14 +172,14 @@ impl<D: Disk> Relay<D> {
     }
 }
 
-/// Returns whether no more is read after a row.
+/// Returns whether a row is full: it has 64 changes, or 4 MiB of records.
 pub(crate) fn is_laden(row: &Staged) -> bool
     ensures { IsTrue result ↔ IsLaden row.now }
 {
     row.len() >= MOST_CHANGES || row.room() >= MOST_ROOM
 }
 
-/// The connections of these pieces are gone. Allocates nothing.
+/// Drops the connections of these pieces. Allocates nothing.
 fn drop_all(clients: &mut Outboxes, pieces: &[Piece<'_>])
     ensures gone { AllAreGone clients.new pieces.now }
     ensures others { (session : ℕ) → AreOfOthers session pieces.now

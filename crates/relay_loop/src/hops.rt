@@ -24,19 +24,19 @@ use relay_records::NodeFault;
 use relay_routes::HostName;
 use relay_trace::Moment;
 
-/// What was done with octets of a next hop.
+/// What a call did with the octets of a next hop.
 #[derive(Debug, Drop)]
 pub struct Answered {
-    /// How many octets of the piece were used.
+    /// How many octets of the piece were used, from its start.
     pub used: usize,
-    /// The number of the change that was made, where the attempt has ended.
+    /// The number of the outcome, if the attempt has ended.
     pub change: Option<u64>,
-    /// The last octets of its connection, which the relay has no more, where the attempt has ended.
+    /// If the attempt has ended: the unwritten octets of its connection, which the relay has forgotten.
     pub last: Option<Outbox>,
 }
 
 impl Answered {
-    /// Nothing was used, and nothing was done.
+    /// Returns a result for a reply of which no octet was used.
     pub(crate) fn nothing() -> Self
         ensures { result ≡ record { used = 0; change = None; last = None } }
     {
@@ -49,8 +49,8 @@ impl Answered {
 }
 
 impl<D: Disk> Relay<D> {
-    /// Begins an attempt, as [`Node::start`](relay_node::Node::start), whose connection stands: nothing waits to be
-    /// written to it. At a fault nothing is changed.
+    /// Begins an attempt, as [`Node::start`](relay_node::Node::start), over a connection that is open and to which
+    /// nothing is to be written yet. After a fault nothing has changed.
     pub fn start(&mut self, message: u64, hop: &HostName, now: Moment) -> Result<Started, NodeFault>
         ensures starts { (changes : List Change) → Keeps D.honest D.words self.old.node.records changes
             → IfOk result (StartsTo changes message hop.now now self.old self.new) }
@@ -70,7 +70,7 @@ impl<D: Disk> Relay<D> {
         Ok(started)
     }
 
-    /// Begins an attempt as [`Relay::start`], for at most `most` of those places, as
+    /// Begins an attempt as [`Relay::start`] does, for at most `most` of the places, as
     /// [`Node::start_some`](relay_node::Node::start_some).
     pub fn start_some(
         &mut self,
@@ -98,10 +98,11 @@ impl<D: Disk> Relay<D> {
         Ok(started)
     }
 
-    /// Uses octets that the next hop of an attempt wrote, all of them or up to the attempt's end; what they lead to
-    /// waits to be written. While octets wait to be written to the connection none is used, and nothing changes.
-    /// Otherwise it is a [`Node::reply`](relay_node::Node::reply), whose faults are answered. `Unknown` is answered
-    /// first, where no such connection stands. At a fault the connection is gone.
+    /// Uses octets that the next hop of an attempt wrote, up to their end or the attempt's; the commands that follow
+    /// are ready to be written. Uses none, and changes nothing, while octets for the next hop are unwritten.
+    ///
+    /// Fails with `Unknown` if there is no such connection, else as [`Node::reply`](relay_node::Node::reply). After a
+    /// fault the connection is gone.
     pub fn reply(
         &mut self,
         attempt: usize,
@@ -146,14 +147,14 @@ impl<D: Disk> Relay<D> {
         }
     }
 
-    /// Returns what waits to be written to the next hop of an attempt; nothing if no such connection stands.
+    /// Returns the unwritten octets for the next hop of an attempt; none if there is no such connection.
     pub fn to_hop(&self, attempt: usize) -> &[u8]
         ensures { result.now ≡ unwritten_at self.now.hops attempt }
     {
         self.hops.to_write(attempt)
     }
 
-    /// This many of the octets that wait for the next hop of an attempt were written. Allocates nothing.
+    /// Drops the first `count` unwritten octets for the next hop of an attempt, which were written. Allocates nothing.
     pub fn wrote_to_hop(&mut self, attempt: usize, count: usize)
         requires { count ≤ length (unwritten_at self.old.hops attempt) }
         ensures hands { (changes : List Change) (told : Told) (written : List ℕ)
@@ -167,9 +168,8 @@ impl<D: Disk> Relay<D> {
         self.hops.wrote(attempt, count);
     }
 
-    /// Ends an attempt whose connection is lost, as [`Node::lost`](relay_node::Node::lost): the number of the change
-    /// that says so. `Unknown` is answered first, where no such connection stands. The connection is gone, whatever is
-    /// answered.
+    /// Ends an attempt whose connection is lost, as [`Node::lost`](relay_node::Node::lost), and returns the number of
+    /// its outcome. Fails with `Unknown` if there is no such connection. The connection is gone, whatever the result.
     pub fn lose(&mut self, attempt: usize, now: Moment) -> Result<u64, NodeFault>
         ensures lost { (changes : List Change) (told : Told) (written : List ℕ)
             → Keeps D.honest D.words self.old.node.records changes
@@ -201,8 +201,7 @@ impl<D: Disk> Relay<D> {
     }
 }
 
-/// Sets a connection by what was replied: what that leads to waits to be written, or comes back where the attempt has
-/// ended.
+/// Makes the octets that the attempt wrote ready for the next hop, or hands them out if the attempt has ended.
 pub(crate) fn set_by(hops: &mut Outboxes, attempt: usize, replied: Replied) -> Answered
     requires { attempt < SLOT_COUNT }
     ensures answered { IsAnsweredBy replied result }

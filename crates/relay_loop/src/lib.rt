@@ -1,4 +1,4 @@
-//! A node and the connections of its sessions and attempts, without a socket: octets in, octets to write out.
+//! A node and the connections of its sessions and attempts, without sockets: octets in, octets to write out.
 #![tactic(auto)]
 
 mod clients;

@@ -2,11 +2,11 @@ ghost use Rattle.std.specs.Prelude.{◌≡◌, ◌↔◌, ◌≤◌, [], length,
 
 use std::marker::Model;
 
-/// Octets that wait to be written to a connection.
+/// Octets to be written to a connection.
 #[derive(Debug)]
 pub struct Outbox {
     octets: Vec<u8>,
-    /// How many of them are written.
+    /// How many of them were written.
     written: usize,
 }
 
@@ -31,28 +31,28 @@ impl Model for Outbox {
 }
 
 impl Outbox {
-    /// Makes an outbox of these octets, none of which is written yet. Allocates nothing.
+    /// Makes an outbox of these octets, all unwritten. Allocates nothing.
     pub fn new(octets: Vec<u8>) -> Self
         ensures { result ≡ octets.items }
     {
         Outbox { octets, written: 0 }
     }
 
-    /// Returns what waits.
+    /// Returns the unwritten octets.
     pub fn as_slice(&self) -> &[u8]
         ensures { result.now ≡ self.now }
     {
         &self.octets[self.written..]
     }
 
-    /// Returns whether nothing waits.
+    /// Returns whether all octets are written.
     pub fn is_empty(&self) -> bool
         ensures { IsTrue result ↔ (self.now ≡ []) }
     {
         self.as_slice().is_empty()
     }
 
-    /// This many of the octets that wait were written. Allocates nothing.
+    /// Drops the first `count` unwritten octets, which were written. Allocates nothing.
     pub fn wrote(&mut self, count: usize)
         requires { count ≤ length self.old }
         ensures { self.new ≡ drop count self.old }
@@ -60,7 +60,7 @@ impl Outbox {
         self.written += count;
     }
 
-    /// Returns the same, once so many more octets were written.
+    /// Returns the same outbox without its first `count` unwritten octets.
     pub(crate) fn behind(self, count: usize) -> Self
         requires { count ≤ length self }
         ensures { result ≡ drop count self }

@@ -9,7 +9,7 @@ use relay_slots::Slots;
 use std::alloc::{AllocError, Global};
 use std::marker::Model;
 
-/// The connections of one kind by number, 0 to 63: what waits to be written to each.
+/// The connections of one kind, by number from 0 to 63, with the unwritten octets of each.
 pub(crate) struct Outboxes {
     slots: Slots<Outbox>,
 }
@@ -33,7 +33,7 @@ impl Model for Outboxes {
 }
 
 impl Outboxes {
-    /// No connection. Fails if memory runs out.
+    /// Returns an empty table. Fails if memory runs out.
     pub(crate) fn new(alloc: Global) -> Result<Self, AllocError>
         ensures { IfOk result AreFree }
     {
@@ -42,7 +42,7 @@ impl Outboxes {
         })
     }
 
-    /// Returns what waits to be written to the connection of a number, if there is one.
+    /// Returns the unwritten octets for the connection of a number, if it is open.
     pub(crate) fn waiting(&self, number: usize) -> Option<&[u8]>
         ensures waiting { MatchOption result (slot_at self.now number ≡ None)
             (λ waiting. slot_at self.now number ≡ Some waiting.now) }
@@ -55,7 +55,7 @@ impl Outboxes {
         }
     }
 
-    /// Returns what waits to be written to the connection of a number; nothing if there is none.
+    /// Returns the unwritten octets for the connection of a number; none if it isn't open.
     pub(crate) fn to_write(&self, number: usize) -> &[u8]
         ensures { result.now ≡ unwritten_at self.now number }
     {
@@ -65,7 +65,7 @@ impl Outboxes {
         }
     }
 
-    /// The connection of a number stands, and this waits to be written to it. Allocates nothing.
+    /// Opens the connection of a number, with these octets to be written to it. Allocates nothing.
     pub(crate) fn put(&mut self, number: usize, outbox: Outbox)
         requires { number < SLOT_COUNT }
         ensures at { slot_at self.new number ≡ Some outbox }
@@ -74,7 +74,7 @@ impl Outboxes {
         self.slots.put(number, outbox);
     }
 
-    /// Takes the connection of a number out, with what still waits to be written to it. Allocates nothing.
+    /// Removes the connection of a number, and returns its outbox. Allocates nothing.
     pub(crate) fn take(&mut self, number: usize) -> Option<Outbox>
         ensures taken { result ≡ slot_at self.old number }
         ensures within { MatchOption result (Unit {0}) (λ _. number < SLOT_COUNT) }
@@ -84,7 +84,7 @@ impl Outboxes {
         self.slots.take(number)
     }
 
-    /// The connection of a number is gone, if there was one. Allocates nothing.
+    /// Removes the connection of a number, if it is open. Allocates nothing.
     pub(crate) fn remove(&mut self, number: usize)
         ensures gone { slot_at self.new number ≡ None }
         ensures others { OthersStay self.old self.new number }
@@ -92,7 +92,7 @@ impl Outboxes {
         let _gone = self.take(number);
     }
 
-    /// This many of the octets that wait for the connection of a number were written. Allocates nothing.
+    /// Drops the first `count` unwritten octets for the connection of a number, which were written. Allocates nothing.
     pub(crate) fn wrote(&mut self, number: usize, count: usize)
         requires { count ≤ length (unwritten_at self.old number) }
         ensures at { slot_at self.new number ≡ option_map (drop count) (slot_at self.old number) }

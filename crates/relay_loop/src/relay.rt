@@ -18,11 +18,11 @@ use relay_trace::Moment;
 use std::alloc::Global;
 use std::marker::Model;
 
-/// A node, and the connections of its sessions and of its attempts: the connection of a session is under the session's
-/// number, that of an attempt under the attempt's. It knows no socket: whoever holds them hands it what was read, and
-/// writes what waits. No octet of a connection is used while something waits to be written to it.
+/// A node with the connections of its sessions and attempts. A session's connection has the session's number, an
+/// attempt's the attempt's. The relay has no sockets: the caller hands it the octets that were read, and writes those
+/// that it returns. It uses no octet of a connection while octets for that connection are unwritten.
 ///
-/// Where the device fails, the node is stopped: all connections are to be dropped then, and its disks opened again.
+/// If the device fails, the node stops: drop all connections then, and open the disks again.
 pub struct Relay<D: Disk> {
     pub(crate) alloc: Global,
     pub(crate) node: Node<D>,
@@ -55,7 +55,7 @@ impl<D: Disk> Model for Relay<D> {
 }
 
 impl<D: Disk> Relay<D> {
-    /// Makes a relay of a node, without a connection. If memory runs out, the node comes back.
+    /// Makes a relay of a node, without connections. Returns the node if memory runs out.
     pub fn new(alloc: Global, node: Node<D>) -> Result<Self, Node<D>>
         ensures { MatchResult result
             (λ relay. (relay.node ≡ node) × AreFree relay.clients × AreFree relay.hops)
@@ -82,7 +82,7 @@ impl<D: Disk> Relay<D> {
         &self.node
     }
 
-    /// Returns the node, live or stopped. All connections are dropped. Allocates nothing.
+    /// Returns the node, live or stopped, and drops all connections. Allocates nothing.
     pub fn into_node(self) -> Node<D>
         ensures { result ≡ self.node }
     {
@@ -95,7 +95,7 @@ impl<D: Disk> Relay<D> {
         node
     }
 
-    /// As [`Node::take_noted`].
+    /// Takes the note of the last change out, as [`Node::take_noted`].
     pub fn take_noted(&mut self) -> Option<Noted>
         ensures noted { result ≡ self.old.node.records.noted }
         ensures node { self.new.node
@@ -105,7 +105,7 @@ impl<D: Disk> Relay<D> {
         self.node.take_noted()
     }
 
-    /// As [`Node::compact`]. All connections stay.
+    /// Compacts the spool, as [`Node::compact`]. The connections are unchanged.
     pub fn compact(&mut self) -> Result<(usize, usize), NodeFault>
         ensures kept { (changes : List Change) → Keeps D.honest D.words self.old.node.records changes
             → OnOk result (Keeps D.honest D.words self.new.node.records changes) }
@@ -128,7 +128,7 @@ impl<D: Disk> Relay<D> {
         self.node.compact()
     }
 
-    /// As [`Node::trim`]. All connections stay.
+    /// Shortens the spare disk of the spool, as [`Node::trim`]. The connections are unchanged.
     pub fn trim(&mut self, most: usize) -> Result<bool, NodeFault>
         ensures kept { (changes : List Change) → Keeps D.honest D.words self.old.node.records changes
             → OnOk result (Keeps D.honest D.words self.new.node.records changes) }
@@ -153,7 +153,8 @@ impl<D: Disk> Relay<D> {
         self.node.trim(most)
     }
 
-    /// As [`Node::give_up_unroutable`]. All connections stay.
+    /// Gives up the places of a message that have no hop, as [`Node::give_up_unroutable`]. The connections are
+    /// unchanged.
     pub fn give_up_unroutable(&mut self, message: u64, now: Moment) -> Result<u64, NodeFault>
         ensures gives_up { (changes : List Change) → Keeps D.honest D.words self.old.node.records changes
             → IfOk result (AddsUnroutable D.honest D.words (reporter_of self.old.node.config)

@@ -1,4 +1,4 @@
-//! Replies of several next hops at once.
+//! Replies of several next hops in one call.
 ghost use Rattle.std.specs.Prelude.{◌≡◌, ◌⊎◌, ◌+◌, ◌≤◌, ◌^◌, [], ℕ, List, length, vec_capacity, vec_len, IsTrue};
 ghost use Rattle.relay_book.specs.declared.change.Change.{Change};
 ghost use Rattle.relay_loop.specs.GroupPieces.{IsUndone};
@@ -18,18 +18,18 @@ use relay_node::Staged;
 use relay_records::NodeFault;
 use relay_trace::Moment;
 
-/// Octets of a next hop.
+/// Octets that a next hop wrote.
 #[derive(Clone, Copy, Debug, Drop)]
 pub struct ReplyPiece<'a> {
     /// The number of the attempt.
     pub attempt: usize,
-    /// What was read of its connection, and isn't used yet.
+    /// Octets read from its connection, and not used yet.
     pub octets: &'a [u8],
 }
 
 impl<D: Disk> Relay<D> {
-    /// Uses replies of several next hops, one after another; the outcomes of the attempts that they end come after
-    /// the changes of a row. There is room for the answers.
+    /// Uses replies of several next hops, one after another; the outcomes of attempts that they end are staged after
+    /// the changes of `row`. There is room for the results.
     pub(crate) fn reply_each(
         &mut self,
         row: &mut Staged,
@@ -58,8 +58,8 @@ impl<D: Disk> Relay<D> {
         }
     }
 
-    /// Uses octets of a next hop as [`Relay::reply`] does; the outcome of an attempt that they end comes after the
-    /// changes of a row. The reply is left unread where the row is laden.
+    /// Uses octets of a next hop as [`Relay::reply`] does; the outcome of an attempt that they end is staged after the
+    /// changes of `row`. The reply is left unread if the row is full.
     fn reply_into(
         &mut self,
         row: &mut Staged,
@@ -94,7 +94,7 @@ impl<D: Disk> Relay<D> {
     }
 }
 
-/// The connections of these replies are gone. Allocates nothing.
+/// Drops the connections of these replies. Allocates nothing.
 pub(crate) fn drop_hops(hops: &mut Outboxes, replies: &[ReplyPiece<'_>])
     ensures gone { HopsAreGone hops.new replies.now }
     ensures others { (attempt : ℕ) → AreToOthers attempt replies.now
