@@ -1,5 +1,5 @@
--- What ties the values of two relays together: each node to its list of changes, each end of a link to what it has read
--- and written, and the ledger to the lists of changes.
+-- The invariant of two relays. It ties each node to its list of changes, each end of a link to what it has read and
+-- written, and the ledger to the lists of changes.
 use Rattle.std.specs.Prelude.{◌≡◌, ◌⊎◌, ℕ, ◌+◌, ◌≤◌, Bool, true, false, List, [], ◌∷◌, ◌++◌, length, map, take, Option}
 use Rattle.std.specs.Prelude.{Some, None, slice_get}
 use Rattle.std.specs.List.{AllByRecursion}
@@ -44,12 +44,12 @@ use Rattle.relay_world.specs.Ledger.{accepts_on, lines_by, lines_of, steps_by, s
 use Rattle.relay_world.specs.World.{Down, FromClient, FromLoss, FromNoHop, FromReplies, HostState, Host, Origin}
 use Rattle.relay_world.specs.World.{Undecided, Up, World, link_at}
 
--- the records are those of this list of changes
+-- the records encode this list of changes
 pub record IsListOf (records : List (List ℕ)) (changes : List Change) : Type 0 where
   pub fitting : Fitting changes
   pub records_are : records ≡ map encode changes
 
--- each outcome of the changes after these has the report that is owed, and none if none is due
+-- each outcome among the changes after these has the report that is owed, or none if none is owed
 abbrev pub ReportsBehind : Reporter → List Change → List Change → Type 0
 ReportsBehind reporter front [] = Unit {0}
 ReportsBehind reporter front (change ∷ changes) =
@@ -60,37 +60,38 @@ abbrev pub IsUndecided : Option Undecided → Change → Type 0
 IsUndecided None change = ⊥
 IsUndecided (Some undecided) change = undecided.note.octets ≡ encode change
 
--- the bodies stand for these changes, or for these and the undecided one
+-- the bodies encode these changes, or these followed by the undecided one
 abbrev pub StandsForUnlessDecided : List Change → Option Undecided → List (List ℕ) → Type 0
 StandsForUnlessDecided changes undecided bodies =
     StandsFor bodies changes
     ⊎ ((change : Change) × IsUndecided undecided change × StandsFor bodies (changes ++ change ∷ []))
 
 module _ {D : Type 0} (honest : Type 0) (words : DiskWords D) where
-  -- a node that is up runs by this configuration, and keeps these changes
+  -- a running node has this configuration, and keeps these changes
   pub record NodeKeeps (config : Config) (node : NodeState D) (changes : List Change) : Type 0 where
     pub config_is : node.config ≡ config
     pub keeps : Keeps honest words node.records changes
 
-  -- so it does; or it is down, and a stop leaves the changes, or them and the undecided one
+  -- a node that is up keeps these changes; one that is down has disks on which a stop leaves them, with or without the
+  -- undecided one
   abbrev pub StateKeeps : Config → HostState D → List Change → Type 0
   StateKeeps config (Up node) changes = NodeKeeps config node changes
   StateKeeps config (Down disk undecided) changes =
       honest → EveryImageHas words disk (StandsForUnlessDecided changes undecided)
 
-  -- the node keeps these changes, which are those of its records
+  -- the node keeps these changes, and its records encode them
   pub record HostKeeps (host : Host D) (changes : List Change) : Type 0 where
     pub list : IsListOf host.records changes
     pub holds : StateKeeps host.config host.state changes
     pub reports : ReportsBehind (reporter_of host.config) [] changes
 
--- a node that is up has this session, which is after what was said
+-- a node that is up has this session, after this exchange
 abbrev pub SaysThere : {D : Type 0} → Host D → Option ℕ → List ℕ → Said → Type 0
 SaysThere {D} host None peer said = Unit {0}
 SaysThere {D} host (Some session) peer said =
     (node : NodeState D) × (host.state ≡ Up node) × SeatHasSaid host.config node.seats session peer said
 
--- where a session goes on, the server hasn't closed unasked
+-- a session that goes on wasn't closed unasked by the server
 abbrev pub MayHaveClosed : Option ℕ → Option Reply → Type 0
 MayHaveClosed session None = Unit {0}
 MayHaveClosed None (Some reply) = Unit {0}
@@ -104,13 +105,13 @@ pub record IsStoredAs (config : Config) (peer : List ℕ) (changes : List Change
   pub at : ℕ
   pub is : IsAcceptOf (acceptance_by config peer number at) offer accept
 
--- the same of a queued offer and its number
+-- the change of the offer's number accepts it
 abbrev pub IsStored : Config → List ℕ → List Change → ℕ × Offered → Type 0
 IsStored config peer changes one = IsStoredAs config peer changes one.0 one.1
 
--- The server end of the link of a number, at a node that keeps these changes: what it has read and written is a
--- dialogue, and perhaps a reply after it, with which it closed unasked, and where the link is whole all of it was
--- written; the accepts on the link are the queued offers, in order, and each is stored.
+-- The server end of a link, at a node that keeps these changes. What it has read and written is a dialogue, after which
+-- it may have closed unasked with one more reply; on an unbroken link all of that was written. The accepts on the link
+-- are the queued offers, in order, and each is stored.
 pub record ServesLink {D : Type 0} (host : Host D) (changes : List Change) (ledger : List Line) (number : ℕ)
     (link : Link)
     (end : ServerEnd) : Type 0 where
@@ -128,7 +129,7 @@ pub record ServesLink {D : Type 0} (host : Host D) (changes : List Change) (ledg
   pub stored : AllByRecursion (IsStored host.config end.peer changes) (queued_in said)
   pub live : SaysThere host end.session end.peer said
 
--- what is told of an attempt
+-- the history of an attempt
 abbrev pub told_by : Attempt → Accept → List ℕ → List ℕ → Told
 told_by attempt accept input output = record {
   message = attempt.message;
@@ -140,7 +141,7 @@ told_by attempt accept input output = record {
   output = output;
 }
 
--- the change of this number is the attempt's outcome, of these verdicts
+-- the change of this number is the attempt's outcome, with these verdicts
 pub record IsItsOutcome (attempt : Attempt) (verdicts : List Verdict) (changes : List Change) (number : ℕ)
     : Type 0 where
   pub at : ℕ
@@ -148,7 +149,7 @@ pub record IsItsOutcome (attempt : Attempt) (verdicts : List Verdict) (changes :
   pub found : change_at changes number
       ≡ Some (reported_as (outcome_of attempt.message at attempt.hop (rulings_of attempt.places.items verdicts)) report)
 
--- what became of an attempt, which was told of a loss or not, and has these verdicts or none yet
+-- the state of an attempt agrees with its node: whether its link was lost, and its verdicts, if it has any yet
 abbrev pub HasFate
     : {D : Type 0} → Host D → List Change → Link → Attempt → Accept → List ℕ → Bool → Option (List Verdict) → Fate
     → Type 0
@@ -162,8 +163,8 @@ HasFate host changes link attempt accept output told verdicts (Lost number) =
     (told ≡ true) × ((all : List Verdict) × (verdicts ≡ Some all) × IsItsOutcome attempt all changes number)
 HasFate host changes link attempt accept output told verdicts Dropped = (told ≡ false) × (verdicts ≡ None)
 
--- The client end of a link, by an attempt of a node that keeps these changes: what it has read and written is the
--- course of the message, as it was accepted, for 1 to 100 of its places; where the link is whole all of it was written.
+-- The client end of a link, by an attempt of a node that keeps these changes. What it has read and written is the
+-- course of the message, as it was accepted, for 1 to 100 of its places; on an unbroken link all of that was written.
 pub record PassesOn {D : Type 0} (host : Host D) (changes : List Change) (link : Link) (attempt : Attempt)
     : Type 0 where
   pub accept : Accept
@@ -181,13 +182,13 @@ pub record PassesOn {D : Type 0} (host : Host D) (changes : List Change) (link :
   pub whole : link.broken ≡ false → link.up ≡ output
   pub fate : HasFate host changes link attempt accept output told verdicts attempt.fate
 
--- a node of this place, with its list of changes
+-- the node at this index, with its list of changes
 pub record StandsAt {D : Type 0} (world : World D) (lists : List (List Change)) (node : ℕ) (host : Host D)
     (changes : List Change) : Type 0 where
   pub host_at : slice_get world.hosts node ≡ Some host
   pub list_at : slice_get lists node ≡ Some changes
 
--- the link's server end is at a node that serves it
+-- the server end of the link is at a node, and agrees with it
 pub record IsServed {D : Type 0} (world : World D) (lists : List (List Change)) (number : ℕ) (link : Link)
     (end : ServerEnd)
     : Type 0 where
@@ -196,7 +197,7 @@ pub record IsServed {D : Type 0} (world : World D) (lists : List (List Change)) 
   pub stands : StandsAt world lists end.node host changes
   pub serves : ServesLink host changes world.ledger number link end
 
--- the link's client end is an attempt of a node, at this place among the attempts
+-- the client end of the link is an attempt of a node, at this index, and agrees with it
 pub record IsTried {D : Type 0} (world : World D) (lists : List (List Change)) (number : ℕ) (link : Link) (place : ℕ)
     : Type 0 where
   pub attempt : Attempt
@@ -207,12 +208,12 @@ pub record IsTried {D : Type 0} (world : World D) (lists : List (List Change)) (
   pub stands : StandsAt world lists attempt.node host changes
   pub passes : PassesOn host changes link attempt
 
--- An undecided change of a node may be in its spool: the records below say that with it all would be bound too, of that
--- node and of the one link that the change came from, which is broken.
+-- An undecided change of a node may be in its spool. The records below say that with the change the invariant would
+-- hold too, for that node and for the one link that the change came from, which is broken.
 module _ {D : Type 0} (world : World D) (node : ℕ) (host : Host D) (changes : List Change) (change : Change)
     (note : Noted) where
-  -- It came from a client: the link's server end, at this node and without a session, is served with the change, once
-  -- it has read what the note tells.
+  -- It came from a client: the server end of the link, at this node and without a session, agrees with a list that has
+  -- the change, after reading the octets that the note counts.
   pub record MayBeHeard (number : ℕ) : Type 0 where
     pub link : Link
     pub link_is : link_at world.links number ≡ Some link
@@ -226,8 +227,8 @@ module _ {D : Type 0} (world : World D) (node : ℕ) (host : Host D) (changes : 
         (world.ledger ++ lines_by node note (FromClient number)) number
         (record link { up_read = link.up_read + note.used }) end
 
-  -- It is the outcome of an attempt of this node that was dropped, and with the change has this fate, once it has read
-  -- what the note tells.
+  -- It is the outcome of an attempt of this node that was dropped. With the change the attempt has this state, after
+  -- reading the octets that the note counts.
   pub record MayHaveEnded (number place : ℕ) (fate : Fate) : Type 0 where
     pub link : Link
     pub link_is : link_at world.links number ≡ Some link
@@ -241,14 +242,15 @@ module _ {D : Type 0} (world : World D) (node : ℕ) (host : Host D) (changes : 
     pub with_it : PassesOn host (changes ++ change ∷ []) (record link { down_read = link.down_read + note.used })
         (record attempt { fate = fate })
 
-  -- it came so, and with it that end of the link would be bound
+  -- the change came from there, and with it that end of the link would agree with the node
   abbrev pub MayHaveCome : Origin → Type 0
   MayHaveCome (FromClient number) = MayBeHeard number
   MayHaveCome (FromReplies number place message) = MayHaveEnded number place (Replied note.number)
   MayHaveCome (FromLoss number place message) = MayHaveEnded number place (Lost note.number)
   MayHaveCome (FromNoHop message) = Unit {0}
 
--- a change that comes next at a node that keeps these has this record, and the ledger's lines of it are its steps
+-- a next change with this record may be in the spool of a node that keeps these; its steps are the lines that the
+-- ledger would get
 pub record MayBeIn {D : Type 0} (world : World D) (node : ℕ) (host : Host D) (changes : List Change)
     (undecided : Undecided)
     : Type 0 where
@@ -260,17 +262,17 @@ pub record MayBeIn {D : Type 0} (world : World D) (node : ℕ) (host : Host D) (
   pub steps : steps_in node (lines_of node undecided) ≡ steps_by changes change
   pub came : MayHaveCome world node host changes change undecided.note undecided.origin
 
--- each end has read no more than the other wrote
+-- neither end has read more than the other wrote
 pub record ReadsWithin (link : Link) : Type 0 where
   pub up : link.up_read ≤ length link.up
   pub down : link.down_read ≤ length link.down
 
--- the number of the link that a line tells of
+-- the number of the link that a line names
 abbrev pub link_of : Line → ℕ
 link_of (Accepted node number places link) = link
 link_of (Became step node number place link report) = link
 
--- the link's server end is a session of this number at this node, which goes on
+-- the server end of the link is a running session of this number at this node
 pub record HasSession (link : Link) (node session : ℕ) : Type 0 where
   pub end : ServerEnd
   pub serves : link.server ≡ Some end
@@ -282,19 +284,19 @@ pub record HasSlot (attempt : Attempt) (node slot : ℕ) : Type 0 where
   pub its_node : attempt.node ≡ node
   pub runs : attempt.fate ≡ Running slot
 
--- the attempt at this place has its link
+-- the attempt at this index has its link
 pub record HasLink (links : List Link) (place : ℕ) (attempt : Attempt) : Type 0 where
   pub link : Link
   pub is_there : link_at links attempt.link ≡ Some link
   pub client : link.client ≡ Some place
 
--- the nodes keep these lists of changes, and the links and the ledger are theirs
+-- the nodes keep these lists of changes, and links and ledger agree with them
 pub record IsBound {D : Type 0} (honest : Type 0) (words : DiskWords D) (world : World D) (lists : List (List Change))
     : Type 0 where
   pub even : length lists ≡ length world.hosts
   pub hosts : (node : ℕ) (host : Host D) (changes : List Change) → StandsAt world lists node host changes
       → HostKeeps honest words host changes
-  -- whether the next opening of a node that is down finds an undecided change or not, all is bound
+  -- all agrees, whether or not the next opening of a node that is down finds the undecided change
   pub may_be_in : (node : ℕ) (host : Host D) (changes : List Change) (disk : Disks D) (undecided : Undecided)
       → StandsAt world lists node host changes → host.state ≡ Down disk (Some undecided)
       → MayBeIn world node host changes undecided
@@ -308,7 +310,7 @@ pub record IsBound {D : Type 0} (honest : Type 0) (words : DiskWords D) (world :
   pub ledger : (node : ℕ) (changes : List Change) → slice_get lists node ≡ Some changes
       → steps_in node world.ledger ≡ steps_of changes
   pub lines : AllByRecursion (λ line. link_of line ≤ length world.links) world.ledger
-  -- a session is one link's, and the number of an attempt one attempt's
+  -- a session belongs to one link, and the number of an attempt to one attempt
   pub sessions : (one other : ℕ) (link others : Link) (node session : ℕ) → link_at world.links one ≡ Some link
       → link_at world.links other ≡ Some others → HasSession link node session → HasSession others node session
       → one ≡ other

@@ -1,5 +1,5 @@
--- Why a place has left (RFC 5321, section 4.2.5 and 6.1): by the course of an attempt for its message, or since it has
--- no hop.
+-- Why a place has left (RFC 5321, sections 4.2.5 and 6.1): by the course of an attempt for its message, or because it
+-- has no hop.
 use Rattle.std.specs.Prelude.{◌≡◌, ◌⊎◌, ℕ, Bool, List, None, Some, take}
 use Rattle.std.specs.List.{Contains}
 use Rattle.relay_disk.specs.Device.{DiskWords}
@@ -20,8 +20,8 @@ use Rattle.relay_world.specs.Children.{IsAttempt}
 use Rattle.relay_world.specs.Once.{IsTriedOnce}
 use Rattle.relay_world.specs.World.{Host, World}
 
--- An attempt of the node for this message has ended with the change of this number as its outcome, and the course of
--- what it has read, told of the loss of its link or not, gives the place this verdict.
+-- An attempt of the node for this message has ended with the change of this number as its outcome. The course of what
+-- it read, with the loss of its link if it was lost, gives the place this verdict.
 pub record GaveVerdict {D : Type 0} (world : World D) (lists : List (List Change)) (node : ℕ) (host : Host D)
     (changes : List Change) (at message place : ℕ) (verdict : Verdict) : Type 0 where
   pub attempt : Attempt
@@ -39,7 +39,7 @@ pub record GaveVerdict {D : Type 0} (world : World D) (lists : List (List Change
       (take link.down_read link.down) told output (Some verdicts)
   pub gives : Contains (rulings_of attempt.places.items verdicts) (record { place = place; verdict = verdict })
 
--- by the node's routes this place of the message has no hop, and that is the verdict
+-- the node's routes give this place of the message no hop, and that is the verdict
 pub record HadNoHop {D : Type 0} (host : Host D) (changes : List Change) (message place : ℕ) (verdict : Verdict)
     : Type 0 where
   pub is : verdict ≡ NoRoute
@@ -47,7 +47,7 @@ pub record HadNoHop {D : Type 0} (host : Host D) (changes : List Change) (messag
   pub accepted : message_at changes message ≡ Some accept
   pub none : hop_of_place host.config.routes accept.envelope.recipients place ≡ None
 
--- Each place that has left has left by one of the two.
+-- Each place that has left did so for one of these two reasons.
 abbrev pub LeavingIsCaused : {D : Type 0} → Type 0 → DiskWords D → Type 0
 LeavingIsCaused {D} honest words =
     (world : World D) (lists : List (List Change)) → IsBound honest words world lists → IsTriedOnce world lists

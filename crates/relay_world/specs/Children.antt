@@ -1,5 +1,5 @@
--- What an attempt has passed on: the places whose RCPT its hop has accepted, and the messages that a node accepted on
--- its link.
+-- What an attempt has relayed: the places whose RCPT its hop has accepted, and the messages that a node accepted on its
+-- link.
 use Rattle.std.specs.Prelude.{◌≡◌, ℕ, List, [], ◌∷◌, length, take, Some, slice_get}
 use Rattle.relay_lines.specs.Reply.{Reply}
 use Rattle.relay_lines.specs.ReplyReading.{CutsAllReplies}
@@ -17,7 +17,7 @@ use Rattle.relay_world.specs.Bound.{StandsAt}
 use Rattle.relay_world.specs.Ledger.{accepts_on}
 use Rattle.relay_world.specs.World.{Host, World, link_at}
 
--- an attempt of a world, with its node, the list of that, and its link
+-- an attempt of a world, with its node, that node's changes, and its link
 pub record IsAttempt {D : Type 0} (world : World D) (lists : List (List Change)) (host : Host D) (changes : List Change)
     (link : Link) (attempt : Attempt) : Type 0 where
   pub at : ℕ
@@ -25,7 +25,7 @@ pub record IsAttempt {D : Type 0} (world : World D) (lists : List (List Change))
   pub stands : StandsAt world lists attempt.node host changes
   pub its_link : link_at world.links attempt.link ≡ Some link
 
--- What was answered in the course of an attempt, by all replies that it has read.
+-- The answers in the course of an attempt, from all replies that it has read.
 pub record HasAnswers {D : Type 0} (host : Host D) (changes : List Change) (link : Link) (attempt : Attempt)
     (answered : List Answered) : Type 0 where
   pub accept : Accept
@@ -39,20 +39,20 @@ pub record HasAnswers {D : Type 0} (host : Host D) (changes : List Change) (link
       ≡ (progress (errand_of host.config.host accept.envelope accept.stored_text dot_text attempt.places.items)
       replies).answered
 
--- The child places of an attempt: those whose RCPT was answered 2yz, by the replies that it has read, in order.
+-- The child places of an attempt: those whose RCPT got a 2yz reply that the attempt has read, in order.
 pub record AreChildPlaces {D : Type 0} (host : Host D) (changes : List Change) (link : Link) (attempt : Attempt)
     (places : List ℕ) : Type 0 where
   pub answered : List Answered
   pub reads : HasAnswers host changes link attempt answered
   pub places_are : places ≡ accepted_places answered
 
--- the children of an attempt: the messages that a node accepted on its link, each by its number and how many places it
--- has
+-- the children of an attempt: the messages that a node accepted on its link, each with its number and its number of
+-- places
 abbrev pub children_of : {D : Type 0} → World D → Attempt → List (ℕ × ℕ)
 children_of world attempt = accepts_on attempt.link world.ledger
 
 -- The change of a number accepts what a message is for these places (RFC 3461, section 5.2.1): its reverse path, RET
--- and ENVID, and the recipients of the places, in order, each with its path, NOTIFY and ORCPT.
+-- and ENVID, and the recipients at the places, in order, each with its path, NOTIFY and ORCPT.
 pub record HoldsPlaces (parent : Accept) (places : List ℕ) (changes : List Change) (number : ℕ) : Type 0 where
   pub child : Accept
   pub found : change_at changes number ≡ Some (change.Accept child)
@@ -61,7 +61,7 @@ pub record HoldsPlaces (parent : Accept) (places : List ℕ) (changes : List Cha
   pub envid : child.envelope.envid ≡ parent.envelope.envid
   pub recipients : child.envelope.recipients ≡ recipients_at parent.envelope.recipients places
 
--- The attempt has this one child, at a node that keeps these others, and it holds the child places.
+-- The attempt has exactly this child, at a node with these changes, and the child holds the child places.
 pub record HasOneChild {D : Type 0} (world : World D) (host : Host D) (changes : List Change) (link : Link)
     (attempt : Attempt)
     (others : List Change) : Type 0 where

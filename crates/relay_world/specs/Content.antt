@@ -1,5 +1,5 @@
--- What is passed on: of contents nothing but the stored text, and what a further node of ours stores of it is that text
--- after one new time stamp line (RFC 5321, section 4.4).
+-- What is relayed: as mail data the stored text and nothing else, which the next node of ours stores after one new time
+-- stamp line (RFC 5321, section 4.4).
 use Rattle.std.specs.Prelude.{◌≡◌, ℕ, List, Some, slice_get}
 use Rattle.std.specs.List.{AllByRecursion, Contains}
 use Rattle.relay_disk.specs.Device.{DiskWords}
@@ -18,8 +18,8 @@ use Rattle.relay_world.specs.Bound.{IsBound, StandsAt}
 use Rattle.relay_world.specs.Ledger.{accepts_on}
 use Rattle.relay_world.specs.World.{Host, World, link_at}
 
--- What was written for a message begins commands, each of which a server reads as it was meant; of contents there is
--- nothing but the message's stored text.
+-- What was written for a message is a prefix of commands, each of which a server reads as it was meant; the only mail
+-- data is the message's stored text.
 pub record SendsOnly (host : List ℕ) (accept : Accept) (attempt : Attempt) (written : List ℕ) : Type 0 where
   pub dot_text : List ℕ
   pub sent : IsSentAs accept.stored_text dot_text
@@ -28,19 +28,19 @@ pub record SendsOnly (host : List ℕ) (accept : Accept) (attempt : Attempt) (wr
   pub each : AllByRecursion
       (IsWritten (errand_of host accept.envelope accept.stored_text dot_text attempt.places.items)) commands
 
--- one message's text is the other's after one new time stamp line
+-- the child's stored text is its parent's after one new time stamp line
 pub record IsBehindOneLine (parent child : Accept) : Type 0 where
   pub stamp : Stamp
   pub passed : IsPassed stamp parent.stored_text child.stored_text
 
--- A message accepted on a link from an attempt: the change of its number accepts what the attempt's message is, after
--- one line.
+-- A message accepted on a link from an attempt: the change of its number accepts the envelope and text of the attempt's
+-- message, after one time stamp line.
 pub record IsPassedOn (parent : Accept) (changes : List Change) (number : ℕ) : Type 0 where
   pub child : Accept
   pub found : change_at changes number ≡ Some (change.Accept child)
   pub behind : IsBehindOneLine parent child
 
--- what an attempt passes on of a message that was accepted so
+-- an attempt relays no more of a message than this
 pub record PassesOnly {D : Type 0} (world : World D) (lists : List (List Change)) (number : ℕ) (link : Link)
     (host : Host D)
     (attempt : Attempt) (accept : Accept) : Type 0 where
@@ -50,7 +50,7 @@ pub record PassesOnly {D : Type 0} (world : World D) (lists : List (List Change)
       → Contains {X = ℕ × ℕ} (accepts_on number world.ledger) (child, places)
       → IsPassedOn accept changes child
 
--- Content is kept on each link of a bound world that an attempt writes on.
+-- The invariant guarantees this on each link on which an attempt writes.
 abbrev pub ContentIsKept : {D : Type 0} → Type 0 → DiskWords D → Type 0
 ContentIsKept {D} honest words =
     (world : World D) (lists : List (List Change)) → IsBound honest words world lists

@@ -1,5 +1,5 @@
--- How many copies of a message reach a recipient by the attempts of a node: one, and one more for each reply that was
--- lost (RFC 5321, section 6.1; RFC 1047).
+-- How many copies of a message reach a recipient from a node: one, and one more for each lost reply (RFC 5321, section
+-- 6.1; RFC 1047).
 use Rattle.std.specs.Prelude.{◌≡◌, ◌⊎◌, ◌↔◌, ◌≤◌, ◌==◌, ℕ, ◌+◌, Bool, true, false, ◌&&◌, List, [], ◌∷◌, length, Some}
 use Rattle.std.specs.List.{Contains, filter, list_any}
 use Rattle.relay_disk.specs.Device.{DiskWords}
@@ -30,8 +30,8 @@ pub record PassesPlace {D : Type 0} (world : World D) (lists : List (List Change
   pub are_its : AreChildPlaces host changes link attempt places
   pub holds : Contains places place
 
--- By these replies, which are all that the attempt has read, it passes the place exactly if the RCPT of that was
--- answered 2yz. Each of them has answered something.
+-- These are all replies that the attempt has read, each of them has answered something, and the place is a child place
+-- exactly if its RCPT got a 2yz reply.
 pub record IsDecidedBy {D : Type 0} (world : World D) (lists : List (List Change)) (node message place : ℕ)
     (attempt : Attempt) (replies : List Reply) : Type 0 where
   pub errand : Errand
@@ -40,13 +40,13 @@ pub record IsDecidedBy {D : Type 0} (world : World D) (lists : List (List Change
   pub passes : PassesPlace world lists node message place attempt
       ↔ Contains (accepted_places (progress errand replies).answered) place
 
--- the copies by one attempt: its children, if it passes the place, and else none
+-- the copies by one attempt: the number of its children if the place is a child place, else 0
 abbrev pub CopiesBy : {D : Type 0} → World D → List (List Change) → ℕ → ℕ → ℕ → Attempt → ℕ → Type 0
 CopiesBy world lists node message place attempt count =
     (PassesPlace world lists node message place attempt × (count ≡ length (children_of world attempt)))
     ⊎ ((PassesPlace world lists node message place attempt → ⊥) × (count ≡ 0))
 
--- the copies by these attempts, added up
+-- the sum of the copies by these attempts
 abbrev pub CopiesByAll : {D : Type 0} → World D → List (List Change) → ℕ → ℕ → ℕ → List Attempt → ℕ → Type 0
 CopiesByAll world lists node message place [] count = count ≡ 0
 CopiesByAll world lists node message place (attempt ∷ attempts) count =
@@ -57,14 +57,14 @@ CopiesByAll world lists node message place (attempt ∷ attempts) count =
 abbrev pub Copies : {D : Type 0} → World D → List (List Change) → ℕ → ℕ → ℕ → ℕ → Type 0
 Copies world lists node message place count = CopiesByAll world lists node message place world.attempts count
 
--- the attempt has ended, but by no reply: its link was lost, or its node dropped it
+-- the attempt has ended without a final reply: its link was lost, or its node dropped it
 abbrev pub is_lost : Fate → Bool
 is_lost (Running slot) = false
 is_lost (Replied number) = false
 is_lost (Lost number) = true
 is_lost Dropped = true
 
--- it is a lost reply of the place of a message of a node
+-- the attempt is a lost reply for this place of a node's message
 abbrev pub is_lost_reply : ℕ → ℕ → ℕ → Attempt → Bool
 is_lost_reply node message place attempt =
     attempt.node == node && (attempt.message == message
@@ -73,7 +73,7 @@ is_lost_reply node message place attempt =
 abbrev pub lost_replies_of : ℕ → ℕ → ℕ → List Attempt → ℕ
 lost_replies_of node message place attempts = length (filter (is_lost_reply node message place) attempts)
 
--- There is one number of copies, and it is at most one more than that of the lost replies.
+-- The number of copies is defined, and is at most one more than the number of lost replies.
 pub record HasFewCopies {D : Type 0} (world : World D) (lists : List (List Change)) (node message place : ℕ)
     : Type 0 where
   pub count : ℕ
@@ -81,7 +81,7 @@ pub record HasFewCopies {D : Type 0} (world : World D) (lists : List (List Chang
   pub one : (other : ℕ) → Copies world lists node message place other → other ≡ count
   pub few : count ≤ 1 + lost_replies_of node message place world.attempts
 
--- So it is in a bound world in which each place is tried once at a time.
+-- This holds in each world with the invariant in which each place is tried once at a time.
 abbrev pub CopiesAreFew : {D : Type 0} → Type 0 → DiskWords D → Type 0
 CopiesAreFew {D} honest words =
     (world : World D) (lists : List (List Change)) → IsBound honest words world lists → IsTriedOnce world lists

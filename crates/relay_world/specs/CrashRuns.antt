@@ -1,4 +1,4 @@
--- a stop in a call, as one event, keeps it so that each place is tried once.
+-- A crash as a run of events, which preserves that each place is tried once.
 use Rattle.std.specs.Prelude.{ℕ, zero, suc, List}
 use Rattle.relay_disk.specs.Device.{DiskWords}
 use Rattle.relay_book.specs.declared.change.Change.{Change}
@@ -17,7 +17,7 @@ CrashingKeepsOnce {D} honest words =
     × (CrashesReading honest words old new number count → IsTriedOnce new lists)
     × (CrashesLosing honest words old new number → IsTriedOnce new lists)
 
--- It is a run of two events: the node lets go of its ends, and then stops in the call.
+-- A crash in a call is a run of two events: the node lets go of its ends of links, and then stops in the call.
 abbrev pub CrashingHappens : {D : Type 0} → Type 0 → DiskWords D → Type 0
 CrashingHappens {D} honest words =
     (old new : World D) (lists : List (List Change)) (number count : ℕ) → IsBound honest words old lists
@@ -25,7 +25,8 @@ CrashingHappens {D} honest words =
     × (CrashesReading honest words old new number count → Happen honest words (suc (suc zero)) old new)
     × (CrashesLosing honest words old new number → Happen honest words (suc (suc zero)) old new)
 
--- So is a crash between two calls, while places without a hop are given up, or while a spool is compacted.
+-- A crash between two calls, while places without a hop are given up, or while a spool is compacted, is a run of two
+-- events.
 abbrev pub RestingCrashHappens : {D : Type 0} → Type 0 → DiskWords D → Type 0
 RestingCrashHappens {D} honest words =
     (old new : World D) (node message : ℕ)
@@ -33,7 +34,7 @@ RestingCrashHappens {D} honest words =
     × (CrashesGivingUp honest words old new node message → Happen honest words (suc (suc zero)) old new)
     × (CrashesCompacting honest words old new node → Happen honest words (suc (suc zero)) old new)
 
--- A spool that is compacted is one event; and a node that crashes in that call and is then opened is a run of three.
+-- Compacting a spool is one event; a crash in that call and the opening after it are a run of three.
 abbrev pub CompactingHappens : {D : Type 0} → Type 0 → DiskWords D → Type 0
 CompactingHappens {D} honest words =
     (old between new : World D) (node : ℕ)

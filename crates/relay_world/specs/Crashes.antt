@@ -1,5 +1,5 @@
--- a stop of a node in a call, as one event: the node is down, its sessions are gone, its attempts dropped, and all its
--- links are broken. The nodes at their other ends learn of it after its opening, in events of their own.
+-- A crash of a node in a call, as one step: the node is down, its sessions are gone, its attempts dropped, and all its
+-- links broken. The nodes at the other ends notice later, in events of their own.
 use Rattle.std.specs.Prelude.{◌≡◌, ℕ, nat_eq, Bool, true, false, List, length, map, Option, None, Some, if◌then◌else◌}
 use Rattle.std.specs.Prelude.{slice_get}
 use Rattle.relay_disk.specs.Device.{DiskWords}
@@ -23,12 +23,12 @@ use Rattle.relay_world.specs.World.{Down, FromClient, FromLoss, FromNoHop, FromR
 use Rattle.relay_world.specs.World.{World}
 use Rattle.relay_report.specs.Report.{reporter_of}
 
--- whether a server end is this node's
+-- whether a server end belongs to this node
 abbrev pub serves_for : ℕ → Option ServerEnd → Bool
 serves_for node None = false
 serves_for node (Some end) = nat_eq end.node node
 
--- whether an attempt is this node's
+-- whether an attempt belongs to this node
 abbrev pub tries_for : ℕ → Option Attempt → Bool
 tries_for node None = false
 tries_for node (Some attempt) = nat_eq attempt.node node
@@ -38,11 +38,11 @@ abbrev pub is_tried_for : ℕ → List Attempt → Option ℕ → Bool
 is_tried_for node attempts None = false
 is_tried_for node attempts (Some place) = tries_for node (slice_get attempts place)
 
--- whether an end of the link is this node's
+-- whether an end of the link belongs to this node
 abbrev pub has_end_of : ℕ → List Attempt → Link → Bool
 has_end_of node attempts link = if serves_for node link.server then true else is_tried_for node attempts link.client
 
--- what becomes of a link at the stop of a node that has an end of it: its session there is gone, and it is broken
+-- a link after its node's crash: broken, without a session at that node
 abbrev pub let_go_link : ℕ → List Attempt → Link → Link
 let_go_link node attempts link = if has_end_of node attempts link then broken_link (hung_up_link node link) else link
 
@@ -52,7 +52,7 @@ let_go node world = record world {
   attempts = map (hung_up_attempt node) world.attempts;
 }
 
--- A node has gone down, with these disks and what its opening will decide, and has let go of its ends.
+-- A node has gone down, with these disks and this undecided change, and has let go of its ends of links.
 pub record GoesDown {D : Type 0} (old new : World D) (node : ℕ) (host : Host D) (disk : Disks D)
     (undecided : Option Undecided) : Type 0
   where
@@ -61,7 +61,7 @@ pub record GoesDown {D : Type 0} (old new : World D) (node : ℕ) (host : Host D
     pub as_many : length hosts ≡ length old.hosts
     pub new_is : new ≡ record (let_go node old) { hosts = hosts }
 
--- A node crashed between two calls: nothing is undecided.
+-- A node crashed between two calls: no change is undecided.
 pub record CrashesAtRest {D : Type 0} (honest : Type 0) (words : DiskWords D) (old new : World D) (node : ℕ)
     : Type 0 where
   pub host : Host D
@@ -133,7 +133,7 @@ pub record CrashesEnding {D : Type 0} (honest : Type 0) (words : DiskWords D) (o
   pub left : IsLeftBy honest words stopped disk
   pub down : GoesDown old new of.attempt.node of.host disk (Some (record { note = noted; origin = origin }))
 
--- so it did by replies that it read, of those that wait as many as were carried, as its device failed
+-- the attempt read replies, as many of the unread octets as were carried, and the device failed
 pub record CrashesReading {D : Type 0} (honest : Type 0) (words : DiskWords D) (old new : World D) (number count : ℕ)
     : Type 0 where
   pub of : AttemptOf old number
@@ -145,7 +145,7 @@ pub record CrashesReading {D : Type 0} (honest : Type 0) (words : DiskWords D) (
       of.link) stopped
   pub crash : CrashesEnding honest words old new number of stopped (FromReplies number of.place of.attempt.message)
 
--- and so, as its device failed, by the loss of its link
+-- the attempt's link was lost, and the device failed
 pub record CrashesLosing {D : Type 0} (honest : Type 0) (words : DiskWords D) (old new : World D) (number : ℕ)
     : Type 0 where
   pub of : AttemptOf old number

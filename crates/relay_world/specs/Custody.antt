@@ -1,5 +1,5 @@
 -- Custody of each recipient that a node acknowledged (RFC 5321, section 6.1): it is held, or the next hop has taken it,
--- or it has ended for a cause, and then the report that is owed was queued in the same change.
+-- or it has ended for a cause, and the same change queued the report that is owed.
 use Rattle.std.specs.Prelude.{◌≡◌, ◌↔◌, ℕ, zero, suc, ◌+◌, ◌<◌, ◌≤◌, false, List, [], ◌∷◌, ◌++◌, length, take, Some}
 use Rattle.std.specs.Prelude.{Option}
 use Rattle.std.specs.Prelude.{slice_get}
@@ -30,8 +30,8 @@ use Rattle.relay_world.specs.Bound.{IsBound, StandsAt, StandsForUnlessDecided}
 use Rattle.relay_world.specs.Ledger.{accepts_on}
 use Rattle.relay_world.specs.World.{Down, Host, Undecided, Up, World, link_at}
 
--- The node wrote on a link that a message of this many places is queued under this number: a dialogue with what it has
--- read there, all of whose output was written, ends with that answer.
+-- The node wrote on a link that a message of this many places is queued under this number: what it has read and written
+-- there is a dialogue, all of it written, that ends with that answer.
 pub record Acknowledged {D : Type 0} (world : World D) (node number places : ℕ) : Type 0 where
   pub on : ℕ
   pub link : Link
@@ -53,14 +53,14 @@ pub record Acknowledged {D : Type 0} (world : World D) (node number places : ℕ
   pub each : length answers ≡ length offers
   pub places_are : places ≡ length offer.envelope.recipients
 
--- What a node has acknowledged on a link is among the accepts that the ledger tells of there.
+-- Each message that a node has acknowledged on a link is an accept of the ledger there.
 abbrev pub AcknowledgedIsAccepted : {D : Type 0} → Type 0 → DiskWords D → Type 0
 AcknowledgedIsAccepted {D} honest words =
     (world : World D) (lists : List (List Change)) → IsBound honest words world lists
     → (node number places : ℕ) → (told : Acknowledged world node number places)
     → Contains {X = ℕ × ℕ} (accepts_on told.on world.ledger) (number, places)
 
--- And on a whole link each of these accepts was acknowledged.
+-- On an unbroken link each of these accepts was acknowledged.
 abbrev pub AcceptedIsAcknowledged : {D : Type 0} → Type 0 → DiskWords D → Type 0
 AcceptedIsAcknowledged {D} honest words =
     (world : World D) (lists : List (List Change)) → IsBound honest words world lists
@@ -68,8 +68,8 @@ AcceptedIsAcknowledged {D} honest words =
     → link.broken ≡ false → (number places : ℕ)
     → Contains {X = ℕ × ℕ} (accepts_on on world.ledger) (number, places) → Acknowledged world end.node number places
 
--- why a place that was accepted at one time leaves at another in this way by a verdict: it was taken; or it was
--- refused, can't be sent, has no hop, or was tried for too long
+-- why a place leaves by a verdict, with the times of its accept and its leaving: it was taken, was refused, can't be
+-- sent, has no hop, or was tried for too long
 abbrev pub HasCause : ℕ → ℕ → Way → Verdict → Type 0
 HasCause accepted at ByTransfer (Taken dsn) = Unit {0}
 HasCause accepted at ByTransfer _ = ⊥
@@ -79,7 +79,7 @@ HasCause accepted at ByEnd Later = accepted + patience ≤ at
 HasCause accepted at ByEnd CantSend = Unit {0}
 HasCause accepted at ByEnd NoRoute = Unit {0}
 
--- the changes before that of this number
+-- the changes before the one of this number
 abbrev pub changes_before : ℕ → List Change → List Change
 changes_before zero changes = []
 changes_before (suc n) changes = take n changes
@@ -90,29 +90,29 @@ pub record LeftFor (reporter : Reporter) (changes : List Change) (at number plac
   pub cause : HasCause leaves.accept.at leaves.outcome.at way leaves.verdict
   pub reported : Reported reporter (changes_before at changes) (change.Outcome leaves.outcome)
 
--- What a bound world keeps of the recipients of each node.
+-- What the invariant guarantees for the recipients of each node.
 pub record KeepsCustody {D : Type 0} (honest : Type 0) (words : DiskWords D) (world : World D) (node : ℕ)
     (host : Host D)
     (changes : List Change) : Type 0 where
-  -- each recipient that was acknowledged was added
+  -- each acknowledged recipient was added
   pub acknowledged : (number places place : ℕ) → Acknowledged world node number places → place < places
       → Added changes number place
-  -- each that was added is held, was transferred or has ended, and only one of these
+  -- each added recipient is held, was transferred or has ended: exactly one of these
   pub one_of : (number place : ℕ) → Added changes number place
       → IsOneOf (Held changes number place) (Transferred changes number place) (Ended changes number place)
-  -- a node that is up has just those in its queue that are held, and so has every image that a stop may leave
+  -- the queue of a node that is up has exactly the held places, and so has every image that a stop may leave
   pub held : (standing : NodeState D) → host.state ≡ Up standing → (number place : ℕ)
       → Contains {X = ℕ × ℕ} (held_of standing.records.queue) (number, place) ↔ Held changes number place
   pub images : honest → (standing : NodeState D) → host.state ≡ Up standing
       → EveryImageHas words standing.records.spool.disk (λ bodies. StandsFor bodies changes)
-  -- of a node that is down every image stands for its changes, or for these and the one that its next opening decides
+  -- every image of a node that is down encodes its changes, with or without the one that its next opening decides
   pub images_down : honest → (disk : Disks D) (undecided : Option Undecided) → host.state ≡ Down disk undecided
       → EveryImageHas words disk (StandsForUnlessDecided changes undecided)
-  -- each that has left has left for a cause, with the report that is owed
+  -- each place that has left did so for a cause, with the report that is owed
   pub left : (at number place : ℕ) (way : Way) → LeavesAt changes at number place way
       → LeftFor (reporter_of host.config) changes at number place way
 
--- Custody is kept by each node of a bound world.
+-- The invariant guarantees custody at each node.
 abbrev pub CustodyIsKept : {D : Type 0} → Type 0 → DiskWords D → Type 0
 CustodyIsKept {D} honest words =
     (world : World D) (lists : List (List Change)) → IsBound honest words world lists

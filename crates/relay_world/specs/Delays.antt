@@ -1,4 +1,4 @@
--- How often a place is reported as delayed: once.
+-- A place is reported as delayed at most once.
 use Rattle.std.specs.Prelude.{◌≡◌, ℕ, suc, true, List, ◌∷◌, ◌++◌, length}
 use Rattle.relay_book.specs.declared.change.Change.{Change}
 use Rattle.relay_book.specs.declared.change.Change.TheVariants as change
@@ -17,12 +17,12 @@ pub record TellsDelay (changes : List Change) (at number place : ℕ) : Type 0 w
   pub its_message : outcome.message ≡ number
   pub tells : tells_of place (place_steps (queue_of front) (change.Outcome outcome)) ≡ true
 
--- one change at most reports a place so
+-- at most one change reports a given place as delayed
 abbrev pub DelaysOnce : List Change → Type 0
 DelaysOnce changes =
     (one other number place : ℕ) → TellsDelay changes one number place → TellsDelay changes other number place
     → one ≡ other
 
--- So it is of changes that fit.
+-- This holds for each list of changes that fit.
 abbrev pub FittingDelaysOnce : Type 0
 FittingDelaysOnce = (changes : List Change) → Fitting changes → DelaysOnce changes

@@ -1,7 +1,6 @@
--- What the invariant doesn't let through besides: mail that is dropped, a line that the ledger forgets, and an attempt
--- whose link leads elsewhere than to its hop. Each is said of the worlds alone, whatever call has made the one of the
--- other. And what the event of a group of accepts and outcomes doesn't let through: a record that isn't in the row, and
--- a row that doesn't come into the spool.
+-- More that the invariant rules out: dropped mail, a ledger that loses a line, and an attempt whose link leads
+-- elsewhere than to its hop. Each is stated of the worlds before and after, whatever call was made. And what the event
+-- of a group rules out: a record that wasn't staged, and staged records that don't reach the spool.
 use Rattle.std.specs.Prelude.{◌≡◌, ◌≢◌, ℕ, List, [], ◌∷◌, ◌++◌, None, Some, slice_get}
 use Rattle.std.specs.List.{Contains}
 use Rattle.relay_disk.specs.Device.{DiskWords}
@@ -24,7 +23,7 @@ use Rattle.relay_world.specs.Ledger.{if_of_node, steps_in}
 use Rattle.relay_world.specs.Steps.{IsPut}
 use Rattle.relay_world.specs.World.{Host, Up, World, link_at}
 
--- A node has the records that it had, by which this place of a message is held, and its queue lacks the place.
+-- A node has the records that it had, by which this place of a message is held, but its queue lacks the place.
 pub record DropsMail {D : Type 0} (honest : Type 0) (words : DiskWords D) (old new : World D) (node number place : ℕ)
     : Type 0 where
   pub host : Host D
@@ -34,13 +33,13 @@ pub record DropsMail {D : Type 0} (honest : Type 0) (words : DiskWords D) (old n
   pub gone : Contains {X = ℕ × ℕ} (held_of after.records.queue) (number, place) → ⊥
   pub hosts : IsPut old.hosts new.hosts node (record host { state = Up after })
 
--- After that the world isn't bound.
+-- The world after that violates the invariant.
 abbrev pub DroppingBreaks : {D : Type 0} → Type 0 → DiskWords D → Type 0
 DroppingBreaks {D} honest words =
     (old new : World D) (lists later : List (List Change)) (node number place : ℕ) → IsBound honest words old lists
     → DropsMail honest words old new node number place → IsBound honest words new later → ⊥
 
--- The ledger has lost a line of a node, and all nodes are as they were.
+-- The ledger has lost a line of a node, and all nodes are unchanged.
 pub record ForgetsLine {D : Type 0} (old new : World D) (node : ℕ) : Type 0 where
   pub host : Host D
   pub host_at : slice_get old.hosts node ≡ Some host
@@ -52,13 +51,13 @@ pub record ForgetsLine {D : Type 0} (old new : World D) (node : ℕ) : Type 0 wh
   pub of_node : if_of_node node line ≢ []
   pub hosts : new.hosts ≡ old.hosts
 
--- Nor is it after that.
+-- The world after that violates the invariant.
 abbrev pub ForgettingBreaks : {D : Type 0} → Type 0 → DiskWords D → Type 0
 ForgettingBreaks {D} honest words =
     (old new : World D) (lists later : List (List Change)) (node : ℕ) → IsBound honest words old lists
     → ForgetsLine old new node → IsBound honest words new later → ⊥
 
--- An attempt has the name of a node as its hop, and the server end of its link, if it has one, is at another.
+-- The hop of an attempt is the name of a node, and its link has a server end at another node.
 pub record LeadsElsewhere {D : Type 0} (world : World D) : Type 0 where
   pub at : ℕ
   pub attempt : Attempt
@@ -70,11 +69,12 @@ pub record LeadsElsewhere {D : Type 0} (world : World D) : Type 0 where
   pub elsewhere : (link : Link) (end : ServerEnd) → link_at world.links attempt.link ≡ Some link
       → link.server ≡ Some end → end.node ≢ node
 
--- Then attempts don't have the links that they are meant to have.
+-- Then some attempt doesn't have the right link.
 abbrev pub LeadingElsewhereBreaks : Type 0 → Type 0
 LeadingElsewhereBreaks D = (world : World D) → LeadsElsewhere world → AreLinkedToHops world → ⊥
 
--- A node that is heard as one that awaits changes, and whose row has the bodies that it had, has accepted nothing.
+-- A node that hears octets while changes are staged, and whose row of staged records is the same afterwards, has
+-- accepted nothing.
 abbrev pub LosingRecordBreaks : {D : Type 0} → Type 0 → DiskWords D → Type 0
 LosingRecordBreaks {D} honest words =
     (at : ℕ) (old new : World D) (node : ℕ) (piece : Piece) (row left : Row) (changes pending : List Change)
@@ -82,8 +82,8 @@ LosingRecordBreaks {D} honest words =
     → Awaits honest words hears.of.before.records changes pending row → left.bodies ≡ row.bodies
     → hears.received.change ≡ None
 
--- And an attempt that has read replies, of a node that awaits changes and whose row has the bodies that it had, goes
--- on.
+-- An attempt that reads replies while changes are staged, and whose node's row of staged records is the same
+-- afterwards, goes on.
 abbrev pub LosingOutcomeBreaks : {D : Type 0} → Type 0 → DiskWords D → Type 0
 LosingOutcomeBreaks {D} honest words =
     (at : ℕ) (old new : World D) (node : ℕ) (piece : Piece) (row left : Row) (changes pending : List Change)
@@ -92,8 +92,8 @@ LosingOutcomeBreaks {D} honest words =
     → Tells reads.of.before.config.host (changes ++ pending) reads.of.before.attempts reads.of.slot told
     → left.bodies ≡ row.bodies → reads.replied.change ≡ None
 
--- A node that heard and read links one after another, and in whose spool there is still no more than the list from
--- before, has accepted nothing on them, and no attempt has ended by them.
+-- A node that heard and read links one after another, and whose spool has no more than the list from before, has
+-- accepted nothing on them, and no attempt has ended by them.
 abbrev pub LosingRowBreaks : {D : Type 0} → Type 0 → DiskWords D → Type 0
 LosingRowBreaks {D} honest words =
     honest → (old new : World D) (lists : List (List Change)) (node : ℕ) (pieces : List Piece) (changes : List Change)

@@ -1,5 +1,5 @@
--- How a stop that is set for a later call of a node's device comes nearer: by as many calls as the node's own events
--- take of the device, each of which is let pass.
+-- How a device fault that is set for a later call comes nearer: by the number of device calls that the node's own
+-- events make, each of which succeeds.
 use Rattle.std.specs.Prelude.{ℕ, List, Option, None, Some}
 use Rattle.relay_disk.specs.Device.{DiskWords}
 use Rattle.relay_spool.specs.Head.{renewal_calls}
@@ -11,20 +11,19 @@ use Rattle.relay_world.specs.Steps.{HasGivenUp, HasHeard, HasLost, HasRead}
 use Rattle.relay_world.specs.Stops.{HasCompacted}
 use Rattle.relay_world.specs.World.{World}
 
--- this many calls went to the device of a node, and a stop that was set let all of them pass: it has this many less
--- left
+-- the node made this many device calls, which all succeeded, and a pending fault is nearer by as many
 abbrev pub CountsDown : {D : Type 0} → DiskWords D → ℕ → NodeState D → NodeState D → Type 0
 CountsDown words calls before after = Passes words calls before.records.spool.disk after.records.spool.disk
 
--- how many calls of the device a change takes, and how many none
+-- how many device calls a change takes; none if no change was added
 abbrev pub calls_of : Option ℕ → ℕ
 calls_of None = 0
 calls_of (Some change) = 4
 
--- Where a node of a bound world goes on after what it heard or read, a stop that was set comes nearer by four calls
--- where that made a change, and by none if it made none; after the loss of a link, or the end of places without a hop,
--- by four; and after its spool was compacted, by those calls that rewrite a disk. Of the other events that steps of a
--- pair are made of, one sets a stop, some stop a node or open it, and all others leave its records as they are.
+-- A pending fault comes nearer by four calls for each change that hearing or reading adds, and by none if they add
+-- none; by four for the loss of a link, and for giving up places without a hop; and by the calls that rewrite a disk
+-- for compacting the spool. Of the other events, one sets a fault, some stop a node or open it, and all others leave
+-- its records unchanged.
 abbrev pub StopsCountDown : {D : Type 0} → Type 0 → DiskWords D → Type 0
 StopsCountDown {D} honest words =
     (old new : World D) (lists : List (List Change)) (number count node message change : ℕ)

@@ -1,5 +1,5 @@
--- What a node does that hears several links, and reads replies on several, one after another, where what it accepts
--- and the outcomes of attempts that end by that come into its records together: all of it, or after a stop none.
+-- A group: a node hears several links and reads replies on several, one after another, and the resulting accepts and
+-- outcomes go to its records together. After a stop there are all of them or none.
 use Rattle.std.specs.Prelude.{◌≡◌, ◌⊎◌, ◌≤◌, ℕ, true, List, [], ◌∷◌, ◌++◌, length, Option, Some, None, slice_get}
 use Rattle.std.specs.List.{AllByRecursion}
 use Rattle.relay_disk.specs.Device.{DiskWords}
@@ -29,20 +29,19 @@ use Rattle.relay_world.specs.Stops.{IsLeftBy, OnlyHostsChange}
 use Rattle.relay_world.specs.World.{Host, Up, World, link_at}
 use Rattle.relay_report.specs.Report.{reporter_of}
 
--- a link, by its number, and how many of the octets that wait on it were carried
+-- a link, by its number, and how many of its unread octets were carried
 pub record Piece : Type 0 where
   pub number : ℕ
   pub count : ℕ
 
--- a node of this place, which is up
+-- the node at this index is up
 pub record IsUp {D : Type 0} (world : World D) (node : ℕ) : Type 0 where
   pub host : Host D
   pub host_at : slice_get world.hosts node ≡ Some host
   pub now : NodeState D
   pub up : host.state ≡ Up now
 
--- The node of a world is opened again and is this now: its sessions are gone, its attempts dropped, and its links
--- broken.
+-- The node was opened again: its sessions are gone, its attempts dropped, and its links broken.
 pub record IsOpenedAgain {D : Type 0} (world new : World D) (node : ℕ) (host : Host D) (after : NodeState D)
     : Type 0 where
   pub hosts : List (Host D)
@@ -51,19 +50,19 @@ pub record IsOpenedAgain {D : Type 0} (world new : World D) (node : ℕ) (host :
   pub idle : IsIdle host.config after
   pub new_is : new ≡ record (let_go node world) { hosts = hosts }
 
--- where the piece's link is there, it is broken
+-- the piece's link, if it exists, is broken
 abbrev pub IsOnBroken : List Link → Piece → Type 0
 IsOnBroken links piece = (link : Link) → link_at links piece.number ≡ Some link → link.broken ≡ true
 
 module _ {D : Type 0} (honest : Type 0) (words : DiskWords D) where
-  -- the note is after those of the row
+  -- the note comes after those of the row
   abbrev pub IsNotedBehind : Kept D → Row → Row → Noted → Type 0
   IsNotedBehind old row left note =
       (changes pending : List Change) → Awaits honest words old changes pending row
       → left.notes ≡ row.notes ++ note ∷ []
 
-  -- What a node that heard octets has accepted: nothing; or mail of this number, whose record is in the row, and in its
-  -- spool not yet.
+  -- What a node accepted from the octets that it heard: nothing, or mail of this number, whose record is staged in the
+  -- row and not yet in the spool.
   abbrev pub AcceptsInto
       : (old new : World D) → (number : ℕ) → SessionOf old number → NodeState D → Row → Row → Option ℕ → Type 0
   AcceptsInto old new number of after row left None =
@@ -74,8 +73,8 @@ module _ {D : Type 0} (honest : Type 0) (words : DiskWords D) where
       (record of.host { state = Up after; records = of.host.records ++ noted.octets ∷ [] })
       × (new.ledger ≡ old.ledger ++ Accepted of.end.node change noted.accepted number ∷ [])
 
-  -- A node has heard octets of a link at a time, by one call, without a fault, and put the record of what it accepted
-  -- after a row. Outside sees nothing of it yet.
+  -- A node has heard octets of a link at a time, by one call, without a fault, and staged the accept after a row.
+  -- Nothing of it is visible outside yet.
   pub record HasHeardInto (at : ℕ) (old new : World D) (node : ℕ) (piece : Piece) (row left : Row) : Type 0 where
     pub of : SessionOf old piece.number
     pub its_node : of.end.node ≡ node
@@ -92,8 +91,8 @@ module _ {D : Type 0} (honest : Type 0) (words : DiskWords D) where
     pub accepts : AcceptsInto old new piece.number of after row left received.change
     pub rest : (new.attempts ≡ old.attempts) × (new.clock ≡ old.clock) × (length new.hosts ≡ length old.hosts)
 
-  -- What a node that read replies to an attempt has put after the row: the outcome of this number, with which they
-  -- have ended it, and which is in its spool not yet.
+  -- What a node staged after reading replies to an attempt: its outcome, under this number, which isn't in the spool
+  -- yet.
   pub record EndsInto (old new : World D) (number : ℕ) (of : AttemptOf old number) (after : NodeState D)
       (row left : Row) (change : ℕ) : Type 0 where
     pub noted : Noted
@@ -105,7 +104,7 @@ module _ {D : Type 0} (honest : Type 0) (words : DiskWords D) where
         ++ left_lines of.attempt.node of.attempt.message number (report_told change noted.report) noted.left.items
     pub attempts : IsPut old.attempts new.attempts of.place (record of.attempt { fate = RepliedBy change })
 
-  -- so it has; or the attempt goes on, and nothing was recorded
+  -- the replies ended the attempt, and its outcome is staged; or the attempt goes on, and nothing was recorded
   abbrev pub OutcomeInto
       : (old new : World D) → (number : ℕ) → AttemptOf old number → NodeState D → Row → Row → Option ℕ → Type 0
   OutcomeInto old new number of after row left None =
@@ -113,8 +112,8 @@ module _ {D : Type 0} (honest : Type 0) (words : DiskWords D) where
       × (new.attempts ≡ old.attempts)
   OutcomeInto old new number of after row left (Some change) = EndsInto old new number of after row left change
 
-  -- An attempt of a node has read replies on a link at a time, by one call, without a fault, and the record of its
-  -- outcome, if they have ended it, was put after a row. Outside sees nothing of it yet.
+  -- An attempt of a node has read replies on a link at a time, by one call, without a fault; its outcome, if they ended
+  -- it, was staged after a row. Nothing of it is visible outside yet.
   pub record HasReadInto (at : ℕ) (old new : World D) (node : ℕ) (piece : Piece) (row left : Row) : Type 0 where
     pub of : AttemptOf old piece.number
     pub its_node : of.attempt.node ≡ node
@@ -133,8 +132,8 @@ module _ {D : Type 0} (honest : Type 0) (words : DiskWords D) where
     pub outcome : OutcomeInto old new piece.number of after row left replied.change
     pub rest : (new.clock ≡ old.clock) × (length new.hosts ≡ length old.hosts)
 
-  -- A node has turned to a link: it has heard it, or an attempt of it has read it. Or there was no memory, number or
-  -- room for that: the session is gone, or the attempt dropped, and the row is the same.
+  -- A node has processed one piece: it heard the link, or an attempt read it. Or it had too little memory, change
+  -- numbers or room: then the session is gone, or the attempt dropped, and the row is the same.
   pub data HasTurnedTo (at : ℕ) (old new : World D) (node : ℕ) (piece : Piece) (row left : Row) : Type 0 where
     Heard : HasHeardInto at old new node piece row left → HasTurnedTo at old new node piece row left
     SessionEnded : (ends : EndsSession old new piece.number) → ends.of.end.node ≡ node → left ≡ row
@@ -143,15 +142,15 @@ module _ {D : Type 0} (honest : Type 0) (words : DiskWords D) where
     AttemptDropped : (drops : DropsAttempt old new piece.number) → drops.of.attempt.node ≡ node → left ≡ row
         → HasTurnedTo at old new node piece row left
 
-  -- the same of each of these, one after another
+  -- the node has processed each of these pieces, one after another
   abbrev pub HasHeardEach : ℕ → World D → World D → ℕ → List Piece → Row → Row → Type 0
   HasHeardEach at old new node [] row left = (new ≡ old) × (left ≡ row)
   HasHeardEach at old new node (piece ∷ pieces) row left =
       (next : World D) × (more : Row) × HasTurnedTo at old next node piece row more
       × HasHeardEach at next new node pieces more left
 
-  -- A node has heard or read these links, one after another, and then has brought the records of all that it accepted,
-  -- and of all outcomes, into its spool. What it writes is on the links, unless they broke in the call.
+  -- A node has heard or read these links, one after another, and then added the records of all accepts and outcomes to
+  -- its spool. What it writes is on the links, unless they broke in the call.
   pub record HasHeardAll (old new : World D) (node : ℕ) (pieces : List Piece) : Type 0 where
     pub before : IsUp old node
     pub heard : World D
@@ -168,11 +167,10 @@ module _ {D : Type 0} (honest : Type 0) (words : DiskWords D) where
     pub hosts : IsPut heard.hosts new.hosts node (record staged.host { state = Up after })
     pub rest : OnlyHostsChange heard new
 
-  -- A node has stopped while the records of all that it had accepted, and of all outcomes, were brought into its spool,
-  -- and now is opened again. In between it did nothing, so this is one event at its opening. Its links broke in the
-  -- call, so nobody was handed what it would have written. If its next number is as before it turned to them, none of
-  -- the records is there, and it is as if it had heard and read nothing; and where it comes after all of them, all are
-  -- there.
+  -- A node stopped while the records of a group were added to its spool, and was opened again. This is one event,
+  -- because the node did nothing in between. Its links broke in the call, so nothing that it would have written was
+  -- sent. If its next number is as before the group, none of the records is there, and it is as if nothing had been
+  -- heard or read; else all of them are there.
   pub record HasReopenedBehindGroup (old new : World D) (node : ℕ) (pieces : List Piece) : Type 0 where
     pub before : IsUp old node
     pub broken : AllByRecursion (IsOnBroken old.links) pieces
@@ -192,7 +190,7 @@ module _ {D : Type 0} (honest : Type 0) (words : DiskWords D) where
         × IsOpenedAgain old new node before.host after)
         ⊎ ((after.records.queue.next ≡ stopped.queue.next) × IsOpenedAgain heard new node staged.host after)
 
-  -- Both keep a world bound.
+  -- Both preserve the invariant.
   abbrev pub HearingAllKeeps : Type 0
   HearingAllKeeps =
       (old new : World D) (lists : List (List Change)) (node : ℕ) (pieces : List Piece) → IsBound honest words old lists

@@ -1,4 +1,4 @@
--- What the invariant doesn't let through: an outcome of no attempt.
+-- What the invariant rules out: an outcome without an attempt.
 use Rattle.std.specs.Prelude.{◌≡◌, ◌≢◌, ℕ, List, [], ◌∷◌, ◌++◌, Some, slice_get}
 use Rattle.std.specs.List.{Contains}
 use Rattle.relay_disk.specs.Device.{DiskWords}
@@ -16,7 +16,8 @@ use Rattle.relay_world.specs.Steps.{IsPut, without_note}
 use Rattle.relay_world.specs.World.{Host, Up, World}
 use Rattle.relay_report.specs.Report.{reporter_of}
 
--- A node has recorded an outcome, and no attempt has ended with it. One of its verdicts isn't that a place has no hop.
+-- A node has recorded an outcome with which no attempt has ended, and not all of its verdicts say that the place has no
+-- hop.
 pub record Invents {D : Type 0} (honest : Type 0) (words : DiskWords D) (old new : World D) (node change : ℕ)
     : Type 0 where
   pub host : Host D
@@ -37,7 +38,7 @@ pub record Invents {D : Type 0} (honest : Type 0) (words : DiskWords D) (old new
       (record host { state = Up (without_note after); records = host.records ++ noted.octets ∷ [] })
   pub attempts : new.attempts ≡ old.attempts
 
--- After that it isn't so that each outcome is that of an attempt.
+-- In the world after that some outcome isn't that of an attempt.
 abbrev pub InventingBreaks : {D : Type 0} → Type 0 → DiskWords D → Type 0
 InventingBreaks {D} honest words =
     (old new : World D) (lists later : List (List Change)) (node change : ℕ) → IsBound honest words old lists

@@ -1,5 +1,5 @@
--- What a node that is up keeps of connections: no seat without a link on which its session goes on, and no number of an
--- attempt without an attempt that runs. So no seat and no number is lost for good.
+-- Nothing leaks at a node that is up: each occupied seat has a link on which its session goes on, and each attempt
+-- number in use has a running attempt. So no seat or number is lost for good.
 use Rattle.std.specs.Prelude.{◌≡◌, ◌≢◌, ℕ, None, Some, slice_get}
 use Rattle.relay_node.specs.Node.{NodeState}
 use Rattle.relay_slots.specs.Slots.{slot_at}
@@ -8,7 +8,7 @@ use Rattle.relay_world.specs.declared.link.Link.{Link}
 use Rattle.relay_world.specs.Bound.{HasSession, HasSlot}
 use Rattle.relay_world.specs.World.{Host, Up, World, link_at}
 
--- a link has the session of this number of the node
+-- a link has the node's session of this number
 pub record GoesOnThere {D : Type 0} (world : World D) (node session : ℕ) : Type 0 where
   pub number : ℕ
   pub link : Link
@@ -22,7 +22,7 @@ pub record RunsThere {D : Type 0} (world : World D) (node slot : ℕ) : Type 0 w
   pub is_there : slice_get world.attempts place ≡ Some attempt
   pub has : HasSlot attempt node slot
 
--- Each seat of a node that is up is that of a link's session, and each number that is taken there is that of an
+-- Each occupied seat of a node that is up belongs to the session of a link, and each attempt number in use to a running
 -- attempt.
 pub record NothingLeaks {D : Type 0} (world : World D) : Type 0 where
   pub seats : (node : ℕ) (host : Host D) (standing : NodeState D) → slice_get world.hosts node ≡ Some host

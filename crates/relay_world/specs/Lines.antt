@@ -1,6 +1,5 @@
--- Where the lines of the ledger come from: an accept from the node that serves its link; and what became of a place
--- from the change that made it so, which is the outcome of the attempt on the line's link, or gives up places without a
--- hop.
+-- The source of each ledger line: for an accept, the node that serves its link; for a place that left or was delayed,
+-- the change that made it so, which is the outcome of the attempt on the line's link or gives up places without a hop.
 use Rattle.std.specs.Prelude.{◌≡◌, ◌⊎◌, ℕ, suc, List, ◌∷◌, ◌++◌, length, Some, slice_get}
 use Rattle.std.specs.List.{AllByRecursion, Contains}
 use Rattle.relay_book.specs.declared.change.Change.{Change}
@@ -18,7 +17,7 @@ use Rattle.relay_world.specs.declared.link.ServerEnd.{ServerEnd}
 use Rattle.relay_world.specs.Ledger.{Becomes, steps_by}
 use Rattle.relay_world.specs.World.{World, link_at}
 
--- the change of this number makes the step of a place of a message, and queues a report under that number, or none (0)
+-- the change of this number makes the step of a place of a message, and queues a report under this number (0: none)
 pub record IsMadeBy (changes : List Change) (number : ℕ) (step : PlaceStep) (message place report : ℕ) : Type 0 where
   pub front : List Change
   pub one : Change
@@ -37,7 +36,7 @@ pub record HasEndedOn {D : Type 0} (world : World D) (node message link number :
   pub its_link : attempt.link ≡ link
   pub ended : (attempt.fate ≡ Replied number) ⊎ (attempt.fate ≡ Lost number)
 
--- the change is an outcome by which each of its places has no hop
+-- the change is an outcome whose verdicts all say that the place has no hop
 pub record SaysNoHop (one : Change) : Type 0 where
   pub outcome : Outcome
   pub is : one ≡ change.Outcome outcome
@@ -52,8 +51,8 @@ pub record IsServedBy {D : Type 0} (world : World D) (node link : ℕ) : Type 0 
   pub serves : its.server ≡ Some end
   pub its_node : end.node ≡ node
 
--- A change of the node's list makes the step, and it is the outcome of an attempt on the link; or the link is none, and
--- the change gives up places without a hop.
+-- A change of the node's list makes the step. It is the outcome of an attempt on the link; or there is no link, and the
+-- change gives up places without a hop.
 pub record ComesOfChange {D : Type 0} (world : World D) (lists : List (List Change)) (step : PlaceStep)
     (node message place link report : ℕ) : Type 0 where
   pub changes : List Change
@@ -62,12 +61,12 @@ pub record ComesOfChange {D : Type 0} (world : World D) (lists : List (List Chan
   pub made : IsMadeBy changes number step message place report
   pub cause : HasEndedOn world node message link number ⊎ ((link ≡ 0) × SaysNoHop made.one)
 
--- where a line comes from
+-- the source of a line
 abbrev pub HasSource : {D : Type 0} → World D → List (List Change) → Line → Type 0
 HasSource world lists (Accepted node number places link) = IsServedBy world node link
 HasSource world lists (Became step node message place link report) =
     ComesOfChange world lists step node message place link report
 
--- so it is of each line of the ledger
+-- each line of the ledger has its source
 abbrev pub HasSources : {D : Type 0} → World D → List (List Change) → Type 0
 HasSources world lists = AllByRecursion (HasSource world lists) world.ledger

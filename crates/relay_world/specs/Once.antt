@@ -1,5 +1,4 @@
--- One attempt at a time: of the attempts of a node to pass a place of a message on, one at most goes on or has passed
--- it on.
+-- One attempt at a time: of a node's attempts to relay a place of a message, at most one runs or has relayed it.
 use Rattle.std.specs.Prelude.{◌≡◌, ◌⊎◌, ℕ, zero, suc, Bool, true, List, [], None, Some, slice_get}
 use Rattle.std.specs.List.{AllByRecursion, Contains}
 use Rattle.relay_lines.specs.Reply.{Reply}
@@ -33,14 +32,14 @@ use Rattle.relay_world.specs.Stops.{HasReopened, HasStopped, StaysDown, StaysUp,
 use Rattle.relay_world.specs.Stops.{StopsLosing, StopsReading}
 use Rattle.relay_world.specs.World.{Down, FromNoHop, Host, Undecided, Up, World, link_at}
 
--- an attempt of this fate claims a place: it goes on, or its replies ended it and the place was taken
+-- an attempt in this state claims a place: it runs, or replies ended it and took the place
 abbrev pub Claims : List Change → ℕ → Fate → Type 0
 Claims changes place (Running slot) = Unit {0}
 Claims changes place (Replied number) = (dsn : Bool) × Rules changes number place (Taken dsn)
 Claims changes place (Lost number) = ⊥
 Claims changes place Dropped = ⊥
 
--- the attempt there among the attempts is for this place of the message of a node, and claims it
+-- the attempt at this index is for this place of the node's message, and claims it
 pub record ClaimsAt {D : Type 0} (world : World D) (lists : List (List Change)) (at node message place : ℕ)
     : Type 0 where
   pub attempt : Attempt
@@ -52,7 +51,7 @@ pub record ClaimsAt {D : Type 0} (world : World D) (lists : List (List Change)) 
   pub list_at : slice_get lists node ≡ Some changes
   pub claims : Claims changes place attempt.fate
 
--- each place that the attempt is for goes to its hop, by the table of its node
+-- each place that the attempt tries goes to its hop, by its node's routes
 pub record GoesToHop {D : Type 0} (world : World D) (lists : List (List Change)) (attempt : Attempt) : Type 0 where
   pub host : Host D
   pub changes : List Change
@@ -71,39 +70,39 @@ pub record IsOutcomeOf {D : Type 0} (world : World D) (node number : ℕ) : Type
   pub its_node : attempt.node ≡ node
   pub ended : (attempt.fate ≡ Replied number) ⊎ (attempt.fate ≡ Lost number)
 
--- each verdict of an outcome is that a place has no hop, and by these routes the place has none
+-- each verdict of an outcome says that a place has no hop, and these routes give the place none
 pub record HasNoHops (routes : RouteTable) (changes : List Change) (outcome : Outcome) : Type 0 where
   pub accept : Accept
   pub accepted : message_at changes outcome.message ≡ Some accept
   pub each : (place : ℕ) (verdict : Verdict) → Contains outcome.rulings (record { place = place; verdict = verdict })
       → (verdict ≡ NoRoute) × (hop_of_place routes accept.envelope.recipients place ≡ None)
 
--- the record is of a change that, if it is an outcome, is such a one
+-- if the record's change is an outcome, it gives up places without a hop
 pub record GivesUpNoHops (routes : RouteTable) (changes : List Change) (octets : List ℕ) : Type 0 where
   pub one : Change
   pub valid : IsChange one
   pub octets_are : octets ≡ encode one
   pub none : (outcome : Outcome) → one ≡ change.Outcome outcome → HasNoHops routes changes outcome
 
--- No place is tried twice at a time, or again after an attempt that passed it on.
+-- No place is tried twice at a time, or again after an attempt that relayed it.
 pub record IsTriedOnce {D : Type 0} (world : World D) (lists : List (List Change)) : Type 0 where
   pub once : (one other node message place : ℕ) → ClaimsAt world lists one node message place
       → ClaimsAt world lists other node message place → one ≡ other
-  -- a place has one hop, so who tries it is found by message and hop
+  -- a place has one hop, so message and hop determine the attempt
   pub hops : (at : ℕ) (attempt : Attempt) → slice_get world.attempts at ≡ Some attempt → GoesToHop world lists attempt
-  -- an outcome is that of an attempt that has ended with it, or gives up places without a hop
+  -- each outcome is that of an attempt that has ended with it, or gives up places without a hop
   pub outcomes : (node number : ℕ) (host : Host D) (changes : List Change) (outcome : Outcome)
       → StandsAt world lists node host changes → change_at changes number ≡ Some (change.Outcome outcome)
       → IsOutcomeOf world node number ⊎ HasNoHops host.config.routes changes outcome
-  -- and so does an undecided change that came from no attempt
+  -- so does an undecided change that came from no attempt
   pub given_up : (node message : ℕ) (host : Host D) (changes : List Change) (disk : Disks D) (undecided : Undecided)
       → StandsAt world lists node host changes → host.state ≡ Down disk (Some undecided)
       → undecided.origin ≡ FromNoHop message → GivesUpNoHops host.config.routes changes undecided.note.octets
-  -- on a link that no node serves no node has accepted anything
+  -- no node has accepted anything on a link that no node serves
   pub outside : (number : ℕ) (link : Link) → link_at world.links number ≡ Some link → link.server ≡ None
       → accepts_on number world.ledger ≡ []
 
--- the one world has become the other by an event
+-- one event leads from the old world to the new one
 pub data Happens {D : Type 0} (honest : Type 0) (words : DiskWords D) (old new : World D) : Type 0 where
   Opens : (node : ℕ) (peer : List ℕ) → HasOpened old new node peer → Happens honest words old new
   Writes : (number : ℕ) (octets : List ℕ) → HasWritten old new number octets → Happens honest words old new
@@ -133,7 +132,7 @@ pub data Happens {D : Type 0} (honest : Type 0) (words : DiskWords D) (old new :
   LetsGo : (node : ℕ) → HangsUp old new node → Happens honest words old new
   GoesOn : (node : ℕ) → StaysUp honest words old new node → Happens honest words old new
 
--- Where each node is up, and nothing has come, was tried and accepted yet, it is so.
+-- This holds if each node is up, and no link, attempt or accept exists yet.
 abbrev pub OnceAtFirst : {D : Type 0} → DiskWords D → Type 0
 OnceAtFirst {D} words =
     (world : World D) (lists : List (List Change))
@@ -142,31 +141,31 @@ OnceAtFirst {D} words =
     → (standing : NodeState D) × (host.state ≡ Up standing))
     → world.attempts ≡ [] → world.ledger ≡ [] → IsTriedOnce world lists
 
--- Each event keeps it so, by whatever lists both worlds are bound.
+-- Each event preserves it, whatever lists of changes the two worlds have.
 abbrev pub OnceIsKept : {D : Type 0} → Type 0 → DiskWords D → Type 0
 OnceIsKept {D} honest words =
     (old new : World D) (lists later : List (List Change)) → IsBound honest words old lists → IsTriedOnce old lists
     → Happens honest words old new → IsBound honest words new later → IsTriedOnce new later
 
--- And each event keeps it so that attempts have the links that they are meant to have.
+-- Each event preserves that attempts have the right links.
 abbrev pub HopLinksAreKept : {D : Type 0} → Type 0 → DiskWords D → Type 0
 HopLinksAreKept {D} honest words =
     (old new : World D) → AreLinkedToHops old → Happens honest words old new → AreLinkedToHops new
 
--- And each event keeps it so that each line of the ledger has its source.
+-- Each event preserves that each line of the ledger has its source.
 abbrev pub SourcesAreKept : {D : Type 0} → Type 0 → DiskWords D → Type 0
 SourcesAreKept {D} honest words =
     (old new : World D) (lists later : List (List Change)) → IsBound honest words old lists → IsTriedOnce old lists
     → HasSources old lists → Happens honest words old new → IsBound honest words new later → HasSources new later
 
--- this many events, one after another, have made the other world of the one
+-- this many events, one after another, lead from the first world to the last
 abbrev pub Happen : {D : Type 0} → Type 0 → DiskWords D → ℕ → World D → World D → Type 0
 Happen honest words zero old new = new ≡ old
 Happen {D} honest words (suc count) old new =
     (next : World D) × Happens honest words old next × Happen honest words count next new
 
--- After any number of events a bound world in which each place is tried once, attempts have the links that they are
--- meant to have, and lines their sources, is still all of that, where disks are honest.
+-- On honest disks, any number of events preserve the invariant, and also that each place is tried once, that attempts
+-- have the right links, and that ledger lines have their sources.
 abbrev pub RunsKeepAll : {D : Type 0} → Type 0 → DiskWords D → Type 0
 RunsKeepAll {D} honest words =
     honest → (count : ℕ) (old new : World D) (lists : List (List Change)) → IsBound honest words old lists

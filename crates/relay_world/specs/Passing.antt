@@ -1,4 +1,4 @@
--- What a node has recorded of a place is what its next hop has said, and where that is a node of ours, what it has done
+-- What a node has recorded of a place is what its next hop has replied and, if that is a node of ours, what it has done
 -- (RFC 5321, sections 4.2.5 and 6.1).
 use Rattle.std.specs.Prelude.{◌≡◌, ◌≢◌, ◌⊎◌, ℕ, Bool, List, [], Some, slice_get}
 use Rattle.std.specs.List.{Contains}
@@ -22,7 +22,7 @@ use Rattle.relay_world.specs.Bound.{IsBound}
 use Rattle.relay_world.specs.Children.{AreChildPlaces, HasAnswers, HasOneChild, IsAttempt, children_of}
 use Rattle.relay_world.specs.World.{Host, World}
 
--- the change of this number is an outcome, and gives the place this verdict
+-- the change of this number is an outcome that gives the place this verdict
 pub record Rules (changes : List Change) (number place : ℕ) (verdict : Verdict) : Type 0 where
   pub outcome : Outcome
   pub found : change_at changes number ≡ Some (change.Outcome outcome)
@@ -34,7 +34,7 @@ pub record RepliesGave (changes : List Change) (attempt : Attempt) (place : ℕ)
   pub replied : attempt.fate ≡ Replied number
   pub rules : Rules changes number place verdict
 
--- the RCPT of the place was answered 2yz, and so was the content
+-- both the RCPT of the place and the mail data got a 2yz reply
 pub record AcceptsPlace (answered : List Answered) (place : ℕ) : Type 0 where
   pub rcpt : Reply
   pub asked : Contains answered (answer_of (awaited.Rcpt place) rcpt)
@@ -43,8 +43,8 @@ pub record AcceptsPlace (answered : List Answered) (place : ℕ) : Type 0 where
   pub sent : Contains answered (answer_of awaited.Content content)
   pub taken : kind_of content.code ≡ Completion
 
--- The next hop has accepted the place: the attempt has read so; and where a node serves its link, that node has
--- accepted one message on it, which holds the child places, and the place is one of these.
+-- The next hop has accepted the place, by what the attempt has read. If a node serves its link, that node has accepted
+-- one message on it, which holds the child places, and the place is one of them.
 pub record IsAcceptedByHop {D : Type 0} (world : World D) (lists : List (List Change)) (host : Host D)
     (changes : List Change)
     (link : Link) (attempt : Attempt) (place : ℕ) : Type 0 where
@@ -54,7 +54,7 @@ pub record IsAcceptedByHop {D : Type 0} (world : World D) (lists : List (List Ch
   pub child : (end : ServerEnd) (others : List Change) → link.server ≡ Some end → slice_get lists end.node ≡ Some others
       → (one : HasOneChild world host changes link attempt others) × Contains one.places place
 
--- A place that is Taken by replies was accepted by its next hop.
+-- A place with the verdict Taken was accepted by its next hop.
 abbrev pub TakenIsAccepted : {D : Type 0} → Type 0 → DiskWords D → Type 0
 TakenIsAccepted {D} honest words =
     (world : World D) (lists : List (List Change)) → IsBound honest words world lists
@@ -63,13 +63,13 @@ TakenIsAccepted {D} honest words =
     → (place : ℕ) (dsn : Bool) → RepliesGave changes attempt place (Taken dsn)
     → IsAcceptedByHop world lists host changes link attempt place
 
--- no child of the attempt holds the place: there is none, or the place isn't one of the child places
+-- no child of the attempt holds the place: there is no child, or the place isn't a child place
 abbrev pub NoChildHolds : {D : Type 0} → World D → Host D → List Change → Link → Attempt → ℕ → Type 0
 NoChildHolds world host changes link attempt place =
     (children_of world attempt ≡ [])
     ⊎ ((places : List ℕ) → AreChildPlaces host changes link attempt places → Contains places place → ⊥)
 
--- Where replies of a node of ours gave a place another verdict than Taken, no child holds the place.
+-- If replies of a node of ours gave a place another verdict than Taken, no child holds the place.
 abbrev pub OthersAreNotHeld : {D : Type 0} → Type 0 → DiskWords D → Type 0
 OthersAreNotHeld {D} honest words =
     (world : World D) (lists : List (List Change)) → IsBound honest words world lists
@@ -79,7 +79,7 @@ OthersAreNotHeld {D} honest words =
     → (place : ℕ) (verdict : Verdict) → RepliesGave changes attempt place verdict → ((dsn : Bool) → verdict ≢ Taken dsn)
     → NoChildHolds world host changes link attempt place
 
--- An attempt on a link that a node serves has no child, whatever became of it, or one, which holds the child places.
+-- An attempt on a link that a node serves has at most one child, whatever its state; the child holds the child places.
 abbrev pub AtMostOneChild : {D : Type 0} → Type 0 → DiskWords D → Type 0
 AtMostOneChild {D} honest words =
     (world : World D) (lists : List (List Change)) → IsBound honest words world lists

@@ -1,4 +1,4 @@
--- What relays promise of mail, whatever happens (RFC 5321, section 6.1).
+-- What relays promise for mail, whatever happens (RFC 5321, section 6.1).
 use Rattle.std.specs.Prelude.{◌≡◌, ◌≢◌, ◌⊎◌, ◌<◌, ℕ, Bool, List, [], Some, slice_get}
 use Rattle.relay_disk.specs.Device.{DiskWords}
 use Rattle.relay_book.specs.declared.change.Accept.{Accept}
@@ -26,9 +26,8 @@ use Rattle.relay_world.specs.Transfers.{HasPassedOn}
 use Rattle.relay_world.specs.World.{Host, World, link_at}
 use Rattle.relay_report.specs.Report.{reporter_of}
 
--- the outcome of a recipient: its node holds it, its next hop has accepted it, or it has ended for a cause, with the
--- report that is owed: by a verdict that an attempt for its message was given by what it has read, or since it has no
--- hop
+-- What has become of a recipient: its node holds it; its next hop has accepted it; or it has ended for a cause, with
+-- the report that is owed, by a verdict from what an attempt for its message has read, or because it has no hop.
 pub data HasCome {D : Type 0} (world : World D) (lists : List (List Change)) (node : ℕ) (host : Host D)
     (changes : List Change)
     (number place : ℕ) : Type 0 where
@@ -39,29 +38,28 @@ pub data HasCome {D : Type 0} (world : World D) (lists : List (List Change)) (no
       → GaveVerdict world lists node host changes at number place left.leaves.verdict
       ⊎ HadNoHop host changes number place left.leaves.verdict → HasCome world lists node host changes number place
 
--- The promise, of a world as it stands.
+-- The promise, in a given world.
 pub record KeepsPromise {D : Type 0} (honest : Type 0) (words : DiskWords D) (world : World D)
     (lists : List (List Change))
     : Type 0 where
-  -- each recipient that a node acknowledged is held, accepted by its next hop, or has ended
+  -- each recipient that a node acknowledged is held, accepted by its next hop, or ended
   pub recipients : (node : ℕ) (host : Host D) (changes : List Change) → StandsAt world lists node host changes
       → (number places place : ℕ) → Acknowledged world node number places → place < places
       → HasCome world lists node host changes number place
-  -- so has each place of each message that a node has, as a report
+  -- so is each place of each message that a node has added itself, as a report
   pub added : (node : ℕ) (host : Host D) (changes : List Change) → StandsAt world lists node host changes
       → (number place : ℕ) → Added changes number place → HasCome world lists node host changes number place
-  -- each place that was transferred was accepted by its next hop: where that is a node of ours, by one message there,
-  -- which has the values of this one and holds the place
+  -- each transferred place was accepted by its next hop: a node of ours holds the place by one message with the values
+  -- of the original
   pub transferred : (node : ℕ) (host : Host D) (changes : List Change) → StandsAt world lists node host changes
       → (number place : ℕ) → Transferred changes number place → HasPassedOn world lists node host changes number place
-  -- a node has accepted no message from an attempt whose hop it is, or one, which has the values of the attempt's
-  -- message
+  -- a node has accepted at most one message from an attempt whose hop it is, with the values of the attempt's message
   pub children : (host : Host D) (changes : List Change) (link : Link) (attempt : Attempt)
       → IsAttempt world lists host changes link attempt
       → (next : ℕ) (at_next : Host D) (others : List Change) → StandsAt world lists next at_next others
       → at_next.config.host ≡ attempt.hop
       → (children_of world attempt ≡ []) ⊎ HasOneChild world host changes link attempt others
-  -- and it holds no place by it that its replies didn't take
+  -- that message holds no place that the node's replies didn't take
   pub refused : (host : Host D) (changes : List Change) (link : Link) (attempt : Attempt)
       → IsAttempt world lists host changes link attempt
       → (next : ℕ) (at_next : Host D) → slice_get world.hosts next ≡ Some at_next → at_next.config.host ≡ attempt.hop
@@ -71,28 +69,28 @@ pub record KeepsPromise {D : Type 0} (honest : Type 0) (words : DiskWords D) (wo
   -- what a node holds is in its queue, and in every image that a stop may leave
   pub custody : (node : ℕ) (host : Host D) (changes : List Change) → StandsAt world lists node host changes
       → KeepsCustody honest words world node host changes
-  -- there is one copy at most, and one more for each reply that was lost
+  -- there is at most one copy, and one more for each lost reply
   pub copies : (node message place : ℕ) → HasFewCopies world lists node message place
-  -- of contents nothing is passed on but what came, after a new time stamp line
+  -- as mail data only the received text is relayed, after a new time stamp line
   pub content : (number place : ℕ) (link : Link) (attempt : Attempt) (host : Host D) (changes : List Change)
       (accept : Accept) → link_at world.links number ≡ Some link → link.client ≡ Some place
       → slice_get world.attempts place ≡ Some attempt → StandsAt world lists attempt.node host changes
       → message_at changes attempt.message ≡ Some accept
       → PassesOnly world lists number link host attempt accept
-  -- mail that goes from node to node is accepted 100 times at most
+  -- mail that goes from node to node is accepted at most 100 times
   pub chains : KeepsChainsShort world lists
-  -- a place is tried once at a time, and by an attempt whose link leads to the node that its hop is, or to outside
+  -- a place is tried once at a time, in an attempt whose link leads to its hop's node, or to outside
   pub once : IsTriedOnce world lists
   pub linked : AreLinkedToHops world
   -- each line of the ledger has its source
   pub sources : HasSources world lists
-  -- a place is reported as delayed once
+  -- a place is reported as delayed at most once
   pub delays : (node : ℕ) (host : Host D) (changes : List Change) → StandsAt world lists node host changes
       → DelaysOnce changes
 
--- After any number of events, on honest disks, relays that were bound, tried each place once, and had the links that
--- they were meant to have, and lines with their sources, keep the promise, and have all that they had recorded, told,
--- written and read, and the attempts that they had.
+-- From a world with the invariant, in which each place is tried once, attempts have the right links and ledger lines
+-- their sources, any number of events on honest disks lead to a world that keeps the promise. All that was recorded,
+-- written and read is still there, and attempts have only moved on.
 abbrev pub PromiseIsKept : {D : Type 0} → Type 0 → DiskWords D → Type 0
 PromiseIsKept {D} honest words =
     honest → (count : ℕ) (old new : World D) (lists : List (List Change)) → IsBound honest words old lists

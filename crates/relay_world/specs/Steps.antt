@@ -1,4 +1,4 @@
--- What an event does to two relays and their links.
+-- The events of two relays and their links.
 use Rattle.std.specs.Prelude.{◌≡◌, ◌≢◌, ◌⊎◌, ◌≤◌, ℕ, ◌+◌, suc, Bool, true, false, List, [], ◌∷◌, ◌++◌, length, take}
 use Rattle.std.specs.Prelude.{drop, Option, Some, None, if◌then◌else◌, slice_get}
 use Rattle.relay_lines.specs.Reply.{IsReply, Reply, reply_text}
@@ -28,18 +28,18 @@ use Rattle.relay_world.specs.HopLinks.{IsLinkedToHop}
 use Rattle.relay_world.specs.World.{Host, Up, World, link_at}
 use Rattle.relay_report.specs.Report.{reporter_of}
 
--- the value is put at this place: in the place of another, or after the last; all others are the same
+-- the value is at this index: it replaced another, or was appended; all others are the same
 pub record IsPut {A : Type 0} (old new : List A) (place : ℕ) (value : A) : Type 0 where
   pub at : slice_get new place ≡ Some value
   pub others : (other : ℕ) → other ≢ place → slice_get new other ≡ slice_get old other
 
--- the same of the link of a number
+-- this link has this number; all others are the same
 pub record IsPutAt (old new : List Link) (number : ℕ) (link : Link) : Type 0 where
   pub at : link_at new number ≡ Some link
   pub others : (other : ℕ) → other ≢ number → link_at new other ≡ link_at old other
   pub grows : length old ≤ length new
 
--- a session at the server end of a link, at a node that is up
+-- the session at the server end of a link, at a node that is up
 pub record SessionOf {D : Type 0} (world : World D) (number : ℕ) : Type 0 where
   pub link : Link
   pub link_is : link_at world.links number ≡ Some link
@@ -52,7 +52,7 @@ pub record SessionOf {D : Type 0} (world : World D) (number : ℕ) : Type 0 wher
   pub before : NodeState D
   pub up : host.state ≡ Up before
 
--- an attempt that runs at the client end of a link, at a node that is up
+-- the running attempt at the client end of a link, at a node that is up
 pub record AttemptOf {D : Type 0} (world : World D) (number : ℕ) : Type 0 where
   pub link : Link
   pub link_is : link_at world.links number ≡ Some link
@@ -67,7 +67,7 @@ pub record AttemptOf {D : Type 0} (world : World D) (number : ℕ) : Type 0 wher
   pub before : NodeState D
   pub up : host.state ≡ Up before
 
--- the link that a client outside has opened to a node, and that node's greeting
+-- a link that a client outside has opened to a node, with the node's greeting
 abbrev pub opened_link : ℕ → List ℕ → Connected → Link
 opened_link node peer connected = record {
   client = None;
@@ -79,7 +79,7 @@ opened_link node peer connected = record {
   broken = false;
 }
 
--- Outside has opened a link to a node that is up, at this address: the link of the next number.
+-- Outside has opened a link to a node that is up, with this client address; the link has the next number.
 pub record HasOpened {D : Type 0} (old new : World D) (node : ℕ) (peer : List ℕ) : Type 0 where
   pub host : Host D
   pub host_at : slice_get old.hosts node ≡ Some host
@@ -96,14 +96,14 @@ pub record HasOpened {D : Type 0} (old new : World D) (node : ℕ) (peer : List 
   pub rest : (new.attempts ≡ old.attempts) × (new.ledger ≡ old.ledger) × (new.clock ≡ old.clock)
       × (length new.hosts ≡ length old.hosts)
 
--- the link with octets after what the client end wrote, or after what the server end wrote
+-- the link after the client, or the server, wrote these octets
 abbrev pub written_up : Link → List ℕ → Link
 written_up link octets = record link { up = link.up ++ octets }
 
 abbrev pub written_down : Link → List ℕ → Link
 written_down link octets = record link { down = link.down ++ octets }
 
--- outside writes where it has the end: as the client where no attempt is, and else as the server where no node is
+-- outside writes at its end of the link: as the client if no attempt is there, else as the server if no node is there
 abbrev pub WritesAs : Link → List ℕ → Link → Type 0
 WritesAs old octets new =
     ((old.client ≡ None) × (new ≡ written_up old octets))
@@ -120,15 +120,15 @@ pub record HasWritten {D : Type 0} (old new : World D) (number : ℕ) (octets : 
   pub put : IsPutAt old.links links number written
   pub new_is : new ≡ record old { links = links }
 
--- the octets that a call of a server end is handed: this many of those that wait, or all
+-- the octets that a call of the server end gets: this many of the unread ones, or all
 abbrev pub waiting_up : ℕ → Link → List ℕ
 waiting_up count link = take count (drop link.up_read link.up)
 
--- What an end writes on a link by a call: nothing, where the link broke in that call.
+-- What an end writes in a call: nothing, if the link broke in that call.
 abbrev pub unless_broken : Link → List ℕ → List ℕ
 unless_broken link octets = if link.broken then [] else octets
 
--- the link after a call of its server end
+-- The link after a call of its server end.
 abbrev pub session_after : Bool → ℕ → Option ℕ
 session_after true session = None
 session_after false session = Some session
@@ -140,11 +140,11 @@ heard_link link end session received = record link {
   down = link.down ++ unless_broken link received.out.items;
 }
 
--- the node with no note
+-- the node, with its note taken out
 abbrev pub without_note : {D : Type 0} → NodeState D → NodeState D
 without_note node = record node { records = record node.records { noted = None } }
 
--- what a node that heard octets has recorded: nothing; or the accept of this number, whose note was taken
+-- what a node that heard octets has recorded: nothing, or the accept of this number, whose note was taken
 abbrev pub RecordsHeard : {D : Type 0} → World D → World D → ℕ → ℕ → Host D → NodeState D → Option ℕ → Type 0
 RecordsHeard old new node number host after None =
     IsPut old.hosts new.hosts node (record host { state = Up after }) × (new.ledger ≡ old.ledger)
@@ -154,7 +154,7 @@ RecordsHeard old new node number host after (Some change) =
     (record host { state = Up (without_note after); records = host.records ++ noted.octets ∷ [] })
     × (new.ledger ≡ old.ledger ++ Accepted node change noted.accepted number ∷ [])
 
--- A node has heard octets of a link, of those that wait as many as were carried, by one call, without a fault. What it
+-- A node has heard octets of a link, as many of the unread ones as were carried, in one call without a fault. What it
 -- writes is on the link, unless that broke in the call.
 pub record HasHeard {D : Type 0} (honest : Type 0) (words : DiskWords D) (old new : World D) (number count : ℕ)
     : Type 0 where
@@ -173,17 +173,17 @@ pub record HasHeard {D : Type 0} (honest : Type 0) (words : DiskWords D) (old ne
   pub records : RecordsHeard old new of.end.node number of.host after received.change
   pub rest : (new.attempts ≡ old.attempts) × (new.clock ≡ old.clock) × (length new.hosts ≡ length old.hosts)
 
--- what is on a link after the reply with which its server end closes unasked, if it does: on a broken link nothing more
+-- what the server end has written after it closed unasked, if it did; on a broken link nothing more
 abbrev pub closed_down : Link → Option Reply → List ℕ
 closed_down link None = link.down
 closed_down link (Some reply) = link.down ++ unless_broken link (reply_text reply)
 
--- the link, whose session is gone
+-- the link without its session
 abbrev pub ended_link : Link → ServerEnd → Option Reply → Link
 ended_link link end closing =
     record link { server = Some (record end { session = None }); down = closed_down link closing }
 
--- The session at a link's server end is gone, at its node too, with a reply of its own after all others, or with none.
+-- The session at a link's server end is gone, also at its node, with or without one last reply of its own.
 pub record EndsWith {D : Type 0} (old new : World D) (number : ℕ) (closing : Option Reply) : Type 0 where
   pub of : SessionOf old number
   pub after : NodeState D
@@ -197,19 +197,19 @@ pub record EndsWith {D : Type 0} (old new : World D) (number : ℕ) (closing : O
   pub rest : (new.attempts ≡ old.attempts) × (new.ledger ≡ old.ledger) × (new.clock ≡ old.clock)
       × (length new.hosts ≡ length old.hosts)
 
--- The session at a link's server end is gone: its node was told that the connection has ended, or had no memory or room
--- for it.
+-- The session at a link's server end is gone: the connection has ended, or the node had too little memory or room for
+-- it.
 abbrev pub EndsSession : {D : Type 0} → World D → World D → ℕ → Type 0
 EndsSession old new number = EndsWith old new number None
 
--- A node has cut a client off, as one that was waited for too long: its session is gone, and after whole replies
--- stands one more, of code 421 (RFC 5321, section 3.8).
+-- A node has cut off a client that kept it waiting for too long: its session is gone, and after whole replies there is
+-- one more, of code 421 (RFC 5321, section 3.8).
 pub record CutsOff {D : Type 0} (old new : World D) (number : ℕ) (reply : Reply) : Type 0 where
   pub formed : IsReply reply
   pub code : reply.code ≡ 421
   pub ends : EndsWith old new number (Some reply)
 
--- the octets that a call of a client end is handed: this many of those that wait, or all
+-- the octets that a call of the client end gets: this many of the unread ones, or all
 abbrev pub waiting_down : ℕ → Link → List ℕ
 waiting_down count link = take count (drop link.down_read link.down)
 
@@ -232,7 +232,7 @@ pub record RecordsOutcome {D : Type 0} (old new : World D) (number : ℕ) (of : 
       ++ left_lines of.attempt.node of.attempt.message number (report_told change noted.report) noted.left.items
   pub attempts : IsPut old.attempts new.attempts of.place (record of.attempt { fate = fate })
 
--- what a node that read replies has recorded: nothing; or the outcome with which they ended the attempt
+-- what a node that read replies has recorded: nothing, or the outcome of the attempt that they ended
 abbrev pub RecordsRead : {D : Type 0} → (old new : World D) → (number : ℕ) → AttemptOf old number → NodeState D
     → Option ℕ → Type 0
 RecordsRead old new number of after None =
@@ -241,7 +241,7 @@ RecordsRead old new number of after None =
 RecordsRead old new number of after (Some change) =
     RecordsOutcome old new number of after (RepliedBy change) change
 
--- An attempt has read replies on a link, of the octets that wait as many as were carried, by one call, without a fault.
+-- An attempt has read replies on a link, as many of the unread octets as were carried, in one call without a fault.
 -- What it writes is on the link, unless that broke in the call.
 pub record HasRead {D : Type 0} (honest : Type 0) (words : DiskWords D) (old new : World D) (number count : ℕ)
     : Type 0 where
@@ -260,7 +260,7 @@ pub record HasRead {D : Type 0} (honest : Type 0) (words : DiskWords D) (old new
   pub records : RecordsRead old new number of after replied.change
   pub rest : (new.clock ≡ old.clock) × (length new.hosts ≡ length old.hosts)
 
--- A node was told that the connection of an attempt is lost, and has recorded its outcome, under this number.
+-- The connection of an attempt was lost, and its node has recorded the outcome, under this number.
 pub record HasLost {D : Type 0} (honest : Type 0) (words : DiskWords D) (old new : World D) (number change : ℕ)
     : Type 0 where
   pub of : AttemptOf old number
@@ -277,7 +277,7 @@ pub record HasLost {D : Type 0} (honest : Type 0) (words : DiskWords D) (old new
   pub records : RecordsOutcome old new number of after (LostBy change) change
   pub rest : (new.clock ≡ old.clock) × (length new.hosts ≡ length old.hosts)
 
--- An attempt is gone without an outcome, at its node too, which had no memory or room for it.
+-- An attempt is gone without an outcome, also at its node, which had too little memory or room for it.
 pub record DropsAttempt {D : Type 0} (old new : World D) (number : ℕ) : Type 0 where
   pub of : AttemptOf old number
   pub after : NodeState D
@@ -292,8 +292,8 @@ pub record DropsAttempt {D : Type 0} (old new : World D) (number : ℕ) : Type 0
   pub ledger : new.ledger ≡ old.ledger
   pub rest : (new.clock ≡ old.clock) × (length new.hosts ≡ length old.hosts)
 
--- A link is broken. The session and the attempt at its ends go on until their nodes are told, and neither hears nor
--- reads more.
+-- A link is broken. The session and the attempt at its ends go on until their nodes notice, but hear and read nothing
+-- more.
 pub record Breaks {D : Type 0} (old new : World D) (number : ℕ) : Type 0 where
   pub link : Link
   pub link_is : link_at old.links number ≡ Some link
@@ -301,7 +301,7 @@ pub record Breaks {D : Type 0} (old new : World D) (number : ℕ) : Type 0 where
   pub put : IsPutAt old.links links number (record link { broken = true })
   pub new_is : new ≡ record old { links = links }
 
--- A link on which no client has written and read: it was opened to another node, or it is the next, to outside.
+-- A link on which no client has written or read: it was opened to another node, or it is the next one, to outside.
 pub record IsBlank {D : Type 0} (world : World D) (number : ℕ) (link : Link) : Type 0 where
   pub client : link.client ≡ None
   pub up : link.up ≡ []
@@ -341,7 +341,7 @@ pub record HasStarted {D : Type 0} (honest : Type 0) (words : DiskWords D) (old 
   pub linked : IsLinkedToHop new attempt
   pub rest : (new.ledger ≡ old.ledger) × (new.clock ≡ old.clock) × (length new.hosts ≡ length old.hosts)
 
--- A node has given up the places of a message that have no hop, in the change of this number. No link is theirs.
+-- A node has given up the places of a message that have no hop, by the change of this number. No link is involved.
 pub record HasGivenUp {D : Type 0} (honest : Type 0) (words : DiskWords D) (old new : World D) (node message change : ℕ)
     : Type 0
   where
@@ -370,7 +370,7 @@ pub record HasGivenUp {D : Type 0} (honest : Type 0) (words : DiskWords D) (old 
 pub record HasTicked {D : Type 0} (old new : World D) (now : ℕ) : Type 0 where
   pub new_is : new ≡ record old { clock = now }
 
--- Each of these events keeps a world bound.
+-- Each of these events preserves the invariant.
 abbrev pub OpeningKeeps : {D : Type 0} → Type 0 → DiskWords D → Type 0
 OpeningKeeps {D} honest words =
     (old new : World D) (lists : List (List Change)) (node : ℕ) (peer : List ℕ) → IsBound honest words old lists

@@ -1,5 +1,5 @@
--- What a stop of a node, and its opening, do to two relays and their links. A node that stops in a call leaves one
--- change undecided, and its next opening tells by its next number whether the change is there.
+-- Stops of a node, and its opening. A node that stops in a call leaves at most one change undecided; after its next
+-- opening the next number says whether the change is there.
 use Rattle.std.specs.Prelude.{◌≡◌, ◌≢◌, ◌⊎◌, ℕ, ◌+◌, ◌≤◌, ◌<◌, true, List, [], ◌∷◌, ◌++◌, length, Option, Some, None}
 use Rattle.std.specs.Prelude.{slice_get}
 use Rattle.relay_disk.specs.Device.{DiskWords}
@@ -30,17 +30,17 @@ use Rattle.relay_world.specs.World.{Down, FromClient, FromLoss, FromNoHop, FromR
 use Rattle.relay_world.specs.World.{World, link_at}
 use Rattle.relay_report.specs.Report.{reporter_of}
 
--- Nothing else of a node goes on when it stops: its sessions on other links and its other attempts end first, in events
--- of their own that leave the node as it was, and those links break. So an event is of one node and of one link at
--- most.
+-- When a node stops, nothing else of it goes on: its sessions on other links and its other attempts end before, in
+-- events of their own that leave the node unchanged, and those links break. So each event concerns one node and at most
+-- one link.
 
--- but on the link of this number no session of the node goes on
+-- no session of the node goes on, except on the link of this number
 abbrev pub NoSessionBut : {D : Type 0} → World D → ℕ → ℕ → Type 0
 NoSessionBut world node number =
     (other : ℕ) (link : Link) (session : ℕ) → other ≢ number → link_at world.links other ≡ Some link
     → HasSession link node session → ⊥
 
--- but for this place among the attempts none of the node runs
+-- no attempt of the node runs, except the one at this index
 abbrev pub NoAttemptBut : {D : Type 0} → World D → ℕ → ℕ → Type 0
 NoAttemptBut world node place =
     (other : ℕ) (attempt : Attempt) (slot : ℕ) → other ≢ place → slice_get world.attempts other ≡ Some attempt
@@ -56,23 +56,23 @@ NoAttempt world node =
     (place : ℕ) (attempt : Attempt) (slot : ℕ) → slice_get world.attempts place ≡ Some attempt
     → HasSlot attempt node slot → ⊥
 
--- what a stop made of a node: its disks, of which a further stop leaves no images that the stop of these doesn't leave
+-- the disks of a stopped node; a further stop leaves no image that this one doesn't leave
 abbrev pub IsLeftBy : {D : Type 0} → Type 0 → DiskWords D → Kept D → Disks D → Type 0
 IsLeftBy honest words stopped disk = honest → ImagesWithin words stopped.spool.disk disk
 
--- what a stop made of a node that was adding no change: whatever changes it kept, a further stop leaves them
+-- the disks of a node that stopped while it was adding no change: a further stop leaves whatever changes it kept
 abbrev pub LeavesList : {D : Type 0} → Type 0 → DiskWords D → Kept D → Disks D → Type 0
 LeavesList honest words before disk =
     (changes : List Change) → Keeps honest words before changes
     → honest → EveryImageHas words disk (λ bodies. StandsFor bodies changes)
 
--- all but the nodes is the same
+-- nothing changes but the nodes
 abbrev pub OnlyHostsChange : {D : Type 0} → World D → World D → Type 0
 OnlyHostsChange old new =
     (new.links ≡ old.links) × (new.attempts ≡ old.attempts) × (new.ledger ≡ old.ledger) × (new.clock ≡ old.clock)
     × (length new.hosts ≡ length old.hosts)
 
--- A node has stopped between two calls, or in one that adds no change, and nothing went on on it.
+-- A node has stopped between two calls, or in one that adds no change; it had no session and no running attempt.
 pub record HasStopped {D : Type 0} (honest : Type 0) (words : DiskWords D) (old new : World D) (node : ℕ) : Type 0 where
   pub host : Host D
   pub host_at : slice_get old.hosts node ≡ Some host
@@ -85,8 +85,8 @@ pub record HasStopped {D : Type 0} (honest : Type 0) (words : DiskWords D) (old 
   pub hosts : IsPut old.hosts new.hosts node (record host { state = Down disk None })
   pub rest : OnlyHostsChange old new
 
--- A node that is up stays so: its disks will fail at a later call, or its spool was compacted. It keeps the changes
--- that it kept, and nothing else changes.
+-- A node stays up: its disks will fail at a later call, or its spool was compacted. It keeps its changes, and nothing
+-- else changes.
 pub record StaysUp {D : Type 0} (honest : Type 0) (words : DiskWords D) (old new : World D) (node : ℕ) : Type 0 where
   pub host : Host D
   pub host_at : slice_get old.hosts node ≡ Some host
@@ -102,25 +102,24 @@ pub record StaysUp {D : Type 0} (honest : Type 0) (words : DiskWords D) (old new
   pub hosts : IsPut old.hosts new.hosts node (record host { state = Up after })
   pub rest : OnlyHostsChange old new
 
--- So it does where a stop waits for it: of the records only the disks have changed.
+-- A node stays up with a device fault set for a later call: of its records only the disks have changed.
 pub record HasArmed {D : Type 0} (honest : Type 0) (words : DiskWords D) (old new : World D) (node : ℕ) : Type 0 where
   pub stays : StaysUp honest words old new node
   pub fused : IsFused stays.before.records stays.after.records
 
--- And so it does where its spool was compacted, as one body of all that its queue holds.
+-- A node stays up with its spool compacted to one body, of all that its queue holds.
 pub record HasCompacted {D : Type 0} (honest : Type 0) (words : DiskWords D) (old new : World D) (node : ℕ)
     : Type 0 where
   pub stays : StaysUp honest words old new node
   pub compacts : Compacts honest words stays.before.records stays.after.records
   pub queue : stays.after.records.queue ≡ stays.before.records.queue
 
--- the link without a session, broken
+-- the link, broken and without a session
 abbrev pub cut_off_link : Link → ServerEnd → Link
 cut_off_link link end = record link { server = Some (record end { session = None }); broken = true }
 
--- A node has stopped in a call that heard octets of a link, of those that wait as many as were carried, as its device
--- failed while an accept was added. What the call would have written isn't on the link, which is broken now, if it
--- wasn't before.
+-- A node has stopped in a call that heard octets of a link, as many of the unread ones as were carried: its device
+-- failed while an accept was added. What the call would have written isn't on the link, which is broken now.
 pub record StopsHearing {D : Type 0} (honest : Type 0) (words : DiskWords D) (old new : World D) (number count : ℕ)
     : Type 0 where
   pub of : SessionOf old number
@@ -158,8 +157,8 @@ pub record DropsAtStop {D : Type 0} (honest : Type 0) (words : DiskWords D) (old
   pub attempts : IsPut old.attempts new.attempts of.place (record of.attempt { fate = Dropped })
   pub rest : (new.ledger ≡ old.ledger) × (new.clock ≡ old.clock) × (length new.hosts ≡ length old.hosts)
 
--- A node has stopped in a call of an attempt that read replies on a link, of those that wait as many as were carried,
--- as its device failed while the outcome to which they led was added.
+-- A node has stopped in a call of an attempt that read replies, as many of the unread octets as were carried: its
+-- device failed while the outcome was added.
 pub record StopsReading {D : Type 0} (honest : Type 0) (words : DiskWords D) (old new : World D) (number count : ℕ)
     : Type 0 where
   pub of : AttemptOf old number
@@ -171,8 +170,8 @@ pub record StopsReading {D : Type 0} (honest : Type 0) (words : DiskWords D) (ol
       of.link) stopped
   pub drops : DropsAtStop honest words old new number of stopped (FromReplies number of.place of.attempt.message)
 
--- A node has stopped in the call that told it of the loss of an attempt's link, as its device failed while the outcome
--- was added.
+-- A node has stopped in the call that reports the loss of an attempt's link: its device failed while the outcome was
+-- added.
 pub record StopsLosing {D : Type 0} (honest : Type 0) (words : DiskWords D) (old new : World D) (number : ℕ)
     : Type 0 where
   pub of : AttemptOf old number
@@ -183,7 +182,7 @@ pub record StopsLosing {D : Type 0} (honest : Type 0) (words : DiskWords D) (old
       → CutsLoss honest words (reporter_of of.before.config) old.clock changes of.slot told stopped
   pub drops : DropsAtStop honest words old new number of stopped (FromLoss number of.place of.attempt.message)
 
--- A node has stopped in a call that gave up the places of a message without a hop, as its device failed while their
+-- A node has stopped in a call that gave up the places of a message without a hop: its device failed while their
 -- outcome was added.
 pub record StopsGivingUp {D : Type 0} (honest : Type 0) (words : DiskWords D) (old new : World D) (node message : ℕ)
     : Type 0
@@ -207,8 +206,8 @@ pub record StopsGivingUp {D : Type 0} (honest : Type 0) (words : DiskWords D) (o
         (record host { state = Down disk (Some (record { note = noted; origin = FromNoHop message })) })
     pub rest : OnlyHostsChange old new
 
--- A node that is down stays so, and its disks leave no images that they didn't leave before: they were refused, or have
--- stopped again. Which of the two it was is said below.
+-- A node that is down stays down, and its disks leave no images that they didn't leave before: they were refused, or
+-- have stopped again, as the two definitions below say.
 pub record StaysDown {D : Type 0} (honest : Type 0) (words : DiskWords D) (old new : World D) (node : ℕ) : Type 0 where
   pub host : Host D
   pub host_at : slice_get old.hosts node ≡ Some host
@@ -220,12 +219,12 @@ pub record StaysDown {D : Type 0} (honest : Type 0) (words : DiskWords D) (old n
   pub hosts : IsPut old.hosts new.hosts node (record host { state = Down again undecided })
   pub rest : OnlyHostsChange old new
 
--- A node that is down stops again, before it is opened.
+-- A node that is down stops again before it is opened.
 abbrev pub StopsAgain : {D : Type 0} → Type 0 → DiskWords D → World D → World D → ℕ → Type 0
 StopsAgain honest words old new node = StaysDown honest words old new node
 
--- A node that is down couldn't be opened: its disks were refused, for this cause. That is a failure of the device,
--- which has counted it, lack of memory, or the size of the spool, and of an honest disk never the octets.
+-- A node that is down couldn't be opened: its disks were refused for this cause. That is a counted failure of the
+-- device, too little memory, or the size of the spool; with an honest disk it is never the octets.
 pub record IsRefused {D : Type 0} (honest : Type 0) (words : DiskWords D) (old new : World D) (node : ℕ) : Type 0 where
   pub stays : StaysDown honest words old new node
   pub cause : Cause
@@ -233,7 +232,7 @@ pub record IsRefused {D : Type 0} (honest : Type 0) (words : DiskWords D) (old n
   pub failures : FailsFor words stays.disk stays.again cause
   pub not_octets : honest → IsNoFaultOfImage cause
 
--- an outcome is found: this many octets more were read on the link, and the attempt at this place has this fate
+-- an outcome is found: this many more octets were read on the link, and the attempt at this index has this state
 pub record FindsOutcome {D : Type 0} (old new : World D) (number place used : ℕ) (fate : Fate) : Type 0 where
   pub link : Link
   pub link_is : link_at old.links number ≡ Some link
@@ -242,15 +241,15 @@ pub record FindsOutcome {D : Type 0} (old new : World D) (number place used : �
   pub attempt_at : slice_get old.attempts place ≡ Some attempt
   pub attempts : IsPut old.attempts new.attempts place (record attempt { fate = fate })
 
--- an accept is found: this many octets more were read on the link
+-- an accept is found: this many more octets were read on the link
 pub record FindsAccept {D : Type 0} (old new : World D) (number used : ℕ) : Type 0 where
   pub link : Link
   pub link_is : link_at old.links number ≡ Some link
   pub links : IsPutAt old.links new.links number (record link { up_read = link.up_read + used })
   pub attempts : new.attempts ≡ old.attempts
 
--- A change is found, by what it came from. Its link stays broken, since nobody was handed what the call would have
--- written.
+-- A change is found, by what it came from. Its link stays broken, since nothing that the call would have written was
+-- sent.
 abbrev pub Finds : {D : Type 0} → World D → World D → Noted → Origin → Type 0
 Finds old new note (FromClient number) = FindsAccept old new number note.used
 Finds old new note (FromReplies number place message) =
@@ -274,14 +273,14 @@ pub record HasNotFound {D : Type 0} (old new : World D) (node : ℕ) (host : Hos
   pub attempts : new.attempts ≡ old.attempts
   pub ledger : new.ledger ≡ old.ledger
 
--- The change is there exactly if the next number is above its own.
+-- The undecided change is there exactly if the next number is greater than the change's own.
 abbrev pub Decides : {D : Type 0} → World D → World D → ℕ → Host D → NodeState D → Option Undecided → Type 0
 Decides old new node host after None = HasNotFound old new node host after
 Decides old new node host after (Some undecided) =
     ((after.records.queue.next ≤ undecided.note.number) × HasNotFound old new node host after)
     ⊎ ((undecided.note.number < after.records.queue.next) × HasFound old new node host after undecided)
 
--- A node that was down is opened.
+-- A node that was down has been opened.
 pub record HasReopened {D : Type 0} (honest : Type 0) (words : DiskWords D) (old new : World D) (node : ℕ)
     : Type 0 where
   pub host : Host D
@@ -295,7 +294,7 @@ pub record HasReopened {D : Type 0} (honest : Type 0) (words : DiskWords D) (old
   pub decides : Decides old new node host after undecided
   pub rest : (new.clock ≡ old.clock) × (length new.hosts ≡ length old.hosts)
 
--- Each of these events keeps a world bound.
+-- Each of these events preserves the invariant.
 abbrev pub StayingUpKeeps : {D : Type 0} → Type 0 → DiskWords D → Type 0
 StayingUpKeeps {D} honest words =
     (old new : World D) (lists : List (List Change)) (node : ℕ) → IsBound honest words old lists
@@ -337,8 +336,8 @@ ReopeningKeeps {D} honest words =
     → HasReopened honest words old new node
     → (later : List (List Change)) × IsBound honest words new later
 
--- A node that is down can be opened: what refuses its disks is the device, lack of memory, or their size, and never the
--- octets.
+-- A node that is down can be opened, unless the device fails, memory runs out or the spool is too large. The octets are
+-- never the cause.
 abbrev pub DownIsNotRefused : {D : Type 0} → Type 0 → DiskWords D → Type 0
 DownIsNotRefused {D} honest words =
     (world : World D) (lists : List (List Change)) (node : ℕ) (host : Host D) (changes : List Change) (disk : Disks D)

@@ -1,5 +1,4 @@
--- What became of a place that has left a node's queue by a transfer (RFC 5321, section 6.1): its next hop has accepted
--- it.
+-- A place that left a node's queue by a transfer (RFC 5321, section 6.1) was accepted by its next hop.
 use Rattle.std.specs.Prelude.{◌≡◌, ℕ, List}
 use Rattle.std.specs.List.{Contains}
 use Rattle.relay_disk.specs.Device.{DiskWords}
@@ -15,7 +14,7 @@ use Rattle.relay_world.specs.Once.{GoesToHop, IsTriedOnce}
 use Rattle.relay_world.specs.Passing.{AcceptsPlace}
 use Rattle.relay_world.specs.World.{Host, World}
 
--- the attempt's link leads to this node, which has accepted one message on it, and that holds the place
+-- the attempt's link leads to this node, which has accepted one message on it, and that message holds the place
 pub record IsHeldNext {D : Type 0} (world : World D) (host : Host D) (changes : List Change) (link : Link)
     (attempt : Attempt)
     (next : ℕ) (others : List Change) (place : ℕ) : Type 0 where
@@ -23,9 +22,9 @@ pub record IsHeldNext {D : Type 0} (world : World D) (host : Host D) (changes : 
   pub child : HasOneChild world host changes link attempt others
   pub holds : Contains child.places place
 
--- By an attempt of the node for this message, the next hop has accepted the place: the attempt, whose hop the node's
--- table gives for its places, has read 2yz to the RCPT of the place and to the content; and where a node of ours has
--- the name of the hop, that node holds the place by the one message that it has accepted of the attempt.
+-- The next hop has accepted the place, in an attempt of the node for this message. The node's routes give the attempt's
+-- hop for its places, and the attempt has read a 2yz reply to the RCPT of the place and to the mail data. If a node of
+-- ours has the hop's name, it holds the place by the one message that it has accepted from the attempt.
 pub record HasPassedOn {D : Type 0} (world : World D) (lists : List (List Change)) (node : ℕ) (host : Host D)
     (changes : List Change) (message place : ℕ) : Type 0 where
   pub attempt : Attempt
@@ -40,7 +39,7 @@ pub record HasPassedOn {D : Type 0} (world : World D) (lists : List (List Change
   pub next_holds : (next : ℕ) (at_next : Host D) (others : List Change) → StandsAt world lists next at_next others
       → at_next.config.host ≡ attempt.hop → IsHeldNext world host changes link attempt next others place
 
--- Each place that was transferred was passed on so.
+-- Each transferred place was accepted so.
 abbrev pub TransferredIsAccepted : {D : Type 0} → Type 0 → DiskWords D → Type 0
 TransferredIsAccepted {D} honest words =
     (world : World D) (lists : List (List Change)) → IsBound honest words world lists → IsTriedOnce world lists

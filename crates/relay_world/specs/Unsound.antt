@@ -1,6 +1,6 @@
--- What the promise doesn't let through of ledgers, attempts and links: a line that names another link than its own, an
--- outcome that is forgotten, and a link that heals; each is said of the worlds alone, whatever call has made them. And
--- that a stop in a call is a failure of the device.
+-- What the promise rules out for ledgers, attempts and links: a line that names a wrong link, an outcome that is
+-- forgotten, and a link that heals. Each is stated of the worlds, whatever call was made. And a stop in a call is a
+-- failure of the device.
 use Rattle.std.specs.Prelude.{◌≡◌, ◌≢◌, ◌⊎◌, ℕ, true, false, List, Some, slice_get}
 use Rattle.relay_disk.specs.Device.{DiskWords}
 use Rattle.relay_book.specs.declared.change.Change.{Change}
@@ -16,7 +16,7 @@ use Rattle.relay_world.specs.Growth.{AttemptsGrow, HasGrown}
 use Rattle.relay_world.specs.Lines.{HasSources}
 use Rattle.relay_world.specs.World.{World, link_at}
 
--- The ledger has an accept of a node on a link that the node doesn't serve, or on none.
+-- The ledger has an accept of a node on a link that the node doesn't serve, or that doesn't exist.
 pub record MisnamesAccept {D : Type 0} (world : World D) : Type 0 where
   pub at : ℕ
   pub node : ℕ
@@ -27,7 +27,7 @@ pub record MisnamesAccept {D : Type 0} (world : World D) : Type 0 where
   pub elsewhere : (its : Link) (end : ServerEnd) → link_at world.links link ≡ Some its → its.server ≡ Some end
       → end.node ≢ node
 
--- The ledger tells of a place of a message on a link on which no attempt of the node for the message is.
+-- The ledger has a line for a place of a message on a link that has no attempt of the node for the message.
 pub record MisnamesLeaving {D : Type 0} (world : World D) : Type 0 where
   pub at : ℕ
   pub step : PlaceStep
@@ -41,13 +41,13 @@ pub record MisnamesLeaving {D : Type 0} (world : World D) : Type 0 where
   pub untried : (other : ℕ) (attempt : Attempt) → slice_get world.attempts other ≡ Some attempt → attempt.node ≡ node
       → attempt.message ≡ message → attempt.link ≢ link
 
--- Then a line lacks its source.
+-- Then some line lacks its source.
 abbrev pub MisnamingBreaks : Type 0 → Type 0
 MisnamingBreaks D =
     (world : World D) (lists : List (List Change)) → MisnamesAccept world ⊎ MisnamesLeaving world
     → HasSources world lists → ⊥
 
--- An attempt that replies have ended has another fate now, or is gone.
+-- An attempt that replies had ended has another state now, or is gone.
 pub record ForgetsOutcome {D : Type 0} (old new : World D) : Type 0 where
   pub at : ℕ
   pub attempt : Attempt
@@ -56,11 +56,11 @@ pub record ForgetsOutcome {D : Type 0} (old new : World D) : Type 0 where
   pub replied : attempt.fate ≡ Replied number
   pub other : (its : Attempt) → slice_get new.attempts at ≡ Some its → its.fate ≢ Replied number
 
--- Then attempts haven't gone on.
+-- Then attempts haven't only moved on.
 abbrev pub ForgettingOutcomeBreaks : Type 0 → Type 0
 ForgettingOutcomeBreaks D = (old new : World D) → ForgetsOutcome old new → AttemptsGrow old new → ⊥
 
--- A link that was broken is whole now, or more was written on it, or it is gone.
+-- A broken link is whole now, was written on, or is gone.
 pub record Heals {D : Type 0} (old new : World D) : Type 0 where
   pub number : ℕ
   pub link : Link
@@ -69,11 +69,11 @@ pub record Heals {D : Type 0} (old new : World D) : Type 0 where
   pub whole : (its : Link) → link_at new.links number ≡ Some its
       → (its.broken ≡ false) ⊎ (its.up ≢ link.up) ⊎ (its.down ≢ link.down)
 
--- Then links haven't grown.
+-- Then links haven't only grown.
 abbrev pub HealingBreaks : Type 0 → Type 0
 HealingBreaks D = (old new : World D) → Heals old new → HasGrown old new → ⊥
 
--- And a node that stops in a call does so since its device has failed there, whatever the call was.
+-- A node stops in a call only because its device has failed there, whatever the call.
 abbrev pub StoppingIsFailing : {D : Type 0} → Type 0 → DiskWords D → Type 0
 StoppingIsFailing {D} honest words =
     (old new : World D) (number count node message : ℕ)

@@ -1,5 +1,5 @@
--- Two relays and the links between them, as they stand: what each node keeps, what each end of a link has written and
--- read, the attempts, and the ledger.
+-- Two relays and the links between them: what each node keeps, what each end of a link has written and read, the
+-- attempts, and the ledger.
 use Rattle.std.specs.Prelude.{ℕ, suc, zero, List, Option, None, slice_get}
 use Rattle.relay_disk.specs.declared.disks.Disks.{Disks}
 use Rattle.relay_routes.specs.declared.config.Config.{Config}
@@ -9,31 +9,31 @@ use Rattle.relay_world.specs.declared.attempt.Attempt.{Attempt}
 use Rattle.relay_world.specs.declared.line.Line.{Line}
 use Rattle.relay_world.specs.declared.link.Link.{Link}
 
--- What a change came from: octets of a client, heard on a link; replies that the attempt at a place among the attempts
--- read on its link, or the loss of that link, and the attempt's message; or the places of a message that had no hop.
+-- The cause of a change: octets that a client wrote on a link; replies that the attempt at an index read, or the loss
+-- of its link, with the attempt's message; or places of a message that had no hop.
 pub data Origin : Type 0 where
   FromClient : (link : ℕ) → Origin
   FromReplies : (link place message : ℕ) → Origin
   FromLoss : (link place message : ℕ) → Origin
   FromNoHop : (message : ℕ) → Origin
 
--- the change of an append that a stop left open: its note, and what it came from
+-- the change that a stop left undecided: its note, and its cause
 pub record Undecided : Type 0 where
   pub note : Noted
   pub origin : Origin
 
--- a node is up, or it is down: then it is its disks, and perhaps a change that its next opening decides
+-- a node is up; or it is down, with its disks and perhaps a change that its next opening decides
 pub data HostState (D : Type 0) : Type 0 where
   Up : NodeState D → HostState D
   Down : Disks D → Option Undecided → HostState D
 
--- a node: its configuration, itself, and the records of its changes, of which the notes told, in order
+-- a node: its configuration, its state, and the records of its changes, in order
 pub record Host (D : Type 0) : Type 0 where
   pub config : Config
   pub state : HostState D
   pub records : List (List ℕ)
 
--- all of it, at a time of its clock
+-- all of this, at a time of the clock
 pub record World (D : Type 0) : Type 0 where
   pub hosts : List (Host D)
   pub links : List Link
@@ -41,7 +41,7 @@ pub record World (D : Type 0) : Type 0 where
   pub ledger : List Line
   pub clock : ℕ
 
--- the link of a number; they count from 1
+-- the link of a number, counted from 1
 abbrev pub link_at : List Link → ℕ → Option Link
 link_at links zero = None
 link_at links (suc n) = slice_get links n

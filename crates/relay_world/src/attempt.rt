@@ -1,33 +1,33 @@
-//! Attempts to pass mail on, and what became of them.
+//! Attempts to relay mail, and their outcomes.
 use relay_octets::Octets;
 
-/// What became of an attempt.
+/// The state of an attempt.
 #[derive(Clone, Copy, Debug)]
 pub enum Fate {
-    /// It goes on, under this number at its node.
+    /// It runs, under this number at its node.
     Running(usize),
-    /// Replies of its hop ended it, and its outcome is the change of this number.
+    /// Replies of its hop ended it; its outcome is the change of this number.
     Replied(u64),
-    /// Its link was lost, and its node was told; its outcome is the change of this number.
+    /// Its link was lost; its outcome is the change of this number.
     Lost(u64),
-    /// Its node stopped, or had no memory or room for it: it has no outcome.
+    /// Its node stopped, or had too little memory or room for it. It has no outcome.
     Dropped,
 }
 
-/// An attempt of a node to pass a message on.
+/// An attempt of a node to relay a message.
 #[derive(Debug)]
 pub struct Attempt {
-    /// The node, by its place among the nodes, from 0.
+    /// The index of the node.
     pub node: usize,
     /// The number of the message.
     pub message: u64,
     /// The name of the hop.
     pub hop: Octets,
-    /// The places that are tried, in order.
+    /// The places that it tries, in order.
     pub places: Vec<u8>,
     /// The number of its link, from 1.
     pub link: usize,
-    /// What became of it.
+    /// Its state.
     pub fate: Fate,
 }
 

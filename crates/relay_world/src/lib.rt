@@ -1,5 +1,5 @@
-//! Two relays, the links between them and to outside, and the outcome of their mail: the values, what ties them
-//! together, and what follows for each recipient (RFC 5321, section 6.1).
+//! Two relays, the links between them and to outside, and the custody of their mail: the values, the invariant that
+//! ties them together, and what it guarantees for each recipient (RFC 5321, section 6.1).
 #![tactic(auto)]
 
 mod attempt;

@@ -1,32 +1,32 @@
-//! Links: connections between a client end and a server end.
+//! Links: connections between a client and a server.
 use relay_octets::Octets;
 
-/// The server end of a link, where a node serves it.
+/// The server end of a link, if a node serves it.
 #[derive(Debug, Drop)]
 pub struct ServerEnd {
-    /// The node, by its place among the nodes, from 0.
+    /// The index of the node.
     pub node: usize,
-    /// The address of the client.
+    /// The IPv4 address of the client.
     pub peer: [u8; 4],
-    /// The number of its session at the node, as long as that goes on.
+    /// The number of its session at the node, as long as the session goes on.
     pub session: Option<usize>,
 }
 
-/// A link: what each end wrote, never dropped, and how many octets of it the other end has read. Once it is broken
-/// neither end writes or reads any more.
+/// A link: everything that each end wrote, and how much of it the other end has read. Nothing is written to or read
+/// from a broken link.
 #[derive(Debug)]
 pub struct Link {
-    /// The attempt at the client end, by its place among the attempts, from 0; none if the client is outside.
+    /// The index of the attempt at the client end; none if the client is outside.
     pub client: Option<usize>,
     /// The node at the server end; none if the server is outside.
     pub server: Option<ServerEnd>,
-    /// What the client end wrote.
+    /// What the client wrote.
     pub up: Octets,
-    /// How many octets of that the server end has read.
+    /// How many of these octets the server has read.
     pub up_read: usize,
-    /// What the server end wrote.
+    /// What the server wrote.
     pub down: Octets,
-    /// How many octets of that the client end has read.
+    /// How many of these octets the client has read.
     pub down_read: usize,
     /// Whether the link is broken.
     pub broken: bool,
