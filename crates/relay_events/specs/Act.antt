@@ -1,4 +1,4 @@
--- What an event did of itself, and how it is answered once nodes were told of the links that it broke.
+-- The direct effect of an event, and its result after nodes were notified of the links that it broke.
 use Rattle.std.specs.Prelude.{ℕ, List, [], ◌∷◌, Result}
 use Rattle.relay_disk.specs.Device.{DiskWords}
 use Rattle.relay_world.specs.World.{World}
@@ -14,13 +14,13 @@ did_of (act.Shows own) = Shows own
 did_of (act.Refuses why) = Refuses why
 did_of (act.Stops node) = Stops node
 
--- the node that stopped in it, if one did
+-- the node that stopped, if one did
 abbrev pub stops_of : Did → List ℕ
 stops_of (Shows own) = []
 stops_of (Refuses why) = []
 stops_of (Stops node) = node ∷ []
 
--- After an event that did so, nodes were told of links that it broke, and this is its answer.
+-- After an event with this effect, nodes were notified of the links that it broke, and this is its result.
 abbrev pub IsFinished : {D : Type 0} → Type 0 → DiskWords D → World D → Did → World D → Result Seen PairFault → Type 0
 IsFinished honest words middle did new answer =
     (told : AreTold honest words middle new) × IsSeen did told.stopped answer

@@ -1,4 +1,4 @@
--- A link that breaks.
+-- Breaking a link.
 use Rattle.std.specs.Prelude.{◌≡◌, ℕ, Result, Some}
 use Rattle.relay_disk.specs.Device.{DiskWords}
 use Rattle.relay_records.specs.declared.fault.NodeFault.{NodeFault}
@@ -15,7 +15,7 @@ pub record IsLink {D : Type 0} (world : World D) (number : ℕ) : Type 0 where
   pub link : Link
   pub link_is : link_at world.links number ≡ Some link
 
--- The link of this number breaks, nodes are told of it, and the answer is the fault of the node, unless some have
+-- The link of this number breaks, and nodes are notified of it. The result is the node's fault, unless nodes have
 -- stopped.
 pub record BreaksBehind {D : Type 0} (honest : Type 0) (words : DiskWords D) (old new : World D) (number : ℕ)
     (why : NodeFault) (answer : Result Seen PairFault) : Type 0 where

@@ -1,4 +1,4 @@
--- What is carried to the client end of a link, and what becomes of an attempt that is told of a loss.
+-- Carrying octets to the client end of a link, and notifying an attempt of a loss.
 use Rattle.std.specs.Prelude.{◌≡◌, ◌<◌, ℕ, ◌+◌, ◌-◌, Bool, true, false, List, [], ◌∷◌, ◌++◌, length, Option, Some}
 use Rattle.std.specs.Prelude.{slice_get, slice_set}
 use Rattle.std.specs.Option.{is_some}
@@ -21,14 +21,14 @@ use Rattle.relay_hosts.specs.Links.{tries_on, waits_down}
 use Rattle.relay_events.specs.Told.{CrashesTold}
 use Rattle.relay_hosts.specs.Replied.{replied_attempt, replied_lines}
 
--- an attempt runs at the client end of a whole link
+-- an attempt runs at the client end of an unbroken link
 pub record TriesWhole {D : Type 0} (world : World D) (number : ℕ) : Type 0 where
   pub link : Link
   pub link_is : link_at world.links number ≡ Some link
   pub whole : link.broken ≡ false
   pub tries : tries_on world.attempts link.client ≡ true
 
--- it is an attempt of this node, which doesn't have the server end too
+-- the attempt there belongs to this node, which doesn't have the server end too
 pub record RunsAt {D : Type 0} (world : World D) (number node : ℕ) : Type 0 where
   pub link : Link
   pub link_is : link_at world.links number ≡ Some link
@@ -37,13 +37,13 @@ pub record RunsAt {D : Type 0} (world : World D) (number node : ℕ) : Type 0 wh
   pub its : is_tried_for node world.attempts link.client ≡ true
   pub unserved : serves_for node link.server ≡ false
 
--- and octets wait for it there, or none does
+-- there are unread octets for the attempt, or none
 pub record RunsAndWaits {D : Type 0} (world : World D) (number node : ℕ) (waits : Bool) : Type 0 where
   pub at : RunsAt world number node
   pub waiting : waits_down at.link ≡ waits
 
--- The node of an attempt at the client end of a link was told that its connection is lost, and it has an outcome; or
--- the attempt is gone without one; or this node stopped in that call.
+-- The node of the attempt at the client end of a link was notified of the loss: the attempt has an outcome, or is gone
+-- without one, or the node stopped in that call.
 abbrev pub TellsLoss : {D : Type 0} → Type 0 → DiskWords D → World D → World D → ℕ → Loss → Type 0
 TellsLoss honest words old new number (loss.Ended change) = HasLost honest words old new number change
 TellsLoss honest words old new number (loss.Gone why) =
@@ -51,14 +51,14 @@ TellsLoss honest words old new number (loss.Gone why) =
     × IsWhyUntold honest words old.clock drops.of.host.state drops.of.slot why
 TellsLoss honest words old new number (loss.Stopped node) = CrashesTold honest words old new number node
 
--- the node that stopped in it, if one did
+-- the node that stopped, if one did
 abbrev pub stops_by : Loss → List ℕ
 stops_by (loss.Ended change) = []
 stops_by (loss.Gone why) = []
 stops_by (loss.Stopped node) = node ∷ []
 
--- A link after replies that were read there: what the node writes is on it; or, if it writes something, and memory runs
--- out for that, the link is broken.
+-- A link after replies were read there: the node's answer is written on it; or memory for the answer ran out, and the
+-- link is broken.
 abbrev pub IsAnswered : Link → Link → Replied → Act → Type 0
 IsAnswered old new replied (act.Shows own) =
     (new ≡ record old { up = old.up ++ replied.out.items; down_read = old.down_read + replied.used })
@@ -68,8 +68,8 @@ IsAnswered old new replied (act.Refuses why) =
     × (0 < length replied.out.items)
 IsAnswered old new replied (act.Stops node) = ⊥
 
--- What an attempt has read is read there, and what its node writes is on the link, or not. If that led to a change, the
--- attempt has ended, and what left by the change is in the ledger.
+-- The replies are marked as read, and the node's answer is written on the link, or isn't. If a change was added, the
+-- attempt has ended, and the places that left or were delayed are in the ledger.
 pub record TakesReplies {D : Type 0} (old new : World D) (number place : ℕ) (replied : Replied)
     (recorded : Option Recorded) (did : Act) : Type 0
   where

@@ -1,4 +1,4 @@
--- What becomes of relays when a node is called to compact its spool.
+-- Calling a node to compact its spool.
 use Rattle.std.specs.Prelude.{◌≡◌, ℕ, Some, slice_get, slice_set}
 use Rattle.relay_disk.specs.Device.{DiskWords}
 use Rattle.relay_world.specs.World.{Host, World}

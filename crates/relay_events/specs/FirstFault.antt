@@ -1,5 +1,5 @@
--- Why an event is refused before a node is called: the first that holds, in this order: there is no such link; the end
--- isn't theirs; the node is down; there is nothing to do.
+-- Why an event is refused before a node is called: the first of these that holds. There is no such link; the end
+-- belongs to another; the node is down; there is nothing to do.
 use Rattle.std.specs.Prelude.{ℕ, zero, suc, Bool, false, not, List, [], ◌∷◌, bytes_eq, Option, None, Some}
 use Rattle.std.specs.Prelude.{if◌then◌else◌, slice_get}
 use Rattle.std.specs.Option.{is_some}
@@ -24,7 +24,7 @@ module _ {D : Type 0} (world : World D) where
   carry_idles zero idles = Some fault.Nothing
   carry_idles (suc count) idles = if idles then Some fault.Nothing else None
 
-  -- the first fault of what is carried on a link, if it is whole
+  -- the first fault of carrying octets on a link, if it is whole
   abbrev pub carry_fault : Option Link → ℕ → ℕ → Option PairFault
   carry_fault None node count = Some fault.NoLink
   carry_fault (Some link) node count =
@@ -47,7 +47,7 @@ module _ {D : Type 0} (world : World D) where
   names_down name (host ∷ hosts) =
       if bytes_eq host.config.host name then not (holds_up host.state) else names_down name hosts
 
-  -- the first fault of this work
+  -- the first fault of doing this work
   abbrev pub work_fault : List Work → Option PairFault
   work_fault [] = Some fault.Nothing
   work_fault (NoRoute number ∷ works) = None
@@ -61,7 +61,7 @@ module _ {D : Type 0} (world : World D) where
   give_fault None = Some fault.Down
   give_fault (Some host) = due_fault host.state
 
-  -- only if it stops now it may be down already
+  -- only a node that stops now may be down already
   abbrev pub stop_fault : ℕ → ℕ → Option PairFault
   stop_fault node zero = if is_some (slice_get world.hosts node) then None else Some fault.Down
   stop_fault node (suc calls) = unless_up node None

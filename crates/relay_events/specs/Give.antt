@@ -1,4 +1,4 @@
--- What a node does first, and what its calls for that make of relays.
+-- The first work of a node, and the effect of its calls for that.
 use Rattle.std.specs.Prelude.{◌≡◌, ◌⊎◌, ◌<◌, ◌≤◌, ℕ, ◌+◌, List, [], ◌∷◌, ◌++◌, length, Result, Ok, Err, Some, slice_get}
 use Rattle.std.specs.Prelude.{slice_set, vec_capacity, vec_len}
 use Rattle.std.specs.Global.{Vec}
@@ -20,22 +20,22 @@ use Rattle.relay_events.specs.Told.{running_of}
 use Rattle.relay_hosts.specs.Work.{BeginsAttempt, GivesUpOrNot, GivesUpUnlessFull, HasChanges, LacksRoom, attempts_in}
 use Rattle.relay_hosts.specs.Work.{works_in}
 
--- this is the first work of a node, at the time of the clock
+-- this is the first work that a node has due, at the time of the clock
 pub record IsFirstWork {D : Type 0} (world : World D) (node : ℕ) (work : Work) : Type 0 where
   pub host : Host D
   pub host_at : slice_get world.hosts node ≡ Some host
   pub first : slice_get (works_in world.clock host.state) 0 ≡ Some work
 
--- why a node may refuse to begin an attempt: it has no memory, or 64 attempts of it run
+-- why a node may refuse to begin an attempt: too little memory, or 64 running attempts
 abbrev pub IsWhyNotBegun : {D : Type 0} → Host D → NodeFault → Type 0
 IsWhyNotBegun host why = (why ≡ node_fault.NoMemory) ⊎ ((why ≡ node_fault.TooMany) × IsFull (attempts_in host.state))
 
--- and to give up places without a hop: it has no memory, or no room for their outcome
+-- why a node may refuse to give up places without a hop: too little memory, or no room for their outcome
 abbrev pub IsWhyNotGivenUp : {D : Type 0} → Type 0 → DiskWords D → ℕ → Host D → ℕ → NodeFault → Type 0
 IsWhyNotGivenUp honest words now host message why =
     (why ≡ node_fault.NoMemory) ⊎ ((why ≡ node_fault.Full) × LacksRoom honest words now host.state message)
 
--- the node that the hop of another is, and the address from which that comes there
+-- another node has the hop's name; it sees this client address on the link
 pub record LeadsOn {D : Type 0} (world : World D) (node : ℕ) (hop : List ℕ) (to : ℕ) (peer : List ℕ) : Type 0 where
   pub opener : Host D
   pub opener_at : slice_get world.hosts node ≡ Some opener
@@ -44,7 +44,7 @@ pub record LeadsOn {D : Type 0} (world : World D) (node : ℕ) (hop : List ℕ) 
   pub host_at : slice_get world.hosts to ≡ Some host
   pub named : host.config.host ≡ hop
 
--- a node has begun an attempt on the link of this number, and it is after the others
+-- a node has begun an attempt on the link of this number, and the attempt has the last index
 pub record HasBegun {D : Type 0} (honest : Type 0) (words : DiskWords D) (old new : World D) (node message : ℕ)
     (hop : List ℕ) (number place : ℕ) : Type 0 where
   pub was : Host D
@@ -57,7 +57,7 @@ pub record HasBegun {D : Type 0} (honest : Type 0) (words : DiskWords D) (old ne
   pub place_is : place ≡ length old.attempts
   pub new_is : new ≡ record old { hosts = slice_set old.hosts node now; attempts = old.attempts ++ attempt ∷ [] }
 
--- it has, or it has refused to, and nothing has changed
+-- a node has begun an attempt, or has refused to, and then nothing has changed
 abbrev pub HasBegunOrNot : {D : Type 0} → Type 0 → DiskWords D → World D → World D → ℕ → ℕ → List ℕ → ℕ
     → Result ℕ NodeFault → Type 0
 HasBegunOrNot honest words old new node message hop number (Ok place) =
@@ -76,7 +76,7 @@ pub record HasBegunOn {D : Type 0} (honest : Type 0) (words : DiskWords D) (old 
   pub put : IsPutAt old.links moved number (record blank { client = Some (length old.attempts) })
   pub new_is : new ≡ record middle { links = moved }
 
--- it has, or it has refused to, and nothing has changed
+-- a node has begun an attempt there, or has refused to, and then nothing has changed
 abbrev pub HasBegunThere : {D : Type 0} → Type 0 → DiskWords D → World D → World D → ℕ → ℕ → List ℕ → ℕ
     → Result ℕ NodeFault → Type 0
 HasBegunThere honest words old new node message hop number (Ok place) =
@@ -97,11 +97,11 @@ pub record IsCalledToGiveUp {D : Type 0} (honest : Type 0) (words : DiskWords D)
     pub first : GivesUpUnlessFull honest words old.clock was message given
     pub new_is : new ≡ record old { hosts = slice_set old.hosts node now }
 
--- the most places that an attempt, or an outcome, is for
+-- the most places of an attempt, or of an outcome
 abbrev pub most_places : ℕ
 most_places = 100
 
--- there is room for a link more, an attempt more, and the lines of the ledger that may come, also of its places
+-- there is room for one more link, one more attempt, and the ledger lines that its places may need
 pub record HasRoomForWork {D : Type 0} (relays : Relays D) : Type 0 where
   pub link : vec_len relays.links < vec_capacity relays.links
   pub attempt : vec_len relays.attempts < vec_capacity relays.attempts

@@ -1,4 +1,4 @@
--- What a node that hears octets of a link makes of relays.
+-- The effect of a node hearing octets of a link.
 use Rattle.std.specs.Prelude.{◌≡◌, ◌⊎◌, ◌<◌, ◌≤◌, ◌++◌, ℕ, ◌+◌, ◌-◌, true, false, length, Option, Some, slice_set}
 use Rattle.relay_disk.specs.Device.{DiskWords}
 use Rattle.relay_node.specs.declared.receive.Received.{Received}
@@ -16,7 +16,7 @@ use Rattle.relay_events.specs.Step.{Did, Refuses, Shows}
 use Rattle.relay_hosts.specs.Links.{hears_on, waits_up}
 use Rattle.relay_hosts.specs.Heard.{accept_lines, heard_on}
 
--- a node has the server end of a whole link, its session there goes on, and octets wait for it
+-- a node has the server end of an unbroken link, with a running session, and octets for it are unread
 pub record WaitsAt {D : Type 0} (world : World D) (number node : ℕ) : Type 0 where
   pub link : Link
   pub link_is : link_at world.links number ≡ Some link
@@ -25,14 +25,14 @@ pub record WaitsAt {D : Type 0} (world : World D) (number node : ℕ) : Type 0 w
   pub hears : hears_on link.server ≡ true
   pub waits : waits_up link ≡ true
 
--- a link that is whole, on which this many octets more have come to the server end than it has read
+-- the link is whole, and at least this many octets are unread at its server end
 pub record MayRead {D : Type 0} (world : World D) (number used : ℕ) : Type 0 where
   pub link : Link
   pub link_is : link_at world.links number ≡ Some link
   pub whole : link.broken ≡ false
   pub within : link.up_read + used ≤ length link.up
 
--- The node of a session was called to hear octets that wait for it. Nothing else has changed yet.
+-- The node of a session was called to hear unread octets. Nothing else has changed yet.
 pub record IsCalledToHear {D : Type 0} (honest : Type 0) (words : DiskWords D) (old new : World D) (number count : ℕ)
     (heard : Heard) : Type 0
   where
@@ -41,15 +41,15 @@ pub record IsCalledToHear {D : Type 0} (honest : Type 0) (words : DiskWords D) (
     pub hears : HearsOrNot honest words old.clock of.host now of.session (waiting_up count of.link) heard
     pub new_is : new ≡ record old { hosts = slice_set old.hosts of.end.node now }
 
--- the world with this link after such a call, and the line of an accept
+-- the world with this link after such a call, and the ledger line of an accept
 abbrev pub world_heard : {D : Type 0} → World D → ℕ → ℕ → Link → Received → Option Recorded → World D
 world_heard old number node link received recorded = record old {
   links = slice_set old.links (number - 1) (heard_on link received);
   ledger = old.ledger ++ accept_lines node number received.change recorded;
 }
 
--- What a node has heard is read, and what it accepted is in the ledger. What it answers is written, and shown; or there
--- was no memory for it, and the link is broken.
+-- The heard octets are marked as read, and an accept is in the ledger. The replies are written and their length
+-- returned; or memory for them ran out, and the link is broken.
 pub record TakesHeard {D : Type 0} (old new : World D) (number node : ℕ) (received : Received)
     (recorded : Option Recorded) (did : Did) : Type 0
   where

@@ -1,4 +1,4 @@
--- A link that is opened to a node.
+-- Opening a link to a node.
 use Rattle.std.specs.Prelude.{◌≡◌, ℕ, List, [], ◌∷◌, ◌++◌, length, Result, Ok, Err, Some, slice_get, slice_set}
 use Rattle.relay_node.specs.declared.node.Connected.{Connected}
 use Rattle.relay_records.specs.declared.fault.NodeFault.{NodeFault}
@@ -6,7 +6,7 @@ use Rattle.relay_world.specs.Steps.{opened_link}
 use Rattle.relay_world.specs.World.{Host, World}
 use Rattle.relay_hosts.specs.Work.{OpensSession, RefusesSession}
 
--- a node has let a client in, on a link after the others, and has greeted it with this many octets
+-- a node has accepted a client, on a link with the next number, with a greeting of this length
 pub record LinksTo {D : Type 0} (old new : World D) (node : ℕ) (peer : List ℕ) (greeting : ℕ) : Type 0 where
   pub was : Host D
   pub was_at : slice_get old.hosts node ≡ Some was

@@ -1,4 +1,4 @@
--- The parts of relays as a world, and what is true of them between two events.
+-- Simulated relays as a world, and what holds between two events.
 use Rattle.std.specs.Prelude.{◌≡◌, ℕ, ◌-◌, List, Some, slice_get, vec_capacity, vec_len}
 use Rattle.relay_disk.specs.Device.{DiskWords}
 use Rattle.relay_book.specs.declared.change.Change.{Change}
@@ -20,18 +20,18 @@ world_of relays = record {
   clock = relays.clock;
 }
 
--- how many more lines fit into the ledger
+-- how many more lines the ledger has room for
 abbrev pub free_lines : {D : Type 0} → Relays D → ℕ
 free_lines relays = vec_capacity relays.ledger - vec_len relays.ledger
 
--- no two nodes have one name
+-- no two nodes have the same name
 abbrev pub HaveOwnNames : {D : Type 0} → List (Host D) → Type 0
 HaveOwnNames {D} hosts =
     (one other : ℕ) (host others : Host D) → slice_get hosts one ≡ Some host → slice_get hosts other ≡ Some others
     → host.config.host ≡ others.config.host → one ≡ other
 
--- The relays are bound by lists of changes, try each place once at a time, and have the links that they are meant to
--- have, lines with their sources, and names of their own.
+-- The invariant holds for some lists of changes, each place is tried once at a time, attempts have the right links,
+-- ledger lines have their sources, and no two nodes have the same name.
 pub record AreBound {D : Type 0} (honest : Type 0) (words : DiskWords D) (world : World D) : Type 0 where
   pub lists : List (List Change)
   pub bound : IsBound honest words world lists
@@ -40,7 +40,8 @@ pub record AreBound {D : Type 0} (honest : Type 0) (words : DiskWords D) (world 
   pub sources : HasSources world lists
   pub named : HaveOwnNames world.hosts
 
--- So they are between two events, and told of each break, with room for what is to come.
+-- All this holds between two events; moreover nodes are notified of each broken link, and there is room for what may
+-- come.
 pub record AreInOrder {D : Type 0} (honest : Type 0) (words : DiskWords D) (relays : Relays D) : Type 0 where
   pub bound : AreBound honest words (world_of relays)
   pub told : IsToldOfBreaks (world_of relays)

@@ -1,4 +1,4 @@
--- What a crash of a node in a call, and its opening, make of relays.
+-- The effect of a node's crash in a call, and of its opening.
 use Rattle.std.specs.Prelude.{◌≡◌, ◌≤◌, ◌++◌, ℕ, ◌+◌, false, List, length, Option, Some, slice_get, slice_set}
 use Rattle.relay_disk.specs.Device.{DiskWords}
 use Rattle.relay_disk.specs.declared.disks.Disks.{Disks}
@@ -23,20 +23,21 @@ use Rattle.relay_hosts.specs.Room.{HasRoom, lines_to_come}
 use Rattle.relay_events.specs.Told.{IsOpened, ends_of, running_of}
 
 module _ {D : Type 0} (world : World D) (node : ℕ) where
-  -- the node of this place is there, and down
+  -- the node at this index is down
   pub record IsDownAt : Type 0 where
     pub host : Host D
     pub host_at : slice_get world.hosts node ≡ Some host
     pub down : holds_up host.state ≡ false
 
-  -- it is there, and has stopped in a call
+  -- the node at this index has stopped in a call
   pub record IsCutShortAt : Type 0 where
     pub host : Host D
     pub host_at : slice_get world.hosts node ≡ Some host
     pub cut : IsCutShort host.state
 
 module _ {D : Type 0} (honest : Type 0) (words : DiskWords D) (old new : World D) (node : ℕ) where
-  -- A node that had stopped in a call has gone down, with the change that it was adding, and has let go of its ends.
+  -- A node that had stopped in a call has gone down, with the change that it was adding, and has let go of its ends of
+  -- links.
   pub record CrashesAt (origin : Origin) : Type 0 where
     pub host : Host D
     pub host_at : slice_get old.hosts node ≡ Some host
@@ -51,7 +52,7 @@ module _ {D : Type 0} (honest : Type 0) (words : DiskWords D) (old new : World D
         ≡ slice_set old.hosts node
         (record host { state = Down disk (Some (record { note = noted; origin = origin_in origin })) })
 
-  -- A node that was down was opened or not, with this undecided change or none. Nothing else has changed yet.
+  -- A node that was down was opened or not, and the undecided change was found or not. Nothing else has changed yet.
   pub record OpensAt (found : Option Undecided) : Type 0 where
     pub was : Host D
     pub was_at : slice_get old.hosts node ≡ Some was
@@ -69,19 +70,19 @@ pub record Restarts {D : Type 0} (honest : Type 0) (words : DiskWords D) (old ne
     pub fewer : ends_of new ≤ ends_of down
     pub running : running_of new.attempts ≤ running_of down.attempts
 
--- However a node goes down with the change that it was adding, the relays stay bound, and there is room for what is to
--- come.
+-- In whatever way the node goes down with the change that it was adding, the invariant still holds, and there is room
+-- for what may come.
 abbrev pub IsReadyToCrash : {D : Type 0} → Type 0 → DiskWords D → World D → ℕ → Origin → ℕ → Type 0
 IsReadyToCrash {D} honest words world node origin free =
     (down : World D) → CrashesAt honest words world down node origin → AreBound honest words down × HasRoom down free
 
--- this many octets more have come to the server end of a link than it has read
+-- at least this many octets are unread at the server end of a link
 pub record HasMoreUp (links : List Link) (number used : ℕ) : Type 0 where
   pub link : Link
   pub link_is : link_at links number ≡ Some link
   pub within : link.up_read + used ≤ length link.up
 
--- the same of its client end, whose attempt is over
+-- at least this many octets are unread at its client end, whose attempt has ended
 pub record HasMoreDown (links : List Link) (attempts : List Attempt) (number place used : ℕ) : Type 0 where
   pub link : Link
   pub link_is : link_at links number ≡ Some link
@@ -90,15 +91,14 @@ pub record HasMoreDown (links : List Link) (attempts : List Attempt) (number pla
   pub attempt_at : slice_get attempts place ≡ Some attempt
   pub over : is_running attempt.fate ≡ false
 
--- a change that came so may be found: what it read is there
+-- a change with this cause may be found: what its call had read is unread on the link
 abbrev pub MayBeFound : List Link → List Attempt → ℕ → Origin → Type 0
 MayBeFound links attempts used (FromClient number) = HasMoreUp links number used
 MayBeFound links attempts used (FromReplies number place message) = HasMoreDown links attempts number place used
 MayBeFound links attempts used (FromLoss number place message) = HasMoreDown links attempts number place used
 MayBeFound links attempts used (FromNoHop message) = Unit {0}
 
--- Lines were added to the ledger, and this has become of links and attempts. No more goes on, or may come, than did
--- before.
+-- Lines were added to the ledger, and links and attempts have changed so. No more is running, or may come, than before.
 pub record FindsBy {D : Type 0} (old new : World D) (lines : List Line) (found : Type 0) : Type 0 where
   pub hosts : new.hosts ≡ old.hosts
   pub clock : new.clock ≡ old.clock
@@ -108,6 +108,6 @@ pub record FindsBy {D : Type 0} (old new : World D) (lines : List Line) (found :
   pub ends_fewer : ends_of new ≤ ends_of old
   pub running_fewer : running_of new.attempts ≤ running_of old.attempts
 
--- a node's change was found, by its note and what it came from
+-- a node's undecided change was found, with its note and its cause
 abbrev pub FindsChange : {D : Type 0} → World D → World D → ℕ → Noted → world.Origin → Type 0
 FindsChange old new node note origin = FindsBy old new (lines_by node note origin) (Finds old new note origin)

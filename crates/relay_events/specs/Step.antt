@@ -1,4 +1,4 @@
--- What an event does to relays, and what is seen of it.
+-- The effect of an event, and its result.
 use Rattle.std.specs.Prelude.{◌≡◌, ◌⊎◌, ◌<◌, ℕ, zero, suc, Bool, true, false, List, [], ◌∷◌, length, None, Some, Result}
 use Rattle.std.specs.Prelude.{Ok, Err, slice_get}
 use Rattle.std.specs.Option.{is_some}
@@ -35,18 +35,18 @@ use Rattle.relay_attempts.specs.declared.work.Work.TheVariants.{NoRoute, Try}
 abbrev pub outside_address : List ℕ
 outside_address = 192 ∷ 0 ∷ 2 ∷ 1 ∷ []
 
--- what an event did: it shows something; or a node refused its part; or a node has stopped
+-- the direct effect of an event: it was done with a result, or a node refused its part, or a node has stopped
 pub data Did : Type 0 where
   Shows : Seen → Did
   Refuses : PairFault → Did
   Stops : (node : ℕ) → Did
 
--- these nodes have stopped, in this order
+-- the result says that these nodes have stopped, in this order
 abbrev pub HaveStopped : List ℕ → Result Seen PairFault → Type 0
 HaveStopped nodes answer = (stopped : Vec ℕ) × (answer ≡ Ok (seen.Stopped stopped)) × (stopped.items ≡ nodes)
 
--- What is seen of an event that did so, when these nodes have stopped after it: where any has stopped, all of them,
--- and nothing else.
+-- The result of an event with this effect, after which these nodes have stopped. If any node has stopped, the result
+-- lists all of them and nothing else.
 abbrev pub IsSeen : Did → List ℕ → Result Seen PairFault → Type 0
 IsSeen (Shows own) [] answer = answer ≡ Ok own
 IsSeen (Shows own) (node ∷ nodes) answer = HaveStopped (node ∷ nodes) answer
@@ -54,7 +54,7 @@ IsSeen (Refuses why) [] answer = answer ≡ Err why
 IsSeen (Refuses why) (node ∷ nodes) answer = HaveStopped (node ∷ nodes) answer
 IsSeen (Stops node) nodes answer = HaveStopped (node ∷ nodes) answer
 
--- the fault of a node that refused its part
+-- the fault of an event in which a node refused its part
 abbrev pub fault_of : NodeFault → PairFault
 fault_of node_fault.NoMemory = fault.NoMemory
 fault_of node_fault.Stopped = fault.Node node_fault.Stopped
@@ -66,35 +66,35 @@ fault_of (node_fault.Open cause) = fault.Node (node_fault.Open cause)
 fault_of node_fault.Full = fault.Node node_fault.Full
 fault_of node_fault.NoSecond = fault.Node node_fault.NoSecond
 
--- the attempt at the client end of a link is this node's, which doesn't have the server end too; and octets wait for it
--- there, or none does
+-- the attempt at the client end of a link belongs to this node, which doesn't have the server end too, and octets are
+-- unread there or not
 pub record IsCarriedTo (link : Link) (attempt : Attempt) (node : ℕ) (waits : Bool) : Type 0 where
   pub its_node : attempt.node ≡ node
   pub unserved : serves_for node link.server ≡ false
   pub waiting : waits_down link ≡ waits
 
 module _ {D : Type 0} (honest : Type 0) (words : DiskWords D) where
-  -- A node stops between two calls, or one that is down stops again; then it is opened, or can't be opened.
+  -- A node stops between two calls, or again if it was down; then it is opened, or can't be opened.
   pub record StopsNow (old new : World D) (node : ℕ) : Type 0 where
     pub down : World D
     pub stops : CrashesAtRest honest words old down node ⊎ StopsAgain honest words old down node
     pub opened : IsOpened honest words down new node
 
-  -- A stop is set for a node that is up: of its disks this many calls pass, and the next fails.
+  -- A device fault is set for a node that is up: after this many calls of its disks the next one fails.
   pub record SetsStop (old new : World D) (node calls : ℕ) : Type 0 where
     pub armed : HasArmed honest words old new node
     pub calls_left : calls_left_of words armed.stays.after.records.spool.disk ≡ Some calls
 
-  -- why an attempt is dropped to which octets are carried, or, if none wait, the end of the other side
+  -- why an attempt is dropped when octets, or the close of the other end, are carried to it
   abbrev pub IsWhyDropped : (old : World D) (number count : ℕ) → AttemptOf old number → Bool → NodeFault → Type 0
   IsWhyDropped old number count of true why =
       IsWhyUnread honest words old.clock of.host.state of.slot (waiting_down count of.link) why
   IsWhyDropped old number count of false why = IsWhyUntold honest words old.clock of.host.state of.slot why
 
-  -- what waits for a node on a link is carried to it: octets are heard or read, or, if none wait, the end of the other
-  -- side; or octets are heard or read, and there is no memory for what the node answers, so that the link breaks; or
-  -- the node has no memory for what it hears or reads, or no number or room for the change that it leads to, and the
-  -- link breaks; or the node stops in that call
+  -- The unread octets of a link are carried to a node, or, if there are none, the close of the other end. Or memory for
+  -- the node's answer runs out, and the link breaks after the octets were heard or read. Or the node has too little
+  -- memory to hear or read them, or no number or room for the resulting change, and the link breaks. Or the node stops
+  -- in that call.
   pub data Carries (old : World D) (number node count : ℕ) (new : World D) : Did → Type 0 where
     Hears : (heard : HasHeard honest words old new number count) → heard.of.end.node ≡ node
         → waits_up heard.of.link ≡ true
@@ -134,18 +134,17 @@ module _ {D : Type 0} (honest : Type 0) (words : DiskWords D) where
         → IsCarriedTo told.crash.of.link told.crash.of.attempt node false
         → Carries old number node count new (Stops node)
 
-  -- Outside opens a link to a node; or the node refuses it, for lack of memory, or where 64 sessions go on there.
+  -- Outside opens a link to a node; or the node refuses it, for lack of memory or because 64 sessions are running.
   pub data OpensFromOutside (old : World D) (node : ℕ) (new : World D) : Did → Type 0 where
     OpensLink : (opened : HasOpened old new node outside_address)
         → OpensFromOutside old node new (Shows (seen.Linked (length new.links) (length opened.connected.out.items)))
     RefusesLink : (host : Host D) → slice_get old.hosts node ≡ Some host → (why : NodeFault)
         → RefusesSession host host why → new ≡ old → OpensFromOutside old node new (Refuses (fault_of why))
 
-  -- A node does its first work. It begins an attempt: on a new link to outside, or on one that it has opened to the
-  -- node that the hop is. Or it refuses the attempt, for lack of memory, or where 64 of its attempts run, and nothing
-  -- changes. If fewer run, the other node may refuse it a session; or, after the opened link, it has no memory for the
-  -- attempt, and that link breaks. Or it gives up the places of a message that have no hop, or refuses to, or stops in
-  -- that call.
+  -- A node does its first work. It begins an attempt, on a new link to outside or to the node that has the hop's name.
+  -- Or it refuses the attempt, for lack of memory or because 64 attempts are running, and nothing changes. Or the other
+  -- node refuses the session. Or there is no memory for the attempt after the link was opened, and that link breaks. Or
+  -- it gives up the places of a message that have no hop, or refuses to, or stops in that call.
   pub data Gives (old : World D) (node : ℕ) (new : World D) : Did → Type 0 where
     StartsOutside : (message : ℕ) → (hop : List ℕ) → IsFirstWork old node (Try message hop)
         → (begun : HasStarted honest words old new (suc (length old.links)) message hop) → begun.attempt.node ≡ node
@@ -173,7 +172,7 @@ module _ {D : Type 0} (honest : Type 0) (words : DiskWords D) where
         → CrashesGivingUp honest words old down node message → IsOpened honest words down new node
         → Gives old node new (Stops node)
 
-  -- A node compacts its spool, and its size now is told; or the node refuses to, or stops in that call.
+  -- A node compacts its spool, whose new size is the result; or the node refuses to, or stops in that call.
   pub data Rewrites (old : World D) (node : ℕ) (new : World D) : Did → Type 0 where
     CompactsSpool : (compacted : HasCompacted honest words old new node)
         → Rewrites old node new (Shows (seen.Compacted node compacted.stays.after.records.spool.size))
@@ -182,7 +181,7 @@ module _ {D : Type 0} (honest : Type 0) (words : DiskWords D) where
     CrashesInCompacting : (down : World D) → CrashesCompacting honest words old down node
         → IsOpened honest words down new node → Rewrites old node new (Stops node)
 
-  -- what an event does of itself, before nodes are told of links that it broke
+  -- the direct effect of an event, before nodes are notified of the links that it broke
   abbrev pub Acts : World D → Event → World D → Did → Type 0
   Acts old (Connect node) middle did = OpensFromOutside old node middle did
   Acts old (Send number octets) middle did = HasWritten old middle number octets × (did ≡ Shows seen.Sent)
@@ -194,7 +193,7 @@ module _ {D : Type 0} (honest : Type 0) (words : DiskWords D) where
   Acts old (Stop node zero pick) middle did = StopsNow old middle node × (did ≡ Stops node)
   Acts old (Stop node (suc calls) pick) middle did = SetsStop old middle node calls × (did ≡ Shows seen.Armed)
 
-  -- to see whether there is work takes memory
+  -- events that allocate memory to find a node's work
   abbrev pub LooksForWork : Event → Type 0
   LooksForWork (Connect node) = ⊥
   LooksForWork (Send number octets) = ⊥
@@ -205,8 +204,8 @@ module _ {D : Type 0} (honest : Type 0) (words : DiskWords D) where
   LooksForWork (Compact node) = ⊥
   LooksForWork (Stop node calls pick) = ⊥
 
-  -- what takes memory before a node is called, as all events do but two: the clock is always set, and so is a stop that
-  -- waits for a later call
+  -- events that may fail for lack of memory before a node is called: all but setting the clock, and setting a device
+  -- fault for a later call
   abbrev pub TakesMemory : Event → Type 0
   TakesMemory (Connect node) = Unit {0}
   TakesMemory (Send number octets) = Unit {0}
@@ -223,15 +222,15 @@ module _ {D : Type 0} (honest : Type 0) (words : DiskWords D) where
   RefusesLate old event new why =
       TakesMemory event × ((first_fault old event ≡ None) ⊎ LooksForWork event) × (why ≡ fault.NoMemory) × (new ≡ old)
 
-  -- An event that no fault stands against happens, and nodes are told of links that it broke; this is the answer.
+  -- An event without a fault has this effect, nodes are notified of the links that it broke, and this is the result.
   abbrev pub Does : World D → Event → World D → Result Seen PairFault → Type 0
   Does old event new answer =
       (first_fault old event ≡ None)
       × ((middle : World D) × ((did : Did) × Acts old event middle did
       × ((told : AreTold honest words middle new) × IsSeen did told.stopped answer)))
 
-  -- An event was done, or refused: by its first fault, unchanged, exactly if there is one; for lack of memory, before a
-  -- node is called; or by a node.
+  -- An event was done or refused. It is refused by its first fault exactly if there is one, and nothing changes; else
+  -- before a node is called, if memory runs out; or by a node.
   abbrev pub Steps : World D → Event → World D → Result Seen PairFault → Type 0
   Steps old event new (Ok shown) = Does old event new (Ok shown)
   Steps old event new (Err why) =

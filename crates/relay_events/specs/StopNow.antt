@@ -1,4 +1,4 @@
--- What a stop between two calls makes of relays.
+-- The effect of a stop between two calls.
 use Rattle.std.specs.Prelude.{◌≡◌, ◌⊎◌, ℕ, None, Some, slice_get, slice_set}
 use Rattle.relay_disk.specs.Device.{DiskWords}
 use Rattle.relay_world.specs.Crashes.{let_go}
@@ -6,8 +6,8 @@ use Rattle.relay_world.specs.World.{Host, World}
 use Rattle.relay_hosts.specs.Crash.{StaysSo, StopsAtRest}
 
 module _ {D : Type 0} (honest : Type 0) (words : DiskWords D) where
-  -- A node that was up has stopped between two calls, and has let go of its ends; or one that was down has stopped
-  -- again.
+  -- A node that was up has stopped between two calls, and has let go of its ends of links; or one that was down has
+  -- stopped again.
   pub record IsTakenDown (old new : World D) (node : ℕ) : Type 0 where
     pub was : Host D
     pub was_at : slice_get old.hosts node ≡ Some was

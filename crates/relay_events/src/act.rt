@@ -1,4 +1,4 @@
-//! What an event did of itself, and how it is answered once nodes were told of the links that it broke.
+//! The direct effect of an event, and its result after nodes were notified of the links that it broke.
 ghost use Rattle.std.specs.Prelude.{◌≡◌, ◌+◌, ◌≤◌, ◌++◌, List, ℕ, [], vec_capacity, vec_len};
 ghost use Rattle.relay_events.specs.Act.{IsFinished, did_of, stops_of};
 ghost use Rattle.relay_events.specs.Happened.{HasHappened};
@@ -13,10 +13,10 @@ use crate::seen::{Seen, seen_of};
 use relay_disk::Reboot;
 use relay_node::NodeFault;
 
-/// What an event did of itself, before nodes are told of links that it broke.
+/// The direct effect of an event, before nodes are notified of the links that it broke.
 #[derive(Drop)]
 pub(crate) enum Act {
-    /// It shows something.
+    /// The event was done, with this result.
     Shows(Seen),
     /// A node refused its part.
     Refuses(PairFault),
@@ -25,8 +25,8 @@ pub(crate) enum Act {
 }
 
 impl<D: Reboot + Drop> Relays<D> {
-    /// Nodes are told of links that an event broke, and it is answered. The list is empty, with room for each node that
-    /// may stop.
+    /// Notifies nodes of the links that an event broke, and returns the result of the event. `stopped` is empty, with
+    /// room for each node that may stop.
     pub(crate) fn finish(&mut self, act: Act, stopped: Vec<usize>) -> Result<Seen, PairFault>
         requires honest { D.Disk.honest }
         requires bound { AreBound D.Disk.honest D.Disk.words (world_of self.old) }
@@ -45,7 +45,7 @@ impl<D: Reboot + Drop> Relays<D> {
     }
 }
 
-/// Adds the node that has stopped, if one has, to these, for which there is room.
+/// Adds the node that has stopped, if one has, to a list with room for it.
 fn list_stop(act: &Act, stopped: &mut Vec<usize>)
     requires { vec_len stopped.old + 1 ≤ vec_capacity stopped.old }
     ensures items { stopped.new.items ≡ stopped.old.items ++ stops_of (did_of act.now) }
@@ -57,7 +57,7 @@ fn list_stop(act: &Act, stopped: &mut Vec<usize>)
     }
 }
 
-/// The answer to an event that did so, when these nodes have stopped.
+/// Returns the result of an event with this effect, after which these nodes have stopped.
 fn answer_of(act: Act, stopped: Vec<usize>) -> Result<Seen, PairFault>
     ensures { (told : List ℕ) → stopped.items ≡ stops_of (did_of act) ++ told → IsSeen (did_of act) told result }
 {
@@ -73,7 +73,7 @@ fn answer_of(act: Act, stopped: Vec<usize>) -> Result<Seen, PairFault>
     }
 }
 
-/// The fault of a node that refused its part.
+/// Returns the fault of an event in which a node refused its part.
 pub(crate) fn fault_of(fault: NodeFault) -> PairFault
     ensures { result ≡ fault_of fault }
 {

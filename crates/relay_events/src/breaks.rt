@@ -1,4 +1,4 @@
-//! A link breaks.
+//! Breaking a link.
 ghost use Rattle.std.specs.Prelude.{◌≡◌};
 ghost use Rattle.relay_world.specs.Steps.{Breaks};
 ghost use Rattle.relay_events.specs.BreakOff.{IsLink};
@@ -16,7 +16,7 @@ use relay_hosts::links::break_off;
 use relay_world::passing::runs_keep_all;
 
 impl<D: Reboot + Drop> Relays<D> {
-    /// A link breaks, and the nodes at its ends are told.
+    /// Breaks a link, and notifies the nodes at its ends.
     pub(crate) fn break_link(&mut self, number: usize) -> Result<Seen, PairFault>
         requires honest { D.Disk.honest }
         requires order { AreInOrder D.Disk.honest D.Disk.words self.old }
@@ -37,7 +37,7 @@ impl<D: Reboot + Drop> Relays<D> {
 }
 
 impl<D: Disk> Relays<D> {
-    /// A link breaks, and nobody is told yet.
+    /// Breaks a link, and notifies nobody yet.
     pub(crate) fn break_off(&mut self, number: usize)
         requires { IsLink (world_of self.old) number }
         ensures world { Breaks (world_of self.old) (world_of self.new) number }

@@ -1,4 +1,4 @@
-//! What waits for a node on a link is carried to it.
+//! Carrying unread octets of a link to a node.
 ghost use Rattle.relay_events.specs.Happened.{HasHappened};
 ghost use Rattle.relay_events.specs.Relays.{AreInOrder, world_of};
 ghost use Rattle.relay_events.specs.Step.{Steps};
@@ -11,8 +11,7 @@ use relay_disk::Reboot;
 use relay_hosts::let_go::serves_for;
 
 impl<D: Reboot + Drop> Relays<D> {
-    /// What waits for a node on a link is carried to it: to its server end, where that is the node's, and else to its
-    /// client end.
+    /// Carries unread octets of a link to a node: to the server end if it belongs to the node, else to the client end.
     pub(crate) fn carry(
         &mut self,
         number: usize,

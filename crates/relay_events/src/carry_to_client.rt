@@ -1,4 +1,4 @@
-//! What waits at the client end of a link is carried to the attempt there.
+//! Carrying unread octets to the attempt at the client end of a link.
 ghost use Rattle.std.specs.Prelude.{◌≡◌, ◌+◌, ◌<◌, ◌≤◌, ℕ, None, Some, true, false, length, slice_get, vec_capacity};
 ghost use Rattle.std.specs.Prelude.{vec_len};
 ghost use Rattle.relay_world.specs.Steps.{waiting_down};
@@ -30,8 +30,8 @@ use relay_world::passing::{crashing_happens, runs_keep_all};
 use relay_world::{Fate, Link};
 
 impl<D: Reboot + Drop> Relays<D> {
-    /// What waits at the client end of a link is carried to the attempt there: replies, up to this many octets; or, if
-    /// none waits, that the other end has closed.
+    /// Carries replies, at most `count` octets of them, to the attempt at the client end of a link. If none are unread,
+    /// the other end has closed, and the attempt is notified of that.
     pub(crate) fn carry_to_client(&mut self, number: usize, count: usize) -> Result<Seen, PairFault>
         requires honest { D.Disk.honest }
         requires order { AreInOrder D.Disk.honest D.Disk.words self.old }
@@ -51,7 +51,7 @@ impl<D: Reboot + Drop> Relays<D> {
         self.finish(act, stopped)
     }
 
-    /// Replies that wait are read by an attempt, or it is told that its connection is over.
+    /// Has the attempt read unread replies; if there are none, notifies it that its connection is over.
     fn carry_replies(&mut self, number: usize, count: usize) -> Act
         requires honest { D.Disk.honest }
         requires bound { AreBound D.Disk.honest D.Disk.words (world_of self.old) }
@@ -71,7 +71,7 @@ impl<D: Reboot + Drop> Relays<D> {
         self.read_replies(number, count)
     }
 
-    /// The node of the attempt at the client end of a link is told that its connection is over.
+    /// Notifies the node of the attempt at the client end of a link that its connection is over.
     fn tell_end(&mut self, number: usize) -> Act
         requires honest { D.Disk.honest }
         requires bound { AreBound D.Disk.honest D.Disk.words (world_of self.old) }
@@ -99,8 +99,8 @@ impl<D: Reboot + Drop> Relays<D> {
         }
     }
 
-    /// The attempt at the client end of a link reads replies, up to this many octets of those that wait, by one call of
-    /// its node.
+    /// Has the attempt at the client end of a link read replies, at most `count` unread octets, in one call of its
+    /// node.
     fn read_replies(&mut self, number: usize, count: usize) -> Act
         requires honest { D.Disk.honest }
         requires bound { AreBound D.Disk.honest D.Disk.words (world_of self.old) }
@@ -137,8 +137,7 @@ impl<D: Reboot + Drop> Relays<D> {
 }
 
 impl<D: Disk> Relays<D> {
-    /// The node of an attempt is called to read replies that wait for it, up to this many octets. Nothing else is done
-    /// yet.
+    /// Calls the node of an attempt to read replies, at most `count` unread octets. Nothing else is done yet.
     fn call_to_read(&mut self, number: usize, end: ClientEnd, count: usize) -> Read
         requires bound { AreBound D.honest D.words (world_of self.old) }
         requires runs { RunsThere D.honest D.words (world_of self.old) number end }
@@ -150,8 +149,8 @@ impl<D: Disk> Relays<D> {
         self.hosts[end.node].read(end.slot, piece, self.clock)
     }
 
-    /// What an attempt has read is read, and what its node writes is on the link. If that led to a change, the attempt
-    /// has ended, and what left by the change is in the ledger, for which there is room.
+    /// Marks the replies as read, and writes what the node answers on the link. If a change was added, the attempt has
+    /// ended, and the places that left or were delayed go to the ledger, which has room for them.
     fn take_replies(
         &mut self,
         number: usize,
@@ -177,8 +176,8 @@ impl<D: Disk> Relays<D> {
     }
 }
 
-/// Replies were read at the client end of a link, and what the node writes is on it. If it writes something, and memory
-/// runs out for that, the link breaks.
+/// Marks replies as read at the client end of a link, and writes what the node answers. If memory for the answer runs
+/// out, the link breaks.
 fn write_replies(link: &mut Link, replied: &Replied) -> Act
     requires { link.old.down_read + replied.now.used ≤ length link.old.down }
     ensures { IsAnswered link.old link.new replied.now result }

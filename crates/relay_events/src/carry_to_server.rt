@@ -1,4 +1,4 @@
-//! Octets that wait at the server end of a link are carried to the node of its session, or the end of the client.
+//! Carrying unread octets, or the client's close, to the session at the server end of a link.
 ghost use Rattle.std.specs.Prelude.{◌≡◌, ◌+◌, ◌≤◌, true, None, Some, MatchOption, vec_capacity, vec_len};
 ghost use Rattle.relay_world.specs.declared.link.Link.{Link};
 ghost use Rattle.relay_world.specs.Crashes.{serves_for};
@@ -25,8 +25,8 @@ use relay_node::Received;
 use relay_world::passing::{crashing_happens, runs_keep_all};
 
 impl<D: Reboot + Drop> Relays<D> {
-    /// What waits at the server end of a link is carried to the node of its session. If no octet waits, the client end
-    /// has closed, and the node is told so.
+    /// Carries unread octets to the session at the server end of a link. If there are none, the client end has closed,
+    /// and the node is notified of that.
     pub(crate) fn carry_to_server(
         &mut self,
         number: usize,
@@ -57,7 +57,7 @@ impl<D: Reboot + Drop> Relays<D> {
         self.carry_octets(number, node, count)
     }
 
-    /// Octets that wait at the server end of a link are carried to the node of its session.
+    /// Carries unread octets to the session at the server end of a link.
     fn carry_octets(&mut self, number: usize, node: usize, count: usize) -> Result<Seen, PairFault>
         requires honest { D.Disk.honest }
         requires order { AreInOrder D.Disk.honest D.Disk.words self.old }
@@ -81,8 +81,8 @@ impl<D: Reboot + Drop> Relays<D> {
         self.finish(act, stopped)
     }
 
-    /// A node hears octets that wait at the server end of a link, by one call. None if there is no room to note what it
-    /// would do: it isn't called.
+    /// Has a node hear unread octets at the server end of a link, in one call. Returns `None`, without calling the
+    /// node, if there is no room to record a change.
     fn hear(&mut self, number: usize, node: usize, count: usize) -> Option<Act>
         requires honest { D.Disk.honest }
         requires bound { AreBound D.Disk.honest D.Disk.words (world_of self.old) }
@@ -115,7 +115,7 @@ impl<D: Reboot + Drop> Relays<D> {
 }
 
 impl<D: Disk> Relays<D> {
-    /// The node of a session is called to hear octets that wait for it. Nothing else is done yet.
+    /// Calls the node of a session to hear unread octets. Nothing else is done yet.
     fn call_to_hear(&mut self, number: usize, count: usize) -> Heard
         requires bound { AreBound D.honest D.words (world_of self.old) }
         requires hears { HearsAt (world_of self.old) number }
@@ -134,7 +134,7 @@ impl<D: Disk> Relays<D> {
         self.hosts[node].hear(session, piece, self.clock)
     }
 
-    /// What a node has heard is read, what it answers is written, and what it accepted is in the ledger.
+    /// Marks the heard octets as read, writes the replies, and adds an accept to the ledger.
     fn take_heard(
         &mut self,
         number: usize,

@@ -1,4 +1,4 @@
-//! The attempt that runs at the client end of a link.
+//! The running attempt at the client end of a link.
 ghost use Rattle.std.specs.Prelude.{◌≡◌, ◌<◌, length};
 ghost use Rattle.relay_events.specs.ClientEnd.{RunsThere, SetsFate};
 ghost use Rattle.relay_events.specs.Relays.{AreBound, world_of};
@@ -8,21 +8,21 @@ use crate::relays::Relays;
 use relay_disk::Disk;
 use relay_world::Fate;
 
-/// The attempt that runs at the client end of a link.
+/// The running attempt at the client end of a link.
 #[derive(Clone, Copy)]
 pub(crate) struct ClientEnd {
-    /// Its place among the attempts.
+    /// The index of the attempt.
     pub(crate) place: usize,
-    /// Its node.
+    /// The index of its node.
     pub(crate) node: usize,
-    /// Its number in that node.
+    /// Its number at that node.
     pub(crate) slot: usize,
     /// The message that it is for.
     pub(crate) message: u64,
 }
 
 impl<D: Disk> Relays<D> {
-    /// The attempt that runs at the client end of a link.
+    /// Returns the running attempt at the client end of a link.
     pub(crate) fn client_end(&self, number: usize) -> ClientEnd
         requires bound { AreBound D.honest D.words (world_of self.now) }
         requires tries { TriesAt (world_of self.now) number }
@@ -44,7 +44,7 @@ impl<D: Disk> Relays<D> {
         }
     }
 
-    /// The attempt of a place has another fate.
+    /// Sets the state of the attempt at an index.
     pub(crate) fn set_fate(&mut self, place: usize, fate: Fate)
         requires { place < length self.old.attempts.items }
         ensures world { SetsFate (world_of self.old) (world_of self.new) place fate }

@@ -1,4 +1,4 @@
-//! A node compacts its spool, as small as what it holds.
+//! Compacting the spool of a node.
 ghost use Rattle.std.specs.Prelude.{◌≡◌, None};
 ghost use Rattle.relay_events.specs.Compact.{IsCalledToCompact};
 ghost use Rattle.relay_events.specs.FirstFault.{unless_up};
@@ -16,7 +16,7 @@ use relay_hosts::Compacted;
 use relay_world::passing::{resting_crash_happens, runs_keep_all};
 
 impl<D: Reboot + Drop> Relays<D> {
-    /// A node compacts its spool.
+    /// Compacts the spool of a node.
     pub(crate) fn compact(&mut self, node: usize) -> Result<Seen, PairFault>
         requires honest { D.Disk.honest }
         requires order { AreInOrder D.Disk.honest D.Disk.words self.old }
@@ -43,7 +43,8 @@ impl<D: Reboot + Drop> Relays<D> {
         }
     }
 
-    /// A node that is up is called to compact its spool. If it stops in that, it goes down. Nothing else is done yet.
+    /// Calls a node that is up to compact its spool. If the node stops in that call, it goes down. Nothing else is done
+    /// yet.
     fn call_to_compact(&mut self, node: usize) -> Compacted
         requires bound { AreBound D.Disk.honest D.Disk.words (world_of self.old) }
         requires up { unless_up (world_of self.old) node None ≡ None }

@@ -1,4 +1,4 @@
-//! A link is opened to a node.
+//! Opening a link to a node.
 ghost use Rattle.std.specs.Prelude.{◌≡◌, ◌<◌, None, vec_capacity, vec_len};
 ghost use Rattle.relay_events.specs.FirstFault.{unless_up};
 ghost use Rattle.relay_events.specs.Open.{LinksOrNot};
@@ -18,7 +18,7 @@ use relay_world::passing::runs_keep_all;
 use relay_world::{Link, ServerEnd};
 
 impl<D: Disk> Relays<D> {
-    /// Outside opens a link to a node.
+    /// Opens a link from outside to a node.
     pub(crate) fn connect(&mut self, node: usize) -> Result<Seen, PairFault>
         requires honest { D.honest }
         requires order { AreInOrder D.honest D.words self.old }
@@ -39,8 +39,8 @@ impl<D: Disk> Relays<D> {
         }
     }
 
-    /// A link is opened from this address to a node that is up, with room for it. How many octets of greeting
-    /// stand on it is answered.
+    /// Opens a link from this client address to a node that is up; there is room for the link. Returns the length of
+    /// the greeting on it.
     pub(crate) fn open_link(&mut self, node: usize, peer: [u8; 4]) -> Result<usize, NodeFault>
         requires bound { AreBound D.honest D.words (world_of self.old) }
         requires up { unless_up (world_of self.old) node None ≡ None }

@@ -1,38 +1,38 @@
-//! What happens to relays.
+//! The events of a run.
 use relay_octets::Octets;
 use relay_trace::Moment;
 
-/// What happens to relays, one at a time.
+/// An event of a run of relays.
 #[derive(Debug, Drop)]
 pub enum Event {
-    /// Outside opens a link to a node.
+    /// Outside opens a link to the node at this index.
     Connect(usize),
     /// Outside writes octets on the link of a number.
     Send(usize, Octets),
-    /// This many of the octets that wait at a node's end of a link are carried to it, or that the other end has closed.
+    /// Unread octets are carried to a node's end of a link; if there are none, the close of the other end.
     Carry {
         /// The number of the link, from 1.
         link: usize,
-        /// The node, by its place among the nodes, from 0.
+        /// The index of the node.
         node: usize,
-        /// How many octets at most.
+        /// The most octets to carry.
         count: usize,
     },
-    /// A link breaks.
+    /// The link of this number breaks.
     Break(usize),
-    /// The clock is set.
+    /// The clock is set to this time.
     Tick(Moment),
-    /// A node does the first work that is due.
+    /// The node at this index does the first work that it has due.
     Give(usize),
-    /// A node compacts its spool.
+    /// The node at this index compacts its spool.
     Compact(usize),
-    /// A node stops: now, or at a later call of its disks.
+    /// A node stops, now or at a later call of its disks.
     Stop {
-        /// The node, by its place among the nodes, from 0.
+        /// The index of the node.
         node: usize,
-        /// Which of the next calls of its disks fails, from 1; 0 where it stops now.
+        /// Which of the next calls of its disks fails, from 1; 0 to stop now.
         calls: u64,
-        /// What the stop leaves of its disks.
+        /// Selects what the stop leaves of its disks.
         pick: u64,
     },
 }

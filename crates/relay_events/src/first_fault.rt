@@ -1,4 +1,4 @@
-//! Why an event is refused before a node is called.
+//! Checks that refuse an event before a node is called.
 ghost use Rattle.std.specs.Prelude.{◌≡◌, None, slice_get};
 ghost use Rattle.relay_events.specs.FirstFault.{break_fault, carry_fault, carry_idles, send_fault, unless_up};
 ghost use Rattle.relay_hosts.specs.Host.{is_up};
@@ -12,7 +12,7 @@ use relay_hosts::Host;
 use relay_hosts::let_go::{is_tried_for, serves_for};
 use relay_hosts::links::{client_idles, has_outside, server_idles, whole_link};
 
-/// Returns whether a node is there, and up.
+/// Returns whether the node exists and is up.
 fn is_up<D: Disk>(hosts: &[Host<D>], node: usize) -> bool
     ensures { result ≡ is_up (slice_get hosts.now node) }
 {
@@ -23,7 +23,7 @@ fn is_up<D: Disk>(hosts: &[Host<D>], node: usize) -> bool
 }
 
 impl<D: Disk> Relays<D> {
-    /// Returns the first fault of an octet that outside writes on a link.
+    /// Returns the first fault of writing on a link from outside.
     pub(crate) fn send_fault(&self, number: usize) -> Option<PairFault>
         ensures { result ≡ send_fault (world_of self.now) (whole_link_of self.now.links.items number) }
     {
@@ -36,7 +36,7 @@ impl<D: Disk> Relays<D> {
         Some(PairFault::NotYours)
     }
 
-    /// Returns the first fault of a link that is to break.
+    /// Returns the first fault of breaking a link.
     pub(crate) fn break_fault(&self, number: usize) -> Option<PairFault>
         ensures { result ≡ break_fault (world_of self.now) (whole_link_of self.now.links.items number) }
     {
@@ -46,7 +46,7 @@ impl<D: Disk> Relays<D> {
         }
     }
 
-    /// A fault where a node isn't up.
+    /// Returns a fault unless the node is up.
     pub(crate) fn down_fault(&self, node: usize) -> Option<PairFault>
         ensures { result ≡ unless_up (world_of self.now) node None }
     {
@@ -56,7 +56,7 @@ impl<D: Disk> Relays<D> {
         Some(PairFault::Down)
     }
 
-    /// Returns the first fault of what is carried on a link to a node.
+    /// Returns the first fault of carrying octets on a link to a node.
     pub(crate) fn carry_fault(&self, number: usize, node: usize, count: usize) -> Option<PairFault>
         ensures { result ≡ carry_fault (world_of self.now) (whole_link_of self.now.links.items number) node count }
     {
@@ -73,8 +73,7 @@ impl<D: Disk> Relays<D> {
         Some(PairFault::NotYours)
     }
 
-    /// Returns the first fault of what is carried to an end that is a node's, and if there is nothing to carry, or
-    /// something.
+    /// Returns the first fault of carrying octets to an end of the node; `idles` says that there is nothing to carry.
     fn carry_to(&self, node: usize, count: usize, idles: bool) -> Option<PairFault>
         ensures { result ≡ unless_up (world_of self.now) node (carry_idles (world_of self.now) count idles) }
     {

@@ -1,4 +1,4 @@
-//! A node does the first of its works.
+//! A node does the first work that it has due.
 ghost use Rattle.std.specs.Prelude.{◌≡◌, ◌<◌, ◌↔◌, IsTrue, None, Some, length, slice_get, vec_capacity, vec_len};
 ghost use Rattle.relay_slots.specs.Slots.{IsFull};
 ghost use Rattle.relay_attempts.specs.declared.work.Work.TheVariants.{NoRoute, Try};
@@ -30,7 +30,7 @@ use relay_world::passing::{resting_crash_happens, runs_keep_all};
 use relay_world::{Attempt, Fate, Link};
 
 impl<D: Reboot + Drop> Relays<D> {
-    /// A node does its first work.
+    /// Has a node do its first work.
     pub(crate) fn give(&mut self, node: usize) -> Result<Seen, PairFault>
         requires honest { D.Disk.honest }
         requires order { AreInOrder D.Disk.honest D.Disk.words self.old }
@@ -47,7 +47,7 @@ impl<D: Reboot + Drop> Relays<D> {
         self.do_first_work(node, stopped)
     }
 
-    /// A node that is up does its first work, for which there is room.
+    /// Has a node that is up do its first work, for which there is room.
     fn do_first_work(&mut self, node: usize, stopped: Vec<usize>) -> Result<Seen, PairFault>
         requires honest { D.Disk.honest }
         requires order { AreInOrder D.Disk.honest D.Disk.words self.old }
@@ -71,7 +71,7 @@ impl<D: Reboot + Drop> Relays<D> {
         }
     }
 
-    /// A node gives up the places of a message that have no hop.
+    /// Has a node give up the places of a message that have no hop.
     fn give_up_first(
         &mut self,
         node: usize,
@@ -103,7 +103,7 @@ impl<D: Reboot + Drop> Relays<D> {
         }
     }
 
-    /// A node begins an attempt for a message and a hop, on a link that leads there.
+    /// Has a node begin an attempt for a message and a hop, on a link that leads there.
     fn try_first(
         &mut self,
         node: usize,
@@ -132,8 +132,8 @@ impl<D: Reboot + Drop> Relays<D> {
         self.start_at_node(node, message, hop, name, to, stopped)
     }
 
-    /// A node begins an attempt on a link that it opens to the node that the hop is, unless 64 of its attempts are
-    /// running. If it has no memory for the attempt, that link breaks.
+    /// Begins an attempt on a new link to the node that has the hop's name, unless 64 attempts are running. If there is
+    /// no memory for the attempt, that link breaks.
     fn start_at_node(
         &mut self,
         node: usize,
@@ -171,7 +171,7 @@ impl<D: Reboot + Drop> Relays<D> {
         }
     }
 
-    /// A link breaks whose attempt a node refused, and the node at its other end is told.
+    /// Breaks a link for which a node refused the attempt, and notifies the node at the other end.
     fn break_unstarted(
         &mut self,
         number: usize,
@@ -195,8 +195,7 @@ impl<D: Reboot + Drop> Relays<D> {
 }
 
 impl<D: Disk> Relays<D> {
-    /// A node is called to give up the places of a message that have no hop, as its first work. Nothing else is done
-    /// yet.
+    /// Calls a node to give up the places of a message that have no hop, as its first work. Nothing else is done yet.
     fn call_to_give_up(&mut self, node: usize, message: u64) -> GivenUp
         requires bound { AreBound D.honest D.words (world_of self.old) }
         requires first { IsFirstWork (world_of self.old) node (NoRoute message) }
@@ -216,7 +215,7 @@ impl<D: Disk> Relays<D> {
         self.hosts[node].is_full_of_attempts()
     }
 
-    /// The address of a node.
+    /// Returns the IPv4 address of a node.
     fn address_of(&self, node: usize) -> [u8; 4]
         requires { node < length self.now.hosts.items }
         ensures { (host : HostOf D) → slice_get self.now.hosts.items node ≡ Some host
@@ -225,7 +224,7 @@ impl<D: Disk> Relays<D> {
         self.hosts[node].config().listen.ip().octets()
     }
 
-    /// A node begins an attempt on a link to outside.
+    /// Begins an attempt on a new link to outside.
     fn start_outside(
         &mut self,
         node: usize,
@@ -264,7 +263,7 @@ impl<D: Disk> Relays<D> {
         Ok(Seen::Started(place))
     }
 
-    /// A node begins an attempt on a link that it has opened for it, and has its client end.
+    /// Begins an attempt on a link that was opened for it, and takes its client end.
     fn begin_on(
         &mut self,
         node: usize,
@@ -290,8 +289,8 @@ impl<D: Disk> Relays<D> {
         Ok(place)
     }
 
-    /// A node begins an attempt for a message and a hop of this name, on the link of this number, with room for it.
-    /// Its place among the attempts is answered.
+    /// Begins an attempt for a message and a hop of this name, on the link of this number; there is room for it.
+    /// Returns the index of the attempt.
     fn begin(
         &mut self,
         node: usize,

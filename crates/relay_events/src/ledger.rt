@@ -9,8 +9,8 @@ use relay_hosts::Recorded;
 use relay_hosts::ledger::{push_left, report_told};
 
 impl<D: Disk> Relays<D> {
-    /// Adds a line for each place of a message of a node that left or is late, on this link, by the change of this
-    /// number, for which there is room.
+    /// Adds a line for each place of a message that left or was delayed on this link, by the change of this number.
+    /// There is room for them.
     pub(crate) fn note_left(
         &mut self,
         node: usize,

@@ -1,4 +1,4 @@
-//! A node that stops lets go of its ends: its sessions are gone, its attempts dropped, and the links broken.
+//! A stopping node lets go of its ends of links: its sessions are gone, its attempts dropped, and the links broken.
 ghost use Rattle.std.specs.Prelude.{◌≡◌};
 ghost use Rattle.relay_events.specs.Relays.{world_of};
 ghost use Rattle.relay_world.specs.Crashes.{let_go};
@@ -8,7 +8,7 @@ use relay_disk::Disk;
 use relay_hosts::let_go::{hang_up_attempts, let_go_links};
 
 impl<D: Disk> Relays<D> {
-    /// A node lets go of all its ends.
+    /// Lets go of all ends of links of a node.
     pub(crate) fn let_go(&mut self, node: usize)
         ensures world { world_of self.new ≡ let_go node (world_of self.old) }
         ensures ledger { self.new.ledger ≡ self.old.ledger }

@@ -1,5 +1,4 @@
-//! Relays that run beside each other, and what each event makes of them: of their nodes, of their links, and of the
-//! ledger of their mail.
+//! A simulated network of relays, and the effect of each event on its nodes, its links, and the ledger of its mail.
 #![tactic(auto)]
 
 mod act;

@@ -1,4 +1,4 @@
-//! The parts of relays that run.
+//! The parts of a simulated network of relays.
 ghost use Rattle.std.specs.Prelude.{◌≡◌};
 ghost use Rattle.relay_events.specs.Begin.{begun_with};
 ghost use Rattle.relay_events.specs.Relays.{world_of};
@@ -9,16 +9,16 @@ use relay_trace::Moment;
 use relay_world::{Attempt, Line, Link};
 use std::alloc::Global;
 
-/// Relays, their links and attempts, and the ledger, at a time of their clock.
+/// Relays with their links, attempts and ledger, at a time of their clock.
 pub struct Relays<D: Disk> {
     pub(crate) alloc: Global,
-    /// The hosts, each by its place: that of node 0 is the first.
+    /// The hosts, by index from 0.
     pub hosts: Vec<Host<D>>,
-    /// All links, in the order of their numbers, which count from 1.
+    /// All links, in the order of their numbers, which start at 1.
     pub links: Vec<Link>,
-    /// All attempts to pass mail on, in the order in which they began.
+    /// All attempts, in the order in which they began.
     pub attempts: Vec<Attempt>,
-    /// The outcome of mail so far, in order.
+    /// The ledger of mail so far, in order.
     pub ledger: Vec<Line>,
     pub(crate) clock: Moment,
 }
@@ -38,7 +38,7 @@ impl<D: Disk + Drop> Drop for Relays<D> {
 }
 
 impl<D: Disk + Drop> Relays<D> {
-    /// Relays without links, at the time 0. Allocates nothing.
+    /// Returns relays without links, at time 0. Allocates nothing.
     pub fn of_hosts(alloc: Global, hosts: Vec<Host<D>>) -> Self
         ensures { world_of result ≡ begun_with hosts.items }
     {

@@ -21,7 +21,7 @@ use relay_world::laws::down_is_not_refused;
 use relay_world::{Fate, Line};
 
 impl<D: Reboot + Drop> Relays<D> {
-    /// A node that stopped in a call goes down, and is opened again, if it can be.
+    /// Takes a node down that stopped in a call, and opens it again, if it can be opened.
     pub(crate) fn restart(&mut self, node: usize, origin: Origin)
         requires cut { IsCutShortAt (world_of self.old) node }
         requires ready { IsReadyToCrash D.Disk.honest D.Disk.words (world_of self.old) node origin
@@ -33,7 +33,8 @@ impl<D: Reboot + Drop> Relays<D> {
         self.reopen(node);
     }
 
-    /// A node that stopped in a call goes down, with the change that it was adding, and lets go of its ends.
+    /// Takes a node down that stopped in a call, with the change that it was adding; the node lets go of its ends of
+    /// links.
     fn crash(&mut self, node: usize, origin: Origin)
         requires { IsCutShortAt (world_of self.old) node }
         ensures world { CrashesAt D.Disk.honest D.Disk.words (world_of self.old) (world_of self.new) node origin }
@@ -45,8 +46,8 @@ impl<D: Reboot + Drop> Relays<D> {
         self.let_go(node);
     }
 
-    /// A node that is down is opened, or stays down where its disks are refused. If it has the change that was
-    /// undecided, what that came from is done.
+    /// Opens a node that is down. It stays down if its disks are refused. If the undecided change turns out to be
+    /// there, applies its effects.
     pub(crate) fn reopen(&mut self, node: usize)
         requires bound { AreBound D.Disk.honest D.Disk.words (world_of self.old) }
         requires room { HasRoom (world_of self.old) (free_lines self.old) }
@@ -63,7 +64,7 @@ impl<D: Reboot + Drop> Relays<D> {
         self.find(node, &found);
     }
 
-    /// A node that is down is opened, or stays down, and nothing else is done.
+    /// Opens a node that is down, or leaves it down. Nothing else is done yet.
     fn open_host(&mut self, node: usize) -> Option<Undecided>
         requires { IsDownAt (world_of self.old) node }
         ensures world { OpensAt D.Disk.honest D.Disk.words (world_of self.old) (world_of self.new) node result }
@@ -77,7 +78,7 @@ impl<D: Reboot + Drop> Relays<D> {
 }
 
 impl<D: Disk> Relays<D> {
-    /// What a change that a node has, as its opening told, came from is done.
+    /// Applies the effects of an undecided change that turned out to be there.
     fn find(&mut self, node: usize, found: &Undecided)
         requires may { MayBeFound self.old.links.items self.old.attempts.items found.now.note.used found.now.origin }
         requires room { vec_len self.old.ledger + length (lines_by node found.now.note (origin_in found.now.origin))
@@ -113,7 +114,7 @@ impl<D: Disk> Relays<D> {
         }
     }
 
-    /// An accept that came on a link is in the ledger, and what it had read there is read.
+    /// Adds an accept to the ledger, and marks what the node had heard on the link as read.
     fn find_accept(&mut self, node: usize, number: usize, note: &Noted)
         requires there { HasMoreUp self.old.links.items number note.now.used }
         requires room { vec_len self.old.ledger + 1 ≤ vec_capacity self.old.ledger }
@@ -132,7 +133,8 @@ impl<D: Disk> Relays<D> {
         read_up(&mut self.links[number - 1], note.used);
     }
 
-    /// The outcome of an attempt is in the ledger, what it had read is read, and the attempt has ended with it.
+    /// Adds the outcome of an attempt to the ledger, marks what the attempt had read as read, and ends the attempt with
+    /// it.
     fn find_outcome(
         &mut self,
         node: usize,

@@ -1,4 +1,4 @@
-//! Room that is kept: in the ledger, and for what a node may begin.
+//! Reserved room: in the ledger, and for what a node may begin.
 ghost use Rattle.std.specs.Prelude.{◌≡◌, ◌+◌, ◌<◌, ◌≤◌, IfSome, MatchOption, OnOk, vec_capacity, vec_len};
 ghost use Rattle.relay_events.specs.Give.{HasRoomForWork, IsListOfStops};
 ghost use Rattle.relay_events.specs.Relays.{AreInOrder, free_lines, world_of};
@@ -9,11 +9,11 @@ use relay_disk::Disk;
 use relay_hosts::lines::{lines_left, lines_to_come};
 use std::alloc::AllocError;
 
-/// The most places that an attempt, or an outcome, is for.
+/// The most places of an attempt, or of an outcome.
 const MOST_PLACES: usize = 100;
 
 impl<D: Disk> Relays<D> {
-    /// Keeps room in the ledger for this many lines more than may come to be needed anyway. Nothing else changes.
+    /// Reserves room in the ledger for `more` lines beside those that may be needed anyway. Nothing else changes.
     pub(crate) fn keep_lines(&mut self, more: usize) -> Result<(), AllocError>
         ensures world { world_of self.new ≡ world_of self.old }
         ensures room { OnOk result (HasRoomFor (world_of self.new) more (free_lines self.new)) }
@@ -25,7 +25,7 @@ impl<D: Disk> Relays<D> {
         self.ledger.reserve(lines)
     }
 
-    /// This many lines, and those that may come to be needed anyway; none if that is beyond all numbers.
+    /// Returns `more` lines plus those that may be needed anyway; `None` on overflow.
     fn lines_needed(&self, more: usize) -> Option<usize>
         ensures { MatchOption result (Unit {0}) (λ lines.
             lines ≡ lines_to_come self.now.attempts.items + lines_left 0 self.now.hosts.items + more) }
@@ -37,8 +37,8 @@ impl<D: Disk> Relays<D> {
 }
 
 impl<D: Disk> Relays<D> {
-    /// Makes room for a link more, an attempt more, and the lines of the ledger that may come, also of its places; and
-    /// an empty list with room for each node that may stop in a step. None if memory runs out.
+    /// Reserves room for one more link, one more attempt, and the ledger lines that its places may need. Returns an
+    /// empty list with room for each node that may stop in a step, or `None` if memory runs out.
     pub(crate) fn room_for_work(&mut self) -> Option<Vec<usize>>
         requires { AreInOrder D.honest D.words self.old }
         ensures world { world_of self.new ≡ world_of self.old }
@@ -58,7 +58,7 @@ impl<D: Disk> Relays<D> {
         }
     }
 
-    /// Keeps room for a link more, and an attempt more. Nothing else changes.
+    /// Reserves room for one more link, and one more attempt. Nothing else changes.
     fn keep_places(&mut self) -> Result<(), AllocError>
         ensures world { world_of self.new ≡ world_of self.old }
         ensures ledger { self.new.ledger ≡ self.old.ledger }

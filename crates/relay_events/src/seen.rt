@@ -1,22 +1,21 @@
-//! What is seen of an event.
+//! The result of an event.
 ghost use Rattle.std.specs.Prelude.{Ok};
 ghost use Rattle.relay_events.specs.Step.{IsSeen, Shows};
 
-/// What is seen of an event that was done.
+/// The result of an event that was done.
 #[derive(Debug, Drop)]
 pub enum Seen {
-    /// Outside has opened the link of this number; this many octets, the last that stand there, are the node's
-    /// greeting.
+    /// Outside has opened the link of this number; the node's greeting, its last octets, has this length.
     Linked(usize, usize),
-    /// Outside has written.
+    /// Outside has written on a link.
     Sent,
-    /// A node has read.
+    /// A node has heard or read octets.
     Carried {
         /// How many octets it has used.
         used: usize,
-        /// How many octets it has written: the last that stand in the link.
+        /// How many octets it has written on the link.
         out: usize,
-        /// The number of the change that it made.
+        /// The number of the change that it added.
         change: Option<u64>,
         /// Whether its end has closed.
         end: bool,
@@ -25,19 +24,19 @@ pub enum Seen {
     Broken(usize),
     /// The clock is set.
     Set,
-    /// A node has begun the attempt of this place among the attempts.
+    /// A node has begun the attempt at this index.
     Started(usize),
-    /// A node has given up places of this message, in the change of this number.
+    /// A node has given up places of this message, by the change of this number.
     NoRoute(u64, u64),
-    /// A node has written its spool anew, which has this size now, in octets.
+    /// The node at this index has compacted its spool, to this size in octets.
     Compacted(usize, usize),
-    /// A stop waits for a node.
+    /// A device fault is set for a node.
     Armed,
     /// These nodes have stopped, in this order.
     Stopped(Vec<usize>),
 }
 
-/// What is seen of an event that shows this, when these nodes have stopped after it.
+/// Returns the result of an event that would have this one, if these nodes have stopped after it.
 pub(crate) fn seen_of(own: Seen, stopped: Vec<usize>) -> Seen
     ensures { IsSeen (Shows own) stopped.items (Ok result) }
 {

@@ -16,7 +16,7 @@ use relay_world::passing::runs_keep_all;
 use std::alloc::AllocError;
 
 impl<D: Disk> Relays<D> {
-    /// Outside writes octets on a link.
+    /// Writes octets on a link from outside.
     pub(crate) fn send(&mut self, number: usize, octets: &[u8]) -> Result<Seen, PairFault>
         requires honest { D.honest }
         requires order { AreInOrder D.honest D.words self.old }
@@ -34,7 +34,7 @@ impl<D: Disk> Relays<D> {
         }
     }
 
-    /// Outside writes octets at the end of a link that it has.
+    /// Writes octets at the end of a link that is outside.
     fn write_on(&mut self, number: usize, octets: &[u8]) -> Result<(), AllocError>
         requires { IsSendable self.old.links.items number }
         ensures ok { OnOk result (HasWritten (world_of self.old) (world_of self.new) number octets.now) }
@@ -48,7 +48,7 @@ impl<D: Disk> Relays<D> {
     }
 }
 
-/// Outside writes at the end that it has: as the client, and else as the server.
+/// Writes octets as the client if the client is outside, else as the server.
 fn write_outside(link: &mut Link, octets: &[u8]) -> Result<(), AllocError>
     requires { has_outside link.old ≡ true }
     ensures ok { OnOk result (WritesAs link.old octets.now link.new) }

@@ -1,4 +1,4 @@
-//! One event.
+//! One event of a run.
 ghost use Rattle.relay_events.specs.Happened.{HasHappened};
 ghost use Rattle.relay_events.specs.Relays.{AreInOrder, world_of};
 ghost use Rattle.relay_events.specs.Step.{Steps};
@@ -13,10 +13,10 @@ use relay_trace::Moment;
 use relay_world::passing::runs_keep_all;
 
 impl<D: Reboot + Drop> Relays<D> {
-    /// One event happens. Refused by its first fault, or for lack of memory before a node is called, it changes
-    /// nothing. A node that refuses its part, for lack of memory, of room or of a number, loses the session or the
-    /// attempt by that, and the link breaks. If memory is wanting for what a node answers, it has heard or read all the
-    /// same, and where it is for an attempt, the link to its hop was opened: that link breaks too.
+    /// Does one event. Fails with the event's first fault, or, before a node is called, if memory runs out; nothing
+    /// changes then. A node that refuses its part, for lack of memory, room or change numbers, loses the session or the
+    /// attempt, and the link breaks. If memory for a node's answer runs out, the node has still heard or read its
+    /// octets; if memory for a new attempt runs out, the link to its hop was still opened; that link breaks too.
     pub fn step(&mut self, event: &Event) -> Result<Seen, PairFault>
         requires honest { D.Disk.honest }
         requires order { AreInOrder D.Disk.honest D.Disk.words self.old }
@@ -36,7 +36,7 @@ impl<D: Reboot + Drop> Relays<D> {
         }
     }
 
-    /// The clock is set.
+    /// Sets the clock.
     fn tick(&mut self, now: Moment) -> Result<Seen, PairFault>
         requires honest { D.Disk.honest }
         requires order { AreInOrder D.Disk.honest D.Disk.words self.old }

@@ -1,4 +1,4 @@
-//! A node stops between two calls, or a stop is set for a later call of its disks.
+//! Stopping a node, or setting a device fault for a later call.
 ghost use Rattle.std.specs.Prelude.{◌≡◌, ◌<◌, vec_len};
 ghost use Rattle.relay_events.specs.Happened.{HasHappened};
 ghost use Rattle.relay_events.specs.Relays.{AreInOrder, world_of};
@@ -14,7 +14,7 @@ use relay_disk::Reboot;
 use relay_world::passing::{resting_crash_happens, runs_keep_all};
 
 impl<D: Reboot + Drop> Relays<D> {
-    /// A node stops: now, or at a later call of its disks.
+    /// Stops a node, now or at a later call of its disks.
     pub(crate) fn stop(&mut self, node: usize, calls: u64, pick: u64) -> Result<Seen, PairFault>
         requires honest { D.Disk.honest }
         requires order { AreInOrder D.Disk.honest D.Disk.words self.old }
@@ -29,8 +29,8 @@ impl<D: Reboot + Drop> Relays<D> {
         self.arm(node, calls, pick)
     }
 
-    /// A node stops now, or, if it is down, stops again; it is opened, if it can be, and the nodes at the other ends of
-    /// its links are told.
+    /// Stops a node now, also one that is down; opens it again, if it can be opened; and notifies the nodes at the
+    /// other ends of its links.
     fn stop_now(&mut self, node: usize, pick: u64) -> Result<Seen, PairFault>
         requires honest { D.Disk.honest }
         requires order { AreInOrder D.Disk.honest D.Disk.words self.old }
@@ -52,7 +52,7 @@ impl<D: Reboot + Drop> Relays<D> {
         self.finish(Act::Stops(node), stopped)
     }
 
-    /// A node stops between two calls, or, if it is down, stops again.
+    /// Stops a node between two calls, or stops it again if it is down.
     fn take_down(&mut self, node: usize, pick: u64)
         requires { node < vec_len self.old.hosts }
         ensures world { IsTakenDown D.Disk.honest D.Disk.words (world_of self.old) (world_of self.new) node }
@@ -69,7 +69,8 @@ impl<D: Reboot + Drop> Relays<D> {
         self.hosts.insert(node, host).unwrap();
     }
 
-    /// A stop is set for a node that is up: of the next calls of its disks the one of this number, from 1, fails.
+    /// Sets a device fault for a node that is up: of the next calls of its disks, the one of this number, from 1,
+    /// fails.
     fn arm(&mut self, node: usize, calls: u64, pick: u64) -> Result<Seen, PairFault>
         requires honest { D.Disk.honest }
         requires order { AreInOrder D.Disk.honest D.Disk.words self.old }

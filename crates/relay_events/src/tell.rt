@@ -1,4 +1,4 @@
-//! Nodes are told of links that broke.
+//! Notifying nodes of broken links.
 ghost use Rattle.std.specs.Prelude.{◌≡◌, ◌+◌, ◌++◌, ◌<◌, ◌≤◌, [], IfOk, MatchOption, length, vec_capacity, vec_len};
 ghost use Rattle.relay_world.specs.Ledger.{left_lines, report_told};
 ghost use Rattle.relay_world.specs.Steps.{EndsSession};
@@ -22,19 +22,19 @@ use relay_world::Fate;
 use relay_world::passing::{crashing_happens, runs_keep_all};
 use std::alloc::AllocError;
 
-/// What became of an attempt whose node was told that its connection is lost.
+/// The result of notifying a node that an attempt's connection is lost.
 #[derive(Clone, Copy)]
 pub(crate) enum Loss {
-    /// It has an outcome, the change of this number.
+    /// The attempt has an outcome: the change of this number.
     Ended(u64),
-    /// It is gone without one, for lack of memory or room.
+    /// The attempt is gone without an outcome: too little memory or room.
     Gone(NodeFault),
     /// Its node has stopped.
     Stopped(usize),
 }
 
 impl<D: Disk> Relays<D> {
-    /// Returns the number of the first broken link of which a node has still to be told.
+    /// Returns the number of the first broken link of which a node isn't notified yet.
     fn first_untold(&self) -> Option<usize>
         ensures { MatchOption result (IsToldOfBreaks (world_of self.now)) (IsFirstUntold (world_of self.now)) }
     {
@@ -48,8 +48,8 @@ impl<D: Disk> Relays<D> {
 }
 
 impl<D: Disk> Relays<D> {
-    /// An empty list with room for each node that may stop in a step: each that stops in a call of an attempt has lost
-    /// one, and one more may stop before.
+    /// Returns an empty list with room for each node that may stop in a step. A node that stops in a call of an attempt
+    /// loses that attempt, and one more may stop before.
     pub(crate) fn list_of_stops(&self) -> Result<Vec<usize>, AllocError>
         ensures empty { IfOk result (λ list. list.items ≡ []) }
         ensures room { IfOk result (λ list. vec_len list + 1 + running_of self.now.attempts.items ≤ vec_capacity list) }
@@ -61,8 +61,8 @@ impl<D: Disk> Relays<D> {
 }
 
 impl<D: Reboot + Drop> Relays<D> {
-    /// Nodes are told of each link that broke, the least first. Those that stop in it are added to these, for which
-    /// there is room.
+    /// Notifies nodes of each broken link, the lowest number first. Nodes that stop in it are added to `stopped`, which
+    /// has room for them.
     pub(crate) fn tell(&mut self, stopped: &mut Vec<usize>)
         requires honest { D.Disk.honest }
         requires bound { AreBound D.Disk.honest D.Disk.words (world_of self.old) }
@@ -79,7 +79,7 @@ impl<D: Reboot + Drop> Relays<D> {
         }
     }
 
-    /// One node is told that a link broke. If it stops in it, it is added to these.
+    /// Notifies one node of a broken link. If the node stops in it, adds it to `stopped`.
     fn tell_one(&mut self, number: usize, stopped: &mut Vec<usize>)
         requires honest { D.Disk.honest }
         requires bound { AreBound D.Disk.honest D.Disk.words (world_of self.old) }
@@ -104,7 +104,7 @@ impl<D: Reboot + Drop> Relays<D> {
         list_loss(loss, stopped);
     }
 
-    /// The node at the server end of a link is told that its session has ended.
+    /// Notifies the node at the server end of a link that its session has ended.
     pub(crate) fn end_session(&mut self, number: usize)
         requires bound { AreBound D.Disk.honest D.Disk.words (world_of self.old) }
         requires room { HasRoom (world_of self.old) (free_lines self.old) }
@@ -124,7 +124,7 @@ impl<D: Reboot + Drop> Relays<D> {
         close_server(&mut self.links[number - 1], true);
     }
 
-    /// The node of the attempt at the client end of a link is told of its loss.
+    /// Notifies the node of the attempt at the client end of a link of the loss.
     pub(crate) fn lose_attempt(&mut self, number: usize) -> Loss
         requires honest { D.Disk.honest }
         requires bound { AreBound D.Disk.honest D.Disk.words (world_of self.old) }
@@ -157,7 +157,7 @@ impl<D: Reboot + Drop> Relays<D> {
 }
 
 impl<D: Disk> Relays<D> {
-    /// The node of an attempt that goes on is told that its connection is lost. Nothing else is done yet.
+    /// Calls the node of a running attempt because its connection is lost. Nothing else is done yet.
     fn call_to_lose(&mut self, node: usize, slot: usize) -> ToldLoss
         requires { HasAttemptAt D.honest D.words (world_of self.old) node slot }
         ensures called { IsCalledToLose D.honest D.words (world_of self.old) (world_of self.new) node slot result }
@@ -166,8 +166,8 @@ impl<D: Disk> Relays<D> {
         self.hosts[node].lose(slot, self.clock)
     }
 
-    /// An attempt has ended by the loss of its link, by the change of this number: what left by that is in the ledger,
-    /// for which there is room.
+    /// Ends an attempt by the loss of its link, with the change of this number, and adds the places that left or were
+    /// delayed to the ledger, which has room for them.
     fn end_by_loss(&mut self, number: usize, end: ClientEnd, change: u64, recorded: &Recorded)
         requires there { end.place < length self.old.attempts.items }
         requires room { vec_len self.old.ledger + length recorded.now.left.items ≤ vec_capacity self.old.ledger }
@@ -181,7 +181,7 @@ impl<D: Disk> Relays<D> {
     }
 }
 
-/// Adds the node that has stopped when it was told of a loss, if it has, to these, for which there is room.
+/// Adds the node that has stopped in this, if one has, to a list with room for it.
 fn list_loss(loss: Loss, stopped: &mut Vec<usize>)
     requires { vec_len stopped.old + 1 ≤ vec_capacity stopped.old }
     ensures items { stopped.new.items ≡ stopped.old.items ++ stops_by loss }

@@ -1,4 +1,4 @@
--- A host that has just begun.
+-- A new host.
 use Rattle.std.specs.Prelude.{◌≡◌, []}
 use Rattle.relay_disk.specs.Device.{DiskWords}
 use Rattle.relay_routes.specs.declared.config.Config.{Config}
@@ -6,7 +6,7 @@ use Rattle.relay_records.specs.Records.{Keeps}
 use Rattle.relay_node.specs.Node.{IsIdle, NodeState}
 use Rattle.relay_world.specs.World.{Host, Up}
 
--- A host that has just begun, and runs by this configuration: it is up, and nothing has come.
+-- A new host with this configuration: it is up, and has accepted nothing yet.
 pub record IsNew {D : Type 0} (honest : Type 0) (words : DiskWords D) (config : Config) (host : Host D) : Type 0 where
   pub node : NodeState D
   pub up : host.state ≡ Up node

@@ -1,4 +1,4 @@
--- What a call of its node makes of one host.
+-- The effect of a node's calls on its host.
 use Rattle.std.specs.Prelude.{◌≡◌, ◌⊎◌, ℕ, ◌<◌, ◌≤◌, ◌^◌, Bool, true, false, List, [], ◌∷◌, ◌++◌, length, Option, None}
 use Rattle.std.specs.Prelude.{Some}
 use Rattle.relay_disk.specs.Device.{DiskWords}
@@ -27,7 +27,7 @@ use Rattle.relay_hosts.specs.declared.calls.ToldLoss.{ToldLoss}
 use Rattle.relay_hosts.specs.declared.calls.ToldLoss.TheVariants as loss
 use Rattle.relay_report.specs.Report.{reporter_of}
 
--- whether this fault says that the node has stopped
+-- whether this fault means that the node has stopped
 abbrev pub is_stop : NodeFault → Bool
 is_stop node_fault.NoMemory = false
 is_stop node_fault.Stopped = true
@@ -39,31 +39,31 @@ is_stop (node_fault.Open cause) = false
 is_stop node_fault.Full = false
 is_stop node_fault.NoSecond = false
 
--- a message has come to its end on a session, and changes have no numbers any more
+-- the octets complete a message on a session, and change numbers have run out
 pub record LacksNumber {D : Type 0} (node : NodeState D) (session : ℕ) (piece : List ℕ) : Type 0 where
   pub none_left : 2 ^ 62 < node.records.queue.next
   pub comes : (peer : List ℕ) (said : Said) → SeatHasSaid node.config node.seats session peer said
       → ComesToOffer (setup_for node.config peer) said piece
 
--- why a host loses a session on which octets came: there was no memory for what it heard, or no number for a message
+-- why a host loses a session on which octets came: too little memory, or no number for a message
 abbrev pub IsWhyUnheard : {D : Type 0} → HostState D → ℕ → List ℕ → NodeFault → Type 0
 IsWhyUnheard (Up node) session piece fault =
     (fault ≡ node_fault.NoMemory) ⊎ ((fault ≡ node_fault.Full) × LacksNumber node session piece)
 IsWhyUnheard (Down disk undecided) session piece fault = ⊥
 
--- the host is up with this node, and becomes the same host with that node
+-- the host is up, and its node changes from the one state to the other
 pub record Runs {D : Type 0} (old new : Host D) (before after : NodeState D) : Type 0 where
   pub up : old.state ≡ Up before
   pub config : after.config ≡ before.config
   pub new_is : new ≡ record old { state = Up after }
 
--- this was recorded by a change, as its note tells
+-- what a change recorded is what its note says
 pub record TellsNote (noted : Noted) (recorded : Recorded) : Type 0 where
   pub accepted : recorded.accepted ≡ noted.accepted
   pub left : recorded.left.items ≡ noted.left.items
   pub report : recorded.report ≡ noted.report
 
--- the note of a node was taken, and its record added to those before
+-- the node's note was taken, and its record appended to the earlier ones
 pub record TakesNote {D : Type 0} (before after : NodeState D) (old new : List (List ℕ)) (recorded : Recorded)
     : Type 0 where
   pub noted : Noted
@@ -72,21 +72,21 @@ pub record TakesNote {D : Type 0} (before after : NodeState D) (old new : List (
   pub after_is : after ≡ without_note before
   pub records : new ≡ old ++ noted.octets ∷ []
 
--- A host whose node has become this one by a call that made a change: its note was taken, and its record noted.
+-- The host after a call that added a change: the note was taken, and its record appended.
 pub record NotesOne {D : Type 0} (old new : Host D) (after : NodeState D) (recorded : Recorded) : Type 0 where
   pub noted : Noted
   pub note_is : after.records.noted ≡ Some noted
   pub tells : TellsNote noted recorded
   pub new_is : new ≡ record old { state = Up (without_note after); records = old.records ++ noted.octets ∷ [] }
 
--- the same of a call that made the change of this number, or none
+-- the host after a call that added the change of this number, or none
 abbrev pub NotesChange : {D : Type 0} → Host D → Host D → NodeState D → Option ℕ → Option Recorded → Type 0
 NotesChange old new after None None = new ≡ record old { state = Up after }
 NotesChange old new after None (Some recorded) = ⊥
 NotesChange old new after (Some change) None = ⊥
 NotesChange old new after (Some change) (Some recorded) = NotesOne old new after recorded
 
--- A host's node has lost the session of this number, which is free now, and nothing else.
+-- The host's node has lost the session of this number, which is free now, and nothing else.
 pub record LosesSession {D : Type 0} (old new : Host D) (session : ℕ) : Type 0 where
   pub before : NodeState D
   pub after : NodeState D
@@ -96,7 +96,7 @@ pub record LosesSession {D : Type 0} (old new : Host D) (session : ℕ) : Type 0
   pub others : OthersStay before.seats after.seats session
   pub attempts : after.attempts ≡ before.attempts
 
--- the same of the attempt of this number
+-- the host's node has lost the attempt of this number, which is free now, and nothing else
 pub record LosesAttempt {D : Type 0} (old new : Host D) (slot : ℕ) : Type 0 where
   pub before : NodeState D
   pub after : NodeState D
@@ -107,7 +107,7 @@ pub record LosesAttempt {D : Type 0} (old new : Host D) (slot : ℕ) : Type 0 wh
   pub seats : after.seats ≡ before.seats
 
 module _ {D : Type 0} (honest : Type 0) (words : DiskWords D) where
-  -- the node keeps a list of changes, and something was said on its session of this number
+  -- the node keeps a list of changes, and has an exchange on its session of this number
   pub record KnowsSession (node : NodeState D) (session : ℕ) : Type 0 where
     pub changes : List Change
     pub keeps : Keeps honest words node.records changes
@@ -115,7 +115,7 @@ module _ {D : Type 0} (honest : Type 0) (words : DiskWords D) where
     pub said : Said
     pub says : SeatHasSaid node.config node.seats session peer said
 
-  -- the same of its attempt of this number
+  -- the node keeps a list of changes, and has a history of its attempt of this number
   pub record KnowsAttempt (node : NodeState D) (slot : ℕ) : Type 0 where
     pub changes : List Change
     pub keeps : Keeps honest words node.records changes
@@ -130,15 +130,14 @@ module _ {D : Type 0} (honest : Type 0) (words : DiskWords D) where
   HoldsAttempt (Up node) slot = KnowsAttempt node slot
   HoldsAttempt (Down disk undecided) slot = ⊥
 
-  -- the host is up, and has a session or an attempt of this number, that goes on
+  -- the host is up, and has a running session or attempt of this number
   abbrev pub HasSession : Host D → ℕ → Type 0
   HasSession host session = HoldsSession host.state session
 
   abbrev pub HasAttempt : Host D → ℕ → Type 0
   HasAttempt host slot = HoldsAttempt host.state slot
 
-  -- why a host loses an attempt for which replies came: there was no memory for what it read, or no room for the
-  -- outcome with which they end it
+  -- why a host loses an attempt for which replies came: too little memory to read them, or no room for the outcome
   abbrev pub IsWhyUnread : ℕ → HostState D → ℕ → List ℕ → NodeFault → Type 0
   IsWhyUnread now (Up node) slot piece fault =
       (fault ≡ node_fault.NoMemory)
@@ -147,7 +146,7 @@ module _ {D : Type 0} (honest : Type 0) (words : DiskWords D) where
       → HasNoRoomAtEnd (reporter_of node.config) now told piece node.records))
   IsWhyUnread now (Down disk undecided) slot piece fault = ⊥
 
-  -- and why it loses one that was told of the loss of its link: no memory was left for that outcome, or no room
+  -- why a host loses an attempt whose link was lost: too little memory for the outcome, or no room
   abbrev pub IsWhyUntold : ℕ → HostState D → ℕ → NodeFault → Type 0
   IsWhyUntold now (Up node) slot fault =
       (fault ≡ node_fault.NoMemory)
@@ -171,7 +170,7 @@ module _ {D : Type 0} (honest : Type 0) (words : DiskWords D) where
     pub attempts : after.attempts ≡ before.attempts
     pub notes : NotesChange old new after received.change recorded
 
-  -- A host's node stopped in that call, since its device failed, with a note of the accept.
+  -- The host's node stopped in that call because its device failed, and has a note of the accept.
   pub record StopsHearing (now : ℕ) (old new : Host D) (session : ℕ) (piece : List ℕ) : Type 0 where
     pub before : NodeState D
     pub after : NodeState D
@@ -206,7 +205,7 @@ module _ {D : Type 0} (honest : Type 0) (words : DiskWords D) where
     pub seats : after.seats ≡ before.seats
     pub notes : NotesChange old new after replied.change recorded
 
-  -- A host's node stopped in that call, since its device failed, with a note of the outcome.
+  -- The host's node stopped in that call because its device failed, and has a note of the outcome.
   pub record StopsReading (now : ℕ) (old new : Host D) (slot : ℕ) (piece : List ℕ) : Type 0 where
     pub before : NodeState D
     pub after : NodeState D
@@ -224,7 +223,7 @@ module _ {D : Type 0} (honest : Type 0) (words : DiskWords D) where
       LosesAttempt old new slot × IsWhyUnread now old.state slot piece fault
   ReadsOrNot now old new slot piece read.Stopped = StopsReading now old new slot piece
 
-  -- A host was told that the connection of an attempt is lost, and has recorded its outcome, under this number.
+  -- A host has noticed that the connection of an attempt is lost, and has recorded the outcome, under this number.
   pub record Loses (now : ℕ) (old new : Host D) (slot change : ℕ) (recorded : Recorded) : Type 0 where
     pub before : NodeState D
     pub up : old.state ≡ Up before
@@ -239,7 +238,7 @@ module _ {D : Type 0} (honest : Type 0) (words : DiskWords D) where
     pub seats : after.seats ≡ before.seats
     pub notes : NotesOne old new after recorded
 
-  -- A host's node stopped in that call, since its device failed, with a note of the outcome.
+  -- The host's node stopped in that call because its device failed, and has a note of the outcome.
   pub record StopsLosing (now : ℕ) (old new : Host D) (slot : ℕ) : Type 0 where
     pub before : NodeState D
     pub after : NodeState D
@@ -251,7 +250,7 @@ module _ {D : Type 0} (honest : Type 0) (words : DiskWords D) where
     pub noted : Noted
     pub note_is : after.records.noted ≡ Some noted
 
-  -- what became of an attempt whose host was told of the loss
+  -- the result of reporting a lost connection to the host of an attempt
   abbrev pub IsToldLoss : ℕ → Host D → Host D → ℕ → ToldLoss → Type 0
   IsToldLoss now old new slot (loss.Ended change recorded) = Loses now old new slot change recorded
   IsToldLoss now old new slot (loss.Gone fault) =

@@ -1,4 +1,4 @@
--- A node that compacts its spool, on the other of its two disks.
+-- A node compacts its spool, onto the other of its two disks.
 use Rattle.std.specs.Prelude.{◌≡◌, ◌⊎◌, ℕ, List, length, None}
 use Rattle.relay_disk.specs.Device.{DiskWords}
 use Rattle.relay_disk.specs.declared.disks.Disks.{Disks}
@@ -23,12 +23,12 @@ abbrev pub LacksSecond : {D : Type 0} → HostState D → Type 0
 LacksSecond (Up node) = node.records.spool.taken.other ≡ None
 LacksSecond (Down disk undecided) = ⊥
 
--- it can't write what it holds as one record: that is too much, or its spool has no generation left
+-- what the node holds doesn't fit into one record, or its spool has no generation left
 abbrev pub HoldsTooMuch : {D : Type 0} → HostState D → Type 0
 HoldsTooMuch (Up node) = IsTooMuch node.records.spool.taken (length (snapshot node.records.queue))
 HoldsTooMuch (Down disk undecided) = ⊥
 
--- why a node may refuse to compact its spool: it has no memory, no second disk, or no room for the record
+-- why a node may refuse to compact its spool: too little memory, no second disk, or no room for the record
 abbrev pub IsWhyNotCompacted : {D : Type 0} → Host D → NodeFault → Type 0
 IsWhyNotCompacted host why =
     (why ≡ node_fault.NoMemory)
@@ -40,8 +40,7 @@ module _ {D : Type 0} (honest : Type 0) (words : DiskWords D) where
   KnowsNow (parts.Up node) = KnowsChanges honest words node
   KnowsNow (parts.Down down) = ⊥
 
-  -- A host has written its spool anew, and this is its size now. It keeps the changes that it kept, and nothing else
-  -- changes.
+  -- A host has compacted its spool, to this size. It keeps its changes, and nothing else changes.
   pub record RewritesSpool (old new : Host D) (size : ℕ) : Type 0 where
     pub before : NodeState D
     pub after : NodeState D

@@ -1,4 +1,4 @@
--- What a stop makes of one host, between two calls or in one, and what its opening makes of it.
+-- The effect of a stop on one host, between two calls or in one, and of its opening.
 use Rattle.std.specs.Prelude.{◌≡◌, ◌⊎◌, ◌≤◌, ◌<◌, ℕ, Bool, true, false, List, [], ◌∷◌, ◌++◌, Option, None, Some}
 use Rattle.std.specs.Option.{is_some, option_map}
 use Rattle.relay_disk.specs.Device.{DiskWords}
@@ -22,7 +22,7 @@ abbrev pub IsCutShort : {D : Type 0} → world.HostState D → Type 0
 IsCutShort (world.Up node) = (node.records.spool.live ≡ false) × (is_some node.records.noted ≡ true)
 IsCutShort (world.Down disk undecided) = ⊥
 
--- the same of the parts of a host
+-- whether the host, given as its parts, is up
 abbrev pub is_up_now : {D : Type 0} → HostState D → Bool
 is_up_now (Up node) = true
 is_up_now (Down down) = false
@@ -35,8 +35,8 @@ WasCutShort (Down down) = ⊥
 abbrev pub without_octets : Undecided → Undecided
 without_octets undecided = record undecided { note = record undecided.note { octets = [] } }
 
--- A node that was opened has the undecided change exactly if its next number is above the change's own: then its record
--- is after the others, and it is found.
+-- A node that was opened has the undecided change exactly if its next number is greater than the change's own: then the
+-- change's record follows the others, and the change is found.
 abbrev pub Decided : {D : Type 0} → NodeState D → List (List ℕ) → Option Undecided → world.Host D → Option Undecided
     → Type 0
 Decided node records None host None = host ≡ host_of node records
@@ -47,14 +47,14 @@ Decided node records (Some undecided) host (Some found) =
     (undecided.note.number < node.records.queue.next) × (found ≡ without_octets undecided)
     × (host ≡ host_of node (records ++ undecided.note.octets ∷ []))
 
--- what a stop between two calls made of a node that was up, whose configuration and disks these are now
+-- a node that was up stopped between two calls, and left this configuration and these disks
 pub record NodeStops {D : Type 0} (honest : Type 0) (words : DiskWords D) (before : NodeState D) (new : DownNode D)
     : Type 0 where
   pub config : new.config ≡ before.config
   pub left : IsLeftBy honest words before.records new.disk
   pub none : new.undecided ≡ None
 
--- and what one in a call made of it
+-- a node that was up stopped in a call, and left this configuration and these disks
 pub record NodeCrashes {D : Type 0} (honest : Type 0) (words : DiskWords D) (before : NodeState D) (new : DownNode D)
     (origin : Origin) : Type 0 where
   pub config : new.config ≡ before.config
@@ -74,7 +74,7 @@ StateCrashes honest words (Up before) (Down down) origin = NodeCrashes honest wo
 StateCrashes honest words (Down was) new origin = ⊥
 
 module _ {D : Type 0} (honest : Type 0) (words : DiskWords D) (old new : world.Host D) where
-  -- A host that was up is down between two calls, with disks of which a stop leaves no more than of those before.
+  -- A host that was up is down, stopped between two calls; a further stop of its disks leaves no more than this one.
   pub record StopsAtRest : Type 0 where
     pub before : NodeState D
     pub up : old.state ≡ world.Up before
@@ -93,7 +93,7 @@ module _ {D : Type 0} (honest : Type 0) (words : DiskWords D) (old new : world.H
     pub new_is : new
         ≡ record old { state = world.Down disk (Some (record { note = noted; origin = origin_in origin })) }
 
-  -- A host that was down is opened, with this undecided change or none.
+  -- A host that was down is up; the undecided change was found or not.
   pub record ComesUp (found : Option Undecided) : Type 0 where
     pub disk : Disks D
     pub undecided : Option Undecided
@@ -103,7 +103,7 @@ module _ {D : Type 0} (honest : Type 0) (words : DiskWords D) (old new : world.H
     pub idle : IsIdle old.config after
     pub decides : Decided after old.records undecided new found
 
-  -- A host that is down stays so, with disks of which a stop leaves no more than of those before.
+  -- A host that is down stays down; a further stop of its disks leaves no more than before.
   pub record StaysSo (found : Option Undecided) : Type 0 where
     pub disk : Disks D
     pub undecided : Option world.Undecided

@@ -1,4 +1,4 @@
--- What octets that a node has heard on a link make of it, and of the ledger.
+-- The effect of octets that a node has heard on their link, and on the ledger.
 use Rattle.std.specs.Prelude.{◌++◌, ℕ, ◌+◌, Bool, true, false, List, [], ◌∷◌, Option, None, Some}
 use Rattle.std.specs.Option.{option_map}
 use Rattle.relay_node.specs.declared.receive.Received.{Received}
@@ -9,12 +9,12 @@ use Rattle.relay_world.specs.declared.link.ServerEnd.{ServerEnd}
 use Rattle.relay_world.specs.Steps.{unless_broken}
 use Rattle.relay_hosts.specs.declared.recorded.Recorded.{Recorded}
 
--- a server end after a call that closes it or not
+-- a server end after a call that may close it
 abbrev pub end_after : Bool → ServerEnd → ServerEnd
 end_after true end = record end { session = None }
 end_after false end = end
 
--- the link after a call in which the node at its server end has heard octets: nothing is written on a broken one
+-- the link after the node at its server end has heard octets; nothing is written on a broken link
 abbrev pub heard_on : Link → Received → Link
 heard_on link received = record link {
   server = option_map (end_after received.close) link.server;
@@ -22,11 +22,11 @@ heard_on link received = record link {
   down = link.down ++ unless_broken link received.out.items;
 }
 
--- the link without a session at its server end, broken
+-- the link, broken and without a session at its server end
 abbrev pub cut_off : Link → Link
 cut_off link = record link { server = option_map (end_after true) link.server; broken = true }
 
--- the line of an accept, where the node has made one
+-- the line of an accept, if the node has made one
 abbrev pub accept_lines : ℕ → ℕ → Option ℕ → Option Recorded → List Line
 accept_lines node number None recorded = []
 accept_lines node number (Some change) None = []

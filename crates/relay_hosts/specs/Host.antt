@@ -1,4 +1,4 @@
--- A node as its parts, and the room that is kept for the notes that may still come of it.
+-- A node as its parts, and the room that is reserved for notes that may still come.
 use Rattle.std.specs.Prelude.{ℕ, suc, ◌+◌, ◌≤◌, Bool, true, false, List, [], ◌∷◌, Option, None, Some, if◌then◌else◌}
 use Rattle.std.specs.Option.{option_map}
 use Rattle.relay_node.specs.Node.{NodeState}
@@ -30,27 +30,27 @@ host_in (Down down) records = record {
   records = records;
 }
 
--- how many slots are taken
+-- how many slots are occupied
 abbrev pub count_some : {A : Type 0} → List (Option A) → ℕ
 count_some [] = 0
 count_some (None ∷ slots) = count_some slots
 count_some (Some value ∷ slots) = suc (count_some slots)
 
--- The notes that may still come of a node: one of each attempt that runs; and of a node that has stopped the one of the
--- call that stopped it.
+-- How many notes may still come from a node: one of each running attempt, and, if it has stopped, the one of the call
+-- that stopped it.
 abbrev pub notes_of : {D : Type 0} → NodeState D → ℕ
 notes_of node = if node.records.spool.live then count_some node.attempts else 1
 
--- or, of a node that is down, the one that its opening decides
+-- or, from a node that is down, the one that its opening decides
 abbrev pub notes_to_come : {D : Type 0} → HostState D → ℕ
 notes_to_come (Up node) = notes_of node
 notes_to_come (Down down) = count_some (down.undecided ∷ [])
 
--- This many records are owed at most, and there is room for them.
+-- At most this many records may still come, and there is room for them.
 abbrev pub OwesWithin : ℕ → ℕ → ℕ → ℕ → Type 0
 OwesWithin notes len capacity owed = (notes ≤ owed) × (len + owed ≤ capacity)
 
--- whether a node is there, and up
+-- whether the state holds a node that is up
 abbrev pub holds_up : {D : Type 0} → world.HostState D → Bool
 holds_up (world.Up standing) = true
 holds_up (world.Down disk undecided) = false

@@ -1,4 +1,4 @@
--- A node that is down and stops again, and one for which a stop is set for a later call.
+-- A node that is down and stops again, and a device fault that is set for a later call.
 use Rattle.std.specs.Prelude.{◌≡◌, ℕ, List, Some}
 use Rattle.relay_disk.specs.Device.{DiskWords}
 use Rattle.relay_disk.specs.Disks.{ImagesWithin, calls_left_of}
@@ -23,7 +23,7 @@ StateStopsAgain honest words (Down was) (Up after) = ⊥
 StateStopsAgain honest words (Down was) (Down now) = DownStops honest words was now
 
 module _ {D : Type 0} (honest : Type 0) (words : DiskWords D) where
-  -- a stop was set for a node that is up: of its disks this many calls pass, and the next fails
+  -- a device fault was set for a node that is up: after this many calls of its disks the next one fails
   pub record IsArmed (old new : Host D) (calls : ℕ) : Type 0 where
     pub before : NodeState D
     pub up : old.state ≡ world.Up before

@@ -1,4 +1,4 @@
--- What one host begins of itself: sessions, attempts, and the end of places without a hop.
+-- What one host begins by itself: sessions, attempts, and giving up places without a hop.
 use Rattle.std.specs.Prelude.{◌≡◌, ◌⊎◌, ◌↔◌, ℕ, List, [], Option, Some, Result, Ok, Err}
 use Rattle.relay_disk.specs.Device.{DiskWords}
 use Rattle.relay_slots.specs.Slots.{IsFull}
@@ -26,12 +26,12 @@ use Rattle.relay_hosts.specs.declared.work.GivenUp.TheVariants as given
 use Rattle.relay_hosts.specs.Call.{NotesOne, Runs}
 use Rattle.relay_report.specs.Report.{reporter_of}
 
--- the work of a node at a time; none of one that is down
+-- the work that a node has due at a time; none if it is down
 abbrev pub works_in : {D : Type 0} → ℕ → HostState D → List Work
 works_in now (Up node) = works_of node.config.routes node.attempts now node.records.queue
 works_in now (Down disk undecided) = []
 
--- the held places of a node; none of one that is down
+-- the held places of a node; none if it is down
 abbrev pub marks_in : {D : Type 0} → HostState D → List (ℕ × ℕ)
 marks_in (Up node) = held_of node.records.queue
 marks_in (Down disk undecided) = []
@@ -41,8 +41,8 @@ abbrev pub attempts_in : {D : Type 0} → HostState D → List (Option Run)
 attempts_in (Up node) = node.attempts
 attempts_in (Down disk undecided) = []
 
--- Of a host's first work an attempt has begun, unless there was no memory, or no free number: that is said exactly if
--- there is none.
+-- An attempt for a host's first work has begun, unless there was no memory or no free number; the fault for a free
+-- number comes exactly if there is none.
 abbrev pub BeginsUnlessFull : {D : Type 0} → Host D → Begun → Type 0
 BeginsUnlessFull old (begun.Done started) = IsFull (attempts_in old.state) → ⊥
 BeginsUnlessFull old (begun.Refused fault) =
@@ -59,7 +59,7 @@ pub record OpensSession {D : Type 0} (old new : Host D) (peer : List ℕ) (conne
   pub records : after.records ≡ before.records
   pub attempts : after.attempts ≡ before.attempts
 
--- A host has refused a client, for lack of memory, or of a free session, exactly if it has none. It is as it was.
+-- A host has refused a client, for lack of memory, or of a free session exactly if it has none. The host is unchanged.
 pub record RefusesSession {D : Type 0} (old new : Host D) (fault : NodeFault) : Type 0 where
   pub before : NodeState D
   pub up : old.state ≡ Up before
@@ -81,12 +81,12 @@ module _ {D : Type 0} (honest : Type 0) (words : DiskWords D) where
   HoldsChanges (Up node) = KnowsChanges node
   HoldsChanges (Down disk undecided) = ⊥
 
-  -- where it is up
+  -- a node that is up keeps a list of changes
   abbrev pub KnowsIfUp : HostState D → Type 0
   KnowsIfUp (Up node) = KnowsChanges node
   KnowsIfUp (Down disk undecided) = Unit {0}
 
-  -- it is up, and its node keeps these changes
+  -- the host is up, and its node keeps these changes
   abbrev pub KeepsUp : HostState D → List Change → Type 0
   KeepsUp (Up node) changes = Keeps honest words node.records changes
   KeepsUp (Down disk undecided) changes = ⊥
@@ -105,7 +105,7 @@ module _ {D : Type 0} (honest : Type 0) (words : DiskWords D) where
     pub records : after.records ≡ before.records
     pub seats : after.seats ≡ before.seats
 
-  -- A host has refused to begin one, for the first cause in the order of the faults. It is as it was.
+  -- A host has refused to begin an attempt, for the first cause in the order of the faults. The host is unchanged.
   pub record RefusesAttempt (now : ℕ) (old new : Host D) (message : ℕ) (hop : List ℕ) (fault : NodeFault) : Type 0 where
     pub before : NodeState D
     pub up : old.state ≡ Up before
@@ -132,7 +132,7 @@ module _ {D : Type 0} (honest : Type 0) (words : DiskWords D) where
     pub attempts : after.attempts ≡ before.attempts
     pub notes : NotesOne old new after recorded
 
-  -- A host's node stopped in that call, since its device failed, with a note of the outcome.
+  -- The host's node stopped in that call because its device failed, and has a note of the outcome.
   pub record StopsGivingUp (now : ℕ) (old new : Host D) (message : ℕ) : Type 0 where
     pub before : NodeState D
     pub after : NodeState D
@@ -145,7 +145,7 @@ module _ {D : Type 0} (honest : Type 0) (words : DiskWords D) where
     pub noted : Noted
     pub note_is : after.records.noted ≡ Some noted
 
-  -- A host has refused to give them up, for the first cause in the order of the faults. It is as it was.
+  -- A host has refused to give them up, for the first cause in the order of the faults. The host is unchanged.
   pub record RefusesGivingUp (now : ℕ) (old new : Host D) (message : ℕ) (fault : NodeFault) : Type 0 where
     pub before : NodeState D
     pub up : old.state ≡ Up before
@@ -165,7 +165,7 @@ module _ {D : Type 0} (honest : Type 0) (words : DiskWords D) where
       node.records
   LacksRoom now (Down disk undecided) message = ⊥
 
-  -- Of a host's first work the places of a message have ended, unless there was no memory, or no room for their
+  -- The places of a message, as a host's first work, were given up, unless there was no memory or no room for their
   -- outcome.
   abbrev pub GivesUpUnlessFull : ℕ → Host D → ℕ → GivenUp → Type 0
   GivesUpUnlessFull now old message (given.Done change recorded) = Unit {0}

@@ -1,4 +1,4 @@
-//! A node that begins.
+//! A new node.
 ghost use Rattle.std.specs.Prelude.{IfOk};
 ghost use Rattle.relay_hosts.specs.Begin.{IsNew};
 
@@ -9,7 +9,7 @@ use relay_routes::Config;
 use std::alloc::Global;
 
 impl<D: Disk> Host<D> {
-    /// A node that begins, on two disks of size 0. Fails if memory runs out, or a disk fails or isn't empty.
+    /// Makes a node on two empty disks. Fails if memory runs out, or if a disk fails or isn't empty.
     pub fn create(alloc: Global, config: Config, disk: Disks<D>) -> Result<Self, NotOpened<D>>
         ensures { IfOk result (IsNew D.honest D.words config) }
     {

@@ -1,4 +1,4 @@
-//! The calls of a node that may make a change, each with the note of the change.
+//! The calls of a node that may add a change, each with the note of the change.
 ghost use Rattle.std.specs.Prelude.{◌≡◌, ◌<◌, ◌≤◌, ◌+◌, true, vec_capacity, vec_len};
 ghost use Rattle.std.specs.Option.{is_some};
 ghost use Rattle.relay_hosts.specs.Call.{HearsOrNot, IsToldLoss, KnowsAttempt, KnowsSession, ReadsOrNot, TakesNote};
@@ -12,39 +12,39 @@ use relay_octets::Octets;
 use relay_trace::Moment;
 use std::mem;
 
-/// What became of an attempt whose node was told that its connection is lost.
+/// The result of reporting a lost connection to the node of an attempt.
 pub enum ToldLoss {
-    /// It has an outcome, the change of this number.
+    /// The attempt has an outcome: the change of this number.
     Ended(u64, Recorded),
-    /// It is gone without one, for lack of memory or room.
+    /// The attempt is gone without an outcome: too little memory or room.
     Gone(NodeFault),
     /// The node has stopped.
     Stopped,
 }
 
-/// What became of replies that a node was to read.
+/// The result of handing replies to a node.
 pub enum Read {
-    /// They were read, and a change was made or none.
+    /// They were read; a change was added or not.
     Done(Replied, Option<Recorded>),
-    /// Their attempt is gone, for lack of memory or room.
+    /// The attempt is gone: too little memory or room.
     Gone(NodeFault),
     /// The node has stopped.
     Stopped,
 }
 
-/// What became of octets that a node was to hear.
+/// The result of handing octets of a client to a node.
 pub enum Heard {
-    /// They were heard, and a change was made or none.
+    /// They were heard; a change was added or not.
     Done(Received, Option<Recorded>),
-    /// Their session is gone, for lack of memory or room.
+    /// The session is gone: too little memory or room.
     Gone(NodeFault),
     /// The node has stopped.
     Stopped,
-    /// There was no room to note what the node would do. It wasn't called.
+    /// There was no room to record a change. The node wasn't called.
     NoRoom,
 }
 
-/// Returns whether this fault says that the node has stopped.
+/// Returns whether this fault means that the node has stopped.
 pub(crate) fn is_stop(fault: NodeFault) -> bool
     ensures { result ≡ is_stop fault }
 {
@@ -61,7 +61,7 @@ pub(crate) fn is_stop(fault: NodeFault) -> bool
     }
 }
 
-/// Takes the note of a node, and adds its record to those before, for which there is room.
+/// Takes the note of a node, and appends its record to the earlier ones, for which there is room.
 pub(crate) fn take_note<D: Disk>(node: &mut Node<D>, records: &mut Vec<Octets>) -> Recorded
     requires noted { is_some node.old.records.noted ≡ true }
     requires room { vec_len records.old < vec_capacity records.old }
@@ -84,7 +84,7 @@ pub(crate) fn take_note<D: Disk>(node: &mut Node<D>, records: &mut Vec<Octets>) 
     }
 }
 
-/// Tells a node that the connection of an attempt that runs is lost.
+/// Reports to a node that the connection of a running attempt is lost.
 pub(crate) fn lose_at<D: Disk>(
     node: &mut Node<D>,
     records: &mut Vec<Octets>,
@@ -112,7 +112,7 @@ pub(crate) fn lose_at<D: Disk>(
     ToldLoss::Ended(number, recorded)
 }
 
-/// A node reads replies for an attempt that runs.
+/// Hands replies to a node for a running attempt.
 pub(crate) fn read_at<D: Disk>(
     node: &mut Node<D>,
     records: &mut Vec<Octets>,
@@ -144,7 +144,7 @@ pub(crate) fn read_at<D: Disk>(
     Read::Done(replied, Some(recorded))
 }
 
-/// A node hears octets of a client on a session that goes on.
+/// Hands octets of a client to a node for a running session.
 pub(crate) fn hear_at<D: Disk>(
     node: &mut Node<D>,
     records: &mut Vec<Octets>,

@@ -1,4 +1,4 @@
-//! A node compacts its spool, as small as what it holds.
+//! Compaction of a node's spool.
 ghost use Rattle.std.specs.Prelude.{◌≤◌, ℕ, List, None};
 ghost use Rattle.relay_hosts.specs.Compact.{RewritesOrNot};
 ghost use Rattle.relay_hosts.specs.Host.{host_in, host_of, notes_of, notes_to_come};
@@ -9,9 +9,9 @@ use crate::host::{DownNode, HostState, stopped};
 use relay_disk::Reboot;
 use relay_node::{Node, NodeFault};
 
-/// What became of a spool that a node was to write anew.
+/// The result of compacting a spool.
 pub enum Compacted {
-    /// It is written, and this is its size, in octets.
+    /// It was compacted to this size, in octets.
     Done(usize),
     /// The node has refused.
     Refused(NodeFault),
@@ -19,7 +19,7 @@ pub enum Compacted {
     Stopped,
 }
 
-/// A node compacts its spool. If it stops in that, it goes down.
+/// Compacts the spool of a node. If the node stops in that call, it goes down.
 pub(crate) fn compact_at<D: Reboot>(node: Node<D>, pick: u64) -> (HostState<D>, Compacted)
     requires { KnowsChanges D.Disk.honest D.Disk.words node }
     ensures rewrites { (records : List (List ℕ)) → RewritesOrNot D.Disk.honest D.Disk.words (host_of node records)

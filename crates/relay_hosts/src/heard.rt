@@ -1,4 +1,4 @@
-//! What a node that has heard octets makes of their link and of the ledger.
+//! The effect of heard octets on their link and on the ledger.
 ghost use Rattle.std.specs.Prelude.{◌≡◌, ◌+◌, ◌++◌, ◌<◌, ◌≤◌, false, OnErr, OnOk, drop, length, take, vec_capacity};
 ghost use Rattle.std.specs.Prelude.{vec_len};
 ghost use Rattle.std.specs.Option.{option_map};
@@ -11,7 +11,7 @@ use relay_node::Received;
 use relay_world::{Line, Link, ServerEnd};
 use std::alloc::AllocError;
 
-/// Of octets of which this many were read, as many as these that wait, or all.
+/// Returns the octets after the first `read`, at most `count` of them.
 pub fn waiting(octets: &[u8], read: usize, count: usize) -> &[u8]
     requires { read ≤ length octets.now }
     ensures { result.now ≡ take count (drop read octets.now) }
@@ -23,8 +23,8 @@ pub fn waiting(octets: &[u8], read: usize, count: usize) -> &[u8]
     &rest[..count]
 }
 
-/// What a node has heard on a link is read, and what it answers is written. If it answers something, and memory runs
-/// out for that, the link breaks.
+/// Marks the heard octets as read, and writes the replies on the link. If memory for the replies runs out, the link
+/// breaks.
 pub fn answer_on(link: &mut Link, received: &Received) -> Result<(), AllocError>
     requires whole { link.old.broken ≡ false }
     requires within { link.old.up_read + received.now.used ≤ length link.old.up }
@@ -46,7 +46,7 @@ pub fn answer_on(link: &mut Link, received: &Received) -> Result<(), AllocError>
     }
 }
 
-/// The session at the server end of a link is gone, and the link breaks.
+/// Ends the session at the server end of a link, and breaks the link.
 pub fn cut_off(link: &mut Link)
     ensures { link.new ≡ cut_off link.old }
 {
@@ -54,7 +54,7 @@ pub fn cut_off(link: &mut Link)
     break_off(link);
 }
 
-/// The server end of a link closes, or not: its session is over then.
+/// Closes the server end of a link if `close` is set: its session is over then.
 pub fn close_server(link: &mut Link, close: bool)
     ensures { link.new ≡ record link.old { server = option_map (end_after close) link.old.server } }
 {
@@ -63,7 +63,7 @@ pub fn close_server(link: &mut Link, close: bool)
     }
 }
 
-/// A server end closes, or not.
+/// Ends the session of a server end if `close` is set.
 fn close_end(end: &mut ServerEnd, close: bool)
     ensures { end.new ≡ end_after close end.old }
 {
@@ -72,7 +72,7 @@ fn close_end(end: &mut ServerEnd, close: bool)
     }
 }
 
-/// Adds the line of an accept, where a node has made one, to the ledger, which has room for it.
+/// Adds a line to the ledger if the node has accepted a message. There is room for it.
 pub fn push_accept(
     ledger: &mut Vec<Line>,
     node: usize,

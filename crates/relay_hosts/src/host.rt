@@ -1,4 +1,4 @@
-//! A node that runs beside others, and is up or down.
+//! A node of a world, up or down.
 ghost use Rattle.std.specs.Prelude.{◌≡◌, ◌↔◌, ◌≤◌, ℕ, List, [], ◌∷◌, false, true, None, IfErr, IfOk, vec_capacity};
 ghost use Rattle.std.specs.Prelude.{vec_len};
 ghost use Rattle.std.specs.List.{Contains};
@@ -25,28 +25,28 @@ use relay_trace::Moment;
 use std::alloc::Global;
 use std::marker::Model;
 
-/// What a change came from.
+/// The cause of a change.
 #[derive(Clone, Copy)]
 pub enum Origin {
-    /// Octets of a client, on this link.
+    /// Octets of a client, on the link of this number.
     FromClient(usize),
-    /// Replies on a link, of the attempt of this place, for this message.
+    /// Replies on the link of this number, to the attempt at this index, for this message.
     FromReplies(usize, usize, u64),
-    /// The loss of a link, of the attempt of this place, for this message.
+    /// The loss of the link of this number, of the attempt at this index, for this message.
     FromLoss(usize, usize, u64),
-    /// Places of this message without a hop.
+    /// Places of this message that had no hop.
     FromNoHop(u64),
 }
 
-/// The change of an append that a stop left open.
+/// The change that a stop left undecided.
 pub struct Undecided {
     /// The note of the change.
     pub note: Noted,
-    /// What it came from.
+    /// Its cause.
     pub origin: Origin,
 }
 
-// Written out, so that what drops this calls it, and doesn't look into its parts.
+// Written out, so that the proof of a caller that drops one stops at this function.
 impl Drop for Undecided {
     fn drop(self) {
         let Undecided {
@@ -56,15 +56,14 @@ impl Drop for Undecided {
     }
 }
 
-/// A node that is down: the configuration under which it will be opened, its disks, and the change that its opening
-/// decides.
+/// A node that is down: the configuration to open it with, its disks, and the change that its opening decides.
 pub(crate) struct DownNode<D: Disk> {
     pub(crate) config: Config,
     pub(crate) disk: Disks<D>,
     pub(crate) undecided: Option<Undecided>,
 }
 
-// Written out, so that what drops this calls it, and doesn't look into its parts.
+// Written out, so that the proof of a caller that drops one stops at this function.
 impl<D: Disk + Drop> Drop for DownNode<D> {
     fn drop(self) {
         let DownNode {
@@ -75,7 +74,7 @@ impl<D: Disk + Drop> Drop for DownNode<D> {
     }
 }
 
-/// A node that is up, or what a stop has left of one.
+/// A node that is up, or what a stop has left of it.
 pub(crate) enum HostState<D: Disk> {
     /// It is up.
     Up(Node<D>),
@@ -93,8 +92,8 @@ impl<D: Disk + Drop> Drop for HostState<D> {
     }
 }
 
-/// A node, the records of its changes, how many more may be owed, for which there is room, and what a stop
-/// that waits for it leaves of its disks.
+/// A node and the records of its changes; how many more records may come, for which there is room; and what a pending
+/// device fault will leave of its disks.
 pub struct Host<D: Disk> {
     pub(crate) state: HostState<D>,
     pub(crate) records: Vec<Octets>,
@@ -138,7 +137,7 @@ impl<D: Disk> Host<D> {
         }
     }
 
-    /// The configuration of the node, which it was made with, or will be opened with.
+    /// Returns the configuration of the node.
     pub fn config(&self) -> &Config
         ensures { result.now ≡ self.now.config }
     {
@@ -148,7 +147,8 @@ impl<D: Disk> Host<D> {
         }
     }
 
-    /// The held places of the node's messages, in order; none of a node that is down. Its only fault is lack of memory.
+    /// Returns the held places of the node's messages, in order; none if the node is down. Fails only if memory runs
+    /// out.
     pub fn marks(&self, alloc: Global) -> Result<Vec<(u64, u8)>, NodeFault>
         requires { KnowsIfUp D.honest D.words self.now.state }
         ensures marks { IfOk result (λ marks. marks.items ≡ marks_in self.now.state) }
@@ -163,7 +163,7 @@ impl<D: Disk> Host<D> {
         }
     }
 
-    /// Ends a session that goes on.
+    /// Ends a running session.
     pub fn end(&mut self, session: usize)
         requires { HasSession D.honest D.words self.old session }
         ensures { LosesSession self.old self.new session }
@@ -174,7 +174,7 @@ impl<D: Disk> Host<D> {
         let _ = node.ended(session);
     }
 
-    /// Tells the node that the connection of an attempt that runs is lost.
+    /// Reports to the node that the connection of a running attempt is lost.
     pub fn lose(&mut self, slot: usize, now: Moment) -> ToldLoss
         requires { HasAttempt D.honest D.words self.old slot }
         ensures { IsToldLoss D.honest D.words now self.old self.new slot result }
@@ -185,7 +185,7 @@ impl<D: Disk> Host<D> {
         lose_at(node, &mut self.records, &mut self.owed, slot, now)
     }
 
-    /// The node reads replies for an attempt that runs, by one call.
+    /// Hands replies to the node for a running attempt, in one call.
     pub fn read(&mut self, slot: usize, piece: &[u8], now: Moment) -> Read
         requires { HasAttempt D.honest D.words self.old slot }
         ensures { ReadsOrNot D.honest D.words now self.old self.new slot piece.now result }
@@ -196,7 +196,7 @@ impl<D: Disk> Host<D> {
         read_at(node, &mut self.records, &mut self.owed, slot, piece, now)
     }
 
-    /// The node hears octets of a client on a session that goes on, by one call.
+    /// Hands octets of a client to the node for a running session, in one call.
     pub fn hear(&mut self, session: usize, piece: &[u8], now: Moment) -> Heard
         requires { HasSession D.honest D.words self.old session }
         ensures { HearsOrNot D.honest D.words now self.old self.new session piece.now result }
@@ -209,7 +209,7 @@ impl<D: Disk> Host<D> {
 }
 
 impl<D: Reboot + Drop> Host<D> {
-    /// A node that is up stops between two calls. If memory runs out, its disks are as they are.
+    /// Stops a node that is up, between two calls. If memory runs out, its disks are unchanged.
     pub fn stop(self, pick: u64) -> Self
         requires { holds_up self.state ≡ true }
         ensures { StopsAtRest D.Disk.honest D.Disk.words self result }
@@ -228,7 +228,7 @@ impl<D: Reboot + Drop> Host<D> {
         }
     }
 
-    /// A node that stopped in a call goes down, with the change that it was adding.
+    /// Takes a node down that stopped in a call, with the change that it was adding.
     pub fn crash(self, origin: Origin) -> Self
         requires { IsCutShort self.state }
         ensures { CrashesInCall D.Disk.honest D.Disk.words self result origin }
@@ -247,8 +247,8 @@ impl<D: Reboot + Drop> Host<D> {
         }
     }
 
-    /// A node that is down is opened, or stays down where its disks are refused, or memory runs out. If it has the
-    /// change that was undecided, that is answered, without its record.
+    /// Opens a node that is down. It stays down if its disks are refused or memory runs out. If the undecided change
+    /// turns out to be there, returns it, without its record.
     pub fn open(self, alloc: Global) -> (Self, Option<Undecided>)
         requires { holds_up self.state ≡ false }
         ensures { OpensOrNot D.Disk.honest D.Disk.words self result.0 result.1 }
@@ -264,7 +264,7 @@ impl<D: Reboot + Drop> Host<D> {
 }
 
 impl<D: Reboot + Drop> HostState<D> {
-    /// A node that is up stops between two calls.
+    /// Stops a node that is up, between two calls.
     fn stop(self, pick: u64) -> Self
         requires { is_up_now self ≡ true }
         ensures { StateStops D.Disk.honest D.Disk.words self result }
@@ -283,7 +283,7 @@ impl<D: Reboot + Drop> HostState<D> {
         }
     }
 
-    /// A node that stopped in a call goes down, with the change that it was adding.
+    /// Takes a node down that stopped in a call, with the change that it was adding.
     fn crash(self, pick: u64, origin: Origin) -> Self
         requires { WasCutShort self }
         ensures { StateCrashes D.Disk.honest D.Disk.words self result origin }
@@ -308,7 +308,7 @@ impl<D: Reboot + Drop> HostState<D> {
 }
 
 impl<D: Reboot + Drop> HostState<D> {
-    /// A node that is down is opened.
+    /// Opens a node that is down.
     fn open(
         self,
         alloc: Global,
@@ -328,7 +328,7 @@ impl<D: Reboot + Drop> HostState<D> {
 }
 
 impl<D: Reboot + Drop> DownNode<D> {
-    /// It is opened, as the host of these records, for which there is room.
+    /// Opens the node, as the host of these records, which have room for the undecided one.
     fn open(
         self,
         alloc: Global,
@@ -367,7 +367,7 @@ impl<D: Reboot + Drop> DownNode<D> {
 }
 
 impl<D: Reboot + Drop> Host<D> {
-    /// A node that is down stops again. If memory runs out, its disks are as they are.
+    /// Stops a node again that is down. If memory runs out, its disks are unchanged.
     pub fn stop_again(self, pick: u64) -> Self
         requires { holds_up self.state ≡ false }
         ensures { StaysSo D.Disk.honest D.Disk.words self result None }
@@ -386,7 +386,7 @@ impl<D: Reboot + Drop> Host<D> {
         }
     }
 
-    /// A stop is set for a node that is up: this many calls of its disks pass, and the next fails.
+    /// Sets a device fault for a node that is up: after `calls` calls of its disks the next one fails.
     pub fn arm(&mut self, calls: u64, pick: u64)
         requires { holds_up self.old.state ≡ true }
         ensures { IsArmed D.Disk.honest D.Disk.words self.old self.new calls }
@@ -400,7 +400,7 @@ impl<D: Reboot + Drop> Host<D> {
 }
 
 impl<D: Reboot + Drop> Host<D> {
-    /// A node that is up compacts its spool. If it stops in that, it goes down.
+    /// Compacts the spool of a node that is up. If the node stops in that call, it goes down.
     pub fn compact(self) -> (Self, Compacted)
         requires { HasChanges D.Disk.honest D.Disk.words self }
         ensures { RewritesOrNot D.Disk.honest D.Disk.words self result.0 result.1 }
@@ -425,7 +425,7 @@ impl<D: Reboot + Drop> Host<D> {
 }
 
 impl<D: Reboot + Drop> HostState<D> {
-    /// A node that is up compacts its spool. If it stops in that, it goes down.
+    /// Compacts the spool of a node that is up. If the node stops in that call, it goes down.
     fn compact(self, pick: u64) -> (Self, Compacted)
         requires { KnowsNow D.Disk.honest D.Disk.words self }
         ensures rewrites { (records : List (List ℕ)) → RewritesOrNot D.Disk.honest D.Disk.words (host_in self records)
@@ -440,7 +440,7 @@ impl<D: Reboot + Drop> HostState<D> {
 }
 
 impl<D: Reboot + Drop> HostState<D> {
-    /// A node that is down stops again.
+    /// Stops a node again that is down.
     fn stop_again(self, pick: u64) -> Self
         requires { is_up_now self ≡ false }
         ensures { StateStopsAgain D.Disk.honest D.Disk.words self result }
@@ -453,7 +453,7 @@ impl<D: Reboot + Drop> HostState<D> {
 }
 
 impl<D: Reboot + Drop> DownNode<D> {
-    /// It stops again.
+    /// Stops the disks again.
     fn stop_again(self, pick: u64) -> Self
         ensures { DownStops D.Disk.honest D.Disk.words self result }
     {
@@ -470,7 +470,7 @@ impl<D: Reboot + Drop> DownNode<D> {
     }
 }
 
-/// What a stop leaves of two disks. If memory runs out, they are as they are, or the first alone has stopped.
+/// Returns two disks after a stop. If memory runs out, they are unchanged, or only the first has stopped.
 pub(crate) fn stopped<D: Reboot>(disk: Disks<D>, pick: u64) -> Disks<D>
     ensures { D.Disk.honest → ImagesWithin D.Disk.words disk result }
 {

@@ -5,14 +5,14 @@ ghost use Rattle.relay_world.specs.Ledger.{left_lines, report_told};
 use relay_book::PlaceStep;
 use relay_world::Line;
 
-/// Returns the number of a change where it queued a report, and else 0.
+/// Returns the number of a change if it queued a report, else 0.
 pub fn report_told(change: u64, report: bool) -> u64
     ensures { result ≡ report_told change report }
 {
     if report { change } else { 0 }
 }
 
-/// Adds a line for each place of a message that left or is late, for which there is room.
+/// Adds a line for each place of a message that left or was delayed. There is room for them.
 pub fn push_left(
     ledger: &mut Vec<Line>,
     node: usize,

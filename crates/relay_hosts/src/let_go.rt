@@ -1,4 +1,4 @@
-//! A node that stops lets go of its ends: its sessions are gone, its attempts dropped, and the links broken.
+//! A stopping node lets go of its ends of links: its sessions are gone, its attempts dropped, and the links broken.
 ghost use Rattle.std.specs.Prelude.{◌≡◌, map, slice_get};
 ghost use Rattle.relay_world.specs.Crashes.{has_end_of, is_tried_for, let_go_link, serves_for, tries_for};
 ghost use Rattle.relay_world.specs.HangUp.{dropped, hung_up_attempt, hung_up_end, hung_up_link};
@@ -6,7 +6,7 @@ ghost use Rattle.relay_world.specs.HangUp.{dropped, hung_up_attempt, hung_up_end
 use crate::links::break_off;
 use relay_world::{Attempt, Fate, Link, ServerEnd};
 
-/// Breaks each link of which a node has an end, and ends its session there.
+/// Breaks each link that has an end at the node, and ends the node's session there.
 pub fn let_go_links(links: &mut [Link], attempts: &[Attempt], node: usize)
     ensures { links.new ≡ map (let_go_link node attempts.now) links.old }
 {
@@ -15,7 +15,7 @@ pub fn let_go_links(links: &mut [Link], attempts: &[Attempt], node: usize)
     }
 }
 
-/// Breaks a link, if a node has an end of it, and ends its session there.
+/// Breaks a link if it has an end at the node, and ends the node's session there.
 fn let_go_one(link: &mut Link, attempts: &[Attempt], node: usize)
     ensures { link.new ≡ let_go_link node attempts.now link.old }
 {
@@ -25,7 +25,7 @@ fn let_go_one(link: &mut Link, attempts: &[Attempt], node: usize)
     }
 }
 
-/// Returns whether a node has an end of a link.
+/// Returns whether a link has an end at the node.
 fn has_end_of(link: &Link, attempts: &[Attempt], node: usize) -> bool
     ensures { result ≡ has_end_of node attempts.now link.now }
 {
@@ -35,7 +35,7 @@ fn has_end_of(link: &Link, attempts: &[Attempt], node: usize) -> bool
     is_tried_for(link.client, attempts, node)
 }
 
-/// Returns whether a server end is a node's.
+/// Returns whether a server end belongs to the node.
 pub fn serves_for(server: &Option<ServerEnd>, node: usize) -> bool
     ensures { result ≡ serves_for node server.now }
 {
@@ -45,7 +45,7 @@ pub fn serves_for(server: &Option<ServerEnd>, node: usize) -> bool
     }
 }
 
-/// Returns whether a client end is an attempt of a node.
+/// Returns whether a client end is an attempt of the node.
 pub fn is_tried_for(client: Option<usize>, attempts: &[Attempt], node: usize) -> bool
     ensures { result ≡ is_tried_for node attempts.now client }
 {
@@ -58,7 +58,7 @@ pub fn is_tried_for(client: Option<usize>, attempts: &[Attempt], node: usize) ->
     }
 }
 
-/// Ends the session of a node at the server end of a link, if one is there.
+/// Ends the node's session at the server end of a link, if there is one.
 fn hang_up_link(link: &mut Link, node: usize)
     ensures { link.new ≡ hung_up_link node link.old }
 {
@@ -67,7 +67,7 @@ fn hang_up_link(link: &mut Link, node: usize)
     }
 }
 
-/// Ends the session of a server end, if it is a node's.
+/// Ends the session of a server end, if it belongs to the node.
 fn hang_up_end(end: &mut ServerEnd, node: usize)
     ensures { end.new ≡ hung_up_end node end.old }
 {
@@ -76,7 +76,7 @@ fn hang_up_end(end: &mut ServerEnd, node: usize)
     }
 }
 
-/// Drops all running attempts of a node.
+/// Drops all running attempts of the node.
 pub fn hang_up_attempts(attempts: &mut [Attempt], node: usize)
     ensures { attempts.new ≡ map (hung_up_attempt node) attempts.old }
 {
@@ -85,7 +85,7 @@ pub fn hang_up_attempts(attempts: &mut [Attempt], node: usize)
     }
 }
 
-/// Drops an attempt, if it runs at a node.
+/// Drops an attempt, if it runs at the node.
 fn hang_up_attempt(attempt: &mut Attempt, node: usize)
     ensures { attempt.new ≡ hung_up_attempt node attempt.old }
 {
@@ -94,7 +94,7 @@ fn hang_up_attempt(attempt: &mut Attempt, node: usize)
     }
 }
 
-/// What becomes of an attempt that is dropped.
+/// Returns the state of an attempt after it was dropped: unchanged if it had ended.
 fn dropped(fate: Fate) -> Fate
     ensures { result ≡ dropped fate }
 {

@@ -1,5 +1,5 @@
-//! The parts of relays that run beside each other, each by itself: a host, which is a node that is up or down, with the
-//! records of its changes; a link and its ends; and lines of the ledger.
+//! The single parts of a world of relays: a host, which is a node that is up or down with the records of its changes; a
+//! link and its ends; and lines of the ledger.
 #![tactic(auto)]
 
 mod begin;

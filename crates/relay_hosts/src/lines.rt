@@ -1,4 +1,4 @@
-//! Lines that the ledger may come to need.
+//! How many ledger lines may still be needed.
 ghost use Rattle.std.specs.Prelude.{◌≡◌, ◌+◌, ℕ, MatchOption, length};
 ghost use Rattle.relay_hosts.specs.Host.{undecided_in};
 ghost use Rattle.relay_hosts.specs.Room.{lines_held, lines_left, lines_of_attempt, lines_to_come};
@@ -9,7 +9,7 @@ use crate::links::is_running;
 use relay_disk::Disk;
 use relay_world::Attempt;
 
-/// The lines that attempts may come to need: each that runs, one a place.
+/// Returns how many lines attempts may still need: one for each place of a running attempt. `None` on overflow.
 pub fn lines_to_come(attempts: &[Attempt]) -> Option<usize>
     ensures { MatchOption result (Unit {0}) (λ lines. lines ≡ lines_to_come attempts.now) }
 {
@@ -20,7 +20,7 @@ pub fn lines_to_come(attempts: &[Attempt]) -> Option<usize>
     Some(lines)
 }
 
-/// The lines that nodes which are down may come to need: those of what their opening decides.
+/// Returns how many lines nodes that are down may still need: those of their undecided changes. `None` on overflow.
 pub fn lines_left<D: Disk>(hosts: &[Host<D>]) -> Option<usize>
     ensures { MatchOption result (Unit {0}) (λ lines. lines ≡ lines_left 0 hosts.now) }
 {
@@ -31,14 +31,14 @@ pub fn lines_left<D: Disk>(hosts: &[Host<D>]) -> Option<usize>
     Some(lines)
 }
 
-/// Returns the sum of two numbers of lines; none if it is beyond all numbers.
+/// Returns the sum of two numbers of lines; `None` on overflow.
 fn add_lines(lines: usize, more: usize) -> Option<usize>
     ensures { MatchOption result (Unit {0}) (λ sum. sum ≡ lines + more) }
 {
     lines.checked_add(more)
 }
 
-/// The lines that one attempt may come to need.
+/// Returns how many lines one attempt may still need.
 fn lines_of_attempt(attempt: &Attempt) -> usize
     ensures { result ≡ lines_of_attempt attempt.now }
 {
@@ -49,7 +49,7 @@ fn lines_of_attempt(attempt: &Attempt) -> usize
 }
 
 impl<D: Disk> Host<D> {
-    /// The lines that the node may come to need, if it is down.
+    /// Returns how many lines the node may still need, if it is down.
     fn lines_held(&self) -> usize
         ensures { (node : ℕ) → result ≡ lines_held node self.now.state }
     {
@@ -64,7 +64,7 @@ impl<D: Disk> Host<D> {
 }
 
 impl Undecided {
-    /// The lines that tell of the change.
+    /// Returns how many lines the change would add.
     fn lines(&self) -> usize
         ensures { (node : ℕ) → result ≡ length (lines_of node (undecided_in self.now)) }
     {

@@ -1,4 +1,4 @@
-//! One link, what its ends say, and how it changes.
+//! One link, the state of its ends, and its changes.
 ghost use Rattle.std.specs.Prelude.{◌≡◌, ◌+◌, ◌<◌, ◌≤◌, suc, None, Some, drop, length, MatchOption};
 ghost use Rattle.relay_world.specs.HangUp.{broken_link};
 ghost use Rattle.relay_world.specs.World.{link_at};
@@ -8,7 +8,7 @@ ghost use Rattle.relay_world.specs.Crashes.{serves_for, tries_for};
 
 use relay_world::{Attempt, Fate, Link, ServerEnd};
 
-/// Returns the place of the link of a number. Numbers count from 1.
+/// Returns the index of the link of a number. Numbers count from 1.
 pub fn place_of(links: &[Link], number: usize) -> Option<usize>
     ensures { MatchOption result (link_at links.now number ≡ None)
         (λ place. (number ≡ suc place) × (place < length links.now)) }
@@ -19,7 +19,7 @@ pub fn place_of(links: &[Link], number: usize) -> Option<usize>
     Some(number - 1)
 }
 
-/// Returns the place of the link of a number, unless it is broken.
+/// Returns the link of a number, unless it is broken.
 pub fn whole_link(links: &[Link], number: usize) -> Option<&Link>
     ensures { MatchOption result (whole_link links.now number ≡ None)
         (λ link. whole_link links.now number ≡ Some link.now) }
@@ -32,7 +32,7 @@ pub fn whole_link(links: &[Link], number: usize) -> Option<&Link>
     Some(link)
 }
 
-/// Returns whether an attempt goes on.
+/// Returns whether an attempt is running.
 pub(crate) fn is_running(fate: Fate) -> bool
     ensures { result ≡ is_running fate }
 {
@@ -44,7 +44,7 @@ pub(crate) fn is_running(fate: Fate) -> bool
     }
 }
 
-/// Returns whether the attempt of a client end runs.
+/// Returns whether the attempt of a client end is running.
 pub(crate) fn tries_on(attempts: &[Attempt], client: Option<usize>) -> bool
     ensures { result ≡ tries_on attempts.now client }
 {
@@ -57,7 +57,7 @@ pub(crate) fn tries_on(attempts: &[Attempt], client: Option<usize>) -> bool
     }
 }
 
-/// Returns whether a session goes on at a server end.
+/// Returns whether a session is running at a server end.
 pub fn hears_on(server: &Option<ServerEnd>) -> bool
     ensures { result ≡ hears_on server.now }
 {
@@ -67,7 +67,7 @@ pub fn hears_on(server: &Option<ServerEnd>) -> bool
     }
 }
 
-/// Returns whether the attempt of a client end is over.
+/// Returns whether the attempt of a client end has ended.
 fn client_closed(attempts: &[Attempt], client: Option<usize>) -> bool
     ensures { result ≡ client_closed attempts.now client }
 {
@@ -77,7 +77,7 @@ fn client_closed(attempts: &[Attempt], client: Option<usize>) -> bool
     !tries_on(attempts, client)
 }
 
-/// Returns whether the session of a server end is over.
+/// Returns whether the session of a server end has ended.
 fn server_closed(server: &Option<ServerEnd>) -> bool
     ensures { result ≡ server_closed server.now }
 {
@@ -97,7 +97,7 @@ pub fn has_outside(link: &Link) -> bool
     link.server.is_none()
 }
 
-/// Returns whether a node has still to be told that a link is broken.
+/// Returns whether a node at an end of a link hasn't noticed yet that the link is broken.
 pub fn is_untold(attempts: &[Attempt], link: &Link) -> bool
     ensures { result ≡ is_untold attempts.now link.now }
 {
@@ -110,8 +110,8 @@ pub fn is_untold(attempts: &[Attempt], link: &Link) -> bool
     tries_on(attempts, link.client)
 }
 
-/// Returns whether there is nothing to carry to the server end of a link: it has closed; or no octet waits there, and
-/// the other end goes on.
+/// Returns whether there is nothing to carry to the server end of a link: it has closed, or there are no unread octets
+/// and the other end hasn't closed.
 pub fn server_idles(attempts: &[Attempt], link: &Link) -> bool
     ensures { result ≡ server_idles attempts.now link.now }
 {
@@ -137,7 +137,7 @@ pub fn client_idles(attempts: &[Attempt], link: &Link) -> bool
     false
 }
 
-/// Returns whether no octet waits after this many.
+/// Returns whether `read` octets are all of them.
 #[tactic(auto, using(crate::proofs::LinkLemmas::all_read, crate::proofs::LinkLemmas::some_waits))]
 pub fn is_read(octets: &[u8], read: usize) -> bool
     ensures { result ≡ is_nil (drop read octets.now) }
@@ -148,7 +148,7 @@ pub fn is_read(octets: &[u8], read: usize) -> bool
     false
 }
 
-/// This many octets more were read at the server end of a link.
+/// Counts this many more octets as read at the server end of a link.
 pub fn read_up(link: &mut Link, used: usize)
     requires { link.old.up_read + used ≤ length link.old.up }
     ensures { link.new ≡ record link.old { up_read = link.old.up_read + used } }
@@ -158,7 +158,7 @@ pub fn read_up(link: &mut Link, used: usize)
     link.up_read += used;
 }
 
-/// This many octets more were read at the client end of a link.
+/// Counts this many more octets as read at the client end of a link.
 pub fn read_down(link: &mut Link, used: usize)
     requires { link.old.down_read + used ≤ length link.old.down }
     ensures { link.new ≡ record link.old { down_read = link.old.down_read + used } }
@@ -168,7 +168,7 @@ pub fn read_down(link: &mut Link, used: usize)
     link.down_read += used;
 }
 
-/// Breaks a link. What was written on it, and what was read of that, stays.
+/// Breaks a link. Its octets, and how many of them were read, are unchanged.
 pub fn break_off(link: &mut Link)
     ensures { link.new ≡ broken_link link.old }
 {

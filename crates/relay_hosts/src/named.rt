@@ -1,4 +1,4 @@
-//! The node that a hop is.
+//! The node that has a hop's name.
 ghost use Rattle.std.specs.Prelude.{◌≡◌, bytes_eq, MatchOption};
 ghost use Rattle.relay_hosts.specs.Named.{IsFirstNamed, NoneIsNamed};
 
@@ -13,7 +13,7 @@ fn has_name<D: Disk>(host: &Host<D>, name: &HostName) -> bool
     host.config().host.as_slice() == name.as_slice()
 }
 
-/// The first node of this name, by its place among the nodes, if there is one.
+/// Returns the index of the first node of this name, if there is one.
 pub fn node_named<D: Disk>(hosts: &[Host<D>], name: &HostName) -> Option<usize>
     ensures { MatchOption result (NoneIsNamed hosts.now name.now) (IsFirstNamed hosts.now name.now) }
 {

@@ -1,4 +1,4 @@
-//! What a node that was opened has of a change that was undecided.
+//! Whether a node that was opened has the undecided change.
 ghost use Rattle.std.specs.Prelude.{◌≡◌, [], ◌∷◌, vec_capacity, vec_len};
 ghost use Rattle.relay_hosts.specs.Crash.{Decided};
 ghost use Rattle.relay_hosts.specs.Host.{OwesWithin, count_some, notes_of};
@@ -10,8 +10,8 @@ use relay_octets::Octets;
 use std::alloc::Global;
 use std::mem;
 
-/// The host of a node that was opened: it has the change that was undecided exactly if its next number is above the
-/// change's own.
+/// Returns the host of a node that was opened, with the undecided change if the node has it. It does exactly if its
+/// next number is greater than the change's own.
 pub(crate) fn decide<D: Disk>(
     alloc: Global,
     node: Node<D>,

@@ -1,17 +1,17 @@
 //! What a change has recorded.
 use relay_book::PlaceStep;
 
-/// What a change has recorded, as its note tells.
+/// What a change has recorded, according to its note.
 pub struct Recorded {
-    /// The recipients of an accept; 0 for an outcome.
+    /// How many recipients an accept has; 0 for an outcome.
     pub accepted: usize,
-    /// Each place that left by it or is late, in order, and which of both.
+    /// Each place that left or was delayed, in order, with how.
     pub left: Vec<(u8, PlaceStep)>,
     /// Whether it queued a report.
     pub report: bool,
 }
 
-// Written out, so that what drops this calls it, and doesn't look into its parts.
+// Written out, so that the proof of a caller that drops one stops at this function.
 impl Drop for Recorded {
     fn drop(self) {
         let Recorded {

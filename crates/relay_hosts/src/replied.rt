@@ -1,4 +1,4 @@
-//! What a node that has read replies makes of its attempt, of their link and of the ledger.
+//! The effect of replies that an attempt has read on the attempt, its link and the ledger.
 ghost use Rattle.std.specs.Prelude.{◌≡◌, ◌+◌, ◌++◌, ◌<◌, ◌≤◌, OnErr, OnOk, true, length, vec_capacity, vec_len};
 ghost use Rattle.relay_world.specs.Steps.{waiting_down};
 ghost use Rattle.relay_hosts.specs.Replied.{replied_attempt, replied_lines};
@@ -9,7 +9,7 @@ use crate::recorded::Recorded;
 use relay_world::{Attempt, Fate, Line, Link};
 use std::alloc::AllocError;
 
-/// The octets that a call of a client end is handed: this many of those that wait, or all.
+/// Returns the unread octets at the client end of a link, at most `count` of them.
 pub fn waiting_down(link: &Link, count: usize) -> &[u8]
     requires { link.now.down_read ≤ length link.now.down }
     ensures { result.now ≡ waiting_down count link.now }
@@ -17,8 +17,8 @@ pub fn waiting_down(link: &Link, count: usize) -> &[u8]
     waiting(link.down.as_slice(), link.down_read, count)
 }
 
-/// An attempt that has read replies has ended, if they led to a change: what left by that is in the ledger, for which
-/// there is room.
+/// Ends an attempt if its replies led to a change, and adds the places that left or were delayed to the ledger, which
+/// has room for them.
 pub fn end_by_replies(
     attempt: &mut Attempt,
     ledger: &mut Vec<Line>,
@@ -46,7 +46,7 @@ pub fn end_by_replies(
     push_left(ledger, attempt.node, attempt.message, number, report, left);
 }
 
-/// The client end of a link writes octets, if there are any. If memory runs out for them, the link breaks.
+/// Writes octets at the client end of a link, if there are any. If memory for them runs out, the link breaks.
 pub fn write_up(link: &mut Link, octets: &[u8]) -> Result<(), AllocError>
     ensures ok { OnOk result (link.new ≡ record link.old { up = link.old.up ++ octets.now }) }
     ensures err { OnErr result (link.new ≡ record link.old { broken = true }) }

@@ -1,4 +1,4 @@
-//! What a node begins of itself: sessions, attempts, and the end of places without a hop.
+//! What a node begins by itself: sessions, attempts, and giving up places without a hop.
 ghost use Rattle.std.specs.Prelude.{◌≡◌, ◌↔◌, IfErr, IfOk, IsTrue, slice_get, vec_capacity, vec_len};
 ghost use Rattle.relay_slots.specs.Slots.{IsFull};
 ghost use Rattle.relay_hosts.specs.Host.{OwesWithin, host_of, notes_of};
@@ -16,29 +16,29 @@ use relay_routes::HostName;
 use relay_trace::Moment;
 use std::alloc::Global;
 
-/// What became of an attempt that a node was to begin.
+/// The result of having a node begin an attempt.
 pub enum Begun {
     /// It has begun.
     Done(Started),
     /// The node has refused it.
     Refused(NodeFault),
-    /// There was no room to note what would become of it. The node wasn't called.
+    /// There was no room to record the outcome to come. The node wasn't called.
     NoRoom,
 }
 
-/// What became of places without a hop that a node was to give up.
+/// The result of having a node give up places without a hop.
 pub enum GivenUp {
-    /// They have ended, by the change of this number.
+    /// The node gave them up, by the change of this number.
     Done(u64, Recorded),
     /// The node has refused.
     Refused(NodeFault),
     /// The node has stopped.
     Stopped,
-    /// There was no room to note what the node would do. It wasn't called.
+    /// There was no room to record a change. The node wasn't called.
     NoRoom,
 }
 
-/// A node begins an attempt for a message and a hop. Room for the record of its outcome is kept from here on.
+/// Begins an attempt for a message and a hop. Room for the record of its outcome is reserved from then on.
 fn start_at<D: Disk>(
     node: &mut Node<D>,
     records: &mut Vec<Octets>,
@@ -68,7 +68,7 @@ fn start_at<D: Disk>(
     }
 }
 
-/// A node gives up the places of a message that have no hop.
+/// Gives up the places of a message that have no hop.
 fn give_up_at<D: Disk>(
     node: &mut Node<D>,
     records: &mut Vec<Octets>,
@@ -103,7 +103,7 @@ fn give_up_at<D: Disk>(
 }
 
 impl<D: Disk> Host<D> {
-    /// The node opens a session for a client at this address.
+    /// Opens a session for a client at this IPv4 address.
     pub fn connect(&mut self, peer: [u8; 4]) -> Result<Connected, NodeFault>
         requires { HasChanges D.honest D.words self.old }
         ensures { OpensOrRefuses self.old self.new peer result }
@@ -114,7 +114,7 @@ impl<D: Disk> Host<D> {
         node.connect(peer)
     }
 
-    /// The first work of the node at a time, if there is any. Its only fault is lack of memory.
+    /// Returns the first work that the node has due, if any. Fails only if memory runs out.
     pub fn first_work(&self, alloc: Global, now: Moment) -> Result<Option<Work>, NodeFault>
         requires { HasChanges D.honest D.words self.now }
         ensures first { IfOk result (λ work. work ≡ slice_get (works_in now self.now.state) 0) }
@@ -133,7 +133,7 @@ impl<D: Disk> Host<D> {
         Ok(Some(works.swap_remove(0)))
     }
 
-    /// Returns whether 64 attempts of the node are running, so that it begins none.
+    /// Returns whether 64 attempts of the node are running, which is the most it runs.
     pub fn is_full_of_attempts(&self) -> bool
         ensures { IsTrue result ↔ IsFull (attempts_in self.now.state) }
     {
@@ -143,7 +143,7 @@ impl<D: Disk> Host<D> {
         }
     }
 
-    /// The node begins an attempt for a message and a hop.
+    /// Begins an attempt for a message and a hop.
     pub fn start(&mut self, message: u64, hop: &HostName, now: Moment) -> Begun
         requires { HasChanges D.honest D.words self.old }
         ensures begun { BeginsOrNot D.honest D.words now self.old self.new message hop.now result }
@@ -156,7 +156,7 @@ impl<D: Disk> Host<D> {
         start_at(node, &mut self.records, &mut self.owed, message, hop, now)
     }
 
-    /// The node gives up the places of a message that have no hop, by one call.
+    /// Gives up the places of a message that have no hop, in one call.
     pub fn give_up(&mut self, message: u64, now: Moment) -> GivenUp
         requires { HasChanges D.honest D.words self.old }
         ensures given { GivesUpOrNot D.honest D.words now self.old self.new message result }

@@ -66,7 +66,8 @@ module _ {D : Type 0} (honest : Type 0) (words : DiskWords D) where
       → has_answered peer at offer answer
 
   -- The list has grown by one accept for each receipt of the passes, with the receipt's number and content, and by
-  -- nothing else; the numbers of each pass rise. Places that these changes marked are still held, and no others.
+  -- nothing else; the numbers of each pass rise. Of the messages that these changes accepted the same places are held
+  -- as before.
   pub record HasTaken (changes : List Change) (passes : List (List Receipt)) (records : Kept D) : Type 0 where
     pub accepts : List Accept
     pub list : HasList records (with_accepts changes accepts)

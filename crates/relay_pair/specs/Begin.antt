@@ -1,4 +1,4 @@
--- The relays that a pair begins with: two of a play, or any number.
+-- The relays at the start of a run: two of a play, or any number.
 use Rattle.std.specs.Prelude.{◌≡◌, ℕ, ◌+◌, List, [], ◌∷◌, codes}
 use Rattle.relay_disk.specs.Device.{DiskWords}
 use Rattle.relay_routes.specs.declared.config.Config.{Config}
@@ -7,7 +7,7 @@ use Rattle.relay_pair.specs.Profiles.{AreProfiles, IsProfile, address_of, at_pla
 use Rattle.relay_hosts.specs.Begin.{IsNew}
 use Rattle.relay_events.specs.Begin.{begun_with}
 
--- each host has just begun, by the configuration of its place; the first of them is at this place
+-- each host is new and has the configuration of its index; the first one has this index
 abbrev pub AreNew : {D : Type 0} → Type 0 → DiskWords D → ℕ → List Config → List (Host D) → Type 0
 AreNew honest words place [] [] = Unit {0}
 AreNew honest words place [] (host ∷ hosts) = ⊥
@@ -15,14 +15,14 @@ AreNew honest words place (config ∷ configs) [] = ⊥
 AreNew honest words place (config ∷ configs) (host ∷ hosts) =
     IsNew honest words (at_place place config) host × AreNew honest words (place + 1) configs hosts
 
--- Relays have just begun by these configurations, at the time 0, and there is no link.
+-- Relays with these configurations, at time 0, without links.
 pub record HasBegun {D : Type 0} (honest : Type 0) (words : DiskWords D) (configs : List Config) (world : World D)
     : Type 0 where
   pub hosts : List (Host D)
   pub are_new : AreNew honest words 0 configs hosts
   pub world_is : world ≡ begun_with hosts
 
--- They are the two relays of a play.
+-- The two relays of a play.
 pub record HasBegunAsTwo {D : Type 0} (honest : Type 0) (words : DiskWords D) (world : World D) : Type 0 where
   pub one : Config
   pub first : IsProfile (codes "a.example") (address_of 0) first_routes one
@@ -30,7 +30,7 @@ pub record HasBegunAsTwo {D : Type 0} (honest : Type 0) (words : DiskWords D) (w
   pub second : IsProfile (codes "b.example") (address_of 1) second_routes other
   pub begun : HasBegun honest words (one ∷ other ∷ []) world
 
--- They are this many relays of a play.
+-- This many relays of a play.
 pub record HasBegunAsMany {D : Type 0} (honest : Type 0) (words : DiskWords D) (count : ℕ) (world : World D)
     : Type 0 where
   pub configs : List Config

@@ -1,4 +1,4 @@
--- Networks of relays: which configurations make one, and why others don't.
+-- Which configurations make a network, and why others don't.
 use Rattle.std.specs.Prelude.{◌≡◌, ℕ, ◌<◌, ◌≤◌, List, length, Some, slice_get}
 use Rattle.std.specs.List.{Contains}
 use Rattle.relay_routes.specs.Routes.{Route}
@@ -6,12 +6,12 @@ use Rattle.relay_routes.specs.declared.config.Config.{Config}
 use Rattle.relay_pair.specs.declared.network.NetFault.{NetFault}
 use Rattle.relay_pair.specs.declared.network.NetFault.TheVariants as net_fault
 
--- there are 2 to 16
+-- there are 2 to 16 configurations
 pub record AreSome (configs : List Config) : Type 0 where
   pub two : 2 ≤ length configs
   pub within : length configs ≤ 16
 
--- one of those before this place has the host of the one there
+-- a configuration before this index has the same host as the one there
 pub record IsHostBefore (configs : List Config) (other : ℕ) : Type 0 where
   pub one : ℕ
   pub before : one < other
@@ -21,30 +21,30 @@ pub record IsHostBefore (configs : List Config) (other : ℕ) : Type 0 where
   pub second_at : slice_get configs other ≡ Some second
   pub same : first.host ≡ second.host
 
--- two of them have one host
+-- two configurations have the same host
 abbrev pub HaveOneHost : List Config → Type 0
 HaveOneHost configs = (other : ℕ) × IsHostBefore configs other
 
--- the table of a configuration has a route to its own host
+-- the routes of a configuration lead to its own host
 pub record SendsHome (config : Config) : Type 0 where
   pub route : Route
   pub its : Contains config.routes.routes route
   pub own : route.hop.name ≡ config.host
 
--- that of one of them has
+-- the routes of one of the configurations do
 pub record HasOwnHop (configs : List Config) : Type 0 where
   pub at : ℕ
   pub config : Config
   pub config_at : slice_get configs at ≡ Some config
   pub home : SendsHome config
 
--- They make a network.
+-- The configurations make a network.
 pub record AreNetwork (configs : List Config) : Type 0 where
   pub some : AreSome configs
   pub hosts : ¬ HaveOneHost configs
   pub hops : ¬ HasOwnHop configs
 
--- Why no network is made of them: the first of these that holds, and memory is wanted only if none does.
+-- Why they don't: the first of these faults that holds, and lack of memory only if none does.
 abbrev pub IsNoNetwork : List Config → NetFault → Type 0
 IsNoNetwork configs net_fault.NoMemory = AreNetwork configs
 IsNoNetwork configs net_fault.BadCount = ¬ AreSome configs

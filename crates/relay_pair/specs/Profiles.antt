@@ -1,4 +1,4 @@
--- The configurations of the relays of a play: of the two that a pair begins with, and of any number of them.
+-- The configurations of the relays of a play.
 use Rattle.std.specs.Prelude.{◌≡◌, ℕ, ◌+◌, ◌==◌, nat_lt, not, List, [], ◌∷◌, ◌++◌, codes, length, map, None, Some, slice_get}
 use Rattle.std.specs.Prelude.{if◌then◌else◌}
 use Rattle.std.specs.List.{filter, range_with_len}
@@ -10,11 +10,11 @@ use Rattle.relay_routes.specs.declared.report_form.ReportForm.TheVariants.{Plain
 use Rattle.relay_routes.specs.declared.config.Config.{Config}
 use Rattle.relay_events.specs.Step.{outside_address}
 
--- the port of mail, at an address
+-- the SMTP port at an address
 abbrev pub mail_at : List ℕ → SocketAddrV4
 mail_at address = record { ip = record { octets = address }; port = 25 }
 
--- the address of the node at this place, counted from 0: 10.0.0.1 is that of the first
+-- the address of the node at this index, from 10.0.0.1 on
 abbrev pub address_of : ℕ → List ℕ
 address_of place = 10 ∷ 0 ∷ 0 ∷ (place + 1) ∷ []
 
@@ -22,7 +22,7 @@ address_of place = 10 ∷ 0 ∷ 0 ∷ (place + 1) ∷ []
 abbrev pub route_to : List ℕ → List ℕ → List ℕ → Route
 route_to domain name address = record { domain = domain; hop = record { name = name; at = mail_at address } }
 
--- node a sends what is for `b.example`, `c.example` and `loop.example` to node b, and the rest outside
+-- node a sends mail for `b.example`, `c.example` and `loop.example` to node b, and the rest outside
 abbrev pub first_routes : List Route
 first_routes =
     route_to (codes "b.example") (codes "b.example") (address_of 1)
@@ -31,7 +31,7 @@ first_routes =
     ∷ route_to (codes "out.example") (codes "out.example") outside_address
     ∷ []
 
--- node b sends what is for `a.example` and `loop.example` to node a, and the rest outside
+-- node b sends mail for `a.example` and `loop.example` to node a, and the rest outside
 abbrev pub second_routes : List Route
 second_routes =
     route_to (codes "a.example") (codes "a.example") (address_of 0)
@@ -41,15 +41,15 @@ second_routes =
     ∷ route_to (codes "out.example") (codes "out.example") outside_address
     ∷ []
 
--- the host of the node at this place: `a.example` is that of the first
+-- the host of the node at this index, from `a.example` on
 abbrev pub host_of : ℕ → List ℕ
 host_of place = (97 + place) ∷ codes ".example"
 
--- the route to the host of the node at this place
+-- the route to the host of the node at this index
 abbrev pub route_to_node : ℕ → Route
 route_to_node place = route_to (host_of place) (host_of place) (address_of place)
 
--- the routes to this many nodes, but for one
+-- the routes to all nodes of this many but one
 abbrev pub routes_to_others : ℕ → ℕ → List Route
 routes_to_others count node = map route_to_node (filter (λ other. not (other == node)) (range_with_len 0 count))
 
@@ -57,7 +57,7 @@ routes_to_others count node = map route_to_node (filter (λ other. not (other ==
 abbrev pub node_behind : ℕ → ℕ → ℕ
 node_behind count node = if nat_lt (node + 1) count then node + 1 else 0
 
--- the routes of what isn't for another of this many nodes: to the node after this one, and outside
+-- the routes for mail that isn't for another node: to the node after this one, and outside
 abbrev pub routes_of_the_rest : ℕ → ℕ → List Route
 routes_of_the_rest count node =
     route_to (codes "loop.example") (host_of (node_behind count node)) (address_of (node_behind count node))
@@ -65,12 +65,12 @@ routes_of_the_rest count node =
     ∷ route_to (codes "out.example") (codes "out.example") outside_address
     ∷ []
 
--- each of this many nodes sends what is for another to it, what is for `loop.example` to the node after it, and what is
--- for itself and for `out.example` outside
+-- each of this many nodes sends mail for another node to it, mail for `loop.example` to the node after it, and mail for
+-- itself and for `out.example` outside
 abbrev pub routes_among : ℕ → ℕ → List Route
 routes_among count node = routes_to_others count node ++ routes_of_the_rest count node
 
--- a relay of this name and address has these routes, and the limits that a configuration has where it gives none
+-- a relay of this name and address with these routes and default limits
 pub record IsProfile (host address : List ℕ) (routes : List Route) (config : Config) : Type 0 where
   pub host_is : config.host ≡ host
   pub listen : config.listen ≡ mail_at address
@@ -82,7 +82,7 @@ pub record IsProfile (host address : List ℕ) (routes : List Route) (config : C
   pub routed_paths : config.routed_paths ≡ routed.Pass
   pub reports : config.reports ≡ Plain
 
--- each of these is the configuration of the node at its place among this many
+-- each is the configuration of the node at its index among this many
 abbrev pub HaveProfiles : ℕ → List Config → Type 0
 HaveProfiles count configs =
     (node : ℕ) (config : Config) → slice_get configs node ≡ Some config
@@ -93,6 +93,6 @@ pub record AreProfiles (count : ℕ) (configs : List Config) : Type 0 where
   pub count_is : length configs ≡ count
   pub each : HaveProfiles count configs
 
--- a configuration as the node at this place has it: with the address of that place
+-- a configuration with the address of the node at this index
 abbrev pub at_place : ℕ → Config → Config
 at_place place config = record config { listen = mail_at (address_of place) }

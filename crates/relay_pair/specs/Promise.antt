@@ -1,4 +1,4 @@
--- What a run of relays promises of mail (RFC 5321, section 6.1).
+-- What a run of relays promises for mail (RFC 5321, section 6.1).
 use Rattle.std.specs.Prelude.{List}
 use Rattle.relay_disk.specs.Device.{DiskWords}
 use Rattle.relay_book.specs.declared.change.Change.{Change}
@@ -11,12 +11,11 @@ use Rattle.relay_world.specs.Promise.{KeepsPromise}
 use Rattle.relay_world.specs.World.{World}
 use Rattle.relay_events.specs.Happened.{HasHappened}
 
--- Of the mail of relays after a run: each node has a list of changes, which its spool holds, and which begins with the
--- one that it had, by which the relays were bound, tried each place once at a time, and had lines with their sources;
--- by these lists the promise is kept; nothing that was recorded, told, written or read before is gone; the ends of
--- links are whose they were, and a broken link is unchanged; and attempts have gone on, or have come to their ends. All
--- of it has come by events of the world, each of which adds the accept or outcome that it leads to at the time that the
--- clock shows then.
+-- The mail of relays after a run. The relays had lists of changes with the invariant, tried each place once, and had
+-- ledger lines with their sources. Now each node has a list of changes that its spool holds and that begins with its
+-- earlier list, and by these lists the promise is kept. Nothing that was recorded, written or read before is gone; ends
+-- of links belong to whom they did, and broken links are unchanged; attempts have gone on or ended. All of this came by
+-- events of the world, each of which adds the accept or outcome that it leads to, at the clock's time.
 pub record KeepsItsPromise {D : Type 0} (honest : Type 0) (words : DiskWords D) (old new : World D) : Type 0 where
   pub lists : List (List Change)
   pub theirs : IsBound honest words new lists

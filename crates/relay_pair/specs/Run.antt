@@ -1,4 +1,4 @@
--- Events that happen to relays one after another.
+-- A run: events, one after another.
 use Rattle.std.specs.Prelude.{◌≡◌, List, [], ◌∷◌, Result}
 use Rattle.relay_disk.specs.Device.{DiskWords}
 use Rattle.relay_world.specs.World.{World}

@@ -1,4 +1,4 @@
-//! How many copies of a message reach a recipient by the attempts of a node.
+//! How many copies of a message reach a recipient from a node.
 ghost use Rattle.std.specs.Prelude.{◌≡◌, ◌==◌, ◌&&◌, ◌≤◌, [], ◌∷◌, length, slice_get, Some, IfOk};
 ghost use Rattle.relay_course.specs.VerdictTable.{is_accepted};
 ghost use Rattle.relay_pair.specs.Copied.{AreReplies, CountsBy, CountsCopies, accepts_place, behind_mail};
@@ -15,8 +15,8 @@ use relay_world::passing::copies_are_few;
 use relay_world::{Attempt, Line};
 use std::alloc::{AllocError, Global};
 
-/// Returns how many copies of a node's message hold a place of it: all messages that were accepted on the links of
-/// attempts whose RCPT for the place was answered 2yz. Fails if memory runs out.
+/// Returns how many copies of a node's message hold a place of it: the messages that were accepted on the links of
+/// attempts whose RCPT for the place got a 2yz reply. Fails if memory runs out.
 pub(crate) fn count_copies<D: Disk>(
     relays: &Relays<D>,
     alloc: Global,
@@ -35,7 +35,7 @@ pub(crate) fn count_copies<D: Disk>(
     Ok(count)
 }
 
-/// Returns how many of them were made by this attempt.
+/// Returns how many of the copies this attempt has made.
 fn count_copies_by<D: Disk>(
     relays: &Relays<D>,
     alloc: Global,
@@ -78,7 +78,7 @@ fn accepts_on(ledger: &[Line], link: usize) -> usize
     count
 }
 
-/// Returns how many messages a line of the ledger tells to be accepted on a link: one, or none.
+/// Returns 1 if the ledger line accepts a message on the link, else 0.
 fn accepts_by(line: &Line, link: usize) -> usize
     ensures count { result ≡ length (accepts_on link (line.now ∷ [])) }
     ensures few { result ≤ 1 }
@@ -89,7 +89,7 @@ fn accepts_by(line: &Line, link: usize) -> usize
     }
 }
 
-/// Returns all replies that octets begin with. Fails if memory runs out.
+/// Returns the replies at the start of the octets, as many as are whole. Fails if memory runs out.
 fn replies_in(alloc: Global, octets: &[u8]) -> Result<Vec<Reply>, AllocError>
     ensures { IfOk result (λ replies. AreReplies octets.now replies.items) }
 {
@@ -114,7 +114,7 @@ fn replies_in(alloc: Global, octets: &[u8]) -> Result<Vec<Reply>, AllocError>
     Ok(replies)
 }
 
-/// Returns whether this fault is lack of memory.
+/// Returns whether this fault means that memory ran out.
 fn is_no_memory(fault: ReplyFault) -> bool
     ensures { result ≡ is_no_memory fault }
 {
@@ -126,7 +126,7 @@ fn is_no_memory(fault: ReplyFault) -> bool
     }
 }
 
-/// Of the replies to an attempt those to its RCPTs, and what is after them.
+/// Returns the replies to the RCPTs of an attempt, and all that follow.
 fn rcpt_replies(replies: &[Reply]) -> &[Reply]
     ensures { result.now ≡ behind_mail replies.now }
 {
@@ -144,7 +144,7 @@ fn rcpt_replies(replies: &[Reply]) -> &[Reply]
     &replies[first..]
 }
 
-/// Returns whether HELO comes after an EHLO with a reply of this kind.
+/// Returns whether this reply to EHLO makes the client send HELO.
 fn is_greeted_again(kind: ReplyKind) -> bool
     ensures { result ≡ is_greeted_again kind }
 {
@@ -156,7 +156,7 @@ fn is_greeted_again(kind: ReplyKind) -> bool
     }
 }
 
-/// Returns whether a RCPT of a place was accepted, by replies that come in the order of the places.
+/// Returns whether the RCPT of a place was accepted, given the replies in the order of the places.
 fn accepts_place(place: u64, places: &[u8], replies: &[Reply]) -> bool
     ensures { result ≡ accepts_place place places.now replies.now }
 {
@@ -171,7 +171,7 @@ fn accepts_place(place: u64, places: &[u8], replies: &[Reply]) -> bool
     false
 }
 
-/// Returns whether this place was tried, and its RCPT accepted by this reply.
+/// Returns whether this is the tried place, and the reply accepts its RCPT.
 fn accepts(place: u64, tried: u8, reply: &Reply) -> bool
     ensures { result ≡ (tried == place && is_accepted reply.now) }
 {

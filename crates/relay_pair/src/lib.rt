@@ -1,4 +1,4 @@
-//! Relays that run, and keep their promise of mail.
+//! Simulated relays, which keep their promise for mail whatever happens.
 #![tactic(auto)]
 
 mod copies;

@@ -1,12 +1,12 @@
-//! How many replies to the attempts at a place were lost.
+//! How many replies to the attempts for a place were lost.
 ghost use Rattle.std.specs.Prelude.{◌≡◌, ◌==◌};
 ghost use Rattle.std.specs.List.{list_any};
 ghost use Rattle.relay_world.specs.Copies.{is_lost, is_lost_reply, lost_replies_of};
 
 use relay_world::{Attempt, Fate};
 
-/// Returns how many of these attempts at a place of a node's message have ended by no reply: their link was lost, or
-/// their node dropped them. Allocates nothing.
+/// Returns how many of these attempts for a place of a node's message have ended without a final reply: their link was
+/// lost, or their node dropped them. Allocates nothing.
 pub(crate) fn lost_replies(attempts: &[Attempt], node: usize, message: u64, place: u64) -> usize
     ensures { result ≡ lost_replies_of node message place attempts.now }
 {
@@ -19,7 +19,7 @@ pub(crate) fn lost_replies(attempts: &[Attempt], node: usize, message: u64, plac
     count
 }
 
-/// Returns whether an attempt at that place has ended by no reply.
+/// Returns whether an attempt for that place has ended without a final reply.
 fn is_lost_reply(attempt: &Attempt, node: usize, message: u64, place: u64) -> bool
     ensures { result ≡ is_lost_reply node message place attempt.now }
 {
@@ -36,7 +36,7 @@ fn is_tried(place: u64, places: &[u8]) -> bool
     places.iter().any(|tried| *tried as u64 == place)
 }
 
-/// Returns whether an attempt has ended by no reply.
+/// Returns whether an attempt in this state has ended without a final reply.
 fn is_lost(fate: &Fate) -> bool
     ensures { result ≡ is_lost fate.now }
 {

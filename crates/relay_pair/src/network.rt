@@ -1,4 +1,4 @@
-//! Networks of relays: the configurations that make one, and how its nodes begin.
+//! Networks of relays: which configurations make one, and how its nodes begin.
 ghost use Rattle.std.specs.Prelude.{◌≡◌, ◌<◌, ◌≤◌, IfOk, MatchBool, MatchOption, length};
 ghost use Rattle.relay_pair.specs.Begin.{AreNew};
 ghost use Rattle.relay_pair.specs.Profiles.{at_place};
@@ -17,24 +17,25 @@ const FEWEST: usize = 2;
 /// The most nodes of a network.
 const MOST: usize = 16;
 
-/// Why no network is made of configurations. The first of them answers, but for lack of memory, which comes last.
+/// Why configurations don't make a network. The first fault in this order is returned, and `NoMemory` only if no other
+/// holds.
 #[derive(Clone, Copy, Debug, PartialEq, Eq, Error)]
 pub enum NetFault {
     /// Memory ran out.
     #[error("NoMemory")]
     NoMemory,
-    /// There are fewer than 2 of them, or more than 16.
+    /// There are fewer than 2 or more than 16 configurations.
     #[error("BadCount")]
     BadCount,
-    /// Two of them have one host.
+    /// Two configurations have the same host.
     #[error("SameHost")]
     SameHost,
-    /// The table of one sends to its own host.
+    /// The routes of a configuration lead to its own host.
     #[error("OwnHop")]
     OwnHop,
 }
 
-/// Returns why configurations make no network, if they make none.
+/// Returns the fault of these configurations, if they don't make a network.
 pub(crate) fn fault_of_network(configs: &[Config]) -> Option<NetFault>
     ensures { MatchOption result (AreNetwork configs.now) (IsNoNetwork configs.now) }
 {
@@ -50,7 +51,7 @@ pub(crate) fn fault_of_network(configs: &[Config]) -> Option<NetFault>
     None
 }
 
-/// Returns whether two configurations have one host.
+/// Returns whether two configurations have the same host.
 fn have_one_host(configs: &[Config]) -> bool
     ensures { MatchBool result (HaveOneHost configs.now) (¬ HaveOneHost configs.now) }
 {
@@ -62,7 +63,7 @@ fn have_one_host(configs: &[Config]) -> bool
     false
 }
 
-/// Returns whether one of the configurations before this place has the host of the one there.
+/// Returns whether a configuration before this index has the same host as the one there.
 fn is_host_before(configs: &[Config], other: usize) -> bool
     requires { other < length configs.now }
     ensures { MatchBool result (IsHostBefore configs.now other) (¬ IsHostBefore configs.now other) }
@@ -75,7 +76,7 @@ fn is_host_before(configs: &[Config], other: usize) -> bool
     false
 }
 
-/// Returns whether the table of a configuration sends to its own host.
+/// Returns whether the routes of a configuration lead to its own host.
 fn has_own_hop(configs: &[Config]) -> bool
     ensures { MatchBool result (HasOwnHop configs.now) (¬ HasOwnHop configs.now) }
 {
@@ -87,7 +88,7 @@ fn has_own_hop(configs: &[Config]) -> bool
     false
 }
 
-/// Returns whether the table of this configuration sends to its own host.
+/// Returns whether the routes of this configuration lead to its own host.
 #[tactic(auto, using(crate::proofs::NetworkLemmas::sends_home, crate::proofs::NetworkLemmas::sends_elsewhere))]
 fn sends_home(config: &Config) -> bool
     ensures { MatchBool result (SendsHome config.now) (¬ SendsHome config.now) }
@@ -119,7 +120,7 @@ pub(crate) fn begin_hosts(
     Ok(hosts)
 }
 
-/// The configuration as the node at this place has it: with the address of that place.
+/// Returns the configuration with the address of the node at this index.
 fn at_place(config: Config, place: usize) -> Config
     requires { place < 16 }
     ensures { result ≡ at_place place config }

@@ -1,4 +1,4 @@
-//! Relays that run.
+//! A run of simulated relays.
 ghost use Rattle.std.specs.Prelude.{◌≡◌, ◌≤◌, IfErr, IfOk, List};
 ghost use Rattle.relay_pair.specs.Begin.{AreNew, HasBegun, HasBegunAsMany, HasBegunAsTwo};
 ghost use Rattle.relay_events.specs.Begin.{begun_with};
@@ -31,7 +31,7 @@ use relay_world::{Attempt, Line, Link};
 use std::alloc::{AllocError, Global};
 use std::marker::Model;
 
-/// Relays, the links among them and to outside, and the outcome of their mail.
+/// Simulated relays with their links, among them and to outside, and the ledger of their mail.
 pub struct Pair<D: Disk> {
     relays: Relays<D>,
 }
@@ -56,8 +56,8 @@ impl<D: Disk> Model for Pair<D> {
 }
 
 impl Pair<MemoryDisk> {
-    /// Two relays on disks in memory, at the time 0: node 0 is `a.example` at 10.0.0.1, node 1 `b.example` at 10.0.0.2,
-    /// each with the routes that it has in a play. Fails if memory runs out.
+    /// Returns two relays on disks in memory, at time 0: node 0 is `a.example` at 10.0.0.1, node 1 `b.example` at
+    /// 10.0.0.2, with the routes that a play gives them. Fails if memory runs out.
     pub fn new(alloc: Global) -> Result<Self, AllocError>
         ensures { IfOk result (HasBegunAsTwo ⟦<MemoryDisk as Disk>⟧.honest ⟦<MemoryDisk as Disk>⟧.words) }
     {
@@ -66,28 +66,27 @@ impl Pair<MemoryDisk> {
         configs.push(second_profile(alloc)?)?;
         match Pair::network(alloc, configs) {
             Ok(pair) => Ok(pair),
-            // Two configurations with hosts of their own, neither of which sends home: memory alone is wanting.
+            // Two configurations with distinct hosts and no route to their own: only memory can have run out.
             Err(_) => Err(AllocError),
         }
     }
 
-    /// Returns this many relays on disks in memory, at the time 0: node 0 is `a.example` at 10.0.0.1, node 1
-    /// `b.example` at 10.0.0.2, and so on, each with the routes that it has in a play of this many. Fails if memory
-    /// runs out.
+    /// Returns this many relays on disks in memory, at time 0: node 0 is `a.example` at 10.0.0.1, node 1 `b.example` at
+    /// 10.0.0.2, and so on, with the routes that a play of this many gives them. Fails if memory runs out.
     pub fn nodes(alloc: Global, count: usize) -> Result<Self, AllocError>
         requires { count ≤ 16 }
         ensures { IfOk result (HasBegunAsMany ⟦<MemoryDisk as Disk>⟧.honest ⟦<MemoryDisk as Disk>⟧.words count) }
     {
         match Pair::network(alloc, profiles_of(alloc, count)?) {
             Ok(pair) => Ok(pair),
-            // There are this many, with hosts of their own, and none sends home: memory alone is wanting.
+            // As many distinct hosts, with no route to their own: only memory can have run out.
             Err(_) => Err(AllocError),
         }
     }
 
-    /// Relays of these configurations on disks in memory, at the time 0. There are 2 to 16, and each has the address of
-    /// its place in place of its own: 10.0.0.1 is that of the first, which is node 0. A hop whose name is a node's host
-    /// is that node, and every other is outside.
+    /// Returns relays with these 2 to 16 configurations on disks in memory, at time 0. Each gets the address of its
+    /// index instead of its own: 10.0.0.1 for node 0, and so on. A hop that has the name of a node's host is that node;
+    /// every other hop is outside.
     pub fn network(alloc: Global, configs: Vec<Config>) -> Result<Self, NetFault>
         ensures begun { IfOk result (λ pair. AreNetwork configs.items
             × HasBegun ⟦<MemoryDisk as Disk>⟧.honest ⟦<MemoryDisk as Disk>⟧.words configs.items pair) }
@@ -104,8 +103,8 @@ impl Pair<MemoryDisk> {
 }
 
 impl<D: Disk + Drop> Pair<D> {
-    /// Returns the same two relays, each on two disks, which are empty. Fails if memory runs out, and where a disk
-    /// fails or isn't empty.
+    /// Returns the two relays of [`Pair::new`], each on two empty disks. Fails if memory runs out, or if a disk fails
+    /// or isn't empty.
     pub fn begin(alloc: Global, first: Disks<D>, second: Disks<D>) -> Result<Self, AllocError>
         ensures { IfOk result (HasBegunAsTwo D.Disk.honest D.Disk.words) }
     {
@@ -121,7 +120,7 @@ impl<D: Disk + Drop> Pair<D> {
         Ok(Pair::of_hosts(alloc, hosts))
     }
 
-    /// Returns the relays of hosts that have just begun, no two of which have one name. Allocates nothing.
+    /// Returns relays of new hosts, no two of which have the same name. Allocates nothing.
     fn of_hosts(alloc: Global, hosts: Vec<Host<D>>) -> Self
         requires { (configs : List Configuration) × AreNew D.Disk.honest D.Disk.words 0 configs hosts.items
             × ¬ HaveOneHost configs }
@@ -136,22 +135,22 @@ impl<D: Disk + Drop> Pair<D> {
 }
 
 impl<D: Disk> Pair<D> {
-    /// Returns the outcome of mail so far, in order: a line for each message that a node has accepted, and for each
-    /// place that has left one.
+    /// Returns the ledger of mail so far, in order: a line for each message that a node has accepted, and for each
+    /// place that has left or was delayed.
     pub fn ledger(&self) -> &[Line]
         ensures { result.now ≡ self.now.ledger }
     {
         self.relays.ledger.as_slice()
     }
 
-    /// Returns all links, in the order of their numbers, which count from 1, with all octets that were written on them.
+    /// Returns all links, in the order of their numbers from 1, with all octets that were written on them.
     pub fn links(&self) -> &[Link]
         ensures { result.now ≡ self.now.links }
     {
         self.relays.links.as_slice()
     }
 
-    /// Returns all attempts to pass mail on, in the order in which they began.
+    /// Returns all attempts, in the order in which they began.
     pub fn attempts(&self) -> &[Attempt]
         ensures { result.now ≡ self.now.attempts }
     {
@@ -166,9 +165,9 @@ impl<D: Disk> Pair<D> {
         held_marks(&self.relays, alloc)
     }
 
-    /// Returns how many copies of a place of a node's message its attempts have made, among nodes of ours: the messages
-    /// that were accepted on the links of those whose RCPT for the place was answered 2yz. There is one at most, and
-    /// one more at most for each reply that was lost. Fails if memory runs out.
+    /// Returns how many copies of a place of a node's message its attempts have made among the nodes: the messages that
+    /// were accepted on the links of attempts whose RCPT for the place got a 2yz reply. There is at most one, and one
+    /// more for each lost reply. Fails if memory runs out.
     pub fn copies(
         &self,
         alloc: Global,
@@ -181,24 +180,24 @@ impl<D: Disk> Pair<D> {
         count_copies(&self.relays, alloc, node, message, place)
     }
 
-    /// Returns how many replies to attempts at a place of a node's message were lost: the attempts for it that have
-    /// ended by no reply, since their link was lost, or their node had to drop them. This many copies of it may there
-    /// be besides one. Allocates nothing.
+    /// Returns how many replies to attempts for a place of a node's message were lost: these attempts have ended
+    /// without a final reply, because their link was lost or their node dropped them. Each allows for one more copy.
+    /// Allocates nothing.
     pub fn lost_replies(&self, node: usize, message: u64, place: u64) -> usize
         ensures { result ≡ lost_replies_of node message place self.now.attempts }
     {
         lost_replies(self.relays.attempts.as_slice(), node, message, place)
     }
 
-    /// Between two events no node of a pair that is up keeps a seat without a link on which its session goes on, or a
-    /// number of an attempt without one that runs.
+    /// States that between two events each occupied seat of a node that is up has a link with a running session, and
+    /// each attempt number in use a running attempt.
     fn leaks_nothing(&self)
         ensures { NothingLeaks self.now }
     {
         let _relays = &self.relays;
     }
 
-    /// The relays of a pair are bound between two events.
+    /// States that the invariant holds between two events.
     fn is_bound(&self)
         ensures { AreBound D.honest D.words self.now }
     {
@@ -207,10 +206,10 @@ impl<D: Disk> Pair<D> {
 }
 
 impl<D: Reboot + Drop> Pair<D> {
-    /// Does one event. Refused by its first fault, or for lack of memory before a node is called, it changes
-    /// nothing. A node that refuses its part, for lack of memory, of room or of a number, loses the session or the
-    /// attempt by that, and the link breaks. If memory is wanting for what a node answers, it has heard or read all the
-    /// same, and where it is for an attempt, the link to its hop was opened: that link breaks too.
+    /// Does one event. Fails with the event's first fault, or, before a node is called, if memory runs out; nothing
+    /// changes then. A node that refuses its part, for lack of memory, room or change numbers, loses the session or the
+    /// attempt, and the link breaks. If memory for a node's answer runs out, the node has still heard or read its
+    /// octets; if memory for a new attempt runs out, the link to its hop was still opened; that link breaks too.
     pub fn step(&mut self, event: &Event) -> Result<Seen, PairFault>
         requires { D.Disk.honest }
         ensures steps { Steps D.Disk.honest D.Disk.words self.old event.now self.new result }
@@ -223,8 +222,8 @@ impl<D: Reboot + Drop> Pair<D> {
         self.relays.step(event)
     }
 
-    /// Events happen, one after another, also after one that is refused. Whatever they are, the promise of mail is
-    /// kept.
+    /// Does events, one after another, and goes on after one that is refused. Whatever they are, the promise for mail
+    /// is kept.
     pub fn run(&mut self, events: &[Event])
         requires { D.Disk.honest }
         ensures steps { StepsEach D.Disk.honest D.Disk.words self.old events.now self.new }

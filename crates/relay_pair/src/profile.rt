@@ -1,4 +1,4 @@
-//! The configurations of the relays of a play: of the two that a pair begins with, and of any number of them.
+//! The configurations of the relays of a play.
 ghost use Rattle.std.specs.Prelude.{◌≡◌, ◌<◌, ◌≤◌, [], ◌∷◌, ◌++◌, codes, IfOk, OnOk};
 ghost use Rattle.relay_envelope.specs.HostName.{IsHostName};
 ghost use Rattle.relay_pair.specs.Profiles.{AreProfiles, IsProfile, address_of, first_routes, host_of, mail_at};
@@ -10,10 +10,10 @@ use relay_routes::{BareNewlines, Config, Hop, HostName, SpoolPath, Table};
 use std::alloc::{AllocError, Global};
 use std::net::{Ipv4Addr, SocketAddrV4};
 
-/// The most octets of a content, where a configuration gives none.
+/// The most octets of mail data, if a configuration doesn't set it.
 const MAX_CONTENT: usize = 1_048_576;
 
-/// The most octets of a spool, where a configuration gives none.
+/// The most octets of a spool, if a configuration doesn't set it.
 const SPOOL_LIMIT: u64 = 67_108_864;
 
 /// The address of node a.
@@ -52,7 +52,7 @@ pub(crate) fn second_profile(alloc: Global) -> Result<Config, AllocError>
     profile(alloc, host, SECOND, routes)
 }
 
-/// Returns the configurations of the nodes of a play of this many. Fails if memory runs out.
+/// Returns the configurations of the nodes of a play of `count`. Fails if memory runs out.
 pub(crate) fn profiles_of(alloc: Global, count: usize) -> Result<Vec<Config>, AllocError>
     requires { count ≤ 16 }
     ensures { IfOk result (λ configs. AreProfiles count configs.items) }
@@ -64,7 +64,7 @@ pub(crate) fn profiles_of(alloc: Global, count: usize) -> Result<Vec<Config>, Al
     Ok(configs)
 }
 
-/// Returns the configuration of a node of a play of this many. Fails if memory runs out.
+/// Returns the configuration of a node of a play of `count`. Fails if memory runs out.
 #[tactic(auto, using(crate::proofs::ProfileLemmas::is_host_name))]
 pub(crate) fn profile_among(alloc: Global, count: usize, node: usize) -> Result<Config, AllocError>
     requires node { node < count }
@@ -78,7 +78,7 @@ pub(crate) fn profile_among(alloc: Global, count: usize, node: usize) -> Result<
     profile(alloc, host, address_of(node), routes)
 }
 
-/// Adds the routes of a node to the others of this many, to a table without routes.
+/// Adds routes from a node to each other node to an empty table.
 #[tactic(auto, using(crate::proofs::ProfileLemmas::own_left_out, crate::proofs::ProfileLemmas::other_added))]
 fn add_others(
     alloc: Global,
@@ -99,7 +99,7 @@ fn add_others(
     Ok(())
 }
 
-/// Adds the route to a node.
+/// Adds the route to a node's host.
 #[tactic(auto, using(crate::proofs::ProfileLemmas::is_host_name, crate::proofs::ProfileLemmas::host_in_lower_case))]
 fn add_node(alloc: Global, routes: &mut Table, node: usize) -> Result<(), AllocError>
     requires { node < 16 }
@@ -110,7 +110,7 @@ fn add_node(alloc: Global, routes: &mut Table, node: usize) -> Result<(), AllocE
     add_lowered(alloc, routes, &name, &name, address_of(node))
 }
 
-/// Adds the routes of a node of so many that don't go to the others by their hosts.
+/// Adds the routes of a node for mail that isn't for another node.
 #[tactic(auto, using(crate::proofs::ProfileLemmas::three_routes))]
 fn add_rest(alloc: Global, routes: &mut Table, count: usize, node: usize) -> Result<(), AllocError>
     requires node { node < count }
@@ -126,7 +126,7 @@ fn add_rest(alloc: Global, routes: &mut Table, count: usize, node: usize) -> Res
     Ok(())
 }
 
-/// Adds a route as [`add_route`] does, of a domain that is in lower case already.
+/// Adds a route as [`add_route`] does, for a domain that is in lower case.
 fn add_lowered(
     alloc: Global,
     routes: &mut Table,
@@ -142,7 +142,7 @@ fn add_lowered(
     add_route(alloc, routes, domain, name, address)
 }
 
-/// Returns the node after a node of this many, each by its place: that of the last is the first.
+/// Returns the index of the node after this one; node 0 comes after the last.
 fn node_behind(count: usize, node: usize) -> usize
     requires { node < count }
     ensures value { result ≡ node_behind count node }
@@ -151,7 +151,7 @@ fn node_behind(count: usize, node: usize) -> usize
     if node + 1 < count { node + 1 } else { 0 }
 }
 
-/// Returns the host of a node, by its place: `a.example` is that of the first.
+/// Returns the host of the node at this index, from `a.example` on.
 fn host_of(node: usize) -> [u8; 9]
     requires { node < 16 }
     ensures { result ≡ host_of node }
@@ -161,7 +161,7 @@ fn host_of(node: usize) -> [u8; 9]
     host
 }
 
-/// Returns the address of a node, by its place: 10.0.0.1 is that of the first.
+/// Returns the IPv4 address of the node at this index, from 10.0.0.1 on.
 pub(crate) fn address_of(node: usize) -> [u8; 4]
     requires { node < 16 }
     ensures { result ≡ address_of node }
@@ -169,7 +169,7 @@ pub(crate) fn address_of(node: usize) -> [u8; 4]
     [10, 0, 0, node as u8 + 1]
 }
 
-/// Returns a configuration of this host and its routes, with the limits that one has where it gives none.
+/// Returns the configuration of a host with these routes, with default limits.
 fn profile(
     alloc: Global,
     host: HostName,
@@ -196,7 +196,7 @@ fn profile(
     Ok(config)
 }
 
-/// Adds the route of a domain to the hop of a name at an address, if it may be added.
+/// Adds a route from a domain to the hop of a name at an address, if the table allows it.
 fn add_route(
     alloc: Global,
     routes: &mut Table,
@@ -215,13 +215,12 @@ fn add_route(
     };
     match routes.add(alloc, domain, hop) {
         Ok(()) => Ok(()),
-        // The domains of a profile are domains, each with one route, and each name has one address: nothing but memory
-        // can be wanting.
+        // All domains are valid and have one route each, and each name has one address: only memory can have run out.
         Err(_) => Err(AllocError),
     }
 }
 
-/// Returns the name of a host. Fails if memory runs out.
+/// Returns a host name. Fails if memory runs out.
 fn host_name(alloc: Global, name: &[u8]) -> Result<HostName, AllocError>
     requires { IsHostName name.now }
     ensures { IfOk result (λ host. host ≡ name.now) }
@@ -232,7 +231,7 @@ fn host_name(alloc: Global, name: &[u8]) -> Result<HostName, AllocError>
     }
 }
 
-/// Returns the port of mail, at an address.
+/// Returns the SMTP port at an address.
 pub(crate) fn mail_at(address: [u8; 4]) -> SocketAddrV4
     ensures { result ≡ mail_at address }
 {

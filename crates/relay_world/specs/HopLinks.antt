@@ -6,8 +6,8 @@ use Rattle.relay_world.specs.declared.link.Link.{Link}
 use Rattle.relay_world.specs.declared.link.ServerEnd.{ServerEnd}
 use Rattle.relay_world.specs.World.{Host, World, link_at}
 
--- the server end of the attempt's link is at this node, which sees the address at which the attempt's own node listens
--- as the client
+-- the server end of the attempt's link is at this node, with the address at which the attempt's own node listens as the
+-- client's
 pub record LeadsTo {D : Type 0} (world : World D) (attempt : Attempt) (link : Link) (node : ℕ) : Type 0 where
   pub end : ServerEnd
   pub serves : link.server ≡ Some end
