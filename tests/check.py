@@ -98,6 +98,7 @@ spool_limit = 549_755_813_889
 bare_newlines = "no"
 sessions_per_client = 65
 attempts_per_hop = "many\\n"
+recipients_per_attempt = 101
 client_timeout = [1]
 status_listen = "0.0.0.0:9925"
 log = "xml"
@@ -117,17 +118,18 @@ reports = "long"
         '6:1: error: bare_newlines = "no": write "pass" or "refuse", such as bare_newlines = "refuse"',
         "7:1: error: sessions_per_client = 65: write a number from 1 to 64, such as sessions_per_client = 32",
         '8:1: error: attempts_per_hop = "many\\n": write a number from 1 to 64, such as attempts_per_hop = 20',
-        "9:1: error: client_timeout = (array): write a number of seconds from 1 to 3600, such as client_timeout = 300",
-        '10:1: error: status_listen = "0.0.0.0:9925": write this machine\'s own address 127.0.0.1 and a port from 1 to '
+        "9:1: error: recipients_per_attempt = 101: write a number from 1 to 100, such as recipients_per_attempt = 15",
+        "10:1: error: client_timeout = (array): write a number of seconds from 1 to 3600, such as client_timeout = 300",
+        '11:1: error: status_listen = "0.0.0.0:9925": write this machine\'s own address 127.0.0.1 and a port from 1 to '
         '65535, such as status_listen = "127.0.0.1:9925"',
-        '11:1: error: log = "xml": write "text" or "json", such as log = "json"',
-        '12:1: error: routes = 1: write a table, such as routes = '
+        '12:1: error: log = "xml": write "text" or "json", such as log = "json"',
+        '13:1: error: routes = 1: write a table, such as routes = '
         '{ "example.org" = { name = "mx.example.org", at = "192.0.2.1:25" } }',
-        '13:1: error: trusted_clients = "127.0.0.1": write an array of IPv4 networks, such as '
+        '14:1: error: trusted_clients = "127.0.0.1": write an array of IPv4 networks, such as '
         'trusted_clients = ["127.0.0.0/8"]',
-        '14:1: error: routed_paths = "no": write "pass" or "refuse", such as routed_paths = "refuse"',
-        '15:1: error: balancers = "192.0.2.5": write an array of IPv4 networks, such as balancers = ["192.0.2.5"]',
-        '16:1: error: reports = "long": write "plain" or "rich", such as reports = "rich"'])
+        '15:1: error: routed_paths = "no": write "pass" or "refuse", such as routed_paths = "refuse"',
+        '16:1: error: balancers = "192.0.2.5": write an array of IPv4 networks, such as balancers = ["192.0.2.5"]',
+        '17:1: error: reports = "long": write "plain" or "rich", such as reports = "rich"'])
 
 
 def each_network_is_judged_on_its_own(program):

@@ -463,6 +463,7 @@ def its_faults_end_it_before_it_is_ready(field):
     relay = field.relay()
     for key, value in [("client_timeout", 0), ("client_timeout", 3601), ("client_timeout", '"300"'),
                        ("sessions_per_client", 65), ("sessions_per_client", 0), ("attempts_per_hop", 65),
+                       ("recipients_per_attempt", 101), ("recipients_per_attempt", 0),
                        ("log", '"JSON"'), ("log", 1)]:
         bad = field.relay(f"{key}-{value}".replace('"', ""), client_timeout=300)
         bad.limits = {"client_timeout": 300, key: value}

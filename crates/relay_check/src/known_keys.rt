@@ -6,7 +6,7 @@ use strsim::levenshtein;
 use toml::Table;
 
 /// How many keys a configuration may have.
-pub(crate) const KEY_COUNT: usize = 16;
+pub(crate) const KEY_COUNT: usize = 17;
 
 /// The keys of a configuration.
 const KEYS: [&str; KEY_COUNT] = [
@@ -22,6 +22,7 @@ const KEYS: [&str; KEY_COUNT] = [
     "reports",
     "sessions_per_client",
     "attempts_per_hop",
+    "recipients_per_attempt",
     "client_timeout",
     "status_listen",
     "log",

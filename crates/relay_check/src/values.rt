@@ -190,6 +190,7 @@ fn rule_of_limit(limit: Limit) -> Rule {
     let (may_be, example) = match limit {
         Limit::SessionsPerClient => ("a number from 1 to 64", Good::Number(32)),
         Limit::AttemptsPerHop => ("a number from 1 to 64", Good::Number(20)),
+        Limit::RecipientsPerAttempt => ("a number from 1 to 100", Good::Number(15)),
         Limit::ClientTimeout => ("a number of seconds from 1 to 3600", Good::Number(300)),
         Limit::StatusListen => (
             "this machine's own address 127.0.0.1 and a port from 1 to 65535",

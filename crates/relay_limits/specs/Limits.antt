@@ -3,7 +3,7 @@ use Rattle.std.specs.Prelude.{◌≡◌, ℕ, ◌≤◌, List, codes, Option, So
 use Rattle.toml.specs.Data.{Data, Members, integer, string, get_member}
 use Rattle.relay_limits.specs.Port.{port_in}
 use Rattle.relay_limits.specs.declared.limit.Limit.{Limit}
-use Rattle.relay_limits.specs.declared.limit.Limit.TheVariants.{SessionsPerClient, AttemptsPerHop, ClientTimeout, StatusListen, Log, Balancers}
+use Rattle.relay_limits.specs.declared.limit.Limit.TheVariants.{SessionsPerClient, AttemptsPerHop, RecipientsPerAttempt, ClientTimeout, StatusListen, Log, Balancers}
 use Rattle.relay_limits.specs.declared.limits.Limits.{Limits}
 use Rattle.relay_limits.specs.declared.log_form.LogForm.{LogForm}
 use Rattle.relay_limits.specs.declared.log_form.LogForm.TheVariants.{Text, Json}
@@ -12,25 +12,29 @@ use Rattle.relay_limits.specs.declared.log_form.LogForm.TheVariants.{Text, Json}
 abbrev pub limit_text : Limit → List ℕ
 limit_text SessionsPerClient = codes "sessions_per_client"
 limit_text AttemptsPerHop = codes "attempts_per_hop"
+limit_text RecipientsPerAttempt = codes "recipients_per_attempt"
 limit_text ClientTimeout = codes "client_timeout"
 limit_text StatusListen = codes "status_listen"
 limit_text Log = codes "log"
 limit_text Balancers = codes "balancers"
 
--- profile: the most that each may be, of 64 sessions, 64 attempts and an hour; the last three are no numbers
+-- profile: the most that each may be, of 64 sessions, 64 attempts, 100 recipients and an hour; the last three are no
+-- numbers
 abbrev pub most_of : Limit → ℕ
 most_of SessionsPerClient = 64
 most_of AttemptsPerHop = 64
+most_of RecipientsPerAttempt = 100
 most_of ClientTimeout = 3600
 most_of StatusListen = 0
 most_of Log = 0
 most_of Balancers = 0
 
--- profile: what each is where nothing is said: Postfix opens 20 connections to one server, and takes 50 of one client;
--- a client is waited for five minutes (RFC 5321, 4.5.3.2.7)
+-- profile: what each is where nothing is said: Postfix opens 20 connections to one server, takes 50 of one client, and
+-- closes a connection after 20 refusals; a client is waited for five minutes (RFC 5321, 4.5.3.2.7)
 abbrev pub default_of : Limit → ℕ
 default_of SessionsPerClient = 32
 default_of AttemptsPerHop = 20
+default_of RecipientsPerAttempt = 15
 default_of ClientTimeout = 300
 default_of StatusListen = 0
 default_of Log = 0
@@ -78,6 +82,7 @@ ReadsLogForm (Some value) (Err fault) = (fault ≡ Log) × ((form : LogForm) →
 pub record Says (document : Members) (limits : Limits) : Type 0 where
   pub sessions : SaysOf document SessionsPerClient (Ok limits.sessions_per_client)
   pub attempts : SaysOf document AttemptsPerHop (Ok limits.attempts_per_hop)
+  pub recipients : SaysOf document RecipientsPerAttempt (Ok limits.recipients_per_attempt)
   pub timeout : SaysOf document ClientTimeout (Ok limits.client_timeout)
   pub status : ReadsPort (value_of StatusListen document) (Ok limits.status_port)
   pub log : ReadsLogForm (value_of Log document) (Ok limits.log)
@@ -97,9 +102,13 @@ pub data FirstFault (document : Members) (fault : Limit) : Type 0 where
   at_sessions : SaysOf document SessionsPerClient (Err fault) → FirstFault document fault
   at_attempts : IsGood document SessionsPerClient → SaysOf document AttemptsPerHop (Err fault)
       → FirstFault document fault
+  at_recipients : IsGood document SessionsPerClient → IsGood document AttemptsPerHop
+      → SaysOf document RecipientsPerAttempt (Err fault) → FirstFault document fault
   at_timeout : IsGood document SessionsPerClient → IsGood document AttemptsPerHop
-      → SaysOf document ClientTimeout (Err fault) → FirstFault document fault
-  at_status : IsGood document SessionsPerClient → IsGood document AttemptsPerHop → IsGood document ClientTimeout
+      → IsGood document RecipientsPerAttempt → SaysOf document ClientTimeout (Err fault) → FirstFault document fault
+  at_status : IsGood document SessionsPerClient → IsGood document AttemptsPerHop
+      → IsGood document RecipientsPerAttempt → IsGood document ClientTimeout
       → ReadsPort (value_of StatusListen document) (Err fault) → FirstFault document fault
-  at_log : IsGood document SessionsPerClient → IsGood document AttemptsPerHop → IsGood document ClientTimeout
-      → IsGoodPort document → ReadsLogForm (value_of Log document) (Err fault) → FirstFault document fault
+  at_log : IsGood document SessionsPerClient → IsGood document AttemptsPerHop
+      → IsGood document RecipientsPerAttempt → IsGood document ClientTimeout → IsGoodPort document
+      → ReadsLogForm (value_of Log document) (Err fault) → FirstFault document fault

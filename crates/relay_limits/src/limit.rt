@@ -10,6 +10,8 @@ pub enum Limit {
     SessionsPerClient,
     /// The most attempts at one next hop's address at a time.
     AttemptsPerHop,
+    /// The most recipients of one message in an attempt.
+    RecipientsPerAttempt,
     /// How long a client is waited for, in seconds (RFC 5321, 4.5.3.2.7).
     ClientTimeout,
     /// Where the page that shows the relay's state listens.
@@ -28,6 +30,7 @@ impl Limit {
         match self {
             Limit::SessionsPerClient => "sessions_per_client",
             Limit::AttemptsPerHop => "attempts_per_hop",
+            Limit::RecipientsPerAttempt => "recipients_per_attempt",
             Limit::ClientTimeout => "client_timeout",
             Limit::StatusListen => "status_listen",
             Limit::Log => "log",
@@ -41,6 +44,7 @@ impl Limit {
     {
         match self {
             Limit::SessionsPerClient | Limit::AttemptsPerHop => 64,
+            Limit::RecipientsPerAttempt => 100,
             Limit::ClientTimeout => 3_600,
             Limit::StatusListen | Limit::Log | Limit::Balancers => 0,
         }
@@ -53,6 +57,7 @@ impl Limit {
         match self {
             Limit::SessionsPerClient => 32,
             Limit::AttemptsPerHop => 20,
+            Limit::RecipientsPerAttempt => 15,
             Limit::ClientTimeout => 300,
             Limit::StatusListen | Limit::Log | Limit::Balancers => 0,
         }

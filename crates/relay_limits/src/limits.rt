@@ -15,6 +15,8 @@ pub struct Limits {
     pub sessions_per_client: u8,
     /// The most attempts at one next hop's address at a time, 1 to 64.
     pub attempts_per_hop: u8,
+    /// The most recipients of one message in an attempt, 1 to 100.
+    pub recipients_per_attempt: u8,
     /// How long a client is waited for, in seconds, 1 to 3,600.
     pub client_timeout: u16,
     /// The port of this machine's own address 127.0.0.1 at which the page listens that shows the relay's state, 1 to
@@ -26,21 +28,24 @@ pub struct Limits {
 
 impl Limits {
     /// Returns the limits that a document says, or the first of them, in the order of [`Limit`], whose value may not
-    /// stand there: the first three are integers from 1 to their most, `status_listen` is a text `127.0.0.1:` and a
-    /// port, and `log` is `text` or `json`. If they are missing, `sessions_per_client` is 32, `attempts_per_hop` 20 and
-    /// `client_timeout` 300, there is no page, and the log is text; other keys are ignored. Allocates nothing.
+    /// stand there: the first four are integers from 1 to their most, `status_listen` is a text `127.0.0.1:` and a
+    /// port, and `log` is `text` or `json`. If they are missing, `sessions_per_client` is 32, `attempts_per_hop` 20,
+    /// `recipients_per_attempt` 15 and `client_timeout` 300, there is no page, and the log is text; other keys are
+    /// ignored. Allocates nothing.
     pub fn of_document(document: &toml::Table) -> Result<Limits, Limit>
         ensures ok { IfOk result (Says (table_view document.now)) }
         ensures err { IfErr result (FirstFault (table_view document.now)) }
     {
         let sessions_per_client = read_limit(document, Limit::SessionsPerClient)?;
         let attempts_per_hop = read_limit(document, Limit::AttemptsPerHop)?;
+        let recipients_per_attempt = read_limit(document, Limit::RecipientsPerAttempt)?;
         let client_timeout = read_limit(document, Limit::ClientTimeout)?;
         let status_port = read_status_port(document)?;
         let log = read_log_form(document)?;
         Ok(Limits {
             sessions_per_client: sessions_per_client as u8,
             attempts_per_hop: attempts_per_hop as u8,
+            recipients_per_attempt: recipients_per_attempt as u8,
             client_timeout,
             status_port,
             log,
