@@ -1,5 +1,5 @@
 -- A report that is due may be stored.
-use Rattle.std.proofs.Common.{◌≡◌, ◌↔◌, ℕ, ◌≤◌, ◌^◌, if◌then◌else◌, Bool, true, false, ◌||◌, List, [], ◌∷◌, length, slice_get, Option, None, Some, is_some, option_and_then, refl, sym, ap, ◌∙◌, arith}
+use Rattle.std.proofs.Common.{◌≡◌, ◌↔◌, ℕ, ◌≤◌, ◌^◌, if◌then◌else◌, Bool, true, false, ◌||◌, List, [], ◌∷◌, ◌++◌, codes, length, slice_get, Option, None, Some, is_some, option_and_then, refl, sym, ap, ◌∙◌, arith}
 use Rattle.std.proofs.lemmas.Bool.{false≢true}
 use Rattle.relay_envelope.specs.declared.envelope.Recipient.{Recipient}
 use Rattle.relay_book.specs.declared.change.Ruling.{Ruling}
@@ -9,7 +9,7 @@ use Rattle.relay_book.specs.declared.version.Version.TheVariants.{WithDelay}
 use Rattle.relay_book.specs.DueReport.{due_for, due_report_of, fate_of, report_of_fate}
 use Rattle.relay_book.specs.Record.{is_null}
 use Rattle.relay_report.specs.StatusFields.{field}
-use Rattle.relay_report.specs.Multipart.{Told, header_fields, report_text}
+use Rattle.relay_report.specs.Multipart.{Told, encoding_of, header_fields, origin_fields, postmaster_at, report_text, third_part}
 use Rattle.relay_report.specs.Report.{IsReport, is_due}
 use Rattle.relay_report.specs.Fits.{DueReportFits}
 use Rattle.relay_report.proofs.ReportShortLemmas.{report_is_short}
@@ -32,9 +32,30 @@ null_reports message at (ruling ∷ rulings) null =
     first (Some place) = of_recipient place (slice_get message.accept.envelope.recipients ruling.place)
 
 -- a report has text
+begun : (front back : List ℕ) → (front ≡ [] → ⊥) → front ++ back ≡ [] → ⊥
+begun [] back some none = some refl
+begun (octet ∷ front) back some none = cc
+
+from_is_some : (body : List ℕ) → field (codes "From") body ≡ [] → ⊥
+unfolding field
+from_is_some body none = cc
+
+origin_is_some : (told : Told) (date : List ℕ) → origin_fields told date ≡ [] → ⊥
+unfolding origin_fields
+origin_is_some told date =
+    begun _ _ (begun _ _ (begun _ _ (begun _ _ (begun _ _ (from_is_some (postmaster_at told.host))))))
+
+header_is_some : (told : Told) (date encoding : List ℕ) → header_fields told date encoding ≡ [] → ⊥
+unfolding header_fields
+header_is_some told date encoding = begun _ _ (begun _ _ (origin_is_some told date))
+
+text_is_some : (told : Told) (date arrival : List ℕ) (until : Option (List ℕ)) (boundary : List ℕ) → report_text told date arrival until boundary ≡ [] → ⊥
+unfolding report_text
+text_is_some told date arrival until boundary =
+    begun _ _ (begun _ _ (begun _ _ (header_is_some told date (encoding_of told.form (third_part told)))))
+
 report_is_some : (told : Told) (text : List ℕ) → IsReport told text → text ≡ [] → ⊥
-unfolding report_text header_fields field
-report_is_some told text is none = let both = sym is.text_is ∙ none in cc
+report_is_some told text is none = text_is_some told is.date is.arrival is.until is.boundary (sym is.text_is ∙ none)
 
 limit_is : (test : Bool) → test ≡ false → (if test then 2 ^ 26 else 2 ^ 25) ≤ 2 ^ 25
 limit_is true e = absurd (false≢true (sym e))

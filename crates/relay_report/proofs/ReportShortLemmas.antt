@@ -31,37 +31,37 @@ plain_short_part told may =
     simp length-append (omega (arith, host, number, few, rows))
 
 rich_short_part : (told : Told) (arrival : List ℕ) (until : Option (List ℕ)) → MayBeTold told → length arrival ≡ 31 → IsDay until
-    → length (rich_first_part told arrival until) ≤ 82500
+    → length (rich_first_part told arrival until) ≤ 83000
 unfolding rich_first_part
 rich_short_part told arrival until may came days =
     let few = may.within in
     let hop = hop_short told.hop may.hop in
     let opening = greeting_short told.host told.message.number arrival may.host.few_octets may.message came in
-    let each = λ (ruling : Ruling) (is : IsRuling ruling). place_short (λ recipient due. place_lines told.hop until recipient due ruling.verdict) (due_at told.message told.at ruling) 820
+    let each = λ (ruling : Ruling) (is : IsRuling ruling). place_short (λ recipient due. place_lines told.hop until recipient due ruling.verdict) (due_at told.message told.at ruling) 825
     (λ recipient due valid. place_lines_short told.hop until recipient due ruling.verdict hop days valid is.verdict) told.message.accept.envelope.recipients ruling.place may.accept.envelope.recipients in
-    let rows = rows_short (sentences_of told.message told.hop told.at until) 820 each told.rulings may.rulings in
+    let rows = rows_short (sentences_of told.message told.hop told.at until) 825 each told.rulings may.rulings in
     let all = length-append (greeting told.host told.message.number arrival) (flat_map (sentences_of told.message told.hop told.at until) told.rulings) in
     omega (arith, few, opening, rows, all)
 
 first_short_as : (form : ReportForm) (told : Told) (arrival : List ℕ) (until : Option (List ℕ)) → MayBeTold told → length arrival ≡ 31 → IsDay until
-    → length (first_part_as form told arrival until) ≤ 82500
+    → length (first_part_as form told arrival until) ≤ 83000
 first_short_as Plain told arrival until may came days = let short = plain_short_part told may in omega (arith, short)
 first_short_as Rich told arrival until may came days = rich_short_part told arrival until may came days
 
 first_short : (told : Told) (arrival : List ℕ) (until : Option (List ℕ)) → MayBeTold told → length arrival ≡ 31 → IsDay until
-    → length (first_part told arrival until) ≤ 82500
+    → length (first_part told arrival until) ≤ 83000
 first_short told arrival until may came days = first_short_as told.form told arrival until may came days
 
 second_short : (told : Told) (date arrival : List ℕ) (until : Option (List ℕ)) → MayBeTold told → length date ≡ 31 → length arrival ≡ 31 → IsDay until
-    → length (second_part told date arrival until) ≤ 177500
+    → length (second_part told date arrival until) ≤ 170500
 unfolding second_part
 second_short told date arrival until may day came days =
     let few = may.within in
     let hop = hop_short told.hop may.hop in
     let fields = message_fields_short told.host arrival told.message.accept.envelope.envid may.host.few_octets came may.accept.envelope.envid in
-    let each = λ (ruling : Ruling) (is : IsRuling ruling). place_short (λ recipient due. recipient_fields told.form told.hop date until recipient due ruling.verdict) (due_at told.message told.at ruling) 1770
+    let each = λ (ruling : Ruling) (is : IsRuling ruling). place_short (λ recipient due. recipient_fields told.form told.hop date until recipient due ruling.verdict) (due_at told.message told.at ruling) 1700
     (λ recipient due valid. recipient_short told.form told.hop date until recipient due ruling.verdict hop day days valid is.verdict) told.message.accept.envelope.recipients ruling.place may.accept.envelope.recipients in
-    let rows = rows_short (fields_of told.form told.message told.hop told.at date until) 1770 each told.rulings may.rulings in
+    let rows = rows_short (fields_of told.form told.message told.hop told.at date until) 1700 each told.rulings may.rulings in
     let all = length-append (message_fields told.host arrival told.message.accept.envelope.envid) (flat_map (fields_of told.form told.message told.hop told.at date until) told.rulings) in
     omega (arith, few, fields, rows, all)
 

@@ -26,26 +26,26 @@ greeting_short host number arrival few fits came =
     let digits = number_short number fits in
     simp (length-append, length-sentence) (omega (arith, few, digits, came))
 
-reply_short : (code : ℕ) (text : List ℕ) → code < 2 ^ 16 → length text ≤ 200 → length (reply_line code text) ≤ 227
+reply_short : (code : ℕ) (text : List ℕ) → code < 2 ^ 16 → length text ≤ 200 → length (reply_line code text) ≤ 212
 unfolding reply_line
 reply_short code text fits few =
     let words = words_short code text fits few in
     simp length-append (omega (arith, words))
 
-refusal_short : (hop : List ℕ) (code : ℕ) (text : List ℕ) → length hop ≤ 255 → code < 2 ^ 16 → length text ≤ 200 → length (refusal_lines hop code text) ≤ 523
+refusal_short : (hop : List ℕ) (code : ℕ) (text : List ℕ) → length hop ≤ 255 → code < 2 ^ 16 → length text ≤ 200 → length (refusal_lines hop code text) ≤ 508
 unfolding refusal_lines
 refusal_short hop code text few fits short =
     let reply = reply_short code text fits short in
     simp (length-append, length-sentence) (omega (arith, few, reply))
 
-left_short : (hop : List ℕ) (verdict : Verdict) → length hop ≤ 255 → IsVerdict verdict → length (left_lines hop verdict) ≤ 523
+left_short : (hop : List ℕ) (verdict : Verdict) → length hop ≤ 255 → IsVerdict verdict → length (left_lines hop verdict) ≤ 508
 left_short hop (Taken dsn) few valid = omega (arith, few, length-sentence (codes "  It was handed to ") hop (codes ", which sends no reports."))
 left_short hop (Refused code text) few valid = refusal_short hop code text few (omega (arith, valid.high)) valid.text_fits
 left_short hop Later few valid = omega (arith, few, length-sentence (codes "  It could not be delivered in time. The last attempt was made at ") hop (codes "."))
 left_short hop CantSend few valid = omega (arith, few, length-sentence (codes "  It could not be delivered: its last line has no end, which ") hop (codes " does not take."))
 left_short hop NoRoute few valid = omega arith
 
-event_short : (hop : List ℕ) (due : DueReport) (verdict : Verdict) → length hop ≤ 255 → IsVerdict verdict → length (event_lines hop due verdict) ≤ 523
+event_short : (hop : List ℕ) (due : DueReport) (verdict : Verdict) → length hop ≤ 255 → IsVerdict verdict → length (event_lines hop due verdict) ≤ 508
 event_short hop OfFailure verdict few valid = left_short hop verdict few valid
 event_short hop OfRelay verdict few valid = left_short hop verdict few valid
 event_short hop OfDelay verdict few valid = omega (arith, few, length-sentence (codes "  It has not been delivered yet. The last attempt was made at ") hop (codes "."))
@@ -60,17 +60,17 @@ next_short until OfFailure day = omega arith
 next_short until OfRelay day = omega arith
 next_short until OfDelay day = let line = trying_short until day in simp length-append (omega (arith, line))
 
--- at most 820 octets are for one place: its fields have at most 1,770, and a hundred of both with the rest fit into 2^18
+-- at most 825 octets are for one place: its fields have at most 1,700, and a hundred of both with the rest fit into 2^18
 pub place_lines_short : (hop : List ℕ) (until : Option (List ℕ)) (recipient : Recipient) (due : DueReport) (verdict : Verdict) → length hop ≤ 255 → IsDay until
-    → IsRecipient recipient → IsVerdict verdict → length (place_lines hop until recipient due verdict) ≤ 820
+    → IsRecipient recipient → IsVerdict verdict → length (place_lines hop until recipient due verdict) ≤ 825
 unfolding place_lines
 place_lines_short hop until recipient due verdict few day valid rules = by due
   where
     path : length recipient.path ≤ 256
     path = written_short _ recipient.path valid.path
 
-    short : (due : DueReport) → length (event_lines hop due verdict) + length (next_lines until due) ≤ 556
-        → length (crlf ++ sentence (codes "For ") recipient.path (codes ":") ++ event_lines hop due verdict ++ next_lines until due) ≤ 820
+    short : (due : DueReport) → length (event_lines hop due verdict) + length (next_lines until due) ≤ 560
+        → length (crlf ++ sentence (codes "For ") recipient.path (codes ":") ++ event_lines hop due verdict ++ next_lines until due) ≤ 825
     short due both =
         omega (
           arith,
@@ -82,7 +82,7 @@ place_lines_short hop until recipient due verdict few day valid rules = by due
           length-append (crlf ++ sentence (codes "For ") recipient.path (codes ":") ++ event_lines hop due verdict) (next_lines until due),
         )
 
-    by : (due : DueReport) → length (crlf ++ sentence (codes "For ") recipient.path (codes ":") ++ event_lines hop due verdict ++ next_lines until due) ≤ 820
+    by : (due : DueReport) → length (crlf ++ sentence (codes "For ") recipient.path (codes ":") ++ event_lines hop due verdict ++ next_lines until due) ≤ 825
     by OfFailure = short OfFailure (omega (arith, event_short hop OfFailure verdict few rules))
     by OfRelay = short OfRelay (omega (arith, left_short hop verdict few rules))
     by OfDelay =

@@ -152,15 +152,18 @@ remote_short hop Later few = omega arith
 remote_short hop CantSend few = omega arith
 remote_short hop NoRoute few = omega arith
 
-pub words_short : (code : ℕ) (text : List ℕ) → code < 2 ^ 16 → length text ≤ 200 → length (reply_words code text) ≤ 221
-words_short code [] fits few = let number = number_short code (omega (arith, fits)) in omega (arith, number)
+code_short : (code : ℕ) → code < 2 ^ 16 → length (decimal code) ≤ 5
+code_short code fits = length-decimal-le 5 code (omega arith) (omega (arith, fits)) (omega (arith, fits))
+
+pub words_short : (code : ℕ) (text : List ℕ) → code < 2 ^ 16 → length text ≤ 200 → length (reply_words code text) ≤ 206
+words_short code [] fits few = let number = code_short code fits in omega (arith, number)
 words_short code (octet ∷ octets) fits few =
-    let number = number_short code (omega (arith, fits)) in
+    let number = code_short code fits in
     let one = length-append (decimal code) (codes " ") in
     let all = length-append (decimal code ++ codes " ") (octet ∷ octets) in
     omega (arith, number, one, all, few)
 
-diagnostic_short : (verdict : Verdict) → IsVerdict verdict → length (diagnostic_code verdict) ≤ 300
+diagnostic_short : (verdict : Verdict) → IsVerdict verdict → length (diagnostic_code verdict) ≤ 235
 diagnostic_short (Taken dsn) valid = omega arith
 diagnostic_short (Refused code text) valid =
     let words = words_short code text (omega (arith, valid.high)) valid.text_fits in
@@ -196,7 +199,7 @@ until_short until OfRelay day = omega arith
 until_short until OfDelay day = retry_short until day
 
 attempt_short : (form : ReportForm) (hop date : List ℕ) (due : DueReport) (verdict : Verdict) → length hop ≤ 255 → length date ≡ 31 → IsVerdict verdict
-    → length (attempt_fields form hop date due verdict) ≤ 872
+    → length (attempt_fields form hop date due verdict) ≤ 805
 attempt_short form hop date due verdict few day valid =
     let status = length-field (codes "Status") (status_of form due verdict) in
     let code = status_short form due verdict valid in
@@ -209,7 +212,7 @@ attempt_short form hop date due verdict few day valid =
     omega (arith, status, code, remote, diagnostic, last, one, two, all)
 
 pub recipient_short : (form : ReportForm) (hop date : List ℕ) (until : Option (List ℕ)) (recipient : Recipient) (due : DueReport) (verdict : Verdict) → length hop ≤ 255 → length date ≡ 31
-    → IsDay until → IsRecipient recipient → IsVerdict verdict → length (recipient_fields form hop date until recipient due verdict) ≤ 1770
+    → IsDay until → IsRecipient recipient → IsVerdict verdict → length (recipient_fields form hop date until recipient due verdict) ≤ 1700
 recipient_short form hop date until recipient due verdict few day days valid rules =
     let path = written_short _ recipient.path valid.path in
     let cut = length-take (length recipient.path - 2) (drop 1 recipient.path) in
