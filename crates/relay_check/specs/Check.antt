@@ -1,4 +1,4 @@
--- What `check` answers of a configuration's text, and what it writes.
+-- What `check` returns for the text of a configuration, and what it writes.
 use Rattle.std.specs.Prelude.{◌≡◌, ◌⊎◌, ℕ, Bool, true, false, not, List, ◌++◌, codes, decimal, Option, Ok, string_bytes}
 use Rattle.std.specs.List.{flat_map, list_any}
 use Rattle.std.specs.Io.KnownBytes.{Appends}
@@ -8,11 +8,11 @@ use Rattle.relay_check.specs.declared.findings.Severity.{Severity}
 use Rattle.relay_check.specs.declared.findings.Severity.TheVariants.{Error, Ignored, Warning}
 use Rattle.relay_check.specs.declared.findings.Finding.{Finding}
 
--- the text says a configuration, by which a relay can run
+-- the text is a configuration with which a relay can run
 abbrev pub SaysConfiguration : List ℕ → Type 0
 SaysConfiguration text = (config : Config) × ReadsConfig text (Ok config)
 
--- a finding is an error but for a warning: what a relay ignores is one, too
+-- a finding counts as an error unless it is a warning; an ignored part counts as an error too
 abbrev pub is_severe : Severity → Bool
 is_severe Error = true
 is_severe Ignored = true
@@ -36,8 +36,8 @@ finding_line file finding =
     file ++ codes ":" ++ decimal finding.position.line ++ codes ":" ++ decimal finding.position.column ++ codes ": "
     ++ severity_text finding.severity ++ codes ": " ++ string_bytes finding.message ++ codes "\n"
 
--- each finding was written on a line of its own. The answer is no exactly if one is an error, and a text that says no
--- configuration has one
+-- Each finding was written on a line of its own. The result is false exactly if one is an error, and a text that is no
+-- configuration has one.
 pub record IsChecked (file : List ℕ) (passes : Bool) (old new : Option (List ℕ)) : Type 0 where
   pub text : List ℕ
   pub findings : List Finding
@@ -45,7 +45,7 @@ pub record IsChecked (file : List ℕ) (passes : Bool) (old new : Option (List �
   pub passes_is : passes ≡ not (list_any is_error findings)
   pub configuration : SaysConfiguration text ⊎ HasError findings
 
--- warnings alone were written, each on a line of its own, of a text that says a configuration
+-- only warnings were written, each on a line of its own, and the text is a configuration
 pub record IsWarned (file : List ℕ) (old new : Option (List ℕ)) : Type 0 where
   pub text : List ℕ
   pub findings : List Finding

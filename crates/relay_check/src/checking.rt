@@ -17,9 +17,9 @@ use std::fs::File;
 use std::io::Write;
 use std::rt::Files;
 
-/// Checks the configuration in a file. Each finding is a line on `writer`, in the order of their places:
-/// `FILE:LINE:COLUMN: error|warning: ..`. Returns whether a relay can run by the file: whether no finding is an error.
-/// It fails where the file can't be read, a line can't be written, or memory runs out.
+/// Checks the configuration in a file, and writes each finding as a line to `writer`, in the order of their places:
+/// `FILE:LINE:COLUMN: error|warning: ..`. Returns whether a relay can run with the file, which means that no finding is
+/// an error. Fails if the file can't be read, a line can't be written, or memory runs out.
 pub fn check<F: Files<File = File>, W: Write>(
     alloc: Global,
     files: &F,
@@ -37,8 +37,8 @@ pub fn check<F: Files<File = File>, W: Write>(
     Ok(!findings.has_error())
 }
 
-/// Writes what `check` finds in the configuration in a file before a relay runs by it: each finding as a warning, and
-/// nothing if no relay can run by it. It fails as `check` does.
+/// Writes the findings of [`check`] as warnings before a relay runs with the configuration in a file; nothing if no
+/// relay can run with it. Fails as [`check`] does.
 pub fn warn<F: Files<File = File>, W: Write>(
     alloc: Global,
     files: &F,
@@ -61,8 +61,8 @@ pub fn warn<F: Files<File = File>, W: Write>(
     Ok(())
 }
 
-/// Looks for all that is wrong with a text, and for what is risky where that keeps no relay from running. Returns
-/// whether the text says a configuration; if it says none, a finding is an error.
+/// Finds all errors of a text, and its risks if a relay can run with it. Returns whether the text is a configuration;
+/// if it isn't, one of the findings is an error.
 fn check_text<F: Files<File = File>>(
     alloc: Global,
     files: &F,
@@ -99,8 +99,7 @@ fn check_text<F: Files<File = File>>(
     }
 }
 
-/// Sees to it that a text which says no configuration has an error: the fault of the reader, if none of the checks
-/// before has found one.
+/// Adds the reader's fault as an error, if no check before has found one.
 fn refuse(alloc: Global, fault: ConfigFault, findings: &mut Findings<'_>) -> Result<(), AllocError>
     ensures { OnOk result (HasError findings.new.found.items) }
 {
@@ -111,7 +110,7 @@ fn refuse(alloc: Global, fault: ConfigFault, findings: &mut Findings<'_>) -> Res
     findings.error(Place::Whole, message)
 }
 
-/// Finds where a text stops being TOML. It fails where the reader of TOML ran out of memory.
+/// Finds where a text stops being TOML. Fails if the TOML reader ran out of memory.
 fn check_syntax(
     alloc: Global,
     error: &toml::de::Error,

@@ -1,4 +1,4 @@
-//! The findings in a text: each is an error or a warning, with its place.
+//! Findings in a text: errors and warnings, with their places.
 ghost use Rattle.std.specs.Prelude.{◌≡◌, ◌++◌, true, IfOk, OnOk};
 ghost use Rattle.std.specs.List.{flat_map, list_any};
 ghost use Rattle.std.specs.List.Sorted.{IsPermutation};
@@ -8,14 +8,14 @@ use crate::position::{Place, Position, position_of};
 use std::alloc::{AllocError, Global};
 use std::fmt;
 
-/// How much a finding matters.
+/// The severity of a finding.
 #[derive(Clone, Copy, Drop, PartialEq, Eq)]
 enum Severity {
-    /// No relay runs by this text.
+    /// No relay can run with this text.
     Error,
-    /// A relay runs by this text, and ignores a part of it.
+    /// A relay can run with this text, but ignores a part of it.
     Ignored,
-    /// A relay runs by this text, and may do what isn't meant.
+    /// A relay can run with this text, but may do what isn't meant.
     Warning,
 }
 
@@ -45,7 +45,7 @@ impl fmt::Display for Severity {
     }
 }
 
-/// One thing to tell about a text.
+/// One finding.
 #[derive(Drop)]
 struct Finding {
     position: Position,
@@ -54,7 +54,7 @@ struct Finding {
 }
 
 impl Finding {
-    /// Adds its line.
+    /// Adds the line of the finding.
     fn push_line(&self, alloc: Global, file: &str, lines: &mut Vec<u8>) -> Result<(), AllocError>
         ensures { OnOk result (lines.new.items ≡ lines.old.items ++ finding_line file.now self.now) }
     {
@@ -66,7 +66,7 @@ impl Finding {
     }
 }
 
-/// What was found in a text so far.
+/// The findings in a text so far.
 #[derive(Drop)]
 pub(crate) struct Findings<'t> {
     text: &'t str,
@@ -89,7 +89,8 @@ impl<'t> Findings<'t> {
         self.add(Severity::Error, place, message)
     }
 
-    /// Adds what a relay ignores, which is an error until [`Findings::soften`]. Fails if memory runs out.
+    /// Adds something that a relay ignores, which counts as an error until [`Findings::soften`]. Fails if memory runs
+    /// out.
     pub fn ignored(&mut self, place: Place<'_>, message: String) -> Result<(), AllocError> {
         self.add(Severity::Ignored, place, message)
     }
@@ -117,7 +118,7 @@ impl<'t> Findings<'t> {
         Ok(())
     }
 
-    /// Returns whether one of them is an error.
+    /// Returns whether a finding is an error.
     pub fn has_error(&self) -> bool
         ensures { result ≡ list_any is_error self.now.found.items }
     {
@@ -126,7 +127,7 @@ impl<'t> Findings<'t> {
             .any(|finding| finding.severity.is_severe())
     }
 
-    /// Lets what a relay ignores be no more than a warning.
+    /// Turns findings of ignored parts into warnings.
     pub fn soften(&mut self) {
         for finding in self.found.iter_mut() {
             if finding.severity == Severity::Ignored {
@@ -135,14 +136,14 @@ impl<'t> Findings<'t> {
         }
     }
 
-    /// Puts them into the order of their places.
+    /// Sorts the findings by their places.
     pub fn sort(&mut self) -> Result<(), AllocError>
         ensures { IsPermutation self.old.found.items self.new.found.items }
     {
         self.found.sort_by_key(|finding| finding.position)
     }
 
-    /// Returns a line for each, with the name of the file that the text is from.
+    /// Returns a line for each finding, with the name of the file that holds the text.
     pub fn lines(&self, alloc: Global, file: &str) -> Result<Vec<u8>, AllocError>
         ensures { IfOk result (λ lines. lines.items ≡ flat_map (finding_line file.now) self.now.found.items) }
     {

@@ -1,4 +1,4 @@
-//! Keys that no relay reads. A relay ignores them, so who writes one believes in what isn't there.
+//! Unknown keys. A relay ignores them, so that their author relies on something that has no effect.
 use crate::findings::Findings;
 use crate::position::Place;
 use std::alloc::{AllocError, Global};
@@ -29,16 +29,16 @@ const KEYS: [&str; KEY_COUNT] = [
     "balancers",
 ];
 
-/// The keys of a route's hop.
+/// The keys of a route's next hop.
 const HOP_KEYS: [&str; 2] = ["name", "at"];
 
-/// The most edits between a key and the one that may have been meant.
+/// The most edits between an unknown key and the key that may have been meant.
 const FEW_EDITS: usize = 3;
 
 /// The most octets of a key that is compared with the known ones.
 const LONGEST_KEY: usize = 32;
 
-/// Finds the keys of a document that no relay reads.
+/// Finds the unknown keys of a document.
 pub(crate) fn check_keys(
     alloc: Global,
     document: &Table,
@@ -59,7 +59,7 @@ pub(crate) fn check_keys(
     Ok(())
 }
 
-/// Finds the keys of a hop that no relay reads.
+/// Finds the unknown keys of a route's next hop.
 pub(crate) fn check_hop_keys(
     alloc: Global,
     domain: &str,
@@ -86,7 +86,7 @@ pub(crate) fn check_hop_keys(
     Ok(())
 }
 
-/// Returns the known key that the fewest edits lead to, if they are few for its length.
+/// Returns the known key with the fewest edits from this one, if they are few for its length.
 fn nearest(
     alloc: Global,
     key: &str,

@@ -1,5 +1,5 @@
-//! What is wrong with a configuration and what is risky about it: each finding with its place in the file, the value
-//! that it is about, and what to write instead.
+//! Errors and risks of a configuration: each finding with its place in the file, the value in question, and what to
+//! write instead.
 #![tactic(auto)]
 
 mod checking;

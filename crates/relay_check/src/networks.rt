@@ -1,4 +1,4 @@
-//! The networks of trusted clients and of balancers, each on its own.
+//! Checks of the networks of trusted clients and of balancers.
 use crate::findings::Findings;
 use crate::position::Place;
 use relay_routes::Network;
@@ -11,7 +11,7 @@ pub(crate) const TRUSTED_CLIENTS: &str = "trusted_clients";
 /// The key of the networks of balancers.
 pub(crate) const BALANCERS: &str = "balancers";
 
-/// Returns the values of the networks at a key, where the document has an array of them.
+/// Returns the networks at a key, if the document has an array of them.
 pub(crate) fn networks_of<'a>(document: &'a Table, key: &str) -> Option<&'a [Value]> {
     match document.get(key) {
         Some(Value::Array(values)) => Some(values.as_slice()),
@@ -19,7 +19,7 @@ pub(crate) fn networks_of<'a>(document: &'a Table, key: &str) -> Option<&'a [Val
     }
 }
 
-/// Finds what is wrong with each network at a key.
+/// Finds the errors of each network at a key.
 pub(crate) fn check_networks(
     alloc: Global,
     document: &Table,
@@ -56,7 +56,7 @@ fn check_each(
     Ok(())
 }
 
-/// What is told of a text that writes no network.
+/// Returns the message for a text that isn't a network.
 fn no_network(alloc: Global, key: &str, text: &str) -> Result<String, AllocError> {
     format!(in alloc;
         "{key}: \"{}\" is no network: write an address, or one such as \"192.0.2.0/24\" with zeros after its prefix",
@@ -64,7 +64,7 @@ fn no_network(alloc: Global, key: &str, text: &str) -> Result<String, AllocError
     )
 }
 
-/// Returns whether the networks are all addresses, so that every client is trusted.
+/// Returns whether the networks cover all addresses, so that every client is trusted.
 pub(crate) fn are_everybody(networks: &[Value]) -> bool {
     networks.iter().any(|value| match value {
         Value::String(text) => match Network::read(text.as_bytes()) {

@@ -1,5 +1,5 @@
-//! Where something is in a text. The reader of TOML tells the place of a fault of syntax alone, so a key is searched
-//! for by its name at the beginning of lines.
+//! Places in a text. The TOML reader gives places only for syntax errors, so a key is found by its name at the start of
+//! a line.
 
 /// A place in a text: its line, and its column in characters, both from 1.
 #[derive(Clone, Copy, Drop, PartialEq, Eq, PartialOrd, Ord)]
@@ -8,7 +8,7 @@ pub(crate) struct Position {
     pub column: usize,
 }
 
-/// Where a text begins.
+/// The start of a text.
 const BEGINNING: Position = Position { line: 1, column: 1 };
 
 /// What a finding is about.
@@ -16,7 +16,7 @@ const BEGINNING: Position = Position { line: 1, column: 1 };
 pub(crate) enum Place<'a> {
     /// The text as a whole.
     Whole,
-    /// What stands from this octet on.
+    /// The octet at this offset.
     Octet(usize),
     /// A key of the document, or the header of its table.
     Key(&'a str),
@@ -24,7 +24,7 @@ pub(crate) enum Place<'a> {
     Route(&'a str),
 }
 
-/// What the keys of a line are members of.
+/// The table to which the keys of a line belong.
 #[derive(Clone, Copy, Drop)]
 enum Section {
     Document,
@@ -32,7 +32,7 @@ enum Section {
     Other,
 }
 
-/// Returns where a place is in a text, and the text's beginning where it isn't found.
+/// Returns the position of a place in a text, or the text's start if it isn't found.
 pub(crate) fn position_of(text: &str, place: Place<'_>) -> Position {
     match place {
         Place::Whole => BEGINNING,
@@ -66,7 +66,7 @@ fn position_at(text: &str, index: usize) -> Position {
     position
 }
 
-/// Returns the first line that a place is at.
+/// Returns the position of the first line that a place refers to.
 fn find(text: &str, place: Place<'_>) -> Option<Position> {
     let mut section = Section::Document;
     for (index, line) in text.lines().enumerate() {
@@ -85,7 +85,7 @@ fn find(text: &str, place: Place<'_>) -> Option<Position> {
     None
 }
 
-/// Returns whether a line of this section, without the blanks at its beginning, is where a place is.
+/// Returns whether a line of this section, without leading blanks, is the one that a place refers to.
 fn is_at(line: &str, section: Section, place: Place<'_>) -> bool {
     let (path, section) = match line.strip_prefix('[') {
         Some(header) => (header, Section::Document),
@@ -103,7 +103,7 @@ fn is_at(line: &str, section: Section, place: Place<'_>) -> bool {
     }
 }
 
-/// Returns the section that a header begins.
+/// Returns the section that a table header begins.
 fn section_of(header: &str) -> Section {
     match after_key(header, "routes") {
         Some(rest) if rest.starts_with(']') => Section::Routes,
@@ -111,7 +111,7 @@ fn section_of(header: &str) -> Section {
     }
 }
 
-/// Returns whether a text begins with this key, and with no longer one.
+/// Returns whether a text begins with this key, and not with a longer one.
 fn begins_with_key(text: &str, key: &str) -> bool {
     match after_key(text, key) {
         Some(rest) => rest.starts_with('=') || rest.starts_with('.') || rest.starts_with(']'),
@@ -119,7 +119,7 @@ fn begins_with_key(text: &str, key: &str) -> bool {
     }
 }
 
-/// Returns what follows a key, bare or in quotes, at the beginning of a text, without blanks around it.
+/// Returns what follows a key, bare or in quotes, at the start of a text, without surrounding blanks.
 fn after_key<'a>(text: &'a str, key: &str) -> Option<&'a str> {
     let text = text.trim_start();
     let rest = if let Some(quoted) = text.strip_prefix('"') {

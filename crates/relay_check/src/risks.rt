@@ -1,4 +1,4 @@
-//! What is risky about a configuration by which a relay runs.
+//! Risks of a configuration with which a relay can run.
 use crate::document::{routes_of, text_at};
 use crate::findings::Findings;
 use crate::networks::{TRUSTED_CLIENTS, are_everybody, networks_of};
@@ -30,7 +30,7 @@ pub(crate) fn check_risks<F: Files<File = File>>(
     check_file(alloc, files, second.as_str(), findings)
 }
 
-/// Finds a spool that has no room for a message of the greatest size.
+/// Warns of a spool that has no room for a message of the greatest size.
 fn check_sizes(
     alloc: Global,
     config: &Config,
@@ -46,7 +46,7 @@ fn check_sizes(
     findings.warning(Place::Key("spool_limit"), message)
 }
 
-/// Finds routes by which too little or too much mail is taken.
+/// Warns of routes that accept too little or too much mail.
 fn check_reach(
     alloc: Global,
     config: &Config,
@@ -73,7 +73,7 @@ fn check_reach(
     findings.warning(Place::Key("routes"), message)
 }
 
-/// Finds a relay that relays whatever anybody sends it.
+/// Warns of an open relay.
 fn check_openness(
     alloc: Global,
     config: &Config,
@@ -90,7 +90,8 @@ fn check_openness(
     findings.warning(Place::Route("*"), message)
 }
 
-/// Finds a relay that takes mail for named domains alone, but may have it sent on to any other by a routed address.
+/// Warns of a relay that accepts mail for named domains only, but whose clients may reach any other domain by a routed
+/// address.
 fn check_routed_paths(
     alloc: Global,
     config: &Config,
@@ -116,7 +117,7 @@ fn check_routed_paths(
     findings.warning(Place::Key(place), message)
 }
 
-/// Returns whether some clients may send to named domains, and to no other.
+/// Returns whether some clients may send to named domains only.
 fn is_guarded(document: &Table, routes: &Table) -> bool {
     if routes.contains_key("*") {
         routes.len() > 1 && !trusts_everybody(document)
@@ -133,7 +134,7 @@ fn trusts_everybody(document: &Table) -> bool {
     }
 }
 
-/// Finds routes that lead to the relay itself.
+/// Warns of routes that lead to the relay itself.
 fn check_loops(
     alloc: Global,
     config: &Config,
@@ -156,8 +157,8 @@ fn check_loops(
     Ok(())
 }
 
-/// Returns whether what is sent to this address comes to a relay that listens there: also by the loopback addresses, if
-/// it listens at all of them.
+/// Returns whether mail sent to this address reaches a relay that listens there. A relay that listens at all addresses
+/// is reached at the loopback addresses too.
 fn leads_here(at: &str, listen: SocketAddrV4) -> bool {
     let Ok(at) = at.parse::<SocketAddrV4>() else {
         return false;
@@ -166,7 +167,7 @@ fn leads_here(at: &str, listen: SocketAddrV4) -> bool {
         && (at.ip() == listen.ip() || (listen.ip().is_unspecified() && at.ip().is_loopback()))
 }
 
-/// Finds a file of the spool that isn't there, or that this user can't read.
+/// Warns of a file of the spool that doesn't exist, or that this user can't read.
 fn check_file<F: Files<File = File>>(
     alloc: Global,
     files: &F,

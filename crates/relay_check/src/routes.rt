@@ -1,4 +1,4 @@
-//! The routes, each on its own and beside those before it.
+//! Checks of the routes, each by itself and against those before it.
 use crate::document::text_at;
 use crate::findings::Findings;
 use crate::known_keys::check_hop_keys;
@@ -9,7 +9,7 @@ use std::alloc::{AllocError, Global};
 use std::net::SocketAddrV4;
 use toml::{Table, Value};
 
-/// Finds what is wrong with each route.
+/// Finds the errors of each route.
 pub(crate) fn check_routes(
     alloc: Global,
     routes: &Table,
@@ -29,7 +29,7 @@ pub(crate) fn check_routes(
     Ok(())
 }
 
-/// Finds a domain that mail can't be for.
+/// Finds a domain that can't receive mail.
 fn check_domain(
     alloc: Global,
     domain: &str,
@@ -51,7 +51,7 @@ fn check_domain(
     findings.error(Place::Route(domain), message)
 }
 
-/// Returns the hop that a route names, or what is wrong with it.
+/// Returns the next hop of a route, or adds what is wrong with it.
 fn check_hop(
     alloc: Global,
     domain: &str,
@@ -75,7 +75,7 @@ fn check_hop(
     })
 }
 
-/// Returns the name of a route's hop, or what is wrong with it.
+/// Returns the name of a route's next hop, or adds what is wrong with it.
 fn check_name(
     alloc: Global,
     domain: &str,
@@ -99,7 +99,7 @@ fn check_name(
     Ok(None)
 }
 
-/// Returns where a route's hop is, or what is wrong with that.
+/// Returns the address of a route's next hop, or adds what is wrong with it.
 fn check_address(
     alloc: Global,
     domain: &str,
@@ -121,7 +121,7 @@ fn check_address(
     Ok(None)
 }
 
-/// Returns the address that a text writes as a configuration has it: as `listen` would be read.
+/// Returns the address in a text, read as `listen` would be.
 fn address_of(alloc: Global, text: &str) -> Result<Option<SocketAddrV4>, AllocError> {
     let mut probe = Table::new(alloc);
     add(alloc, &mut probe, "host", "localhost")?;
@@ -143,7 +143,7 @@ fn add(alloc: Global, document: &mut Table, key: &str, text: &str) -> Result<(),
     Ok(())
 }
 
-/// Adds a route to those before it, or finds what it disagrees with.
+/// Adds a route to those before it, or adds a finding if it contradicts one of them.
 fn check_beside(
     alloc: Global,
     table: &mut RouteTable,
@@ -153,7 +153,7 @@ fn check_beside(
 ) -> Result<(), AllocError> {
     let route = domain.escape_default();
     let message = match table.add(alloc, domain.as_bytes(), hop) {
-        // A bad domain was found before.
+        // An invalid domain was found before.
         Ok(()) | Err(RouteFault::BadDomain) => return Ok(()),
         Err(RouteFault::NoMemory) => return Err(AllocError),
         Err(RouteFault::Repeated) => format!(in alloc;

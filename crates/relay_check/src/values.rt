@@ -1,5 +1,5 @@
-//! The values of the keys. A configuration's reader tells the first fault alone: each bad value is replaced by a good
-//! one, and the document is read again, until no fault is left.
+//! Checks of the values of keys. The configuration's reader returns its first fault only: each bad value is replaced by
+//! a good one, and the document is read again, until no fault is left.
 use crate::findings::Findings;
 use crate::known_keys::KEY_COUNT;
 use crate::networks::{BALANCERS, TRUSTED_CLIENTS};
@@ -10,7 +10,7 @@ use std::alloc::{AllocError, Global};
 use std::fmt;
 use toml::{Table, Value};
 
-/// A value that a key may have.
+/// A value that is valid for a key.
 #[derive(Clone, Copy, Drop)]
 enum Good {
     Text(&'static str),
@@ -45,24 +45,24 @@ impl fmt::Display for Good {
     }
 }
 
-/// What a key's value must be.
+/// The rule for a key's value.
 #[derive(Clone, Copy, Drop)]
 struct Rule {
     key: &'static str,
-    /// What may stand there, in words.
+    /// The valid values, in words.
     may_be: &'static str,
     example: Good,
 }
 
-/// Finds each value that a configuration or its limits refuse, and each key that must be there and isn't, but for what
-/// is wrong with a single route or a single network.
+/// Finds each value that a configuration or its limits refuse, and each missing key that is required. Single routes and
+/// single networks are checked elsewhere.
 pub(crate) fn check_values(
     alloc: Global,
     text: &str,
     findings: &mut Findings<'_>,
 ) -> Result<(), AllocError> {
     let Ok(mut document) = toml::table_from_str(alloc, text) else {
-        // The text was read before, so that memory ran out.
+        // The text was parsed before, so memory must have run out.
         return Err(AllocError);
     };
     set_routes_aside(alloc, &mut document)?;
@@ -78,7 +78,7 @@ pub(crate) fn check_values(
     Ok(())
 }
 
-/// Replaces a table of routes by one without: each route is checked on its own.
+/// Replaces a table of routes by an empty one: each route is checked by itself.
 fn set_routes_aside(alloc: Global, document: &mut Table) -> Result<(), AllocError> {
     match document.get("routes") {
         Some(Value::Table(_)) => replace(alloc, document, "routes", Good::NoRoutes),
@@ -86,7 +86,7 @@ fn set_routes_aside(alloc: Global, document: &mut Table) -> Result<(), AllocErro
     }
 }
 
-/// Replaces an array of networks at a key by an empty one: each network is checked on its own.
+/// Replaces an array of networks at a key by an empty one: each network is checked by itself.
 fn set_networks_aside(alloc: Global, document: &mut Table, key: &str) -> Result<(), AllocError> {
     match document.get(key) {
         Some(Value::Array(_)) => replace(alloc, document, key, Good::NoNetworks),
@@ -106,7 +106,7 @@ fn replace(alloc: Global, document: &mut Table, key: &str, value: Good) -> Resul
     Ok(())
 }
 
-/// Returns the rule of the first key that has a bad value, or isn't there.
+/// Returns the rule of the first key whose value is bad or missing.
 fn broken_rule(alloc: Global, document: &Table) -> Result<Option<Rule>, AllocError> {
     match Config::of_document(alloc, document) {
         Err(ConfigFault::NoMemory) => Err(AllocError),
@@ -121,7 +121,7 @@ fn broken_rule(alloc: Global, document: &Table) -> Result<Option<Rule>, AllocErr
     }
 }
 
-/// Tells of a key by its rule.
+/// Adds the finding for a key that breaks its rule.
 fn report(
     alloc: Global,
     document: &Table,
@@ -148,7 +148,7 @@ fn report(
     }
 }
 
-/// Returns a value in one line: a text with escapes, and of an array or a table only that it is one.
+/// Returns a value in one line: a string with escapes; of an array or a table only its type.
 fn shown(alloc: Global, value: &Value) -> Result<String, AllocError> {
     match value {
         Value::String(text) => format!(in alloc; "\"{}\"", text.as_str().escape_default()),

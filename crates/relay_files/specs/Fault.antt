@@ -1,5 +1,4 @@
--- Why a run ends with status 1: what the faults of the crates below are to a run, and which errors are the system's
--- own.
+-- Why a run ends with status 1: the faults of lower crates as faults of a run, and the system's own errors.
 use Rattle.std.specs.Prelude.{◌≡◌, ◌⊎◌, ℕ, ℤ, pos, List, codes, Option, None, Some}
 use Rattle.relay_spool.specs.declared.fault.SpoolFault.{SpoolFault}
 use Rattle.relay_spool.specs.declared.fault.SpoolFault.TheVariants as spool_fault
@@ -25,7 +24,7 @@ fault_of_config (config_fault.Missing key) = Config (config_fault.Missing key)
 fault_of_config (config_fault.BadValue key) = Config (config_fault.BadValue key)
 fault_of_config config_fault.NoMemory = NoMemory
 
--- a value that this limit may not have
+-- the invalid value of a limit
 abbrev pub fault_of_limit : Limit → Fault
 fault_of_limit limit = BadLimit limit
 
@@ -42,7 +41,7 @@ abbrev pub fault_of_cause : Cause → Fault
 fault_of_cause (Spool fault) = fault_of_spool fault
 fault_of_cause (NoFittingRecord number) = BadRecord number
 
--- profile: what a node is asked for is there, and it has room, so its other refusals are none of the world's
+-- profile: the program asks a node only for what exists and leaves room, so that other refusals can't come from outside
 abbrev pub fault_of_node : NodeFault → Fault
 fault_of_node node_fault.NoMemory = NoMemory
 fault_of_node node_fault.Stopped = Device
@@ -61,13 +60,13 @@ fault_of_link link_fault.NoMemory = NoMemory
 fault_of_link link_fault.Full = Full
 fault_of_link link_fault.Device = Device
 
--- Linux's errors of a socket that couldn't be had here: this process has no descriptor left (EMFILE), the system has
--- none (ENFILE), or there is no memory (ENOMEM) or no room (ENOBUFS) for its buffers
+-- Linux's errors of a socket that fails for lack of resources here: this process has no file descriptor left (EMFILE),
+-- the system has none (ENFILE), or there is no memory (ENOMEM) or no buffer space (ENOBUFS)
 abbrev pub IsWantOfSockets : Option ℤ → Type 0
 IsWantOfSockets code =
     (code ≡ Some (pos 24)) ⊎ (code ≡ Some (pos 23)) ⊎ (code ≡ Some (pos 12)) ⊎ (code ≡ Some (pos 105))
 
--- profile: a spool that another process holds has the text of a file that can't be opened, and this line after it
+-- profile: a spool that another process has locked gets the text of a file that can't be opened, and this line after it
 abbrev pub advice_on : Fault → Option (List ℕ)
 advice_on Locked = Some (codes "another relayd holds the spool: stop it, or wait until it ends")
 advice_on _ = None

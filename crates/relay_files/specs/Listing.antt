@@ -9,8 +9,8 @@ use Rattle.relay_records.specs.HeldPlace.{waiting_at}
 use Rattle.relay_records.specs.Records.{Kept}
 use Rattle.relay_files.specs.Opening.{IsOpened}
 
--- the number of the message, the recipient's place in it, its path, and when it is due, in seconds from 1970, with
--- spaces between them
+-- the number of the message, the recipient's place in it, its path, and when it is due, in seconds since 1970,
+-- separated by spaces
 abbrev pub listed_line : ℕ → ℕ → List ℕ × ℕ → List ℕ
 listed_line number place waiting =
     decimal number ++ 32 ∷ decimal place ++ 32 ∷ waiting.0 ++ 32 ∷ decimal waiting.1 ++ 10 ∷ []
@@ -23,7 +23,7 @@ line_at queue mark = option_map_or (listed_line mark.0 mark.1) (waiting_at queue
 abbrev pub listing_of : Queue → List ℕ
 listing_of queue = flat_map (line_at queue) (held_of queue)
 
--- what was written are the lines of a queue that files were opened to
+-- what was written are the lines of a queue that the files were opened to
 pub record IsListed (old new : Option (List ℕ)) : Type 0 where
   pub records : Kept FileDisk
   pub opened : IsOpened records

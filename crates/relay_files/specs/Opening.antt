@@ -1,4 +1,4 @@
--- A spool that was opened to be read: the queue that is checked is the one that the spool's files were opened to.
+-- A spool opened for reading: the queue that is shown is the one that the spool's files were opened to.
 use Rattle.relay_disk.specs.declared.disks.Disks.{Disks}
 use Rattle.relay_disk.specs.declared.file.FileDisk.{FileDisk}
 use Rattle.relay_disk.specs.File.{file_words}

@@ -1,4 +1,4 @@
-//! A spool that is compacted, as small as the queue that it holds.
+//! Compacts a spool into one record of what its queue holds.
 use crate::fault::Fault;
 use crate::settings::{configuration, locked_node};
 use std::alloc::Global;
@@ -6,9 +6,9 @@ use std::fs::File;
 use std::io::{self, Write};
 use std::rt::Files;
 
-/// Compacts the spool that the configuration names, on the other of its files, and then writes a line with its sizes
-/// before and after that, in octets. The files are locked for this process. Faults are searched for in this order: the
-/// configuration file, its content, the spool, the second file, and whether the queue is too large for one file.
+/// Compacts the spool that the configuration names, onto the other of its files, and writes a line with its sizes
+/// before and after, in octets. Locks the files for this process. Faults are checked in this order: the configuration
+/// file, its content, the spool, the second file, and whether the queue is too large for one file.
 pub fn compact<F: Files<File = File>, W: Write>(
     alloc: Global,
     files: &F,

@@ -12,7 +12,7 @@ use std::alloc::AllocError;
 use std::io::{self, ErrorKind};
 use thiserror::Error;
 
-/// Linux's error where all of the system's descriptors are taken. The kit's `libc` has no name for it.
+/// Linux's error if the system has no free file descriptor. The kit's `libc` has no name for it.
 const ENFILE: i32 = 23;
 
 /// Linux's error if there is no room for a socket's buffers.
@@ -21,36 +21,35 @@ const ENOBUFS: i32 = 105;
 /// Why a run ends with status 1. Its text follows `relayd: `.
 #[derive(Clone, Copy, Debug, PartialEq, Eq, Error)]
 pub enum Fault {
-    /// The configuration file says nothing that can be run by.
+    /// The configuration file's content is invalid.
     #[error("config {0}")]
     Config(ConfigFault),
-    /// The configuration file has a value that this limit may not have.
+    /// A limit in the configuration file has an invalid value.
     #[error("config BadValue {0}")]
     Limit(Limit),
-    /// The spool's file holds something else.
+    /// The spool's file isn't a spool.
     #[error("spool NotASpool")]
     NotASpool,
-    /// The gate at this place of the spool's file, in octets from 0, is open, and what follows it passes the end.
+    /// The gate at this offset of the spool's file, in octets, is open, but what follows it passes the end of the file.
     #[error("spool Damaged {0}")]
     Damaged(usize),
-    /// A spool is to be made where octets stand.
+    /// `init` was given a file that isn't empty.
     #[error("spool NotEmpty")]
     NotEmpty,
-    /// The spool would pass 2^40 octets, or changes have no numbers any more; or what it holds is too much to be
-    /// rewritten.
+    /// The spool would pass 2^40 octets, change numbers have run out, or the queue is too large to compact.
     #[error("spool Full")]
     Full,
-    /// The spool's second file is none to write it anew on: it was made before spools had two.
+    /// The spool's second file can't be used for compaction: it was made before spools had two files.
     #[error("spool NoSecond")]
     NoSecond,
-    /// The body of this number, from 1, records no change that fits those before it.
+    /// The body of this number, from 1, holds no change that fits those before it.
     #[error("spool BadRecord {0}")]
     BadRecord(usize),
-    /// The spool's file can't be opened, or its device failed.
+    /// The spool's file can't be opened, or its device has failed.
     #[error("device")]
     Device,
-    /// Another process holds the lock of the spool's file. The text is that of a file that can't be opened;
-    /// [`Fault::advice`] says more.
+    /// Another process holds the lock of the spool's file. Its text is that of [`Fault::Device`]; [`Fault::advice`]
+    /// says more.
     #[error("device")]
     Locked,
     /// Memory ran out.
@@ -62,11 +61,11 @@ pub enum Fault {
     /// Standard output can't be written.
     #[error("output")]
     Output,
-    /// There is no listening at the configured place, 64 clients in a row couldn't be had, or no descriptor or no
-    /// memory was left for a connection to a next hop.
+    /// The listener can't be opened, 64 connections in a row couldn't be accepted, or no file descriptor or memory is
+    /// left for a connection to a next hop.
     #[error("socket")]
     Socket,
-    /// What the threads of a round were told of their mail isn't what the node has taken.
+    /// The receipts of a round's threads disagree with what the node has accepted.
     #[error("receipts")]
     Receipts,
 }
@@ -96,7 +95,7 @@ impl Fault {
         Fault::unless_memory(error, Fault::Output)
     }
 
-    /// Returns what to do about the fault, where that isn't plain from its text: a line to print after it.
+    /// Returns a line that says what to do about the fault, if its text doesn't.
     pub fn advice(self) -> Option<&'static str>
         ensures { option_copied result ≡ advice_on self }
     {
@@ -117,8 +116,8 @@ impl Fault {
     }
 }
 
-/// Returns whether a socket couldn't be had since this process or its system has no descriptor, or no memory, left for
-/// one: then it isn't for the other side.
+/// Returns whether a socket failed because this process or the system has no file descriptor or no memory left, and not
+/// because of the peer.
 pub fn is_want_of_sockets(error: &io::Error) -> bool
     ensures { IsTrue result ↔ IsWantOfSockets (raw_os_error error.now) }
 {
@@ -210,7 +209,7 @@ impl From<NodeFault> for Fault {
             NodeFault::NoSecond => Fault::NoSecond,
             NodeFault::Open(cause) => Fault::from(cause),
             NodeFault::Stopped => Fault::Device,
-            // What is asked of a node here is there, and it has room.
+            // The calls of this program ask only for what exists, and leave room.
             NodeFault::Unknown | NodeFault::TooMany | NodeFault::NotDue | NodeFault::Busy => {
                 Fault::Device
             }

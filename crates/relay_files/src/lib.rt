@@ -1,5 +1,5 @@
-//! The files of a relay: its configuration, and the spool that it names, which is made, opened, listed and compacted;
-//! and why a run ends.
+//! The files of a relay: its configuration, and the spool that this names, which can be made, opened, listed and
+//! compacted; and the faults that end a run.
 #![tactic(auto)]
 
 mod compacting;

@@ -1,4 +1,4 @@
-//! Writers of whole lines and of whole texts.
+//! Buffered writers of whole lines.
 ghost use Rattle.std.specs.Prelude.{◌≡◌, [], IfErr, IfOk, OnOk};
 ghost use Rattle.std.specs.Io.Buffered.{writer_buffer};
 ghost use Rattle.std.specs.Io.KnownBytes.{Appends};
@@ -7,8 +7,8 @@ use crate::fault::Fault;
 use std::alloc::Global;
 use std::io::{self, BufWriter, Write};
 
-/// Returns a writer that gathers up to 8,192 octets, or until it is flushed: a line that is flushed once it is complete
-/// is one write, and needs no memory. Fails if memory runs out.
+/// Returns a writer that buffers up to 8,192 octets until it is flushed. A line that is flushed when it is complete
+/// takes one write, and no more memory. Fails if memory runs out.
 pub fn gathering<W: Write>(alloc: Global, writer: &mut W) -> Result<BufWriter<&mut W>, Fault>
     ensures empty { IfOk result (λ gathering. writer_buffer gathering ≡ []) }
     ensures err { IfErr result (λ fault. fault ≡ Fault.NoMemory) }
@@ -19,7 +19,7 @@ pub fn gathering<W: Write>(alloc: Global, writer: &mut W) -> Result<BufWriter<&m
     }
 }
 
-/// Writes octets whole, and flushes the writer.
+/// Writes all octets, and flushes the writer.
 pub fn write_out<W: Write>(writer: &mut W, octets: &[u8]) -> Result<(), Fault>
     ensures { OnOk result (Appends (W.contents writer.old) (W.contents writer.new) octets.now) }
 {

@@ -1,4 +1,4 @@
-//! The spool that a configuration names: made, and listed.
+//! Making and listing the spool that a configuration names.
 ghost use Rattle.std.specs.Prelude.{◌≡◌, ◌++◌, ◌∷◌, [], decimal, IfOk, OnOk};
 ghost use Rattle.relay_files.specs.Listing.{IsListed, line_at, listed_line, listing_of};
 
@@ -25,10 +25,10 @@ pub fn init<F: Files<File = File>>(alloc: Global, files: &F, path: &str) -> Resu
     }
 }
 
-/// Writes a line for each recipient that the spool holds, in the order of the queue: the number of its message, its
-/// place in that message, its path, and when it is due, in seconds from 1970. The spool's files are opened for reading
-/// alone, so that a relay may run on them. Faults are searched for in this order: the configuration file, its content,
-/// the spool, the writer. After a fault of the writer some of the lines may be written.
+/// Writes a line for each recipient in the spool, in the order of the queue: the number of its message, its place in
+/// that message, its path, and when it is due, in seconds since 1970. Opens the files for reading only, so that a relay
+/// may be running on them. Faults are checked in this order: the configuration file, its content, the spool, the
+/// writer. If the writer fails, some of the lines may be written.
 pub fn list<F: Files<File = File>, W: Write>(
     alloc: Global,
     files: &F,

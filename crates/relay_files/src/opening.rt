@@ -1,4 +1,4 @@
-//! A spool that is read and not written, also while a relay runs on it.
+//! Reading a spool without writing to it, also while a relay runs on it.
 ghost use Rattle.std.specs.Prelude.{◌≡◌, IfOk, IfSome};
 ghost use Rattle.relay_files.specs.Opening.{IsOpened};
 
@@ -12,22 +12,22 @@ use std::alloc::Global;
 use std::fs::File;
 use std::rt::Files;
 
-/// The most times that a spool is opened which a running relay compacts while it is read.
+/// How often a spool is opened again, if a running relay compacts it while it is being read.
 const OPENINGS: u32 = 1_000;
 
-/// The octets of the head of a spool's file: the mark of a spool, a gate, and the generation.
+/// The octets at the start of a spool's file: the magic, a gate, and the generation.
 const HEAD_SIZE: usize = 17;
 
-/// What changes where a spool's file is compacted or grows: its head and its size, as far as these can be read.
+/// What changes when a spool's file is compacted or grows: its first octets and its size, as far as they can be read.
 #[derive(Clone, Copy, Debug, PartialEq, Eq)]
 struct Sight {
     size: Result<usize, DiskFault>,
     head: Result<[u8; HEAD_SIZE], DiskFault>,
 }
 
-/// Opens the spool that a configuration names for reading alone, and takes no lock. Returns the records that its files
-/// held at one time during this call: a relay that runs on the spool may append to it and compact it meanwhile. The
-/// first file must be there; nothing is written, and no file is made.
+/// Opens the spool that a configuration names for reading only, without a lock. Returns the records that its files held
+/// at some time during this call: a running relay may append to the spool and compact it meanwhile. The first file must
+/// exist; no file is made or written.
 pub fn open_to_read<F: Files<File = File>>(
     alloc: Global,
     files: &F,
@@ -43,9 +43,9 @@ pub fn open_to_read<F: Files<File = File>>(
     Err(Fault::Device)
 }
 
-/// Returns the records of the spool; none if a file of it has another head than before, since a running relay has
-/// compacted it meanwhile. A running relay also appends: a change that it appends while the spool is read may pass the
-/// end that the file had, and then the spool is read as it was before that change.
+/// Returns the records of the spool, or `None` if the head of a file has changed, because a running relay has compacted
+/// the spool. A running relay also appends: if a change appended meanwhile passes the end that the file had, the spool
+/// is read as it was before that change.
 fn open_unless_it_changed<F: Files<File = File>>(
     alloc: Global,
     files: &F,
@@ -72,8 +72,8 @@ fn open_unless_it_changed<F: Files<File = File>>(
     }
 }
 
-/// The records of the spool as it was when the gate at this place was closed, which a running relay has opened since;
-/// none if that relay has compacted the spool.
+/// Returns the records of the spool as it was while the gate at this offset was closed, which a running relay has
+/// opened since; `None` if that relay has compacted the spool.
 fn open_up_to<F: Files<File = File>>(
     alloc: Global,
     files: &F,
@@ -93,7 +93,7 @@ fn open_up_to<F: Files<File = File>>(
     }
 }
 
-/// Returns the records, unless a file of their spool has another head than before.
+/// Returns the records, or `None` if the head of a file of their spool has changed.
 fn unless_changed<F: Files<File = File>>(
     alloc: Global,
     files: &F,
@@ -131,7 +131,7 @@ fn sight_of(disk: &mut FileDisk) -> Sight {
     }
 }
 
-/// Returns whether each file has the same head as before: then it wasn't compacted while it was read.
+/// Returns whether each file has the same head as before, so that it wasn't compacted while it was read.
 fn have_heads_of(now: &[Sight; 2], before: &[Sight; 2]) -> bool {
     now[0].head == before[0].head && now[1].head == before[1].head
 }

@@ -13,8 +13,7 @@ use std::io;
 use std::path::Path;
 use std::rt::Files;
 
-/// Returns the configuration in the file at this path: what a text says. Faults are searched for in this order: the
-/// file, its content.
+/// Returns the configuration in the file at this path. Faults are checked in this order: the file, its content.
 pub fn configuration<F: Files<File = File>>(
     alloc: Global,
     files: &F,
@@ -26,8 +25,8 @@ pub fn configuration<F: Files<File = File>>(
     Ok(Config::read(alloc, text.as_str())?)
 }
 
-/// Returns the configuration in the file at this path, twice over one reading, so that both are what one text says: a
-/// node keeps one for itself. Faults are searched for in that order.
+/// Returns the configuration in the file at this path twice, from one reading of the file, because a node keeps one for
+/// itself. Faults are checked in the same order.
 pub fn configurations<F: Files<File = File>>(
     alloc: Global,
     files: &F,
@@ -41,7 +40,7 @@ pub fn configurations<F: Files<File = File>>(
     Ok((first, second))
 }
 
-/// Returns what is in the configuration file at this path.
+/// Returns the text of the configuration file at this path.
 pub fn configuration_text<F: Files<File = File>>(
     alloc: Global,
     files: &F,
@@ -57,8 +56,8 @@ fn text_of<F: Files<File = File>>(alloc: Global, files: &F, path: &str) -> io::R
     io::read_to_string(alloc, File::open(files, path)?)
 }
 
-/// Returns the two files of the spool that the configuration names. The second has the first's name followed by `.2`.
-/// One file under both names can't be a spool, so that is as if the second couldn't be opened.
+/// Returns the two files of the spool that the configuration names. The second has the first's name with `.2` appended.
+/// If both names lead to one file, fails as if the second couldn't be opened.
 pub(crate) fn spool_files<F: Files<File = File>>(
     alloc: Global,
     files: &F,
@@ -76,8 +75,8 @@ pub(crate) fn spool_files<F: Files<File = File>>(
     }
 }
 
-/// Returns those files, for reading alone. The first must be there. If the second isn't, the first stands for both: of
-/// two heads that are equal the first file's is taken.
+/// Returns the two files for reading only. The first must exist. If the second doesn't, returns the first in place of
+/// both; of two equal heads the first file's is taken.
 pub(crate) fn spool_files_to_read<F: Files<File = File>>(
     alloc: Global,
     files: &F,
@@ -91,7 +90,7 @@ pub(crate) fn spool_files_to_read<F: Files<File = File>>(
     })
 }
 
-/// Returns the file at this path, for reading alone, or the one at the other path where none is there.
+/// Opens the file at this path for reading only, or the one at the other path if there is none.
 fn open_either<F: Files<File = File>>(files: &F, path: &str, other: &str) -> io::Result<FileDisk> {
     match FileDisk::open_to_read(files, path) {
         Err(error) if error.kind() == io::ErrorKind::NotFound => FileDisk::open_to_read(
@@ -106,7 +105,7 @@ fn second_name(alloc: Global, config: &Config) -> Result<String, AllocError> {
     format!(in alloc; "{}.2", config.spool.as_str())
 }
 
-/// Returns the file, or the fault of one that can't be opened.
+/// Returns the file, or [`Fault::Device`] if it couldn't be opened.
 fn unless_device(disk: io::Result<FileDisk>) -> Result<FileDisk, Fault> {
     match disk {
         Ok(disk) => Ok(disk),
@@ -114,8 +113,8 @@ fn unless_device(disk: io::Result<FileDisk>) -> Result<FileDisk, Fault> {
     }
 }
 
-/// Returns the files of the spool, both locked for this process. If the spool was never made, no file is made either:
-/// that is as if the first were empty.
+/// Returns the files of the spool, both locked for this process. If the spool was never made, makes no file, and fails
+/// as if the first were empty.
 fn locked_spool_files<F: Files<File = File>>(
     alloc: Global,
     files: &F,
@@ -134,8 +133,8 @@ fn locked_spool_files<F: Files<File = File>>(
     Ok(disks)
 }
 
-/// Returns whether a file is missing from a folder that is there, by what was found at their paths. If that can't be
-/// known, opening the file tells why.
+/// Returns whether a file is missing from an existing folder, given what was found at their paths. If that isn't known,
+/// opening the file will say why.
 fn is_absent(file: io::Result<bool>, folder: io::Result<bool>) -> bool
     ensures { IsTrue result ↔ ((file ≡ Ok false) × (folder ≡ Ok true)) }
 {
@@ -155,7 +154,7 @@ fn lock(disk: &FileDisk) -> Result<(), Fault> {
     unless_locked(disk.try_lock())
 }
 
-/// Returns the fault of a lock that wasn't taken: another process holds it, or the file's device failed.
+/// Returns the fault of a lock that wasn't taken: another process holds it, or the device has failed.
 fn unless_locked(taken: io::Result<bool>) -> Result<(), Fault>
     ensures taken { IsOk result ↔ (taken ≡ Ok true) }
     ensures locked { (result ≡ Err Fault.Locked) ↔ (taken ≡ Ok false) }
@@ -167,9 +166,9 @@ fn unless_locked(taken: io::Result<bool>) -> Result<(), Fault>
     }
 }
 
-/// Returns the node of the spool that the configuration names, whose files are locked for this process. It is live and
-/// idle, by this configuration. Faults are searched for in this order: the files, their locks ([`Fault::Locked`]), what
-/// they hold. If the first file is absent, the fault is [`Fault::NotASpool`], and no file is made.
+/// Returns the node of the spool that the configuration names, live and idle, with this configuration. Locks the
+/// spool's files for this process. Faults are checked in this order: the files, their locks ([`Fault::Locked`]), their
+/// content. If the first file is absent, fails with [`Fault::NotASpool`], and makes no file.
 pub fn locked_node<F: Files<File = File>>(
     alloc: Global,
     files: &F,

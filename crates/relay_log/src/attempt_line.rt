@@ -10,18 +10,18 @@ use std::alloc::Global;
 use std::io::{self, Write};
 use std::net::SocketAddrV4;
 
-/// An attempt for a message that has ended, or what was done in place of one.
+/// An attempt that has ended, or giving up places without a hop.
 #[derive(Debug, Drop)]
 pub struct Attempt<'a> {
     /// The number of the message.
     pub number: u64,
     /// The next hop, if there is one.
     pub hop: Option<&'a [u8]>,
-    /// Where the next hop is, if that is known.
+    /// The address of the next hop, if it is known.
     pub at: Option<SocketAddrV4>,
     /// How many seconds ago the message was accepted, if that is known.
     pub age: Option<u64>,
-    /// What its connection failed for, if it did.
+    /// Why its connection failed, if it did.
     pub loss: Option<Loss>,
     /// Its outcome as the node has noted it, if there is one.
     pub noted: Option<Noted>,

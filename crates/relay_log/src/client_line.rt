@@ -11,30 +11,29 @@ use std::fmt::Display;
 use std::io;
 use std::net::SocketAddrV4;
 
-/// How the time stamp line of a message begins that a client brought; the client's word is after it, up to a space (RFC
-/// 5321, section 4.4).
+/// How the time stamp line that the relay puts before a message begins; the client's EHLO or HELO name follows, up to a
+/// space (RFC 5321, section 4.4).
 const STAMP_BEGINNING: &[u8] = b"Received: from ";
 
-/// What a time stamp line says of a client that said EHLO.
+/// The part of a time stamp line that says that the client used EHLO.
 const WITH_ESMTP: &[u8] = b" with ESMTP id ";
 
-/// How many octets of a message are searched for that: more than a time stamp line has.
+/// How many octets of a message are searched for that; a time stamp line has fewer.
 const STAMP_LIMIT: usize = 1_024;
 
-/// How many octets the paths of recipients have in one line. Even if each must stand after a backslash, the line has
-/// room for them.
+/// The most octets of recipients' paths in one line; there is room for them even if each is escaped.
 const LIST_LIMIT: usize = 320;
 
-/// The messages that the node has taken on a connection.
+/// The messages that the node has accepted on a connection.
 #[derive(Clone, Copy, Debug)]
 pub enum Messages<'a> {
-    /// Those from this number on: no other connection was served meanwhile.
+    /// Those from this number on, if no other connection was served meanwhile.
     From(u64),
-    /// Those of these numbers.
+    /// Those with these numbers.
     Numbered(&'a [u64]),
 }
 
-/// The connection of a client that has ended.
+/// A client's connection that has ended.
 #[derive(Clone, Copy, Debug)]
 pub struct Connection<'a, F> {
     /// The client's address and port.
@@ -43,24 +42,24 @@ pub struct Connection<'a, F> {
     pub end: Result<(), F>,
     /// How many octets were read on it.
     pub octets: u64,
-    /// How many of its replies have refused something.
+    /// How many of the replies have refused something.
     pub refusals: u64,
-    /// What was taken on it.
+    /// The messages that were accepted on it.
     pub messages: Messages<'a>,
 }
 
 /// Why a client's connection has ended.
 #[derive(Clone, Copy, Debug, PartialEq, Eq)]
 pub enum ClientEnd {
-    /// It said QUIT, or the relay has closed the connection by 421.
+    /// The client sent QUIT, or the relay closed the connection with a 421 reply.
     Quit,
-    /// It has closed the connection.
+    /// The client has closed the connection.
     Closed,
-    /// It said or took nothing for too long.
+    /// The client wrote or read nothing for too long.
     Timeout,
     /// The connection broke.
     Reset,
-    /// There was no memory for it.
+    /// There was no memory for the connection.
     NoMemory,
 }
 

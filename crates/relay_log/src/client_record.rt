@@ -1,15 +1,15 @@
-//! What is known of a client's connection, for the log alone.
+//! What the log knows of a client's connection.
 ghost use Rattle.std.specs.Prelude.{◌≡◌, ◌+◌, ◌-◌, ◌^◌, min};
 
 use crate::counters::add;
 
-/// The most lines a minute that tell of what one client is refused.
+/// The most lines per minute about refusals to one client.
 const LINES_A_MINUTE: u64 = 10;
 
-/// How many milliseconds such a minute has.
+/// The length of such a minute, in milliseconds.
 const MINUTE: u64 = 60_000;
 
-/// What was done on a client's connection. Each count stays at 2^64 - 1 once it is there.
+/// What was done on a client's connection. Each count saturates at 2^64 - 1.
 #[derive(Clone, Copy, Debug)]
 pub struct ClientRecord {
     /// The tick, in milliseconds, at which it was accepted.
@@ -17,16 +17,16 @@ pub struct ClientRecord {
     messages: u64,
     refusals: u64,
     octets: u64,
-    /// How many lines tell of what it was refused in this minute.
+    /// How many lines about refusals were written in this minute.
     lines: u64,
-    /// How often it was refused something that no line tells of.
+    /// How many refusals have no line.
     untold: u64,
     /// The tick at which the minute ends.
     minute_end: u64,
 }
 
 impl ClientRecord {
-    /// Makes a connection that was accepted at this tick, in milliseconds.
+    /// Makes the record of a connection that was accepted at this tick, in milliseconds.
     pub fn new(tick: u64) -> Self {
         ClientRecord {
             since: tick,
@@ -39,19 +39,19 @@ impl ClientRecord {
         }
     }
 
-    /// This many octets were read.
+    /// Counts octets that were read.
     pub fn read(&mut self, count: usize)
         ensures { self.new.octets ≡ min (self.old.octets + count) (2 ^ 64 - 1) }
     {
         add(&mut self.octets, count as u64);
     }
 
-    /// A message was accepted.
+    /// Counts an accepted message.
     pub(crate) fn accept(&mut self) {
         add(&mut self.messages, 1);
     }
 
-    /// Something was refused at this tick. It returns whether a line tells of it: ten a minute do.
+    /// Counts a refusal at this tick. Returns whether it gets a line, as ten per minute do.
     pub(crate) fn refuse(&mut self, tick: u64) -> bool {
         add(&mut self.refusals, 1);
         if self.minute_end <= tick {
@@ -66,7 +66,7 @@ impl ClientRecord {
         true
     }
 
-    /// Returns how many refusals no line tells of, and counts anew.
+    /// Returns how many refusals have no line, and resets that count.
     pub(crate) fn take_untold(&mut self) -> u64
         ensures untold { result ≡ self.old.untold }
         ensures none { self.new.untold ≡ 0 }
@@ -76,12 +76,12 @@ impl ClientRecord {
         untold
     }
 
-    /// Returns how many refusals no line tells of.
+    /// Returns how many refusals have no line.
     pub(crate) fn untold(&self) -> u64 {
         self.untold
     }
 
-    /// Returns whether the next refusal at this tick begins a minute.
+    /// Returns whether the next refusal at this tick begins a new minute.
     pub(crate) fn begins_minute(&self, tick: u64) -> bool {
         self.minute_end <= tick
     }
@@ -101,7 +101,7 @@ impl ClientRecord {
         self.octets
     }
 
-    /// For how many seconds the connection has stood at this tick.
+    /// Returns for how many seconds the connection has been open at this tick.
     pub(crate) fn seconds(&self, tick: u64) -> u64 {
         tick.saturating_sub(self.since) / 1_000
     }

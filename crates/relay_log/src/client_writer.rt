@@ -1,24 +1,24 @@
-//! The writer of a client's connection, watched for the log.
+//! The writer of a client's connection, which the log observes.
 use std::io::{Result, Write};
 use std::net::TcpStream;
 
-/// How the reply begins to mail for which the spool has no room.
+/// The start of the reply to mail for which the spool has no room.
 const SPOOL_FULL: &[u8] = b"452 spool full";
 
-/// Writes replies to a client, and counts those that refuse what the client asked for: their codes
-/// begin with 4 or 5 (RFC 5321, section 4.2.1).
+/// Writes replies to a client, and counts those that refuse something: their codes begin with 4 or 5 (RFC 5321, section
+/// 4.2.1).
 #[derive(Drop)]
 pub struct ClientWriter<'a> {
     stream: &'a TcpStream,
     is_line_begun: bool,
     refusals: u64,
-    /// How many octets of the line are those of `SPOOL_FULL`, while all are.
+    /// How many octets of the line match `SPOOL_FULL`, as long as all do.
     alike: Option<usize>,
     was_full: bool,
 }
 
 impl<'a> ClientWriter<'a> {
-    /// Makes a writer of this connection, to which nothing was written yet.
+    /// Makes a writer of this connection, before its first reply.
     pub fn new(stream: &'a TcpStream) -> Self {
         ClientWriter {
             stream,
@@ -29,12 +29,12 @@ impl<'a> ClientWriter<'a> {
         }
     }
 
-    /// Returns how many of the replies that were written refuse something. Each is one line.
+    /// Returns how many of the replies refuse something. Each is one line.
     pub fn refusals(&self) -> u64 {
         self.refusals
     }
 
-    /// Returns whether one of the replies that were written says that the spool is full.
+    /// Returns whether one of the replies says that the spool is full.
     pub fn was_full(&self) -> bool {
         self.was_full
     }

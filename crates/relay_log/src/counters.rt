@@ -1,24 +1,24 @@
-//! Counts of what was done, for whoever watches a relay.
+//! Counters for monitoring.
 ghost use Rattle.std.specs.Prelude.{◌≡◌, ◌+◌, ◌-◌, ◌^◌, min};
 
-/// How often each thing was done since a relay began. Each count stays at 2^64 - 1 once it is there.
+/// How often each thing was done since a relay began. Each count saturates at 2^64 - 1.
 #[derive(Clone, Copy, Debug, PartialEq, Eq)]
 pub struct Counters {
     /// Client connections that were served.
     pub connections: u64,
-    /// Client connections that were answered 421 and closed, because there was no room for them.
+    /// Client connections that were closed with a 421 reply because there was no room for them.
     pub turned_away: u64,
-    /// Client connections that were cut off, because they said or took nothing for too long.
+    /// Client connections that were closed because the client wrote or read nothing for too long.
     pub timeouts: u64,
     /// Messages that were accepted.
     pub accepted: u64,
-    /// Commands and mail data that were answered 4yz or 5yz.
+    /// Commands and mail data that got a 4yz or 5yz reply.
     pub rejected: Rejections,
-    /// Recipients that a next hop has taken.
+    /// Recipients that a next hop has taken responsibility for.
     pub sent: u64,
     /// Recipients that an attempt left in the queue, once for each attempt.
     pub deferred: u64,
-    /// Recipients that a next hop has refused, that couldn't be sent to it, or to which no route leads.
+    /// Recipients that a next hop has refused, that couldn't be sent to it, or that no route leads to.
     pub failed: u64,
     /// Recipients that were given up because their message was too old.
     pub expired: u64,
@@ -32,12 +32,12 @@ pub struct Counters {
     pub device_failures: u64,
 }
 
-/// How often clients were refused what they asked for, by the reply and its cause.
+/// Refusals to clients, by reply and cause.
 #[derive(Clone, Copy, Debug, PartialEq, Eq)]
 pub struct Rejections {
     /// 550: no route leads to the recipient.
     pub no_route: u64,
-    /// 553: the recipient's address is routed.
+    /// 553: the recipient's address is a source route.
     pub routed_address: u64,
     /// 452: the spool is full.
     pub spool_full: u64,
@@ -47,18 +47,18 @@ pub struct Rejections {
     pub too_large: u64,
     /// 554: the mail data has a bare CR or LF, or NUL, or too many `Received:` fields.
     pub bad_content: u64,
-    /// 503 and 554: the command may not stand there, or no recipient was accepted before it.
+    /// 503 and 554: the command is out of sequence, or no recipient was accepted before it.
     pub bad_sequence: u64,
-    /// 500, 501 and 555: the command, its argument or a parameter is none that the relay knows.
+    /// 500, 501 and 555: the relay doesn't know the command, its argument or a parameter.
     pub syntax: u64,
-    /// 502: the command is known and not offered.
+    /// 502: the relay knows the command but doesn't implement it.
     pub not_offered: u64,
-    /// 421: the relay closes the connection of a client that it served.
+    /// 421: the relay closes the connection of a client in a session.
     pub closing: u64,
 }
 
 impl Counters {
-    /// Nothing was done yet.
+    /// Returns counters at 0.
     pub fn new() -> Self {
         Counters {
             connections: 0,
@@ -79,7 +79,7 @@ impl Counters {
 }
 
 impl Rejections {
-    /// Nothing was refused yet.
+    /// Returns counters at 0.
     pub fn new() -> Self {
         Rejections {
             no_route: 0,
@@ -95,7 +95,7 @@ impl Rejections {
         }
     }
 
-    /// Counts a reply to a client, by its line, if it refuses something.
+    /// Counts a refusal.
     pub(crate) fn count(&mut self, rejection: Rejection) {
         let count = match rejection {
             Rejection::NoRoute => &mut self.no_route,
@@ -118,7 +118,7 @@ impl Rejections {
 pub enum Rejection {
     /// No route leads to the recipient.
     NoRoute,
-    /// The recipient's address is routed.
+    /// The recipient's address is a source route.
     RoutedAddress,
     /// The spool is full.
     SpoolFull,
@@ -128,19 +128,19 @@ pub enum Rejection {
     TooLarge,
     /// The mail data has a bare CR or LF, or NUL, or too many `Received:` fields.
     BadContent,
-    /// The command may not stand there, or no recipient was accepted before it.
+    /// The command is out of sequence, or no recipient was accepted before it.
     BadSequence,
-    /// The command, its argument or a parameter is none that the relay knows.
+    /// The relay doesn't know the command, its argument or a parameter.
     Syntax,
-    /// The command is known and not offered.
+    /// The relay knows the command but doesn't implement it.
     NotOffered,
     /// The relay closes the connection.
     Closing,
 }
 
 impl Rejection {
-    /// Returns why a reply of the relay refuses something, if it does: by its code and the word that tells apart what
-    /// shares a code.
+    /// Returns why a reply of the relay refuses something, if it does, by its code and the text that distinguishes
+    /// replies with the same code.
     pub fn of_reply(line: &[u8]) -> Option<Self> {
         let (code, text) = line.split_at(line.len().min(3));
         match code {
@@ -160,7 +160,7 @@ impl Rejection {
     }
 }
 
-/// Adds to a count, which stays at the most that it holds.
+/// Adds to a count, which saturates.
 pub(crate) fn add(count: &mut u64, more: u64)
     ensures { count.new ≡ min (count.old + more) (2 ^ 64 - 1) }
 {

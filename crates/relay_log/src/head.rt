@@ -5,7 +5,7 @@ use std::alloc::Global;
 use std::io;
 use std::net::SocketAddrV4;
 
-/// What all lines that are written at a time share.
+/// What all lines of one call share.
 #[derive(Clone, Copy, Debug)]
 pub(crate) struct Head {
     pub(crate) alloc: Global,
@@ -15,7 +15,7 @@ pub(crate) struct Head {
 }
 
 impl Head {
-    /// Returns a line of this event.
+    /// Returns a line that begins with this event.
     pub(crate) fn line(&self, event: &[u8]) -> io::Result<LogLine> {
         LogLine::new(self.alloc, self.form, self.moment, event)
     }

@@ -1,23 +1,23 @@
-//! The connection of an attempt, watched for the log.
+//! The connection of an attempt, which the log observes.
 use crate::talk::Talk;
 use std::io::{Error, ErrorKind, Read, Result, Write};
 use std::net::TcpStream;
 
-/// What the connection of an attempt failed for.
+/// Why the connection of an attempt failed.
 #[derive(Clone, Copy, Debug, PartialEq, Eq)]
 pub enum Loss {
-    /// Nobody listens there, or the next hop refuses connections.
+    /// Nobody listens at the address, or the next hop refuses connections.
     Refused,
-    /// No way leads to the next hop.
+    /// No network route leads to the next hop.
     Unreachable,
-    /// The next hop said nothing, or took nothing, for as long as it may.
+    /// The next hop wrote or read nothing for as long as it may.
     Silent,
     /// The connection was cut off.
     Cut,
 }
 
 impl Loss {
-    /// Returns what a connection that couldn't be made is lost for.
+    /// Returns why a connection couldn't be made.
     pub fn of_connecting(error: &Error) -> Self {
         match error.kind() {
             ErrorKind::ConnectionRefused => Loss::Refused,
@@ -40,14 +40,14 @@ impl Loss {
 /// Why an attempt has settled less than it might.
 #[derive(Drop)]
 pub struct Why {
-    /// What its connection failed for, if it did.
+    /// Why its connection failed, if it did.
     pub loss: Option<Loss>,
-    /// What was said on its connection.
+    /// What the next hop has replied.
     pub talk: Talk,
 }
 
 impl Why {
-    /// Returns what reader and writer of a connection tell, which was lost or not.
+    /// Returns what the reader and the writer of a connection have observed; `is_lost` says whether it was lost.
     pub fn told_by(reader: HopReader<'_>, writer: HopWriter<'_>, is_lost: bool) -> Self {
         let is_silent = reader.is_silent || writer.is_silent;
         let loss = if !is_lost {
@@ -64,7 +64,7 @@ impl Why {
     }
 }
 
-/// Reads what a next hop says, and keeps what the log tells of it.
+/// Reads replies of a next hop, and keeps what the log needs of them.
 #[derive(Drop)]
 pub struct HopReader<'a> {
     stream: &'a TcpStream,
@@ -73,7 +73,7 @@ pub struct HopReader<'a> {
 }
 
 impl<'a> HopReader<'a> {
-    /// Makes a reader of this connection, of which nothing was read yet, whose replies the talk hears.
+    /// Makes a reader of this connection, before its first octet, that passes replies to `talk`.
     pub fn new(stream: &'a TcpStream, talk: Talk) -> Self {
         HopReader {
             stream,
@@ -99,7 +99,7 @@ impl Read for HopReader<'_> {
     }
 }
 
-/// Writes what is said to a next hop.
+/// Writes to a next hop.
 #[derive(Drop)]
 pub struct HopWriter<'a> {
     stream: &'a TcpStream,
@@ -134,7 +134,7 @@ impl Write for HopWriter<'_> {
     }
 }
 
-/// Returns whether a call has waited for as long as it may.
+/// Returns whether a call has timed out.
 fn has_waited(error: &Error) -> bool {
     matches!(error.kind(), ErrorKind::WouldBlock | ErrorKind::TimedOut)
 }

@@ -1,5 +1,4 @@
-//! What a postmaster is told of what was done: the lines of a log, and what they need to know of the
-//! connections of clients and next hops while these go on.
+//! The log, for postmasters: its lines, and what they need to know of connections of clients and next hops.
 #![tactic(auto)]
 
 mod attempt_line;

@@ -1,4 +1,4 @@
-//! What was done, for a postmaster.
+//! The log of what was done.
 ghost use Rattle.std.specs.Prelude.{◌≤◌, length};
 
 use crate::attempt_line::{
@@ -30,9 +30,8 @@ use std::fmt::Display;
 use std::io::{self, Write};
 use std::net::SocketAddrV4;
 
-/// Writes a line for each thing that was done, if it is asked to, and counts these things anyway. A line is an event
-/// and its fields; it holds nothing of a content, and printable octets alone. A line that can't be made or written is
-/// left out, and the mail goes on.
+/// Counts what is done, and logs it if it is asked to write lines. A line is an event and its fields, in printable
+/// octets, without any mail data. A line that can't be made or written is dropped, and mail goes on.
 #[derive(Drop)]
 pub struct Log<'a, E: Write> {
     head: Head,
@@ -42,7 +41,7 @@ pub struct Log<'a, E: Write> {
 }
 
 impl<'a, E: Write> Log<'a, E> {
-    /// Makes a log on this writer that speaks, by lines of text without a time, or says nothing.
+    /// Makes a log on this writer, whose lines are plain text without a time. It writes none unless `speaks` is set.
     pub fn new(alloc: Global, errors: &'a mut E, speaks: bool, counters: &'a mut Counters) -> Self {
         Log {
             head: Head {
@@ -56,8 +55,8 @@ impl<'a, E: Write> Log<'a, E> {
         }
     }
 
-    /// Returns a log on this writer whose lines have this form and this time, in UTC (RFC 3339). Without a form it says
-    /// nothing.
+    /// Makes a log on this writer, whose lines have this form and this time, in UTC (RFC 3339). Without a form it
+    /// writes none.
     pub fn stamped(
         alloc: Global,
         errors: &'a mut E,
@@ -80,43 +79,44 @@ impl<'a, E: Write> Log<'a, E> {
         }
     }
 
-    /// Returns whether it was asked to write lines.
+    /// Returns whether it writes lines.
     pub fn speaks(&self) -> bool {
         self.speaks
     }
 
-    /// Returns what the log keeps in mind of an attempt for this message, if it writes lines and the message is queued.
+    /// Returns a new record of an attempt's replies, if it writes lines and the message is queued.
     pub fn talk_of(&self, message: Option<&Message>) -> Talk {
         let mut talk = Talk::new(self.head.alloc, self.speaks);
         talk.note_message(message);
         talk
     }
 
-    /// Logs where the relay listens.
+    /// Logs the address at which the relay listens.
     pub fn listens(&mut self, at: SocketAddrV4) {
         if self.speaks {
             self.say(listening_line(self.head, at));
         }
     }
 
-    /// Logs that the configured address isn't there yet, and for how many seconds at most it is waited for.
+    /// Logs that this machine doesn't have the configured address yet, and for how many seconds the relay waits for it
+    /// at most.
     pub fn awaits_address(&mut self, at: SocketAddrV4, seconds: u64) {
         if self.speaks {
             self.say(address_awaited_line(self.head, at, seconds));
         }
     }
 
-    /// Counts a client that is served.
+    /// Counts a client's connection.
     pub fn connected(&mut self) {
         add(&mut self.counters.connections, 1);
     }
 
-    /// Logs that mail of a client was accepted as this message.
+    /// Logs an accepted message of a client.
     pub fn accepted(&mut self, peer: SocketAddrV4, message: &Message, record: &mut ClientRecord) {
         record.accept();
         add(&mut self.counters.accepted, 1);
         if self.speaks {
-            // What can't be written is left out.
+            // A line that can't be written is dropped.
             let _ = self.tell_accepted(peer, message);
         }
     }
@@ -126,7 +126,7 @@ impl<'a, E: Write> Log<'a, E> {
         let (line, count) = accepted_line(self.head, peer, message)?;
         self.write(line)?;
         rest = after(rest, count);
-        // Each line has one recipient at least.
+        // Each line has at least one recipient.
         for _ in 0..rest.len() {
             if rest.is_empty() {
                 return Ok(());
@@ -138,7 +138,8 @@ impl<'a, E: Write> Log<'a, E> {
         Ok(())
     }
 
-    /// Logs what these replies to a client refuse, each of which is one line but that to EHLO: up to ten a minute.
+    /// Logs the refusals among these replies to a client, up to ten per minute. Each reply is one line, except that to
+    /// EHLO.
     pub fn replied(
         &mut self,
         peer: SocketAddrV4,
@@ -169,14 +170,14 @@ impl<'a, E: Write> Log<'a, E> {
         }
     }
 
-    /// Logs how often a client was refused something that no line tells of.
+    /// Logs how many refusals to a client have no line.
     fn more_rejected(&mut self, peer: SocketAddrV4, untold: u64) {
         if self.speaks && 0 < untold {
             self.say(more_rejected_line(self.head, peer, untold));
         }
     }
 
-    /// Logs that the connection of a client has ended, at this tick in milliseconds.
+    /// Logs the end of a client's connection, at this tick in milliseconds.
     pub fn client_ended(
         &mut self,
         peer: SocketAddrV4,
@@ -193,7 +194,7 @@ impl<'a, E: Write> Log<'a, E> {
         }
     }
 
-    /// Logs how the connection of a client has ended, and how many messages the node has taken on it.
+    /// Logs the end of a client's connection, with the number of messages that the node has accepted on it.
     pub fn client<D: Disk, F: Display>(&mut self, node: &Node<D>, connection: &Connection<'_, F>) {
         add(&mut self.counters.connections, 1);
         add(
@@ -205,22 +206,22 @@ impl<'a, E: Write> Log<'a, E> {
         }
     }
 
-    /// Logs that a client was cut off unheard: there was no thread, or no memory, to serve it.
+    /// Logs that a client's connection was closed unserved: there was no thread, or no memory, for it.
     pub fn unserved(&mut self, peer: SocketAddrV4) {
         if self.speaks {
             self.say(unserved_line(self.head, peer));
         }
     }
 
-    /// Logs that the connection of a balancer was closed, since its header says no client.
+    /// Logs that the connection of a balancer was closed because its header names no client.
     pub fn header_refused(&mut self, balancer: SocketAddrV4, fault: HeaderFault) {
         if self.speaks {
             self.say(header_fault_line(self.head, balancer, fault));
         }
     }
 
-    /// Logs that clients of an address were told that there are too many connections, this many with this one, the
-    /// last.
+    /// Logs that clients of an address were refused because of too many connections: `count` of them, this one being
+    /// the last.
     pub fn refused(&mut self, peer: SocketAddrV4, count: u64) {
         add(&mut self.counters.turned_away, count);
         if self.speaks {
@@ -228,7 +229,7 @@ impl<'a, E: Write> Log<'a, E> {
         }
     }
 
-    /// Logs how an attempt for a message has ended: a line for each recipient, and one for the report that it queues.
+    /// Logs the end of an attempt: a line for each recipient, and one for the report that it queues.
     pub fn attempt(&mut self, attempt: &Attempt<'_>, talk: &Talk) {
         let Some(noted) = &attempt.noted else {
             if self.speaks {
@@ -239,7 +240,7 @@ impl<'a, E: Write> Log<'a, E> {
         if let Some(outcome) = outcome_of(self.head.alloc, noted) {
             count_outcome(noted, &outcome, self.counters);
             if self.speaks {
-                // What can't be written is left out.
+                // A line that can't be written is dropped.
                 let _ = self.tell_outcome(attempt, talk, noted, &outcome);
             }
         }
@@ -273,15 +274,14 @@ impl<'a, E: Write> Log<'a, E> {
         }
     }
 
-    /// Logs that a next hop that was put on hold has said something again: this many seconds after it was put on hold
-    /// first, and after this many failures.
+    /// Logs that a next hop has replied again after it was on hold for `seconds`, with `failures` failed connections.
     pub fn came_back(&mut self, hop: &[u8], at: SocketAddrV4, seconds: u64, failures: u64) {
         if self.speaks {
             self.say(hop_back_line(self.head, hop, at, seconds, failures));
         }
     }
 
-    /// Logs that mail is refused for now, since the spool is full.
+    /// Logs that mail is refused for now because the spool is full.
     pub fn spool_full(&mut self) {
         if self.speaks {
             let line = self.head.line(b"spool-full");
@@ -289,7 +289,7 @@ impl<'a, E: Write> Log<'a, E> {
         }
     }
 
-    /// Logs that the spool was compacted, with its sizes before and after that, in octets.
+    /// Logs that the spool was compacted, with its sizes before and after, in octets.
     pub fn compacted(&mut self, before: usize, after: usize) {
         add(&mut self.counters.compactions, 1);
         if self.speaks {
@@ -305,7 +305,7 @@ impl<'a, E: Write> Log<'a, E> {
         }
     }
 
-    /// Logs that there is room again on a disk that was short of it.
+    /// Logs that a disk that was full has room again.
     pub fn shortage_ended(&mut self) {
         if self.speaks {
             let line = self.head.line(b"shortage-ended");
@@ -321,27 +321,27 @@ impl<'a, E: Write> Log<'a, E> {
         }
     }
 
-    /// Logs that the relay ends, by this fault.
+    /// Logs the fault by which the relay ends.
     pub fn stopping<F: Display>(&mut self, fault: &F) {
         if self.speaks {
             self.say(stopping_line(self.head, fault));
         }
     }
 
-    /// Logs that a push has ended before its last work, by this fault. It does so whether lines are asked for or not,
-    /// since whoever serves mail must mend that.
+    /// Logs the fault by which a push has ended before its last work. Writes the line even if no lines are asked for,
+    /// because the operator must act on it.
     pub fn push_ended<F: Display + Drop>(&mut self, fault: F) {
         self.say(push_ended_line(self.head, &fault));
     }
 
     fn say(&mut self, line: io::Result<LogLine>) {
         if let Ok(line) = line {
-            // Nothing is left to do where this line can't be written.
+            // If this line can't be written, there is nothing left to do.
             let _ = self.write(line);
         }
     }
 
-    /// Writes a line in one write.
+    /// Writes a line by one write.
     fn write(&mut self, line: LogLine) -> io::Result<()> {
         let octets = line.ended()?;
         self.errors.write_all(octets.as_slice())?;
@@ -349,7 +349,7 @@ impl<'a, E: Write> Log<'a, E> {
     }
 }
 
-/// Returns how many octets the first line has, with its LF; all if there is none.
+/// Returns the length of the first line with its LF, or of all octets if there is no LF.
 fn line_length(octets: &[u8]) -> usize
     ensures { result ≤ length octets.now }
 {

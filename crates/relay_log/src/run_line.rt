@@ -1,4 +1,4 @@
-//! The lines of the log for a relay that stays up.
+//! Log lines of `relayd run`.
 use crate::head::Head;
 use crate::hop_link::Loss;
 use relay_backlog::LogLine;
@@ -6,7 +6,7 @@ use std::fmt::Display;
 use std::io;
 use std::net::SocketAddrV4;
 
-/// Returns the line of a listener.
+/// Returns the line of the address at which the relay listens.
 pub(crate) fn listening_line(head: Head, at: SocketAddrV4) -> io::Result<LogLine> {
     let mut line = head.line(b"listening")?;
     head.add_address(&mut line, b"addr", at)?;
@@ -29,8 +29,8 @@ pub(crate) fn hop_held_line(
     Ok(line)
 }
 
-/// Returns the line of a next hop that was put on hold and has said something again: this many seconds after it was put
-/// on hold first, and after this many failures.
+/// Returns the line of a next hop that has replied again after it was on hold for `seconds`, with `failures` failed
+/// connections.
 pub(crate) fn hop_back_line(
     head: Head,
     hop: &[u8],
@@ -46,7 +46,7 @@ pub(crate) fn hop_back_line(
     Ok(line)
 }
 
-/// Returns the line of a configured address that this machine hasn't yet.
+/// Returns the line of a configured address that this machine doesn't have yet.
 pub(crate) fn address_awaited_line(
     head: Head,
     at: SocketAddrV4,
@@ -58,7 +58,7 @@ pub(crate) fn address_awaited_line(
     Ok(line)
 }
 
-/// Returns the line of a spool that was compacted, with its sizes in octets.
+/// Returns the line of a spool that was compacted, with its sizes before and after, in octets.
 pub(crate) fn compacted_line(head: Head, before: usize, after: usize) -> io::Result<LogLine> {
     let mut line = head.line(b"compacted")?;
     line.number(b"before", before as u64, b"")?;
@@ -66,7 +66,7 @@ pub(crate) fn compacted_line(head: Head, before: usize, after: usize) -> io::Res
     Ok(line)
 }
 
-/// Returns the line of a push that a fault has ended before its last work: what is due stays due.
+/// Returns the line of a fault by which a push has ended before its last work; what is due stays due.
 pub(crate) fn push_ended_line<F: Display>(head: Head, fault: &F) -> io::Result<LogLine> {
     let mut line = head.line(b"push-ended")?;
     let text = format!(in head.alloc; "{fault}")?;
@@ -74,7 +74,7 @@ pub(crate) fn push_ended_line<F: Display>(head: Head, fault: &F) -> io::Result<L
     Ok(line)
 }
 
-/// Returns the line of a relay that a fault ends.
+/// Returns the line of a fault by which the relay ends.
 pub(crate) fn stopping_line<F: Display>(head: Head, fault: &F) -> io::Result<LogLine> {
     let mut line = head.line(b"stopping")?;
     let text = format!(in head.alloc; "{fault}")?;
@@ -82,14 +82,14 @@ pub(crate) fn stopping_line<F: Display>(head: Head, fault: &F) -> io::Result<Log
     Ok(line)
 }
 
-/// What is known of a failure of a device.
+/// What is known of a device failure.
 #[derive(Clone, Copy, Debug, Drop)]
 pub struct DeviceFailure<'a> {
-    /// The system's error, where one was seen.
+    /// The system's error, if there was one.
     pub reason: Option<io::Error>,
-    /// The file on which a call has failed, where that is known.
+    /// The file on which a call has failed, if it is known.
     pub file: Option<&'a str>,
-    /// After how many seconds its spool is tried again.
+    /// How many seconds later the spool is opened again.
     pub retry_in: u64,
 }
 
@@ -108,7 +108,7 @@ pub(crate) fn device_failed_line(head: Head, failure: &DeviceFailure<'_>) -> io:
     Ok(line)
 }
 
-/// Returns the text of a system's error without the number that follows it.
+/// Returns the text of a system's error, without the number that ends it.
 fn without_number(said: &[u8]) -> &[u8] {
     match said.split(|octet| *octet == b'(').next() {
         Some(words) => words.trim_ascii(),

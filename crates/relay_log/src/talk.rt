@@ -1,4 +1,4 @@
-//! What an attempt is for, and what its next hop replies, for the log alone.
+//! The recipients of an attempt, and the replies of its next hop, for the log.
 ghost use Rattle.std.specs.Prelude.{◌≤◌, length};
 
 use crate::settling::settling_place;
@@ -9,8 +9,7 @@ use std::alloc::{AllocError, Global};
 /// How many octets of a reply's text are kept.
 const TEXT_LIMIT: usize = 200;
 
-/// The most replies that an attempt reads: the greeting, those to EHLO, HELO, MAIL, 100 RCPTs and DATA, and that to the
-/// mail data.
+/// The most replies of an attempt: the greeting, those to EHLO, HELO, MAIL, 100 RCPTs, DATA and the mail data.
 const REPLY_LIMIT: usize = 106;
 
 /// The reverse path and the recipients of a message, and the replies of a next hop as they come. If memory runs out, it

@@ -1,8 +1,8 @@
 -- Spans of time and sizes as people read them.
 use Rattle.std.specs.Prelude.{ℕ, ◌*◌, ◌/◌, ◌%◌, ◌^◌, nat_lt, List, ◌++◌, codes, decimal, if◌then◌else◌}
 
--- profile: a span in its largest unit, in whole ones: seconds below a minute, minutes below an hour, hours below two
--- days, and days from then on
+-- profile: a span in whole units of the largest that fits: seconds below a minute, minutes below an hour, hours below
+-- two days, and days from then on
 abbrev pub span_in_unit : ℕ → ℕ × List ℕ
 span_in_unit seconds =
     if nat_lt seconds 60 then (seconds, codes " s")
@@ -13,15 +13,15 @@ span_in_unit seconds =
 unfoldable pub span_text : ℕ → List ℕ
 span_text seconds = decimal (span_in_unit seconds).0 ++ (span_in_unit seconds).1
 
--- what happens in this many seconds
+-- how long it is until something happens in this many seconds
 unfoldable pub wait_text : ℕ → List ℕ
 wait_text seconds = if nat_lt 0 seconds then codes "in " ++ span_text seconds else codes "now"
 
--- this many octets in a unit, with one decimal, which isn't rounded up
+-- this many octets in a unit, rounded down to one decimal
 abbrev pub in_unit : ℕ → ℕ → List ℕ → List ℕ
 in_unit octets unit name = decimal (octets / unit) ++ codes "." ++ decimal (octets % unit * 10 / unit) ++ name
 
--- profile: a size in octets below 1,024, and else in its largest unit of 1,024 of the one before
+-- profile: a size in octets below 1,024, and else in the largest of KiB, MiB and GiB that fits
 unfoldable pub size_text : ℕ → List ℕ
 size_text octets =
     if nat_lt octets (2 ^ 10) then decimal octets ++ codes " B"

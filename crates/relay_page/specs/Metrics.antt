@@ -4,12 +4,12 @@ use Rattle.relay_page.specs.Pieces.{escaped, joined}
 use Rattle.relay_page.specs.declared.metrics.Course.{Course}
 use Rattle.relay_page.specs.declared.metrics.Course.TheVariants.{Counter, Gauge}
 
--- the types that a metric may have
+-- the type of a metric, in words
 abbrev pub kind_text : Course → List ℕ
 kind_text Counter = codes "counter"
 kind_text Gauge = codes "gauge"
 
--- the lines that say of a metric what it is, and of which type
+-- the lines that give a metric's description and type
 abbrev pub head_of : List ℕ → Course → List ℕ → List ℕ
 head_of name course help = joined (
     codes "# HELP " ∷ name ∷ codes " " ∷ help

@@ -1,4 +1,5 @@
--- Text of a page (HTML, section 13.1): the relay's own markup, and octets of others that can't be taken for markup.
+-- Text of a page (HTML, section 13.1): the relay's own markup, and octets from elsewhere, escaped so that none is
+-- markup.
 use Rattle.std.specs.Prelude.{ℕ, ◌==◌, Bool, not, ◌&&◌, ◌||◌, List, [], ◌∷◌, ◌++◌, decimal, if◌then◌else◌}
 use Rattle.std.specs.List.{flat_map}
 use Rattle.relay_lines.specs.Word.{is_printable}
@@ -10,18 +11,18 @@ use Rattle.relay_page.specs.declared.pieces.Piece.TheVariants.{Markup, Text, Num
 abbrev pub has_meaning : ℕ → Bool
 has_meaning octet = octet == 60 || octet == 62 || octet == 38 || octet == 34 || octet == 39
 
--- printable ASCII that HTML gives no meaning of its own
+-- printable ASCII without a meaning in HTML
 abbrev pub is_plain : ℕ → Bool
 is_plain octet = is_printable octet && not (has_meaning octet)
 
--- an octet as a page has it: as it is, or as a character reference by its number (section 13.1.4)
+-- an octet in a page: as it is, or as a numeric character reference (section 13.1.4)
 abbrev pub escaped_octet : ℕ → List ℕ
 escaped_octet octet = if is_plain octet then octet ∷ [] else 38 ∷ 35 ∷ decimal octet ++ 59 ∷ []
 
 abbrev pub escaped : List ℕ → List ℕ
 escaped octets = flat_map escaped_octet octets
 
--- what a piece of a page comes to
+-- the text of a piece
 abbrev pub spelled : Piece → List ℕ
 spelled (Markup markup) = markup.now
 spelled (Text octets) = escaped octets.now
@@ -33,6 +34,6 @@ spelled (Wait seconds) = wait_text seconds
 abbrev pub all_spelled : List Piece → List ℕ
 all_spelled pieces = flat_map spelled pieces
 
--- texts one after another
+-- the texts, one after another
 abbrev pub joined : List (List ℕ) → List ℕ
 joined texts = flat_map (λ text. text) texts

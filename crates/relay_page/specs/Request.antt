@@ -12,7 +12,7 @@ use Rattle.relay_page.specs.declared.request.Refusal.TheVariants.{BadRequest, Fo
 use Rattle.relay_page.specs.declared.request.Target.{Target}
 use Rattle.relay_page.specs.declared.request.Target.TheVariants.{Page, Metrics, Queue}
 
--- a field's name and value: that of Host, in any letter case
+-- whether a field's name is Host, in any letter case
 abbrev pub is_host_field : List ℕ × List ℕ → Bool
 is_host_field field = is_word field.0 (codes "host")
 
@@ -20,13 +20,13 @@ is_host_field field = is_word field.0 (codes "host")
 abbrev pub hosts_among : List (List ℕ × List ℕ) → List (List ℕ)
 hosts_among fields = map (λ field. field.1) (filter is_host_field fields)
 
--- the only one of a list, if it has one alone
+-- the element of a list that has exactly one
 abbrev pub only : {X : Type 0} → List X → Option X
 only [] = None
 only (x ∷ []) = Some x
 only (x ∷ y ∷ rest) = None
 
--- where the targets are
+-- the targets and their paths
 abbrev pub target_of : List ℕ → Option Target
 target_of text =
     if bytes_eq text (codes "/") then Some Page
@@ -34,12 +34,12 @@ target_of text =
     else if bytes_eq text (codes "/queue.json") then Some Queue
     else None
 
--- asked for with its body, or without it
+-- the target, with or without its body; 404 if there is none
 abbrev pub asked_for : Bool → Option Target → Result Asked Refusal
 asked_for has_body None = Err NotFound
 asked_for has_body (Some target) = Ok (record { target = target; has_body = has_body })
 
--- what a method asks of a target: GET or HEAD alone
+-- the target that a method asks for; only GET and HEAD are allowed
 abbrev pub asked_by : List ℕ → List ℕ → Result Asked Refusal
 asked_by method target =
     if bytes_eq method (codes "GET") then asked_for true (target_of target)
@@ -55,15 +55,15 @@ asked_at (Some host) method target = if is_loopback host then asked_by method ta
 abbrev pub judged : RequestHead → Result Asked Refusal
 judged head = asked_at (only (hosts_among (map name_and_value head.fields))) head.method head.target
 
--- why octets are answered so: they are the head of a request and it is judged so, no head can come of them any more, or
--- they are too many
+-- why octets are answered so: they are the head of a request and it is judged so; or they can't become the head of one;
+-- or they are too many
 abbrev pub IsDue : List ℕ → Result Asked Refusal → Type 0
 IsDue octets answer =
     ((head : RequestHead) × (rest : List ℕ) × ReadsRequest octets head rest × (answer ≡ judged head))
     ⊎ ((answer ≡ Err BadRequest) × NeverHasRequest octets)
     ⊎ ((answer ≡ Err TooLarge) × (RequestExceeds 32 octets ⊎ (HasNoRequest octets × (4096 ≤ length octets))))
 
--- Octets are answered, or wait for more.
+-- Octets are answered, or more are needed.
 pub record IsJudged (octets : List ℕ) (answer : Option (Result Asked Refusal)) : Type 0 where
   pub found : (head : RequestHead) (rest : List ℕ) → ReadsRequest octets head rest → length head.fields ≤ 32
       → answer ≡ Some (judged head)

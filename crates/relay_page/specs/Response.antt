@@ -24,13 +24,13 @@ kind_text Metrics = codes "text/plain; version=0.0.4; charset=utf-8"
 kind_text JsonLines = codes "application/x-ndjson"
 kind_text Plain = codes "text/plain; charset=utf-8"
 
--- a response's head: what it is of, how long its body is, and the fields that each has
+-- a response's head: its status line, the length and type of its body, and the fields of every response
 abbrev pub head_text : Code → Kind → ℕ → List ℕ
 head_text code kind size = joined (
     codes "HTTP/1.1 " ∷ code_text code ∷ codes "\r\nContent-Type: " ∷ kind_text kind
     ∷ codes "\r\nContent-Length: " ∷ decimal size ∷ FIELDS.now ∷ [])
 
--- its body follows, unless its head alone was asked for
+-- the head, followed by the body unless only the head was asked for
 abbrev pub response_text : Code → Kind → Bool → List ℕ → List ℕ
 response_text code kind has_body body =
     head_text code kind (length body) ++ (if has_body then body else [])

@@ -1,4 +1,4 @@
--- The rows of the page's tables: what others have said is in them escaped.
+-- The rows of the page's tables, in which octets from elsewhere are escaped.
 use Rattle.std.specs.Prelude.{ℕ, ◌-◌, List, [], ◌∷◌, codes, decimal}
 use Rattle.std.specs.List.{flat_map}
 use Rattle.relay_page.specs.Amounts.{size_text, span_text, wait_text}
@@ -6,12 +6,12 @@ use Rattle.relay_page.specs.Pieces.{escaped, joined}
 use Rattle.relay_page.specs.declared.rows.Waiting.{Waiting}
 use Rattle.relay_page.specs.declared.survey.Load.{Load}
 
--- profile: recipients without a next hop stand under these words
+-- profile: the text for recipients without a next hop
 abbrev pub shown_name : List ℕ → List ℕ
 shown_name [] = codes "no route"
 shown_name (octet ∷ octets) = octet ∷ octets
 
--- the row of a next hop: its name, its load, how old that is, and when it is tried next
+-- the row of a next hop: its name, its load, the age of its oldest message, and its next try
 abbrev pub hop_row : List ℕ → Load → ℕ → List ℕ
 hop_row name load now = joined (
     codes "<tr><th scope=\"row\">" ∷ escaped (shown_name name)
@@ -22,7 +22,7 @@ hop_row name load now = joined (
     ∷ codes "</td><td data-name=\"Next try\">" ∷ wait_text (load.due - now)
     ∷ codes "</td></tr>\n" ∷ [])
 
--- the row of a recipient: its message's number and age, its paths, how often it was tried, and when it is tried next
+-- the row of a recipient: its message's number and age, its paths, how often it was tried, and its next try
 unfoldable pub waiting_row : Waiting → ℕ → List ℕ
 waiting_row waiting now = joined (
     codes "<tr><th scope=\"row\">" ∷ decimal waiting.number

@@ -14,7 +14,7 @@ const MIB: u64 = 1 << 20;
 /// One GiB, in octets.
 const GIB: u64 = 1 << 30;
 
-/// Adds what happens in this many seconds.
+/// Adds how long it is until something happens in this many seconds.
 #[tactic(auto, unfolding(crate::specs::Amounts::wait_text))]
 pub(crate) fn push_wait(text: &mut Vec<u8>, seconds: u64) -> Result<(), AllocError>
     ensures { OnOk result (text.new.items ≡ text.old.items ++ wait_text seconds) }
@@ -27,7 +27,7 @@ pub(crate) fn push_wait(text: &mut Vec<u8>, seconds: u64) -> Result<(), AllocErr
     }
 }
 
-/// Adds a span of this many seconds, in whole seconds, minutes, hours or days.
+/// Adds a span of time in whole seconds, minutes, hours or days.
 #[tactic(auto, unfolding(crate::specs::Amounts::span_text))]
 pub(crate) fn push_span(text: &mut Vec<u8>, seconds: u64) -> Result<(), AllocError>
     ensures { OnOk result (text.new.items ≡ text.old.items ++ span_text seconds) }

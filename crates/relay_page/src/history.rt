@@ -1,4 +1,4 @@
-//! The last 24 hours: how many messages came and how many recipients went, minute by minute.
+//! The last 24 hours: accepted messages and sent recipients, minute by minute.
 ghost use Rattle.std.specs.Prelude.{◌≡◌, ◌<◌, IfOk, length};
 
 use std::alloc::{AllocError, Global};
@@ -6,12 +6,12 @@ use std::alloc::{AllocError, Global};
 /// How many minutes are kept.
 pub const MINUTES: usize = 1_440;
 
-/// What was done in a minute.
+/// What was done in one minute.
 #[derive(Clone, Copy, Debug, Drop, PartialEq, Eq)]
 pub struct Minute {
     /// Messages that were accepted.
     pub accepted: u64,
-    /// Recipients that a next hop has taken.
+    /// Recipients that a next hop has taken responsibility for.
     pub sent: u64,
 }
 
@@ -25,17 +25,17 @@ impl Minute {
 /// What was done in each of the last 1,440 minutes.
 #[derive(Drop)]
 pub struct History {
-    /// That of the minute `m` is at `m` modulo 1,440.
+    /// The entry for minute `m` since 1970 is at index `m` modulo 1,440.
     minutes: Vec<Minute>,
-    /// The last minute of which something is kept, in minutes from 1970.
+    /// The last minute with an entry, in minutes since 1970.
     last: u64,
-    /// What was done since the relay began, up to what is kept.
+    /// The counts since the relay began, up to the last minute.
     total: Minute,
     ghost all: { length minutes.items ≡ 1440 },
 }
 
 impl History {
-    /// Nothing was done yet, and this is the first minute. Fails if memory runs out.
+    /// Returns a history without counts, which begins at this minute. Fails if memory runs out.
     pub fn new(alloc: Global, minute: u64) -> Result<Self, AllocError> {
         let mut minutes = Vec::with_capacity(alloc, MINUTES)?;
         for _ in 0..MINUTES {
@@ -48,8 +48,8 @@ impl History {
         })
     }
 
-    /// So much was done since the relay began, up to this minute: what is more than was noted last was done in it. A
-    /// minute before the last, as of a clock that was set back, counts as the last.
+    /// Notes the counts since the relay began, at this minute: their growth since the last note belongs to this minute.
+    /// A minute before the last one, after the clock was set back, counts as the last one.
     pub fn note(&mut self, minute: u64, total: Minute) {
         self.advance(minute);
         let index = (self.last % MINUTES as u64) as usize;
@@ -63,7 +63,7 @@ impl History {
         self.total = total;
     }
 
-    /// Forgets what is older than a day before this minute.
+    /// Clears the entries between the last minute and this one.
     fn advance(&mut self, minute: u64) {
         let passed = minute.saturating_sub(self.last).min(MINUTES as u64);
         for step in 0..passed {
@@ -73,7 +73,7 @@ impl History {
         self.last = self.last.max(minute);
     }
 
-    /// What was done in this many minutes, the last of which is this many before the last one that is kept.
+    /// Returns what was done in `count` minutes, the last of which is `ago` minutes before the last one.
     pub fn sum(&self, ago: u64, count: u64) -> Minute {
         let mut sum = Minute::NONE;
         for step in 0..count.min(MINUTES as u64) {

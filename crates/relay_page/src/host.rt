@@ -1,4 +1,4 @@
-//! The name by which a page is asked for (RFC 9110, section 7.2).
+//! The Host field, which says by which name the page is requested (RFC 9110, section 7.2).
 ghost use Rattle.std.specs.Prelude.{◌≡◌};
 ghost use Rattle.relay_page.specs.Host.{is_host, is_loopback, is_port};
 ghost use Rattle.std.specs.List.{list_all};
@@ -14,7 +14,7 @@ pub(crate) fn is_loopback(host: &[u8]) -> bool
     is_host(b"localhost", host) || is_host(b"127.0.0.1", host) || is_host(b"[::1]", host)
 }
 
-/// Returns whether a text is this name, in any letter case, with a port or without one.
+/// Returns whether a Host field is this name, in any letter case, with or without a port.
 fn is_host(name: &[u8], text: &[u8]) -> bool
     ensures { result ≡ is_host name.now text.now }
 {
@@ -22,7 +22,7 @@ fn is_host(name: &[u8], text: &[u8]) -> bool
     is_word(&text[..end], name) && is_port(&text[end..])
 }
 
-/// Returns whether a text is nothing, or a colon and digits.
+/// Returns whether a text is empty, or a colon and digits.
 fn is_port(text: &[u8]) -> bool
     ensures { result ≡ is_port text.now }
 {

@@ -1,4 +1,4 @@
-//! A page that shows what a relay does to a browser on the same machine, and its metrics for Prometheus.
+//! A page that shows a relay's state to a browser on the same machine, and its metrics for Prometheus.
 #![tactic(auto)]
 
 mod amounts;

@@ -1,4 +1,4 @@
-//! What is queued as JSON, an object a line, and whether the list was cut.
+//! The queue as JSON, one object per line, with a last line if the list was cut.
 use relay_book::Message;
 use relay_routes::Table;
 use relay_trace::Moment;
@@ -14,7 +14,7 @@ pub const MOST_LISTED: usize = 500;
 struct Listed<'a> {
     message: u64,
     place: u8,
-    /// In seconds from 1970.
+    /// In seconds since 1970.
     accepted: u64,
     /// In seconds.
     age: u64,
@@ -25,7 +25,7 @@ struct Listed<'a> {
     hop: Option<&'a str>,
     /// How often it was deferred; 4 stands for four times and more.
     tries: u8,
-    /// In seconds from 1970.
+    /// In seconds since 1970.
     next_try: u64,
 }
 
@@ -77,7 +77,7 @@ pub fn push_listed(
     }
 }
 
-/// Adds the line that says that a list of this many recipients is the beginning of one of this many.
+/// Adds the line that says that only the first `listed` of `queued` recipients are listed.
 pub fn push_cut(
     alloc: Global,
     text: &mut Vec<u8>,

@@ -6,12 +6,12 @@ use crate::pieces::{Piece, push_pieces};
 use crate::survey::{Load, Loads};
 use std::alloc::AllocError;
 
-/// What the values of a metric do.
+/// The type of a metric.
 #[derive(Clone, Copy, Debug, Drop, PartialEq, Eq)]
 pub enum Course {
-    /// They only rise, from 0 at the relay's begin.
+    /// A value that only rises, from 0 at the relay's start.
     Counter,
-    /// They rise and fall.
+    /// A value that rises and falls.
     Gauge,
 }
 
@@ -26,7 +26,7 @@ impl Course {
     }
 }
 
-/// Adds the lines that stand before the samples of a metric.
+/// Adds the lines before the samples of a metric.
 pub fn push_head(
     text: &mut Vec<u8>,
     name: &'static [u8],
@@ -66,8 +66,8 @@ pub fn push_sample(text: &mut Vec<u8>, name: &'static [u8], value: u64) -> Resul
     )
 }
 
-/// Adds a sample of a metric with one label, whose value is the name of a host or a word: no octet of these must be
-/// escaped.
+/// Adds a sample of a metric with one label. The label's value is a host name or a word, in which no octet needs an
+/// escape.
 pub fn push_labelled(
     text: &mut Vec<u8>,
     name: &'static [u8],
@@ -107,7 +107,7 @@ pub fn push_alone(
     push_sample(text, name, value)
 }
 
-/// A number that each next hop has.
+/// A metric of each next hop.
 #[derive(Clone, Copy, Debug)]
 enum ByHop {
     Messages,

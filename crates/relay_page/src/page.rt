@@ -11,16 +11,16 @@ use std::alloc::{AllocError, Global};
 /// The most next hops of the page.
 const MOST_HOPS: usize = 100;
 
-/// What was done since the relay began.
+/// Counts since the relay began.
 #[derive(Clone, Copy, Debug)]
 pub struct Totals {
     /// Messages that were accepted.
     pub accepted: u64,
-    /// Replies to clients that refused something.
+    /// Commands and mail data that were refused.
     pub rejected: u64,
     /// Recipients that a next hop has taken.
     pub sent: u64,
-    /// Recipients that an attempt left in the queue.
+    /// Recipients that an attempt left in the queue, once for each attempt.
     pub deferred: u64,
     /// Recipients that failed, or whose message was too old.
     pub failed: u64,
@@ -35,17 +35,17 @@ pub struct View<'a> {
     /// When the relay began.
     pub since: Moment,
     pub totals: Totals,
-    /// The octets of the spool, and how many it may have.
+    /// The size of the spool in octets, and its greatest size.
     pub spool_size: u64,
     pub spool_limit: u64,
-    /// What is queued by next hop.
+    /// The queue by next hop.
     pub loads: &'a Loads,
     /// How many recipients are queued.
     pub recipients: u64,
-    /// How many clients are connected, and how many attempts run.
+    /// How many clients are connected, and how many attempts are running.
     pub sessions: u64,
     pub attempts: u64,
-    /// The recipients that have waited the longest.
+    /// The recipients that have been queued for the longest time.
     pub oldest: &'a [Waiting<'a>],
     pub history: &'a History,
 }
@@ -78,7 +78,7 @@ pub fn page_text(alloc: Global, view: &View<'_>) -> Result<Vec<u8>, AllocError> 
     Ok(text)
 }
 
-/// Adds when the page was made, and for how long the relay has been up.
+/// Adds the time at which the page was made, and how long the relay has been running.
 fn push_moment(alloc: Global, text: &mut Vec<u8>, view: &View<'_>) -> Result<(), AllocError> {
     let date = match date_text(alloc, view.now) {
         Ok(date) => date,
@@ -96,7 +96,7 @@ fn push_moment(alloc: Global, text: &mut Vec<u8>, view: &View<'_>) -> Result<(),
     )
 }
 
-/// Adds the numbers of the relay.
+/// Adds the counts of the relay.
 fn push_totals(text: &mut Vec<u8>, view: &View<'_>) -> Result<(), AllocError> {
     push_pieces(text, &[Piece::Markup(b"<section>\n<dl>\n")])?;
     push_number(text, b"Queued recipients", view.recipients)?;
@@ -132,7 +132,7 @@ fn push_number(text: &mut Vec<u8>, name: &'static [u8], number: u64) -> Result<(
     )
 }
 
-/// Adds what is queued by next hop.
+/// Adds the queue by next hop.
 fn push_queue(text: &mut Vec<u8>, view: &View<'_>) -> Result<(), AllocError> {
     push_pieces(
         text,
@@ -166,7 +166,7 @@ fn push_queue(text: &mut Vec<u8>, view: &View<'_>) -> Result<(), AllocError> {
     push_pieces(text, &[Piece::Markup(b"</section>\n")])
 }
 
-/// Adds the recipients that have waited the longest.
+/// Adds the recipients that have been queued for the longest time.
 fn push_oldest(text: &mut Vec<u8>, view: &View<'_>) -> Result<(), AllocError> {
     if view.oldest.is_empty() {
         return Ok(());
@@ -182,7 +182,7 @@ fn push_oldest(text: &mut Vec<u8>, view: &View<'_>) -> Result<(), AllocError> {
     push_pieces(text, &[Piece::Markup(b"</tbody>\n</table>\n</section>\n")])
 }
 
-/// Adds what was done in the last 24 hours.
+/// Adds the last 24 hours.
 fn push_day(text: &mut Vec<u8>, history: &History) -> Result<(), AllocError> {
     let day = history.sum(0, MINUTES as u64);
     push_pieces(

@@ -1,4 +1,4 @@
-//! The pieces of a page, and what they come to as text.
+//! The pieces of a page, and their text.
 ghost use Rattle.std.specs.Prelude.{◌≡◌, ◌++◌, OnOk, decimal};
 ghost use Rattle.relay_page.specs.Pieces.{all_spelled, escaped, escaped_octet, is_plain, spelled};
 
@@ -10,9 +10,9 @@ use std::alloc::AllocError;
 /// A piece of a page.
 #[derive(Clone, Copy, Debug)]
 pub(crate) enum Piece<'a> {
-    /// Markup of the relay's own, as it is.
+    /// The relay's own markup, unchanged.
     Markup(&'static [u8]),
-    /// Octets of others, of which none is taken for markup.
+    /// Octets from elsewhere, escaped so that none is markup.
     Text(&'a [u8]),
     /// A number in decimal.
     Number(u64),
@@ -20,11 +20,11 @@ pub(crate) enum Piece<'a> {
     Size(u64),
     /// A span of this many seconds, in its largest unit.
     Span(u64),
-    /// What happens in this many seconds, of which none are now.
+    /// The time until something happens, in seconds; `now` if it is 0.
     Wait(u64),
 }
 
-/// Adds the pieces of a page to its text.
+/// Adds the text of these pieces.
 pub(crate) fn push_pieces(text: &mut Vec<u8>, pieces: &[Piece<'_>]) -> Result<(), AllocError>
     ensures { OnOk result (text.new.items ≡ text.old.items ++ all_spelled pieces.now) }
 {
@@ -47,7 +47,7 @@ fn push_piece(text: &mut Vec<u8>, piece: &Piece<'_>) -> Result<(), AllocError>
     }
 }
 
-/// Adds octets, of which each that has a meaning in HTML, or isn't printable ASCII, becomes a character reference.
+/// Adds octets as text: an octet that has a meaning in HTML, or isn't printable ASCII, becomes a character reference.
 fn push_escaped(text: &mut Vec<u8>, octets: &[u8]) -> Result<(), AllocError>
     ensures { OnOk result (text.new.items ≡ text.old.items ++ escaped octets.now) }
 {

@@ -6,10 +6,10 @@ use std::alloc::AllocError;
 /// How many points there are.
 const POINTS: u64 = 144;
 
-/// How many minutes a point stands for.
+/// How many minutes a point covers.
 const STEP: u64 = 10;
 
-/// How high the plot is, in its own units; the highest point keeps a little room.
+/// The height of the plot, in its own units; the highest point is a little below it.
 const HEIGHT: u64 = 100;
 
 const HIGHEST: u64 = 95;

@@ -1,4 +1,4 @@
-//! What a request asks for (RFC 9112).
+//! Requests, and why they are refused (RFC 9112).
 ghost use Rattle.std.specs.Prelude.{◌≡◌, ◌≤◌, All, map, length, take};
 ghost use Rattle.std.specs.Option.{option_copied};
 ghost use Rattle.httparse.specs.Spans.{IsHeaderWithin, header_bytes};
@@ -16,14 +16,14 @@ pub const MOST_OCTETS: usize = 4_096;
 /// The most fields of a request.
 const MOST_FIELDS: usize = 32;
 
-/// What can be asked for.
+/// What a request can ask for.
 #[derive(Clone, Copy, Debug, Drop, PartialEq, Eq)]
 pub enum Target {
-    /// The page for people, at `/`.
+    /// The page, at `/`.
     Page,
     /// The metrics, at `/metrics`.
     Metrics,
-    /// What is queued, at `/queue.json`.
+    /// The queue, at `/queue.json`.
     Queue,
 }
 
@@ -31,27 +31,27 @@ pub enum Target {
 #[derive(Clone, Copy, Debug, Drop, PartialEq, Eq)]
 pub struct Asked {
     pub target: Target,
-    /// By GET; by HEAD only the response's head is asked for.
+    /// Whether it is asked for by GET; a HEAD request gets only the response's head.
     pub has_body: bool,
 }
 
 /// Why a request is refused (RFC 9110, section 15.5).
 #[derive(Clone, Copy, Debug, Drop, PartialEq, Eq)]
 pub enum Refusal {
-    /// 400: no head of a request, or one without a Host field or with several.
+    /// 400: this isn't the head of a request, or it has no Host field or several.
     BadRequest,
-    /// 403: its Host isn't this machine.
+    /// 403: the Host field doesn't name this machine.
     Forbidden,
-    /// 404: nothing is there.
+    /// 404: there is nothing at this target.
     NotFound,
-    /// 405: its method is neither GET nor HEAD.
+    /// 405: the method is neither GET nor HEAD.
     BadMethod,
-    /// 431: more than 32 fields, or no whole head in 4,096 octets (RFC 6585, section 5).
+    /// 431: more than 32 fields, or no complete head in 4,096 octets (RFC 6585, section 5).
     TooLarge,
 }
 
-/// Returns what the octets of a connection ask for, or why they are refused; none if more octets must come first. Of
-/// several reasons the first is taken, in this order: 400 or 431, 403, 405, 404.
+/// Returns what the octets of a connection ask for, or why they are refused; `None` if more octets are needed. Of
+/// several refusals the first in this order is returned: 400 or 431, 403, 405, 404.
 pub fn judge(octets: &[u8]) -> Option<Result<Asked, Refusal>>
     ensures { IsJudged octets.now result }
 {
@@ -69,7 +69,7 @@ pub fn judge(octets: &[u8]) -> Option<Result<Asked, Refusal>>
     }
 }
 
-/// Returns the value of the Host field, if there is one and no other.
+/// Returns the value of the Host field, if there is exactly one.
 fn only_host<'a>(octets: &'a [u8], headers: &[HeaderSpan]) -> Option<&'a [u8]>
     requires { All (IsHeaderWithin (length octets.now)) headers.now }
     ensures { option_copied result ≡ only (hosts_among (map (header_bytes octets.now) headers.now)) }

@@ -6,14 +6,14 @@ use crate::pieces::{Piece, push_pieces};
 use crate::request::Refusal;
 use std::alloc::{AllocError, Global};
 
-/// The fields that each response has, and the end of its head: the connection is closed after it, nobody keeps it, and
-/// it shows nothing of another place, and nothing of itself in one.
+/// The fields of every response, and the end of its head: the connection closes after the response, which isn't stored,
+/// loads nothing from elsewhere and isn't shown inside another page.
 const FIELDS: &[u8] = b"\r\nConnection: close\r\nAllow: GET, HEAD\r\nCache-Control: no-store\r\n\
 X-Content-Type-Options: nosniff\r\nReferrer-Policy: no-referrer\r\nCross-Origin-Resource-Policy: same-origin\r\n\
 Content-Security-Policy: default-src 'none'; style-src 'unsafe-inline'; base-uri 'none'; form-action 'none'; \
 frame-ancestors 'none'\r\n\r\n";
 
-/// What a response says of its request.
+/// The status code of a response.
 #[derive(Clone, Copy, Debug, Drop, PartialEq, Eq)]
 pub enum Code {
     /// 200
@@ -28,18 +28,18 @@ pub enum Code {
     BadMethod,
     /// 431
     TooLarge,
-    /// 503: there is no memory for what was asked for.
+    /// 503: there is no memory for the response.
     Unavailable,
 }
 
-/// What a body is.
+/// The media type of a body.
 #[derive(Clone, Copy, Debug, Drop, PartialEq, Eq)]
 pub enum Kind {
     /// A page.
     Html,
     /// Metrics in Prometheus' text format.
     Metrics,
-    /// A JSON object a line.
+    /// One JSON object per line.
     JsonLines,
     /// A line for people.
     Plain,
@@ -86,7 +86,7 @@ impl Kind {
     }
 }
 
-/// Returns the octets of a response with this body; its head alone where the body wasn't asked for. Fails if memory
+/// Returns the octets of a response with this body, or of its head only if the body wasn't asked for. Fails if memory
 /// runs out.
 pub fn response_octets(
     alloc: Global,
@@ -105,7 +105,7 @@ pub fn response_octets(
     Ok(octets)
 }
 
-/// Adds the head of a response whose body has this many octets.
+/// Adds the head of a response whose body has `size` octets.
 fn push_head(octets: &mut Vec<u8>, code: Code, kind: Kind, size: u64) -> Result<(), AllocError>
     ensures { OnOk result (octets.new.items ≡ octets.old.items ++ head_text code kind size) }
 {
@@ -123,7 +123,7 @@ fn push_head(octets: &mut Vec<u8>, code: Code, kind: Kind, size: u64) -> Result<
     )
 }
 
-/// Returns the octets of a response that refuses a request, with a line that says why.
+/// Returns the octets of a response that refuses a request, with one line that says why.
 pub fn refusal_octets(alloc: Global, code: Code, has_body: bool) -> Result<Vec<u8>, AllocError>
     ensures { IfOk result (λ octets. octets.items
         ≡ response_text code Kind.Plain has_body (code_text code ++ 10 ∷ [])) }
@@ -132,7 +132,7 @@ pub fn refusal_octets(alloc: Global, code: Code, has_body: bool) -> Result<Vec<u
     response_octets(alloc, code, Kind::Plain, has_body, line.as_slice())
 }
 
-/// Returns the line that says what a code means.
+/// Returns a line with the meaning of a status code.
 fn line_of(alloc: Global, code: Code) -> Result<Vec<u8>, AllocError>
     ensures { IfOk result (λ line. line.items ≡ code_text code ++ 10 ∷ []) }
 {

@@ -6,12 +6,12 @@ use crate::pieces::{Piece, push_pieces};
 use crate::survey::Load;
 use std::alloc::AllocError;
 
-/// A recipient that waits in the queue.
+/// A queued recipient.
 #[derive(Clone, Copy, Debug)]
 pub struct Waiting<'a> {
     /// The number of its message.
     pub number: u64,
-    /// When its message was accepted, in seconds from 1970.
+    /// When its message was accepted, in seconds since 1970.
     pub accepted: u64,
     /// The reverse path of its message.
     pub reverse_path: &'a [u8],
@@ -19,7 +19,7 @@ pub struct Waiting<'a> {
     pub path: &'a [u8],
     /// How often it was deferred; 4 stands for four times and more.
     pub tries: u8,
-    /// When it is due, in seconds from 1970.
+    /// When it is due, in seconds since 1970.
     pub due: u64,
 }
 
@@ -52,7 +52,7 @@ pub(crate) fn push_hop(
     )
 }
 
-/// Returns the name of a next hop, or what stands for none.
+/// Returns the name of a next hop, or the text for recipients without one.
 fn shown_name(name: &[u8]) -> &[u8]
     ensures { result.now ≡ shown_name name.now }
 {

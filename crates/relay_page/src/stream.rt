@@ -1,17 +1,17 @@
-//! The connection of a visitor as the system has it.
+//! A visitor's connection.
 use mio::net::TcpStream;
 use std::io::{Read, Write};
 use std::net::Shutdown;
 
-/// A stream of octets in both directions. No call waits: what would have to wait is answered by `WouldBlock`.
+/// A non-blocking stream of octets in both directions: a call that would have to wait fails with `WouldBlock`.
 pub trait VisitorStream: Read + Write {
-    /// Tells the visitor that nothing more is written.
+    /// Signals the visitor that nothing more will be written.
     fn shut_down(&mut self);
 }
 
 impl VisitorStream for TcpStream {
     fn shut_down(&mut self) {
-        // A connection that is gone has nobody to tell.
+        // If the connection is gone, there is nobody to signal.
         let _ = self.shutdown(Shutdown::Write);
     }
 }

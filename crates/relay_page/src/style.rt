@@ -1,6 +1,6 @@
-//! How the page looks, on a phone and on a wide screen, light and dark.
+//! The page's style, for phones and wide screens, light and dark.
 
-/// The page's beginning, up to its title.
+/// The page's start, up to its title.
 pub(crate) const BEGINNING: &[u8] =
     b"<!DOCTYPE html>\n<html lang=\"en\">\n<head>\n<meta charset=\"utf-8\">\n\
 <meta name=\"viewport\" content=\"width=device-width, initial-scale=1\">\n\

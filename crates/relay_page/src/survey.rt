@@ -1,14 +1,14 @@
-//! What is queued, by next hop. It is counted in parts, so that mail never waits for a walk over a long queue.
+//! The queue by next hop. It is counted in parts, so that mail never waits while a long queue is counted.
 use indexmap::IndexMap;
 use relay_book::Message;
 use relay_routes::Table;
 use std::alloc::{AllocError, Global};
 use std::mem;
 
-/// How many recipients are counted at a turn.
+/// How many recipients are counted in one turn.
 pub const PART: usize = 2_000;
 
-/// How many milliseconds what was counted serves.
+/// For how many milliseconds a count is shown before the next one begins.
 const FRESH: u64 = 1_000;
 
 /// A queued recipient: the number of its message, and its place there.
@@ -22,29 +22,29 @@ pub struct Load {
     pub recipients: u64,
     /// The octets of those messages.
     pub octets: u64,
-    /// When the oldest of them was accepted, in seconds from 1970.
+    /// When the oldest of them was accepted, in seconds since 1970.
     pub oldest: u64,
-    /// When a recipient is due first, in seconds from 1970.
+    /// The earliest time at which a recipient is due, in seconds since 1970.
     pub due: u64,
-    /// The message that was counted last.
+    /// The number of the message that was counted last.
     last: u64,
 }
 
-/// What is queued by the names of the next hops. The empty name stands for recipients without one.
+/// The queue by the names of the next hops. The empty name is for recipients without one.
 pub type Loads = IndexMap<Vec<u8>, Load>;
 
-/// What is queued, as it was counted last, and a count that goes on.
+/// The last complete count of the queue, and a count in progress.
 pub struct Survey {
     alloc: Global,
     /// The recipients that were queued when the last count began, in the order of the queue.
     marks: Vec<Mark>,
-    /// How many of them are counted; none if no count goes on.
+    /// How many of them are counted; `None` if no count is in progress.
     counted: Option<usize>,
-    /// What they come to so far.
+    /// The count in progress.
     counting: Loads,
-    /// What the last whole count has found.
+    /// The last complete count.
     found: Loads,
-    /// The tick up to which that serves.
+    /// The tick until which the last complete count is shown.
     fresh_until: u64,
 }
 
@@ -63,7 +63,7 @@ impl Drop for Survey {
 }
 
 impl Survey {
-    /// Nothing was counted yet. Allocates nothing.
+    /// Returns a survey that has counted nothing. Allocates nothing.
     pub fn new(alloc: Global) -> Self {
         Survey {
             alloc,
@@ -75,12 +75,12 @@ impl Survey {
         }
     }
 
-    /// Returns whether what was counted last still serves at this tick.
+    /// Returns whether the last complete count is still to be shown at this tick.
     pub fn is_fresh(&self, tick: u64) -> bool {
         tick < self.fresh_until
     }
 
-    /// Returns whether a count goes on.
+    /// Returns whether a count is in progress.
     pub fn is_counting(&self) -> bool {
         self.counted.is_some()
     }
@@ -118,14 +118,14 @@ impl Survey {
         Ok(())
     }
 
-    /// Ends a count at this tick: what it has found serves for a second.
+    /// Completes the count at this tick, from which it is shown for a second.
     pub fn end(&mut self, tick: u64) {
         self.counted = None;
         self.found = mem::replace(&mut self.counting, IndexMap::new(self.alloc));
         self.fresh_until = tick.saturating_add(FRESH);
     }
 
-    /// Returns what is queued by next hop, as the last whole count has found it.
+    /// Returns the queue by next hop, according to the last complete count.
     pub fn loads(&self) -> &Loads {
         &self.found
     }
@@ -147,7 +147,7 @@ fn add(alloc: Global, loads: &mut Loads, name: &[u8], one: Load) -> Result<(), A
 }
 
 impl Load {
-    /// Returns what one recipient of a message comes to, which is due then.
+    /// Returns the load of one recipient of a message, due at this time.
     fn of(message: &Message, due: u64) -> Self {
         Load {
             messages: 1,
@@ -159,7 +159,7 @@ impl Load {
         }
     }
 
-    /// Returns the same with one recipient more, whose message is the one that was counted last or a new one.
+    /// Returns the load with one more recipient, whose message is the last one counted or a new one.
     fn with(self, one: Load) -> Self {
         let is_new = self.last != one.last;
         Load {

@@ -1,4 +1,4 @@
-//! One visitor: its request is read, and its response written, a piece at a time.
+//! One visitor: reads its request, and writes its response, a piece at a time.
 ghost use Rattle.std.specs.Prelude.{◌≡◌, ◌≤◌, ◌+◌, ◌-◌, ◌^◌, false, length, min};
 ghost use Rattle.relay_page.specs.declared.visitor.TheConstants.{MOST_WRITTEN, VISIT_TIME};
 
@@ -8,25 +8,25 @@ use crate::stream::VisitorStream;
 use std::alloc::{AllocError, Global};
 use std::io::ErrorKind;
 
-/// The most octets that are written to one visitor at a turn.
+/// The most octets that are written to one visitor in one turn.
 pub const MOST_WRITTEN: usize = 64 * 1024;
 
-/// How many milliseconds a visitor has from its coming to its going.
+/// How many milliseconds a visit may take.
 pub const VISIT_TIME: u64 = 5_000;
 
-/// What is to be done for a visitor next.
+/// The stage of a visit.
 #[derive(Clone, Copy, Debug, PartialEq, Eq)]
 enum Stage {
-    /// Its request is read.
+    /// The request is being read.
     Reading,
-    /// It waits for what it has asked for.
+    /// The response is being made.
     Waiting(Asked),
-    /// Its response is written.
+    /// The response is being written.
     Writing,
-    /// All is written: what it still sends is read and dropped, since the system else resets the connection, and the
-    /// end of the response with it.
+    /// The response is written. What the visitor still sends is read and dropped; otherwise the system would reset the
+    /// connection, and the end of the response might be lost.
     Leaving,
-    /// Nothing more.
+    /// The visit is over.
     Over,
 }
 
@@ -35,16 +35,16 @@ pub(crate) struct Visitor<S> {
     alloc: Global,
     stream: S,
     stage: Stage,
-    /// What was read of its request.
+    /// What was read of the request.
     head: Vec<u8>,
     response: Vec<u8>,
     /// How many octets of the response are written.
     written: usize,
-    /// A read may give something, or the end.
+    /// Whether a read may yield octets, or the end.
     reads: bool,
-    /// A write may take something.
+    /// Whether a write may take octets.
     writes: bool,
-    /// The tick at which it is closed.
+    /// The tick at which the connection is closed.
     deadline: u64,
     ghost short: { length head.items ≤ 4096 },
     ghost within: { written ≤ length response.items },
@@ -68,7 +68,7 @@ impl<S: Drop> Drop for Visitor<S> {
 }
 
 impl<S: VisitorStream> Visitor<S> {
-    /// Makes a visitor that comes at this tick. Allocates nothing.
+    /// Makes a visitor that arrived at this tick. Allocates nothing.
     pub(crate) fn new(alloc: Global, stream: S, tick: u64) -> Self
         ensures { result.deadline ≡ min (tick + VISIT_TIME) (2 ^ 64 - 1) }
     {
@@ -85,7 +85,7 @@ impl<S: VisitorStream> Visitor<S> {
         }
     }
 
-    /// The system tells what its connection may be ready for.
+    /// Notes what the connection may be ready for, as the system reports it.
     pub(crate) fn note(&mut self, reads: bool, writes: bool)
         ensures { self.new.deadline ≡ self.old.deadline }
     {
@@ -93,7 +93,7 @@ impl<S: VisitorStream> Visitor<S> {
         self.writes |= writes;
     }
 
-    /// Returns what it has asked for, if it waits for that.
+    /// Returns what the visitor has asked for, if its response is still to be made.
     pub(crate) fn asked(&self) -> Option<Asked> {
         match self.stage {
             Stage::Waiting(asked) => Some(asked),
@@ -101,7 +101,7 @@ impl<S: VisitorStream> Visitor<S> {
         }
     }
 
-    /// Returns whether something can be done for it at once.
+    /// Returns whether a read or a write may be done at once.
     pub(crate) fn is_ready(&self) -> bool {
         match self.stage {
             Stage::Reading | Stage::Leaving => self.reads,
@@ -111,14 +111,14 @@ impl<S: VisitorStream> Visitor<S> {
         }
     }
 
-    /// Returns the tick at which it is closed.
+    /// Returns the tick at which the connection is closed.
     pub(crate) fn deadline(&self) -> u64
         ensures { result ≡ self.now.deadline }
     {
         self.deadline
     }
 
-    /// Does one thing for it: reads once, or writes once. Returns whether it stays.
+    /// Reads once or writes once. Returns whether the visit goes on.
     pub(crate) fn serve(&mut self, tick: u64) -> bool
         ensures deadline { self.new.deadline ≡ self.old.deadline }
         ensures late { self.old.deadline ≤ tick → result ≡ false }
@@ -133,7 +133,7 @@ impl<S: VisitorStream> Visitor<S> {
         self.stage != Stage::Over && tick < self.deadline
     }
 
-    /// Gives it its response; if there was no memory for that, none.
+    /// Sets the response; if there was no memory for it, the visit is over.
     pub(crate) fn respond(&mut self, response: Result<Vec<u8>, AllocError>)
         ensures deadline { self.new.deadline ≡ self.old.deadline }
         ensures few { self.new.written ≤ self.old.written }
@@ -148,7 +148,7 @@ impl<S: VisitorStream> Visitor<S> {
         }
     }
 
-    /// Reads more of its request, and judges it.
+    /// Reads more of the request, and judges it.
     fn read(&mut self)
         ensures deadline { self.new.deadline ≡ self.old.deadline }
         ensures few { self.new.written ≤ self.old.written }
@@ -165,7 +165,7 @@ impl<S: VisitorStream> Visitor<S> {
         }
     }
 
-    /// Hears more of its request.
+    /// Adds octets to the request, and judges it.
     fn hear(&mut self, piece: &[u8])
         requires { length self.old.head.items + length piece.now ≤ 4096 }
         ensures deadline { self.new.deadline ≡ self.old.deadline }
@@ -187,7 +187,7 @@ impl<S: VisitorStream> Visitor<S> {
         }
     }
 
-    /// Reads what it still sends, and drops it.
+    /// Reads what the visitor still sends, and drops it.
     fn drain(&mut self)
         ensures deadline { self.new.deadline ≡ self.old.deadline }
         ensures few { self.new.written ≤ self.old.written }
@@ -214,7 +214,7 @@ impl<S: VisitorStream> Visitor<S> {
         }
     }
 
-    /// Writes the next octets of its response, of which there are 64 KiB at most.
+    /// Writes the next octets of the response, at most 64 KiB.
     fn write(&mut self)
         ensures deadline { self.new.deadline ≡ self.old.deadline }
         ensures few { self.new.written ≤ self.old.written + MOST_WRITTEN }
@@ -237,7 +237,7 @@ impl<S: VisitorStream> Visitor<S> {
         }
     }
 
-    /// This many octets of its response were written.
+    /// Counts octets of the response as written.
     fn wrote(&mut self, count: usize)
         requires { self.old.written + count ≤ length self.old.response.items }
         ensures deadline { self.new.deadline ≡ self.old.deadline }

@@ -1,4 +1,4 @@
-//! The visitors of a page: never more than 8.
+//! The visitors of the page, at most 8.
 ghost use Rattle.std.specs.Prelude.{◌≡◌, ◌≤◌, ◌<◌, IfSome, length};
 
 use crate::request::Asked;
@@ -7,10 +7,10 @@ use crate::visitor::Visitor;
 use mio::net::TcpStream;
 use std::alloc::{AllocError, Global};
 
-/// The most visitors at a time.
+/// The most visitors at one time.
 pub const MOST_VISITORS: usize = 8;
 
-/// The visitors, by numbers below 8.
+/// The visitors, numbered from 0.
 pub struct Visitors<S = TcpStream> {
     alloc: Global,
     seats: Vec<Option<Visitor<S>>>,
@@ -28,7 +28,7 @@ impl<S: Drop> Drop for Visitors<S> {
 }
 
 impl<S: VisitorStream + Drop> Visitors<S> {
-    /// None. Fails if memory runs out.
+    /// Returns an empty table. Fails if memory runs out.
     pub fn new(alloc: Global) -> Result<Self, AllocError> {
         let mut seats = Vec::with_capacity(alloc, MOST_VISITORS)?;
         for _ in 0..MOST_VISITORS {
@@ -37,7 +37,7 @@ impl<S: VisitorStream + Drop> Visitors<S> {
         Ok(Visitors { alloc, seats })
     }
 
-    /// Returns the least number that no visitor has.
+    /// Returns the lowest free number, if there is one.
     pub fn free(&self) -> Option<usize>
         ensures { IfSome result (λ number. number < 8) }
     {
@@ -49,14 +49,14 @@ impl<S: VisitorStream + Drop> Visitors<S> {
         None
     }
 
-    /// Takes a visitor that comes at this tick under a free number. One under another number is turned away.
+    /// Adds a visitor that arrived at this tick under a free number; drops it if the number is invalid.
     pub fn put(&mut self, number: usize, stream: S, tick: u64) {
         if number < MOST_VISITORS && self.seats[number].is_none() {
             self.seats[number] = Some(Visitor::new(self.alloc, stream, tick));
         }
     }
 
-    /// The system tells what the connection of a number may be ready for.
+    /// Notes what the connection of a number may be ready for, as the system reports it.
     pub fn note(&mut self, number: usize, reads: bool, writes: bool) {
         if number < MOST_VISITORS {
             if let Some(visitor) = &mut self.seats[number] {
@@ -65,7 +65,7 @@ impl<S: VisitorStream + Drop> Visitors<S> {
         }
     }
 
-    /// Does one thing for each: reads once of it, or writes once to it, 64 KiB at most.
+    /// Reads once or writes once for each visitor; a write takes at most 64 KiB.
     pub fn serve(&mut self, tick: u64) {
         for number in 0..MOST_VISITORS {
             self.serve_one(number, tick);
@@ -84,7 +84,7 @@ impl<S: VisitorStream + Drop> Visitors<S> {
         }
     }
 
-    /// Returns what the visitor with the least number has asked for of those that wait, with that number.
+    /// Returns the lowest number of a visitor whose response is still to be made, and what it has asked for.
     pub fn asked(&self) -> Option<(usize, Asked)>
         ensures { IfSome result (λ asked. asked.0 < 8) }
     {
@@ -98,7 +98,7 @@ impl<S: VisitorStream + Drop> Visitors<S> {
         None
     }
 
-    /// Gives a visitor its response, or none if there was no memory for one.
+    /// Sets a visitor's response, or closes the visit if there was no memory for one.
     pub fn respond(&mut self, number: usize, response: Result<Vec<u8>, AllocError>) {
         if number < MOST_VISITORS {
             if let Some(visitor) = &mut self.seats[number] {
@@ -107,7 +107,7 @@ impl<S: VisitorStream + Drop> Visitors<S> {
         }
     }
 
-    /// Returns whether something can be done for one of them at once.
+    /// Returns whether a read or a write may be done for one of them at once.
     pub fn is_ready(&self) -> bool {
         for slot in &self.seats {
             if let Some(visitor) = slot {
@@ -119,7 +119,7 @@ impl<S: VisitorStream + Drop> Visitors<S> {
         false
     }
 
-    /// Returns the tick at which the next of them is closed, or the given one where that is earlier.
+    /// Returns the earliest tick at which one of them is closed, or `otherwise` if that is earlier.
     pub fn next_deadline(&self, otherwise: u64) -> u64
         ensures { result ≤ otherwise }
     {

@@ -18,13 +18,13 @@ is_path path asked = is_word path asked || is_word (within_brackets path) asked
 abbrev pub is_hop : Option (List ℕ) → List ℕ → Bool
 is_hop hop asked = option_map_or (λ name. is_word name asked) hop false
 
--- what isn't asked for passes
+-- a field that isn't set matches everything
 abbrev pub passes_if : {X : Type 0} → (X → Bool) → Option X → Bool
 passes_if test None = true
 passes_if test (Some asked) = test asked
 
--- the recipient is listed at this time: its next hop, its message's reverse path and its own path are those that are
--- asked for, and its message is as old as asked for
+-- The recipient is listed at this time: its next hop, its message's reverse path and its own path match the filter, and
+-- its message is old enough.
 abbrev pub passes : Filter → ℕ → Queued → Bool
 passes filter now queued =
     passes_if (is_hop queued.hop) (option_copied filter.hop)

@@ -1,4 +1,4 @@
--- A queued recipient as it is listed: what the queue has of it, and the next hop that the routes give.
+-- A queued recipient as a view shows it: what the queue has of it, and the next hop that the routes give.
 use Rattle.std.specs.Prelude.{ℕ, List, length, slice_get, Option, None, option_map, if◌then◌else◌}
 use Rattle.std.specs.Option.{option_and_then, option_copied}
 use Rattle.relay_envelope.specs.declared.envelope.Recipient.{Recipient}
@@ -9,8 +9,8 @@ use Rattle.relay_book.specs.declared.message.Place.{Place}
 use Rattle.relay_book.specs.Queue.{Queue, message_of}
 use Rattle.relay_queue.specs.declared.row.Row.{Row}
 
--- its message and its place there, when the message was accepted, how large it is, from whom and to whom it goes, by
--- which next hop, how often it was deferred, and when it is due
+-- its message and its place there, when the message was accepted, the message's size, its reverse path and forward
+-- path, its next hop, how often it was deferred, and when it is due
 pub record Queued : Type 0 where
   pub number : ℕ
   pub place : ℕ
@@ -26,7 +26,7 @@ pub record Queued : Type 0 where
 abbrev pub hop_name : RouteTable → List ℕ → Option (List ℕ)
 hop_name table path = option_map (λ hop. hop.name) (hop_at table path)
 
--- a recipient of a message, and how its place waits
+-- a recipient of a message, with the state of its place
 abbrev pub queued_for : RouteTable → ℕ → ℕ → Accept → Place → Recipient → Queued
 queued_for table number place accept waiting recipient = record {
   number = number;
@@ -40,12 +40,12 @@ queued_for table number place accept waiting recipient = record {
   due = waiting.due;
 }
 
--- the recipient, where its place is held
+-- the recipient, if its place is held
 abbrev pub queued_if_held : RouteTable → ℕ → ℕ → Accept → Option Recipient → Place → Option Queued
 queued_if_held table number place accept recipient waiting =
     if waiting.held then option_map (queued_for table number place accept waiting) recipient else None
 
--- the recipient at a place of a message, where that is held
+-- the recipient at a place of a message, if that is held
 abbrev pub queued_in : RouteTable → ℕ → ℕ → Message → Option Queued
 queued_in table number place message =
     option_and_then
@@ -57,7 +57,7 @@ abbrev pub queued_at : RouteTable → Queue → ℕ × ℕ → Option Queued
 queued_at table queue mark =
     option_and_then (queued_in table mark.0 mark.1) (message_of queue.messages mark.0)
 
--- what a row says
+-- the recipient that a row shows
 abbrev pub said_by : Row → Queued
 said_by row = record {
   number = row.number;

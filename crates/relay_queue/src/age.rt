@@ -1,7 +1,7 @@
-//! Ages as they are asked for.
+//! Ages as arguments.
 
-/// Reads an age: a number and a unit, `s`, `m`, `h` or `d`, in seconds. None if the text is none, or the age has more
-/// than 2^64 - 1 seconds. Allocates nothing.
+/// Reads an age in seconds from a number and a unit, `s`, `m`, `h` or `d`. Returns `None` if the text isn't one, or the
+/// age is above 2^64 - 1 seconds. Allocates nothing.
 pub fn read_age(text: &str) -> Option<u64> {
     let (digits, unit) = text.split_at_checked(text.len().checked_sub(1)?)?;
     let seconds = match unit {

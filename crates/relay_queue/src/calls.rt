@@ -1,4 +1,4 @@
-//! What `list --long`, `list --json`, `show` and `status` do.
+//! The subcommands `list --long`, `list --json`, `show` and `status`.
 ghost use Rattle.std.specs.Prelude.{◌≡◌, ℕ, IfErr, IfOk, OnOk};
 ghost use Rattle.relay_queue.specs.Printed.{IsListPrinted, IsMessagePrinted, IsNotQueued, IsStatusPrinted};
 ghost use Rattle.relay_queue.specs.Printed.{IsList, IsTextPrinted, ShowsFill};
@@ -25,25 +25,25 @@ use std::fs::File;
 use std::io::Write;
 use std::rt::{Clock, Env, Files};
 
-/// How a list is printed.
+/// The output format of a list.
 #[derive(Clone, Copy, Debug)]
 pub enum ListForm {
     /// A table for people.
     Table,
-    /// A JSON object a line.
+    /// One JSON object per line.
     Json,
 }
 
-/// How a message is printed.
+/// The output format of a message.
 #[derive(Clone, Copy, Debug)]
 pub enum MessageForm {
     /// Its envelope and its text, for people.
     Shown,
-    /// Its text alone, octet by octet.
+    /// Its text only, octet by octet.
     Raw,
 }
 
-/// How the status is printed.
+/// The output format of the status.
 #[derive(Clone, Copy, Debug)]
 pub enum StatusForm {
     /// A table for people.
@@ -52,8 +52,8 @@ pub enum StatusForm {
     Metrics,
 }
 
-/// Prints the queued recipients that pass a filter, those of the oldest message first. The spool's files are opened for
-/// reading alone, and no lock is taken, so that a relay may run on them. Faults are searched for in this order: the
+/// Prints the queued recipients that pass a filter, those of the oldest message first. Opens the spool's files for
+/// reading only, without a lock, so that a relay may be running on them. Faults are checked in this order: the
 /// configuration file, its content, the spool, the writer.
 pub fn print_list<R: Files<File = File> + Env + Clock + AllocGlobal, W: Write>(
     alloc: Global,
@@ -99,8 +99,7 @@ fn list_text<R: Files<File = File> + Env + AllocGlobal, D: Disk>(
     }
 }
 
-/// Prints a message. It fails with [`QueueFault::NotQueued`] where none of its recipients is queued. The files and the
-/// other faults are as those of [`print_list`].
+/// Prints a message. Fails with [`QueueFault::NotQueued`] if none of its recipients is queued, else as [`print_list`].
 pub fn print_message<R: Files<File = File> + Env + Clock + AllocGlobal, W: Write>(
     alloc: Global,
     rt: &R,
@@ -145,7 +144,7 @@ fn print_text<R: Files<File = File> + Env + Clock + AllocGlobal, W: Write>(
     }
 }
 
-/// Prints the queue by next hop, and how full the spool is. The files and the faults are as those of [`print_list`].
+/// Prints a summary of the queue by next hop, and how full the spool is. Fails as [`print_list`] does.
 pub fn print_status<R: Files<File = File> + Env + Clock + AllocGlobal, W: Write>(
     alloc: Global,
     rt: &R,
@@ -164,7 +163,7 @@ pub fn print_status<R: Files<File = File> + Env + Clock + AllocGlobal, W: Write>
     Ok(write_out(writer, screen.as_slice())?)
 }
 
-/// Returns the queue by next hop, and how full the spool is, in a form.
+/// Returns the summary by next hop, and how full the spool is, in an output format.
 fn fill_in_form<R: Files<File = File> + Env + AllocGlobal>(
     alloc: Global,
     rt: &R,
@@ -181,7 +180,7 @@ fn fill_in_form<R: Files<File = File> + Env + AllocGlobal>(
     }
 }
 
-/// How full a spool is.
+/// Returns how full a spool is.
 fn fill_of(records: &Records<FileDisk>, config: &Config) -> Fill
     ensures { result.size ≡ records.now.spool.size }
 {

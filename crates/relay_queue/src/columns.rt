@@ -5,7 +5,7 @@ ghost use Rattle.relay_queue.specs.Screen.{padding, shown};
 use crate::screen::Screen;
 use std::alloc::AllocError;
 
-/// Adds octets as they are shown, and spaces up to a width.
+/// Adds escaped octets, padded with spaces on the right up to a width.
 pub(crate) fn push_left(screen: &mut Screen, octets: &[u8], width: usize) -> Result<(), AllocError>
     ensures { OnOk result (screen.new ≡ screen.old ++ shown octets.now ++ padding (width - length octets.now)) }
 {
@@ -13,7 +13,7 @@ pub(crate) fn push_left(screen: &mut Screen, octets: &[u8], width: usize) -> Res
     screen.push_spaces(width.saturating_sub(octets.len()))
 }
 
-/// Adds spaces up to a width, and octets as they are shown.
+/// Adds escaped octets, padded with spaces on the left up to a width.
 pub(crate) fn push_right(screen: &mut Screen, octets: &[u8], width: usize) -> Result<(), AllocError>
     ensures { OnOk result (screen.new ≡ screen.old ++ padding (width - length octets.now) ++ shown octets.now) }
 {

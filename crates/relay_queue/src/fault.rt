@@ -2,16 +2,16 @@ use relay_files::Fault;
 use std::alloc::AllocError;
 use thiserror::Error;
 
-/// Why the queue can't be checked. Its text is after `relayd: `.
+/// Why the queue can't be shown. Its text follows `relayd: `.
 #[derive(Clone, Copy, Debug, PartialEq, Eq, Error)]
 pub enum QueueFault {
-    /// A file can't be read or holds something else, memory ran out, or what was found can't be written.
+    /// A file can't be read or is invalid, memory ran out, or the output can't be written.
     #[error("{0}")]
     Files(Fault),
-    /// No recipient of a message of this number is queued.
+    /// The message of this number doesn't exist, or none of its recipients is queued.
     #[error("message {0} is not queued")]
     NotQueued(u64),
-    /// An age that is asked for isn't a number and a unit.
+    /// An age isn't a number and a unit.
     #[error("an age is a number and s, m, h or d, as 4h")]
     BadAge,
 }

@@ -7,7 +7,7 @@ use crate::row::Row;
 use relay_lines::word::is_word;
 use relay_trace::Moment;
 
-/// Which queued recipients are listed: those that have all that is asked for.
+/// Selects the queued recipients to list: those that match every field that is set.
 #[derive(Clone, Copy, Debug)]
 pub struct Filter<'a> {
     /// The name of the next hop, in any letter case.
@@ -16,7 +16,7 @@ pub struct Filter<'a> {
     pub reverse_path: Option<&'a [u8]>,
     /// The forward path, with or without its brackets, in any letter case.
     pub path: Option<&'a [u8]>,
-    /// How many seconds ago the message was accepted, at least.
+    /// The least age of the message, in seconds since it was accepted.
     pub age: Option<u64>,
 }
 

@@ -1,4 +1,4 @@
-//! The queue as JSON, one object a line.
+//! The queue as JSON, one object per line.
 ghost use Rattle.std.specs.Prelude.{◌≡◌, ℕ, List, ◌++◌, IfOk, OnOk};
 ghost use Rattle.relay_queue.specs.Printed.{AreObjects, object_line};
 ghost use Rattle.relay_queue.specs.Screen.{shown_line};
@@ -19,7 +19,7 @@ use std::str;
 struct Listed<'a> {
     message: u64,
     place: u8,
-    /// In seconds from 1970.
+    /// In seconds since 1970.
     accepted: u64,
     /// In seconds.
     age: u64,
@@ -30,11 +30,11 @@ struct Listed<'a> {
     hop: Option<&'a str>,
     /// How often it was deferred; 4 stands for four times and more.
     tries: u8,
-    /// In seconds from 1970.
+    /// In seconds since 1970.
     next_try: u64,
 }
 
-/// Returns a line for each of these recipients.
+/// Returns a line for each recipient that one of these keys names.
 pub(crate) fn json_text<D: Disk>(
     alloc: Global,
     records: &Records<D>,

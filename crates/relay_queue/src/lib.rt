@@ -1,4 +1,4 @@
-//! The queue as a postmaster checks it: a table of queued recipients, one message in full, and a summary by next hop.
+//! Views of the queue for postmasters: a table of queued recipients, one message in full, and a summary by next hop.
 #![tactic(auto)]
 
 mod age;

@@ -12,13 +12,14 @@ use relay_routes::{Hop, Table};
 use relay_trace::Moment;
 use std::alloc::{AllocError, Global};
 
-/// The column, from 0, at which the texts of fields begin.
+/// The column, from 0, at which the values of fields begin.
 const NAME_WIDTH: usize = 16;
 
-/// What stands for a parameter that wasn't given.
+/// The text for a parameter that wasn't given.
 const NOT_GIVEN: &[u8] = b"-";
 
-/// Returns the envelope of a message and the state of each of its recipients, and after an empty line its text.
+/// Returns the envelope of a message and the state of each of its recipients, then an empty line and the message's
+/// text.
 pub(crate) fn message_text(
     alloc: Global,
     message: &Message,
@@ -96,7 +97,7 @@ fn ret_text(ret: Option<Ret>) -> &'static [u8] {
     }
 }
 
-/// Adds what was said of a recipient.
+/// Adds the parameters of a recipient.
 fn push_recipient(screen: &mut Screen, recipient: &Recipient) -> Result<(), AllocError> {
     push_field(screen, b"recipient", recipient.path.as_slice())?;
     push_name(screen, b"  NOTIFY")?;
@@ -120,7 +121,7 @@ fn push_notify(screen: &mut Screen, notify: Option<Notify>) -> Result<(), AllocE
     }
 }
 
-/// Returns the outcomes that are to be reported (RFC 3461, section 4.1), of which there is at least one.
+/// Returns the outcomes that are to be reported (RFC 3461, section 4.1), at least one.
 fn outcomes_text(outcomes: Outcomes) -> &'static [u8] {
     match (outcomes.success, outcomes.failure, outcomes.delay) {
         (true, true, true) => b"SUCCESS,FAILURE,DELAY",
@@ -134,7 +135,7 @@ fn outcomes_text(outcomes: Outcomes) -> &'static [u8] {
     }
 }
 
-/// Adds whether a recipient is queued, if it goes and when.
+/// Adds whether a recipient is queued, with its next hop and when it is due.
 fn push_state(
     alloc: Global,
     screen: &mut Screen,
@@ -175,7 +176,7 @@ fn push_field(screen: &mut Screen, name: &[u8], text: &[u8]) -> Result<(), Alloc
     screen.end_line()
 }
 
-/// Adds the name of a field, and spaces up to its text.
+/// Adds the name of a field, padded up to its value.
 fn push_name(screen: &mut Screen, name: &[u8]) -> Result<(), AllocError> {
     screen.push(name)?;
     screen.push_spaces(NAME_WIDTH.saturating_sub(name.len()))

@@ -1,4 +1,4 @@
-//! The queue by next hop as metrics in Prometheus' text exposition format.
+//! The summary by next hop as metrics, in Prometheus' text exposition format.
 ghost use Rattle.std.specs.Prelude.{◌≡◌, ℕ, List, [], ◌∷◌, ◌++◌, decimal, IfOk, OnOk};
 ghost use Rattle.relay_queue.specs.Printed.{spool_gauge};
 ghost use Rattle.relay_queue.specs.Screen.{shown};
@@ -9,7 +9,7 @@ use crate::summary::{Summaries, Summary};
 use relay_trace::Moment;
 use std::alloc::{AllocError, Global};
 
-/// A number that each next hop has.
+/// A metric of each next hop.
 #[derive(Clone, Copy, Debug)]
 enum ByHop {
     Messages,
@@ -82,7 +82,7 @@ fn push_by_hop(
     push_head(screen, metric.name(), metric.help())?;
     for index in 0..summaries.len() {
         if let Some((hop, summary)) = summaries.get_index(index) {
-            // The name of a host has no octet that a label would have to escape.
+            // The name of a host has no octet that a label must escape.
             screen.push(metric.name())?;
             screen.push(b"{hop=\"")?;
             screen.push(hop.as_slice())?;
@@ -130,7 +130,7 @@ fn push_alone(screen: &mut Screen, name: &[u8], help: &[u8], value: u64) -> Resu
     screen.end_line()
 }
 
-/// Adds the lines that stand before the samples of a gauge.
+/// Adds the lines before the samples of a gauge.
 fn push_head(screen: &mut Screen, name: &[u8], help: &[u8]) -> Result<(), AllocError>
     ensures { OnOk result ((head : List ℕ) × (screen.new ≡ screen.old ++ head)) }
 {

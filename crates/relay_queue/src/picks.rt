@@ -1,4 +1,4 @@
-//! Which recipients are listed, in which order.
+//! Which recipients are listed, and in which order.
 ghost use Rattle.std.specs.Prelude.{◌≡◌, ◌++◌, IfOk, OnOk};
 ghost use Rattle.std.specs.List.Sorted.{IsPermutation, IsSorted};
 ghost use Rattle.relay_queue.specs.Picks.{keys_at, keys_of};
@@ -11,7 +11,8 @@ use relay_routes::Table;
 use relay_trace::Moment;
 use std::alloc::{AllocError, Global};
 
-/// When the message of a recipient was accepted, in seconds from 1970, its number, and the recipient's place.
+/// A sort key: when the recipient's message was accepted, in seconds since 1970; the message's number; and the
+/// recipient's place.
 pub type Key = (u64, u64, u8);
 
 /// Returns the keys of the queued recipients that pass a filter at this time, those of the oldest message first.
@@ -47,7 +48,7 @@ fn keys_of<D: Disk>(
     Ok(keys)
 }
 
-/// Adds the key of a held place, where its recipient passes the filter.
+/// Adds the key of a held place, if its recipient passes the filter.
 fn push_key<D: Disk>(
     keys: &mut Vec<Key>,
     records: &Records<D>,

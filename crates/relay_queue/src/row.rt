@@ -9,7 +9,7 @@ use relay_records::Records;
 use relay_routes::Table;
 use relay_trace::Moment;
 
-/// A queued recipient, as it is listed.
+/// A queued recipient, as a view shows it.
 #[derive(Clone, Copy, Debug)]
 pub struct Row<'a> {
     /// The number of its message.
@@ -24,11 +24,11 @@ pub struct Row<'a> {
     pub reverse_path: &'a [u8],
     /// The forward path of the recipient.
     pub path: &'a [u8],
-    /// The name of the next hop; none if no route leads to one.
+    /// The name of the next hop, if a route leads to one.
     pub hop: Option<&'a [u8]>,
     /// How often it was deferred; 4 stands for four times and more.
     pub tries: u8,
-    /// When it is due, in seconds from 1970. It may pass the last time.
+    /// When it is due, in seconds since 1970. It may be later than the last time that a clock can show.
     pub due: u64,
 }
 
@@ -76,7 +76,7 @@ pub(crate) fn row_in<'a>(
     }
 }
 
-/// Returns the name of the next hop of a path.
+/// Returns the name of the next hop of a path, if a route leads to one.
 fn hop_name<'a>(table: &'a Table, path: &PathBuf) -> Option<&'a [u8]>
     ensures { option_copied result ≡ hop_name table.now path.now }
 {

@@ -8,8 +8,8 @@ use relay_octets::find_crlf;
 use std::alloc::{AllocError, Global};
 use std::marker::Model;
 
-/// Text for a terminal: printable ASCII and line feeds, and nothing else. Octets of mail are shown as they are where
-/// they are printable ASCII, and as `\xHH` where they aren't.
+/// Text for a terminal: printable ASCII and line feeds only. Printable octets of mail are shown as they are, all others
+/// as `\xHH`.
 #[derive(Debug, Drop)]
 pub struct Screen {
     text: Vec<u8>,
@@ -27,7 +27,7 @@ impl Model for Screen {
 }
 
 impl Screen {
-    /// No text. Allocates nothing.
+    /// Returns an empty text. Allocates nothing.
     pub fn new(alloc: Global) -> Self
         ensures { result ≡ [] }
     {
@@ -44,14 +44,14 @@ impl Screen {
         self.text.as_slice()
     }
 
-    /// Takes the text away, and keeps its memory.
+    /// Clears the text, and keeps its memory.
     pub fn clear(&mut self)
         ensures { self.new ≡ [] }
     {
         self.text.clear();
     }
 
-    /// Adds octets as they are shown.
+    /// Adds octets, escaping those that aren't printable.
     pub fn push(&mut self, octets: &[u8]) -> Result<(), AllocError>
         ensures { OnOk result (self.new ≡ self.old ++ shown octets.now) }
     {
@@ -61,7 +61,7 @@ impl Screen {
         Ok(())
     }
 
-    /// Adds an octet as it is shown.
+    /// Adds an octet, escaped if it isn't printable.
     fn push_octet(&mut self, octet: u8) -> Result<(), AllocError>
         ensures { OnOk result (self.new ≡ self.old ++ shown_octet octet) }
     {
@@ -73,7 +73,7 @@ impl Screen {
         }
     }
 
-    /// Adds a text of lines: each CR LF ends a line, and the other octets are as they are shown.
+    /// Adds a text of lines: each CR LF ends a line, and all other octets are escaped unless printable.
     pub fn push_text(&mut self, text: &[u8]) -> Result<(), AllocError>
         ensures { OnOk result ((added : List ℕ) × (self.new ≡ self.old ++ added) × IsShownText text.now added) }
     {
@@ -87,7 +87,7 @@ impl Screen {
         self.push_last(rest)
     }
 
-    /// Adds what follows the last CR LF of a text, where anything does.
+    /// Adds what follows the last CR LF of a text, if anything.
     fn push_last(&mut self, rest: &[u8]) -> Result<(), AllocError>
         ensures { OnOk result (self.new ≡ self.old ++ shown_last rest.now) }
     {
@@ -125,7 +125,7 @@ impl Screen {
     }
 }
 
-/// Returns the four octets that stand for one that isn't printable.
+/// Returns the four octets that escape an octet.
 fn escape(octet: u8) -> [u8; 4]
     ensures { result ≡ escape octet }
 {

@@ -1,4 +1,4 @@
-//! The queue by next hop, and how full the spool is, for people.
+//! The summary by next hop, and how full the spool is, for people.
 ghost use Rattle.std.specs.Prelude.{◌≡◌, ℕ, ◌*◌, ◌/◌, ◌-◌, ◌^◌, min, max, List, ◌++◌, IfOk, OnOk};
 ghost use Rattle.relay_queue.specs.Printed.{fill_text};
 
@@ -10,7 +10,7 @@ use crate::zone::Zone;
 use relay_trace::Moment;
 use std::alloc::{AllocError, Global};
 
-/// How wide the columns are.
+/// The widths of the columns.
 const HOP_WIDTH: usize = 24;
 
 const COUNT_WIDTH: usize = 12;
@@ -19,12 +19,12 @@ const SIZE_WIDTH: usize = 12;
 
 const AGE_WIDTH: usize = 8;
 
-/// What the spool takes.
+/// The size of the spool.
 #[derive(Clone, Copy, Debug)]
 pub(crate) struct Fill {
-    /// Its octets.
+    /// Its size, in octets.
     pub(crate) size: u64,
-    /// The most octets that it may take.
+    /// Its greatest size, in octets.
     pub(crate) limit: u64,
 }
 
@@ -71,7 +71,7 @@ fn push_heading(screen: &mut Screen) -> Result<(), AllocError> {
     screen.end_line()
 }
 
-/// Adds the line of a next hop. The cell is for texts that are aligned to the right.
+/// Adds the line of a next hop. `cell` is scratch space for right-aligned cells.
 fn push_hop(
     screen: &mut Screen,
     cell: &mut Screen,
@@ -98,7 +98,7 @@ fn push_hop(
     screen.end_line()
 }
 
-/// Returns the name of a next hop, or what stands for none.
+/// Returns the name of a next hop, or the text for recipients without one.
 fn shown_name(name: &[u8]) -> &[u8] {
     if name.is_empty() { b"-" } else { name }
 }

@@ -1,4 +1,4 @@
-//! The queue by next hop.
+//! The summary of the queue by next hop.
 use crate::row::{Row, row_at};
 use indexmap::IndexMap;
 use relay_disk::Disk;
@@ -14,18 +14,18 @@ pub(crate) struct Summary {
     pub(crate) recipients: u64,
     /// The octets of those messages.
     pub(crate) octets: u64,
-    /// When the oldest of them was accepted, in seconds from 1970.
+    /// When the oldest of them was accepted, in seconds since 1970.
     pub(crate) oldest: u64,
-    /// When a recipient is due first, in seconds from 1970.
+    /// The earliest time at which a recipient is due, in seconds since 1970.
     pub(crate) due: u64,
-    /// The message that was counted last.
+    /// The number of the message that was counted last.
     last: u64,
 }
 
-/// The summaries by the names of the next hops. The empty name stands for recipients without one.
+/// Summaries by the names of next hops. The empty name is for recipients without one.
 pub(crate) type Summaries = IndexMap<Vec<u8>, Summary>;
 
-/// Returns what is queued for each next hop, in the order in which the queue comes to them.
+/// Returns a summary for each next hop, in the order in which the queue first names them.
 pub(crate) fn summaries<D: Disk>(
     alloc: Global,
     records: &Records<D>,
@@ -53,7 +53,7 @@ fn count(alloc: Global, all: &mut Summaries, row: &Row<'_>) -> Result<(), AllocE
 }
 
 impl Summary {
-    /// Returns what one recipient comes to.
+    /// Returns the summary of one recipient.
     fn of(row: &Row<'_>) -> Self {
         Summary {
             messages: 1,
@@ -65,7 +65,7 @@ impl Summary {
         }
     }
 
-    /// Returns the same with one recipient more, whose message is the one that was counted last or a new one.
+    /// Returns the summary with one more recipient, whose message is the last one counted or a new one.
     fn with(self, row: &Row<'_>) -> Self {
         let is_new = self.last != row.number;
         Summary {

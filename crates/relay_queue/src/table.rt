@@ -16,7 +16,7 @@ use relay_routes::Table;
 use relay_trace::Moment;
 use std::alloc::{AllocError, Global};
 
-/// The columns of numbers, which are aligned to the right, and how wide they are: `1023.9 KiB` fits.
+/// The widths of the columns of numbers, which are right-aligned: `1023.9 KiB` fits.
 const NUMBER_WIDTH: usize = 8;
 
 const AGE_WIDTH: usize = 6;
@@ -25,13 +25,13 @@ const SIZE_WIDTH: usize = 10;
 
 const TRIES_WIDTH: usize = 5;
 
-/// The most that a column of texts is widened for its longest text; a longer one moves the rest of its line.
+/// The greatest width of a column of texts; a longer text moves the rest of its line.
 const WIDEST: usize = 40;
 
-/// What a column shows of a recipient without a next hop.
+/// The text for a recipient without a next hop.
 const NO_HOP: &[u8] = b"-";
 
-/// How wide the columns of texts are.
+/// The widths of the columns of texts.
 #[derive(Clone, Copy, Debug)]
 struct Widths {
     reverse_path: usize,
@@ -39,7 +39,7 @@ struct Widths {
     hop: usize,
 }
 
-/// What the last line tells.
+/// The sums of the last line.
 #[derive(Clone, Copy, Debug)]
 struct Totals {
     messages: u64,
@@ -49,7 +49,7 @@ struct Totals {
     oldest: Option<u64>,
 }
 
-/// Returns a line for each of these recipients, with a heading, and a last line that sums them up.
+/// Returns a heading, a line for each of these recipients, and a last line with their sums.
 pub(crate) fn table_text<D: Disk>(
     alloc: Global,
     records: &Records<D>,
@@ -82,7 +82,7 @@ pub(crate) fn table_text<D: Disk>(
     Ok(screen)
 }
 
-/// How wide the columns of texts must be.
+/// Returns the widths that the columns of texts need.
 fn widths_of<D: Disk>(records: &Records<D>, table: &Table, keys: &[Key]) -> Widths {
     let mut widths = Widths {
         reverse_path: 12,
@@ -140,7 +140,7 @@ fn push_row_at<D: Disk>(
     }
 }
 
-/// Adds the line of a recipient. The cell is for texts that are aligned to the right.
+/// Adds the line of a recipient. `cell` is scratch space for right-aligned cells.
 fn push_row(
     screen: &mut Screen,
     cell: &mut Screen,
@@ -220,7 +220,7 @@ pub(crate) fn tries_text(tries: u8) -> &'static [u8]
     }
 }
 
-/// Returns the sums of these recipients, of which those of one message stand together.
+/// Returns the sums of these recipients; those of one message must be adjacent.
 fn totals_of<D: Disk>(records: &Records<D>, keys: &[Key], now: Moment) -> Totals {
     let mut totals = Totals {
         messages: 0,

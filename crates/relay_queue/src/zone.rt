@@ -1,4 +1,4 @@
-//! Times as a clock on this machine's wall shows them.
+//! Times in the time zone of this machine.
 use jiff::Timestamp;
 use jiff::civil::DateTime;
 use jiff::tz::{SystemTimeZone, TimeZone, TimeZoneDatabase};
@@ -6,10 +6,10 @@ use relay_trace::Moment;
 use std::alloc::{AllocGlobal, Global};
 use std::rt::{Env, Files};
 
-/// How many octets a time has.
+/// The length of a time, in octets.
 pub(crate) const TIME_LENGTH: usize = 25;
 
-/// The time zone of this machine, by `TZ` or `/etc/localtime`; UTC if there is none that can be read.
+/// The time zone of this machine, from `TZ` or `/etc/localtime`; UTC if neither can be read.
 #[derive(Drop)]
 pub struct Zone {
     system: Option<SystemTimeZone>,
@@ -29,8 +29,8 @@ impl Zone {
         }
     }
 
-    /// Returns a time of this many seconds from 1970 by RFC 3339, with the zone's offset at that time:
-    /// `2024-02-29T23:59:59+01:00`. Years past 9998 are shown as its last second.
+    /// Returns a time, in seconds since 1970, in the form of RFC 3339 with the zone's offset at that time:
+    /// `2024-02-29T23:59:59+01:00`. Years past 9998 are shown as the last second of 9998.
     pub(crate) fn time(&self, seconds: u64) -> [u8; TIME_LENGTH] {
         let Ok(instant) = Timestamp::from_second(Moment::nearest(seconds).seconds() as i64) else {
             unreachable!("every moment is a timestamp")
@@ -50,7 +50,7 @@ impl Zone {
     }
 }
 
-/// Returns the text of what calendar and clock show at this many seconds east of UTC.
+/// Returns the text of a local date and time at this offset, in seconds east of UTC.
 fn print(shown: DateTime, offset: i32) -> [u8; TIME_LENGTH] {
     let year = shown.year().unsigned_abs();
     let [y0, y1] = two_digits(u32::from(year / 100));

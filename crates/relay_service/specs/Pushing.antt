@@ -1,4 +1,4 @@
--- Mail that is relayed: what the works of a time do, one after another (RFC 5321, sections 4.5.4.1 and 6.1).
+-- Relaying mail: what the due works do, one after another (RFC 5321, sections 4.5.4.1 and 6.1).
 use Rattle.std.specs.Prelude.{◌≡◌, ◌≢◌, ◌⊎◌, ℕ, Bool, false, List, [], ◌∷◌, ◌++◌}
 use Rattle.std.specs.Prelude.{Option, Some, Result, Ok, Err, IfErr, MatchResult}
 use Rattle.relay_disk.specs.Device.{DiskWords}
@@ -30,22 +30,22 @@ pub record StaysBeside {D : Type 0} (old new : NodeState D) : Type 0 where
   pub seats : new.seats ≡ old.seats
   pub attempts : (number : ℕ) → slot_at new.attempts number ≡ slot_at old.attempts number
 
--- the outcome, with the report that is owed, is the one change more
+-- exactly one change was added: the outcome, with the report that is owed
 pub record Concludes (reporter : Reporter) (changes later : List Change) (outcome : Outcome) : Type 0 where
   pub report : List ℕ
   pub reported : Reported reporter changes (reported_as outcome report)
   pub later_is : later ≡ changes ++ reported_as outcome report ∷ []
 
--- the node is the same but for its note
+-- the node is the same, except for its note
 abbrev pub IsSameButNote : {D : Type 0} → NodeState D → NodeState D → Type 0
 IsSameButNote old new = new ≡ record old { records = record old.records { noted = new.records.noted } }
 
--- of a link's fault a run is told exactly if it is the device's
+-- a link's fault ends the push exactly if it is the device's
 abbrev pub TellsDevice : {X Y : Type 0} → Result Pushed LinkFault → Result X Y → Type 0
 TellsDevice pushed result = IfErr pushed (λ fault. MatchResult result (λ _. fault ≢ Device) (λ _. fault ≡ Device))
 
--- Of an attempt that has begun: what was read and written is its course with these verdicts, at a loss or without one,
--- and the outcome with these, at this time, is the one change more.
+-- An attempt has ended: what was read and written is its course with these verdicts, with or without a loss, and
+-- exactly one change was added, the outcome with these verdicts at this time.
 pub record Ends (reporter : Reporter) (changes later : List Change) (told : Told) (at : ℕ) : Type 0 where
   pub verdicts : List Verdict
   pub lost : Bool
@@ -54,7 +54,7 @@ pub record Ends (reporter : Reporter) (changes later : List Change) (told : Told
   pub course : IsCourse reporter.host told.envelope told.text told.places input lost output (Some verdicts)
   pub concludes : Concludes reporter changes later (outcome_at at told verdicts)
 
--- What a link has done with an attempt of which this is told, of a node that kept these changes.
+-- The effect of running an attempt with this history over a link, for a node that kept these changes.
 module _ {D : Type 0} (honest : Type 0) (words : DiskWords D) (reporter : Reporter) (changes : List Change)
     (told : Told) where
   -- it has ended
@@ -64,7 +64,7 @@ module _ {D : Type 0} (honest : Type 0) (words : DiskWords D) (reporter : Report
     pub ends : Ends reporter changes later told at
     pub keeps : Keeps honest words records later
 
-  -- where a fault is told, it is gone without an outcome for lack of memory or of room, or the device failed
+  -- if the link failed, the attempt is gone without an outcome, for lack of memory or room, or the device failed
   abbrev pub HandsOn : Kept D → Result Pushed LinkFault → Type 0
   HandsOn records (Ok pushed) = HasEnded records
   HandsOn records (Err Input) = ⊥
@@ -73,7 +73,7 @@ module _ {D : Type 0} (honest : Type 0) (words : DiskWords D) (reporter : Report
   HandsOn records (Err Full) = Keeps honest words records changes
   HandsOn records (Err Device) = records.spool.live ≡ false
 
--- The words below are of works at a time, of a node that keeps changes before and later ones after.
+-- Below: works at a time, of a node with these changes before and the later ones after.
 module _ {D : Type 0} (honest : Type 0) (words : DiskWords D) (now : ℕ) where
   -- exactly the held places of the message that have no hop have ended
   pub record GivesUp (number : ℕ) (changes later : List Change) (old : NodeState D) : Type 0 where
@@ -81,8 +81,8 @@ module _ {D : Type 0} (honest : Type 0) (words : DiskWords D) (now : ℕ) where
     pub found : message_of old.records.queue.messages number ≡ Some message
     pub concludes : Concludes (reporter_of old.config) changes later (unroutable old.config.routes number now message)
 
-  -- an attempt has begun for those places of the message that are due and go to the hop, and it has ended, or is gone
-  -- without an outcome
+  -- an attempt for the message's places that are due and go to the hop has begun, and it has ended or is gone without
+  -- an outcome
   pub record Tries (number : ℕ) (hop : List ℕ) (changes later : List Change) (old : NodeState D) : Type 0 where
     pub begun : List (Option Run)
     pub started : Started
@@ -92,12 +92,12 @@ module _ {D : Type 0} (honest : Type 0) (words : DiskWords D) (now : ℕ) where
         at
         ⊎ (later ≡ changes)
 
-  -- the work was done once, or it was left: for lack of memory or of room, or since it isn't due any more
+  -- the work was done once; or it was left, for lack of memory or room, or because it isn't due any more
   abbrev pub Does : Work → List Change → List Change → NodeState D → Type 0
   Does (NoRoute number) changes later old = GivesUp number changes later old ⊎ (later ≡ changes)
   Does (Try number hop) changes later old = Tries number hop changes later old ⊎ (later ≡ changes)
 
-  -- so much was done, and no more: the node keeps the later changes, and has no attempt more
+  -- this work was done, and nothing else: the node keeps the later changes, and has no more attempts than before
   pub record DoesOne (work : Work) (changes later : List Change) (old new : NodeState D) : Type 0 where
     pub does : Does work changes later old
     pub keeps : Keeps honest words new.records later
@@ -106,20 +106,20 @@ module _ {D : Type 0} (honest : Type 0) (words : DiskWords D) (now : ℕ) where
   abbrev pub IsDone : Work → List Change → NodeState D → NodeState D → Type 0
   IsDone work changes old new = (later : List Change) × DoesOne work changes later old new
 
-  -- one work was done so; if a fault is told, it was, or the device failed
+  -- one work was done; a fault means that it was, or that the device failed
   abbrev pub WorksTo : {X Y : Type 0} → Work → List Change → NodeState D → NodeState D → Result X Y → Type 0
   WorksTo work changes old new result =
       MatchResult result (λ _. IsDone work changes old new)
       (λ _. IsDone work changes old new ⊎ (new.records.spool.live ≡ false))
 
-  -- each work of the list was done so, in order, each over what the one before has left
+  -- each work of the list was done, in order, each from the state that the one before has left
   abbrev pub DoesEach : List Work → List Change → NodeState D → List Change → NodeState D → Type 0
   DoesEach [] changes old later new = (later ≡ changes) × (new ≡ old)
   DoesEach (work ∷ works) changes old later new =
       (between : List Change) × (middle : NodeState D) × DoesOne work changes between old middle
       × DoesEach works between middle later new
 
-  -- some of the works were done so, from the first on; then a line couldn't be written, or the device failed
+  -- some of the works were done, from the first on; then a line couldn't be written, or the device failed
   pub record DoesSome (works : List Work) (changes : List Change) (old new : NodeState D) : Type 0 where
     pub front : List Work
     pub rest : List Work

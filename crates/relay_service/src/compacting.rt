@@ -1,4 +1,4 @@
-//! A spool that is compacted after a round, as small as what it holds.
+//! Compaction of the spool after a round.
 ghost use Rattle.std.specs.Prelude.{◌≡◌, List, None, MatchResult};
 ghost use Rattle.relay_book.specs.declared.change.Change.{Change};
 ghost use Rattle.relay_disk.specs.File.{file_words};
@@ -12,8 +12,8 @@ use relay_log::Log;
 use relay_node::{Node, NodeFault};
 use std::io::Write;
 
-/// Compacts the spool where that is worth it, as `is_worth_compacting` says. A spool without a second file, one that
-/// holds too much, and lack of memory leave it as it is.
+/// Compacts the spool if that is worth it, as `is_worth_compacting` says. Leaves the spool unchanged if it has no
+/// second file or holds too much, or if memory runs out.
 pub(crate) fn compact_behind<E: Write>(
     node: &mut Node<FileDisk>,
     was_full: bool,

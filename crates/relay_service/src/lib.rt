@@ -1,4 +1,4 @@
-//! The programs over sockets: clients are served, and mail is relayed, by a configuration file.
+//! The programs over sockets: they serve clients and relay mail, as a configuration file says.
 #![tactic(auto)]
 
 mod compacting;

@@ -1,4 +1,4 @@
-//! Mail that is relayed to its next hops.
+//! Relaying mail to its next hops.
 ghost use Rattle.std.specs.Prelude.{◌≡◌, ◌≢◌, ℕ, None, true, List, MatchResult};
 ghost use Rattle.relay_report.specs.Report.{reporter_of};
 ghost use Rattle.relay_attempts.specs.Reply.{Told};
@@ -25,13 +25,15 @@ use std::io::{self, Write};
 use std::net::{Net, SocketAddrV4, TcpStream};
 use std::rt::{Clock, Files};
 
-/// Does each work that is due at the clock's time once, in order: an attempt for each message and hop, and an end for
-/// places without one. A line for each goes to `writer`: `NUMBER HOP ended`, `NUMBER HOP lost` where the connection
-/// couldn't be made or was lost, or `NUMBER noroute`. A work that no memory or no room was left for has no line, and
-/// stays due. A next hop that couldn't be connected to, or was silent for too long, is not tried again: what else is
-/// due for it is lost at once. If no descriptor is left for a connection, the push ends, and what is due stays due. The
-/// files of the spool are taken for this process alone. Where it `logs`, a line for each work, with what was said of
-/// its places, goes to `errors`.
+/// Does each work that is due at the clock's time once, in order: an attempt for each message and hop, and giving up
+/// places without a hop. Writes a line for each to `writer`: `NUMBER HOP ended`; `NUMBER HOP lost` if the connection
+/// couldn't be made or was lost; or `NUMBER noroute`. If there is too little memory or room for a work, it gets no line
+/// and stays due. A next hop that can't be connected to, or keeps silent for too long, isn't tried again: further
+/// attempts for it fail at once. If no file descriptor is left for a connection, the push ends, and what is due stays
+/// due.
+///
+/// Locks the files of the spool for this process. If `logs` is set, writes a line for each work, with what was replied
+/// for its recipients, to `errors`.
 pub fn push<R: Files<File = File> + Clock + Net<Stream = TcpStream>, W: Write, E: Write>(
     alloc: Global,
     rt: &R,
@@ -48,7 +50,7 @@ pub fn push<R: Files<File = File> + Clock + Net<Stream = TcpStream>, W: Write, E
     push_due(alloc, rt, &mut node, &mut lines, &mut log)
 }
 
-/// Does each work that is due at the clock's time once, in order. The line of a work is flushed before the next begins.
+/// Does each work that is due at the clock's time once, in order. Flushes the line of a work before the next begins.
 pub(crate) fn push_due<R: Clock + Net<Stream = TcpStream>, W: Write, E: Write>(
     alloc: Global,
     rt: &R,
@@ -137,8 +139,8 @@ fn give_up<W: Write, E: Write>(
     }
 }
 
-/// Tries a hop for a message, at a connection of its own. It is made before the attempt begins, so that nothing is
-/// recorded where none can be had.
+/// Tries a hop for a message over a connection of its own. The connection is made before the attempt begins, so that
+/// nothing is recorded if no file descriptor is left.
 fn try_hop<R: Clock + Net<Stream = TcpStream>, W: Write, E: Write>(
     alloc: Global,
     rt: &R,
@@ -170,14 +172,14 @@ fn try_hop<R: Clock + Net<Stream = TcpStream>, W: Write, E: Write>(
     conclude(node, number, hop.as_slice(), at, handed, writer, log)
 }
 
-/// The outcome of an attempt, and why it has settled less than it might.
+/// The result of an attempt, and why it has settled less than it might.
 #[derive(Drop)]
 struct Handed {
     pushed: Result<Pushed, LinkFault>,
     why: Why,
 }
 
-/// Runs an attempt that has begun over the connection to its hop. One that wasn't made is lost.
+/// Runs an attempt over the connection to its hop. If the connection couldn't be made, the attempt is lost.
 fn hand_on<C: Clock>(
     alloc: Global,
     clock: &C,
@@ -218,7 +220,7 @@ fn is_lost(pushed: &Result<Pushed, LinkFault>) -> bool {
     matches!(pushed, Ok(Pushed::Lost))
 }
 
-/// Says the outcome of an attempt. Only a device that failed ends more than that.
+/// Reports the result of an attempt. Only a failed device ends the push.
 fn conclude<W: Write, E: Write>(
     node: &mut Node<FileDisk>,
     number: u64,
@@ -266,7 +268,7 @@ fn tell<E: Write>(
     log.attempt(&attempt, &why.talk);
 }
 
-/// How an attempt has ended, as its line says it.
+/// Returns the word for how an attempt has ended.
 fn end_text(pushed: Pushed) -> &'static str {
     match pushed {
         Pushed::Ended | Pushed::Unwritten => "ended",
@@ -282,7 +284,7 @@ fn write_end<W: Write>(writer: &mut W, number: u64, hop: &[u8], end: &str) -> io
     writer.flush()
 }
 
-/// Returns the fault of a line that can't be written.
+/// Returns the fault of a line that couldn't be written.
 fn said(written: io::Result<()>) -> Result<(), Fault> {
     match written {
         Ok(()) => Ok(()),
@@ -290,7 +292,7 @@ fn said(written: io::Result<()>) -> Result<(), Fault> {
     }
 }
 
-/// Returns what a fault of a work is to the others: it stays due, and only a device that failed ends them.
+/// Returns `Ok` after a fault that leaves a work due, and the fault if the device has failed.
 fn left_over(fault: NodeFault) -> Result<(), Fault>
     ensures { MatchResult result (λ _. fault ≢ NodeFault.Stopped) (λ ended. (fault ≡ NodeFault.Stopped)
         × (ended ≡ Fault.Device)) }
@@ -301,7 +303,7 @@ fn left_over(fault: NodeFault) -> Result<(), Fault>
     }
 }
 
-/// Returns what a fault of a link is to the other works: only a device that failed ends them.
+/// Returns `Ok` after a fault of one link, and the fault if the device has failed.
 fn unless_device(fault: LinkFault) -> Result<(), Fault>
     ensures { MatchResult result (λ _. fault ≢ LinkFault.Device) (λ _. fault ≡ LinkFault.Device) }
 {

@@ -1,4 +1,4 @@
-//! A relay that serves its clients, one after another or this many side by side, and relays what they brought.
+//! A relay that serves its clients, one after another or several side by side, and relays what they brought.
 ghost use Rattle.std.specs.Prelude.{◌≡◌, List};
 ghost use Rattle.relay_book.specs.declared.change.Change.{Change};
 ghost use Rattle.relay_links.specs.Link.{LinkHasEnded, start_at};
@@ -25,21 +25,22 @@ use std::thread::Threads;
 /// How clients are served.
 #[derive(Clone, Copy, Debug)]
 pub struct ServeOptions {
-    /// How many rounds, 1 to 1,000,000; after each the work that is due is done.
+    /// How many rounds, 1 to 1,000,000. After each round the due work is done.
     pub rounds: u32,
-    /// How many clients a round takes, 1 to 64; more count as 64. If it is more than one, each is served by a thread of
-    /// its own, and none before all have connected.
+    /// How many clients a round serves, 1 to 64; more count as 64. If it is more than one, each has a thread of its
+    /// own, and none is served before all have connected.
     pub workers: u8,
-    /// Whether a line is written for each thing that was done.
+    /// Whether to log each event.
     pub log: bool,
 }
 
-/// Serves clients in rounds: in each round this many clients as the options say, each to its end; after it the work
-/// that is due is done, once, and the spool is compacted where much of it has gone. What that work leads to waits for
-/// the next round. The files of the spool are taken for this process alone, and a line for each work goes to `writer`;
-/// with `options.log` a line for each thing that was done goes to `errors`. Faults are searched for in this order: the
-/// configuration file, its content, the spool, the listener. A connection that breaks ends alone. A client that can't
-/// be had counts as none; if 64 in a row can't, that is the fault of a socket.
+/// Serves clients in rounds. Each round serves as many clients as the options say, each to its end; then does the due
+/// work once, and compacts the spool if much of it is free. Work that this leads to waits for the next round.
+///
+/// Locks the files of the spool for this process. Writes a line for each work to `writer`, and with `options.log` a
+/// line for each event to `errors`. Faults are checked in this order: the configuration file, its content, the spool,
+/// the listener. A broken connection ends alone. A client that can't be accepted counts as none; after 64 in a row the
+/// call fails.
 pub fn serve<
     R: Files<File = File>
         + Clock
@@ -84,7 +85,7 @@ pub fn serve<
     Ok(())
 }
 
-/// Serves the next client: whether mail was refused because the spool is full.
+/// Serves the next client. Returns whether mail was refused because the spool is full.
 fn serve_next<C: Clock, E: Write>(
     alloc: Global,
     clock: &C,
@@ -96,7 +97,7 @@ fn serve_next<C: Clock, E: Write>(
     serve_stream(alloc, clock, node, stream, peer, log)
 }
 
-/// Does the work that is due. If memory, or a descriptor for a connection, is wanting, the push ends alone.
+/// Does the due work. If memory or file descriptors run out, only the push ends.
 fn push_behind<R: Clock + Net<Stream = TcpStream>, W: Write, E: Write>(
     alloc: Global,
     rt: &R,
@@ -115,8 +116,8 @@ fn push_behind<R: Clock + Net<Stream = TcpStream>, W: Write, E: Write>(
     }
 }
 
-/// Serves a client on its stream, which is closed then: whether mail was refused because the spool is full. Only a
-/// fault of the device ends more than that.
+/// Serves a client on its stream, and closes the stream. Returns whether mail was refused because the spool is full.
+/// Fails only if the device has failed.
 fn serve_stream<C: Clock, E: Write>(
     alloc: Global,
     clock: &C,
@@ -151,7 +152,7 @@ fn serve_stream<C: Clock, E: Write>(
     }
 }
 
-/// Serves the client at an address, over its reader and writer.
+/// Serves a client over its reader and writer.
 fn serve_client<D: Disk, R: Read, W: Write>(
     alloc: Global,
     node: &mut Node<D>,

@@ -1,32 +1,32 @@
-//! Sockets of clients and of next hops. A peer that is silent for longer than its timeout is gone
-//! (RFC 5321, section 4.5.3.2).
+//! Sockets of clients and of next hops. A peer that keeps silent for longer than its timeout counts as gone (RFC 5321,
+//! section 4.5.3.2).
 use relay_files::Fault;
 use std::io;
 use std::net::{Net, SocketAddr, SocketAddrV4, TcpListener, TcpStream};
 use std::rt::Clock;
 use std::time::Duration;
 
-/// How many seconds a read from a client, or a write to one, may wait (RFC 5321, section 4.5.3.2.7).
+/// The timeout of a read from a client, or a write to one, in seconds (RFC 5321, section 4.5.3.2.7).
 const CLIENT_SECONDS: u64 = 300;
 
-/// How many seconds a read from a next hop, or a write to one, may wait: as long as its reply to a
-/// content may take (RFC 5321, section 4.5.3.2.6).
+/// The timeout of a read from a next hop, or a write to one, in seconds: the longest that a reply to mail data may take
+/// (RFC 5321, section 4.5.3.2.6).
 const HOP_SECONDS: u64 = 600;
 
-/// How many seconds a next hop may take to answer a connection.
+/// The timeout of connecting to a next hop, in seconds.
 const CONNECT_SECONDS: u64 = 5;
 
-/// How many clients in a row may be missed.
+/// How many clients in a row may fail to be accepted.
 const MISSES: u32 = 64;
 
-/// How many milliseconds are waited after a client that was missed. After each further one it is twice as long, up to
-/// the longest wait.
+/// The pause after a client that couldn't be accepted, in milliseconds. It doubles after each further one, up to
+/// `LONGEST_WAIT`.
 const FIRST_WAIT: u64 = 100;
 
-/// The most milliseconds that are waited after a client that was missed.
+/// The longest such pause, in milliseconds.
 const LONGEST_WAIT: u64 = 1_000;
 
-/// Returns a listener at this place.
+/// Returns a listener at this address.
 pub(crate) fn listener<N: Net<Listener = TcpListener, Stream = TcpStream>>(
     net: &N,
     at: SocketAddrV4,
@@ -37,9 +37,8 @@ pub(crate) fn listener<N: Net<Listener = TcpListener, Stream = TcpStream>>(
     }
 }
 
-/// Returns the next client of a listener, and its place. A client that can't be had, since it went away or descriptors
-/// or memory are short, is missed: the next is waited for a little later. If 64 in a row were missed, it is the fault
-/// of a socket.
+/// Returns the next client of a listener, and its address. If a client can't be accepted, because it went away or file
+/// descriptors or memory are short, pauses and waits for the next. Fails after 64 such clients in a row.
 pub(crate) fn next_client<C: Clock>(
     clock: &C,
     listener: &TcpListener,
@@ -58,19 +57,19 @@ pub(crate) fn next_client<C: Clock>(
     }
 }
 
-/// Returns a client of a listener, and its place.
+/// Accepts a client of a listener, and returns its address too.
 fn accept(listener: &TcpListener) -> io::Result<(TcpStream, SocketAddrV4)> {
     match listener.accept()? {
         (stream, SocketAddr::V4(peer)) => {
             set_up(&stream, CLIENT_SECONDS)?;
             Ok((stream, peer))
         }
-        // A listener at four octets has no such client.
+        // An IPv4 listener has no such client.
         (_, SocketAddr::V6(_)) => Err(io::Error::from(io::ErrorKind::Unsupported)),
     }
 }
 
-/// Returns a connection to the next hop at this place.
+/// Connects to the next hop at this address.
 pub(crate) fn connect<N: Net<Stream = TcpStream>>(
     net: &N,
     at: SocketAddrV4,
@@ -80,8 +79,8 @@ pub(crate) fn connect<N: Net<Stream = TcpStream>>(
     Ok(stream)
 }
 
-/// Sets how many seconds a read or a write of the stream may wait, and that octets go at once: all that
-/// belongs together is written by one call.
+/// Sets the timeout of reads and writes, in seconds, and disables Nagle's algorithm: what belongs together is written
+/// by one call.
 fn set_up(stream: &TcpStream, seconds: u64) -> io::Result<()> {
     let wait = Some(Duration::from_secs(seconds));
     stream.set_read_timeout(wait)?;

@@ -1,4 +1,4 @@
-//! Clients that are served side by side, each by a thread of its own.
+//! Clients served side by side, each by a thread of its own.
 ghost use Rattle.std.specs.Prelude.{◌≡◌, ◌≤◌, length, vec_len, IfOk};
 ghost use Rattle.relay_service.specs.Workers.{IsEndOf};
 
@@ -19,28 +19,28 @@ use std::rt::Clock;
 use std::sync::Wait;
 use std::thread::Threads;
 
-/// How many octets may be read on a connection. A link does 2^40 reads at most, of 65,536 octets each, so this
-/// ends none: the count of what is left tells what was read.
+/// How many octets may be read on a connection. A link does at most 2^40 reads of 65,536 octets each, so this never
+/// ends one: the rest tells how much was read.
 pub(crate) const OCTET_LIMIT: u64 = u64::MAX;
 
 /// The most clients of a round.
 pub(crate) const MOST_WORKERS: u8 = 64;
 
-/// A client, and its place.
+/// A client's stream and its address.
 type Client = (TcpStream, SocketAddrV4);
 
 /// The reader and the writer of a client's connection.
 type ClientLink<'a> = Link<Take<&'a TcpStream>, ClientWriter<'a>>;
 
-/// What all rounds are served with.
+/// What all rounds share.
 pub(crate) struct Service<'a, R> {
     pub(crate) alloc: Global,
     pub(crate) rt: &'a R,
-    /// The node's own configuration has the same values.
+    /// The node's own configuration is the same.
     pub(crate) config: &'a Config,
 }
 
-// Written out, since what is after `rt` need not be droppable itself.
+// Written out, since what `rt` refers to need not be droppable itself.
 impl<R> Drop for Service<'_, R> {
     fn drop(self) {
         let Service {
@@ -52,8 +52,8 @@ impl<R> Drop for Service<'_, R> {
 }
 
 impl<R: Clock + Threads + Wait + Sync> Service<'_, R> {
-    /// Serves the next clients of a listener, this many, side by side. It gives the node back, and whether mail was
-    /// refused because the spool is full. Connections are closed when the last of them has ended.
+    /// Serves the next `workers` clients of a listener side by side. Returns the node, and whether mail was refused
+    /// because the spool is full. All connections are closed when the last of them has ended.
     pub(crate) fn serve_next<E: Write>(
         &self,
         node: Node<FileDisk>,
@@ -67,7 +67,7 @@ impl<R: Clock + Threads + Wait + Sync> Service<'_, R> {
         self.serve_clients(node, clients.as_slice(), log)
     }
 
-    /// Serves these clients. If there is no memory for that, each is cut off unheard.
+    /// Serves these clients. If there is no memory for that, closes each connection unserved.
     fn serve_clients<E: Write>(
         &self,
         node: Node<FileDisk>,
@@ -98,7 +98,7 @@ impl<R: Clock + Threads + Wait + Sync> Service<'_, R> {
     }
 }
 
-/// Returns the next clients of a listener, this many, in the order in which they came.
+/// Returns the next `count` clients of a listener, in the order in which they came.
 fn next_clients<C: Clock>(
     alloc: Global,
     clock: &C,
@@ -131,8 +131,8 @@ fn links_of(alloc: Global, clients: &[Client]) -> Result<Vec<ClientLink<'_>>, Al
     Ok(links)
 }
 
-/// Returns what a round ends the service with: receipts that aren't what the node has taken, or a device that failed.
-/// All else ends with its own connection.
+/// Returns the fault that ends the service, if any: the receipts disagree with what the node has accepted, or the
+/// device has failed. Any other fault ends its own connection alone.
 fn end_of<D: Disk, R, W>(ended: &Ended<D, R, W>) -> Result<(), Fault>
     ensures { IsEndOf ended.now.agrees ended.now.links.items result }
 {
@@ -157,7 +157,7 @@ fn was_full<R>(links: &[Served<R, ClientWriter<'_>>]) -> bool {
     false
 }
 
-/// Tells how each connection has ended, in their order.
+/// Logs how each connection has ended, in their order.
 fn tell<E: Write>(
     alloc: Global,
     ended: &Ended<FileDisk, Take<&TcpStream>, ClientWriter<'_>>,
@@ -175,7 +175,7 @@ fn tell<E: Write>(
     }
 }
 
-/// Tells how a connection has ended. If memory runs out the line is left out.
+/// Logs how a connection has ended. If memory runs out, the line is left out.
 fn tell_client<E: Write>(
     alloc: Global,
     node: &Node<FileDisk>,
@@ -206,7 +206,7 @@ fn numbers_of(alloc: Global, receipts: &[Receipt]) -> Result<Vec<u64>, AllocErro
     Ok(numbers)
 }
 
-/// Tells of each client that it was cut off unheard.
+/// Logs for each client that its connection was closed unserved.
 fn tell_unserved<E: Write>(clients: &[Client], log: &mut Log<'_, E>) {
     for client in clients {
         log.unserved(client.1);
