@@ -37,7 +37,7 @@ pub struct Counters {
 pub struct Rejections {
     /// 550: no route leads to the recipient.
     pub no_route: u64,
-    /// 553: the recipient's address is a source route.
+    /// 553: the recipient's address names a further route, as in `user%domain`.
     pub routed_address: u64,
     /// 452: the spool is full.
     pub spool_full: u64,
@@ -118,7 +118,7 @@ impl Rejections {
 pub enum Rejection {
     /// No route leads to the recipient.
     NoRoute,
-    /// The recipient's address is a source route.
+    /// The recipient's address names a further route, as in `user%domain`.
     RoutedAddress,
     /// The spool is full.
     SpoolFull,
