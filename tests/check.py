@@ -144,6 +144,27 @@ def each_network_is_judged_on_its_own(program):
     check(program, HEAD + 'balancers = ["192.0.2.5", "192.0.2.5/24"]\n' + ROUTES, [
         *UNREAD, f'4:1: error: balancers: "192.0.2.5/24" {no_network}'], 1)
     passed(program, HEAD + 'balancers = ["192.0.2.5", "192.0.2.64/26"]\n' + ROUTES, UNREAD)
+    check(program, HEAD + 'clients = ["192.0.2.0/24", "192.0.2.9/24", 5]\n' + ROUTES, [
+        *UNREAD, f'4:1: error: clients: "192.0.2.9/24" {no_network}',
+        '4:1: error: clients: (integer) is no network: write a text such as "192.0.2.0/24"'], 1)
+    check(program, HEAD + 'clients = "192.0.2.0/24"\n' + ROUTES, [
+        *UNREAD, '4:1: error: clients = "192.0.2.0/24": write an array of IPv4 networks, such as '
+        'clients = ["192.0.2.0/24"]'], 1)
+    passed(program, HEAD + 'clients = ["127.0.0.1", "192.0.2.64/26", "0.0.0.0/0"]\n' + ROUTES, UNREAD)
+
+
+def clients_that_may_not_connect_are_risky_where_they_are_trusted(program):
+    def outside(network):
+        return (f'5:1: warning: trusted_clients: "{network}" is outside of clients: nobody there may connect; '
+                "add it to clients")
+
+    clients = HEAD + 'clients = ["192.0.2.0/25", "198.51.100.9"]\n'
+    passed(program, clients + 'trusted_clients = ["192.0.2.64/26", "192.0.2.0/24", "198.51.100.9"]\n' + ROUTES, UNREAD)
+    passed(program, clients + 'trusted_clients = ["192.0.2.128/25", "192.0.2.0/24", "198.51.100.8"]\n' + ROUTES, [
+        *UNREAD, outside("192.0.2.128/25"), outside("198.51.100.8")])
+    passed(program, HEAD + "clients = []\n" + ROUTES, [
+        *UNREAD, "4:1: warning: clients is empty: no client may connect; name your hosts, or remove the line to let "
+        "everybody connect"])
 
 
 def unknown_keys_are_errors_though_a_relay_ignores_them(program):
@@ -198,6 +219,7 @@ def what_is_risky_is_a_warning(program):
         "your hosts in trusted_clients"])
     far = HEAD.replace("127.0.0.1:2525", "0.0.0.0:2525")
     passed(program, far + f'trusted_clients = ["192.0.2.0/24"]\n[routes]\n"*" = {HOP}\n', UNREAD)
+    passed(program, far + f'clients = ["192.0.2.0/24"]\n[routes]\n"*" = {HOP}\n', UNREAD)
     passed(program, far + f'trusted_clients = ["0.0.0.0/0"]\n[routes]\n"*" = {HOP}\n', [
         *UNREAD, "6:1: warning: route * takes mail for every domain from everybody who can reach 0.0.0.0:2525: name "
         "your hosts in trusted_clients"])
@@ -262,7 +284,8 @@ def main(program):
     rows = [
         a_good_configuration_has_no_findings, what_is_no_toml_is_told_with_its_place, each_missing_key_is_told,
         each_bad_value_is_told_with_what_to_write, unknown_keys_are_errors_though_a_relay_ignores_them,
-        each_network_is_judged_on_its_own, each_route_is_judged_on_its_own, what_is_risky_is_a_warning, a_route_to_the_relay_itself_is_a_warning,
+        each_network_is_judged_on_its_own, clients_that_may_not_connect_are_risky_where_they_are_trusted,
+        each_route_is_judged_on_its_own, what_is_risky_is_a_warning, a_route_to_the_relay_itself_is_a_warning,
         files_that_can_not_be_read_are_told_with_the_reason, the_next_hop_of_an_address_is_told, faults_have_their_line]
     for row in rows:
         with tempfile.TemporaryDirectory() as folder:

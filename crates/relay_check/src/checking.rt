@@ -5,7 +5,7 @@ ghost use Rattle.relay_check.specs.Check.{HasError, IsChecked, IsWarned, SaysCon
 use crate::document::routes_of;
 use crate::findings::Findings;
 use crate::known_keys::check_keys;
-use crate::networks::{BALANCERS, TRUSTED_CLIENTS, check_networks};
+use crate::networks::{BALANCERS, CLIENTS, TRUSTED_CLIENTS, check_networks};
 use crate::position::Place;
 use crate::risks::check_risks;
 use crate::routes::check_routes;
@@ -86,6 +86,7 @@ fn check_text<F: Files<File = File>>(
     }
     check_networks(alloc, &document, TRUSTED_CLIENTS, findings)?;
     check_networks(alloc, &document, BALANCERS, findings)?;
+    check_networks(alloc, &document, CLIENTS, findings)?;
     match Config::read(alloc, text) {
         Ok(config) => {
             check_risks(alloc, files, &config, &document, findings)?;

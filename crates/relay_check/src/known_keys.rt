@@ -6,7 +6,7 @@ use strsim::levenshtein;
 use toml::Table;
 
 /// How many keys a configuration may have.
-pub(crate) const KEY_COUNT: usize = 17;
+pub(crate) const KEY_COUNT: usize = 18;
 
 /// The keys of a configuration.
 const KEYS: [&str; KEY_COUNT] = [
@@ -27,6 +27,7 @@ const KEYS: [&str; KEY_COUNT] = [
     "status_listen",
     "log",
     "balancers",
+    "clients",
 ];
 
 /// The keys of a route's next hop.

@@ -1,4 +1,4 @@
-//! Checks of the networks of trusted clients and of balancers.
+//! Checks of the networks of trusted clients, of balancers and of the clients that may connect, each on its own.
 use crate::findings::Findings;
 use crate::position::Place;
 use relay_routes::Network;
@@ -10,6 +10,9 @@ pub(crate) const TRUSTED_CLIENTS: &str = "trusted_clients";
 
 /// The key of the networks of balancers.
 pub(crate) const BALANCERS: &str = "balancers";
+
+/// The key of the networks of clients that may connect.
+pub(crate) const CLIENTS: &str = "clients";
 
 /// Returns the networks at a key, if the document has an array of them.
 pub(crate) fn networks_of<'a>(document: &'a Table, key: &str) -> Option<&'a [Value]> {
@@ -64,7 +67,26 @@ fn no_network(alloc: Global, key: &str, text: &str) -> Result<String, AllocError
     )
 }
 
-/// Returns whether the networks cover all addresses, so that every client is trusted.
+/// Returns whether the text writes a network of which no client is in any of these networks.
+pub(crate) fn is_apart(text: &str, networks: &[Value]) -> bool {
+    let Some(network) = Network::read(text.as_bytes()) else {
+        return false;
+    };
+    !networks.iter().any(|value| match value {
+        Value::String(text) => match Network::read(text.as_bytes()) {
+            Some(other) => share_clients(&network, &other),
+            None => false,
+        },
+        _ => false,
+    })
+}
+
+/// Returns whether some client is in both networks: then the first address of one is in the other.
+fn share_clients(one: &Network, other: &Network) -> bool {
+    one.contains(other.first.octets()) || other.contains(one.first.octets())
+}
+
+/// Returns whether the networks cover all addresses, so that every client is in them.
 pub(crate) fn are_everybody(networks: &[Value]) -> bool {
     networks.iter().any(|value| match value {
         Value::String(text) => match Network::read(text.as_bytes()) {

@@ -1,7 +1,7 @@
 //! Risks of a configuration with which a relay can run.
 use crate::document::{routes_of, text_at};
 use crate::findings::Findings;
-use crate::networks::{TRUSTED_CLIENTS, are_everybody, networks_of};
+use crate::networks::{CLIENTS, TRUSTED_CLIENTS, are_everybody, is_apart, networks_of};
 use crate::position::Place;
 use relay_disk::FileDisk;
 use relay_routes::{Config, RoutedPaths};
@@ -9,7 +9,7 @@ use std::alloc::{AllocError, Global};
 use std::fs::File;
 use std::net::SocketAddrV4;
 use std::rt::Files;
-use toml::Table;
+use toml::{Table, Value};
 
 /// Finds what a postmaster may not have meant, and files of the spool that can't be read.
 pub(crate) fn check_risks<F: Files<File = File>>(
@@ -20,6 +20,7 @@ pub(crate) fn check_risks<F: Files<File = File>>(
     findings: &mut Findings<'_>,
 ) -> Result<(), AllocError> {
     check_sizes(alloc, config, findings)?;
+    check_clients(alloc, document, findings)?;
     if let Some(routes) = routes_of(document) {
         check_reach(alloc, config, document, routes, findings)?;
         check_routed_paths(alloc, config, document, routes, findings)?;
@@ -44,6 +45,38 @@ fn check_sizes(
         config.spool_limit, config.max_content
     )?;
     findings.warning(Place::Key("spool_limit"), message)
+}
+
+/// Warns if no client may connect, or none of a network of trusted ones.
+fn check_clients(
+    alloc: Global,
+    document: &Table,
+    findings: &mut Findings<'_>,
+) -> Result<(), AllocError> {
+    let Some(clients) = networks_of(document, CLIENTS) else {
+        return Ok(());
+    };
+    if clients.is_empty() {
+        let message = format!(in alloc;
+            "clients is empty: no client may connect; name your hosts, or remove the line to let everybody connect"
+        )?;
+        return findings.warning(Place::Key(CLIENTS), message);
+    }
+    let Some(trusted) = networks_of(document, TRUSTED_CLIENTS) else {
+        return Ok(());
+    };
+    for value in trusted {
+        if let Value::String(text) = value {
+            if is_apart(text.as_str(), clients) {
+                let message = format!(in alloc;
+                    "trusted_clients: \"{}\" is outside of clients: nobody there may connect; add it to clients",
+                    text.escape_default()
+                )?;
+                findings.warning(Place::Key(TRUSTED_CLIENTS), message)?;
+            }
+        }
+    }
+    Ok(())
 }
 
 /// Warns of routes that accept too little or too much mail.
@@ -80,7 +113,10 @@ fn check_openness(
     document: &Table,
     findings: &mut Findings<'_>,
 ) -> Result<(), AllocError> {
-    if config.listen.ip().is_loopback() || !trusts_everybody(document) {
+    if config.listen.ip().is_loopback()
+        || !trusts_everybody(document)
+        || !is_everybody_at(document, CLIENTS)
+    {
         return Ok(());
     }
     let message = format!(in alloc;
@@ -128,7 +164,12 @@ fn is_guarded(document: &Table, routes: &Table) -> bool {
 
 /// Returns whether every client may send to every route.
 fn trusts_everybody(document: &Table) -> bool {
-    match networks_of(document, TRUSTED_CLIENTS) {
+    is_everybody_at(document, TRUSTED_CLIENTS)
+}
+
+/// Returns whether the networks at a key are all addresses, or none are named there.
+fn is_everybody_at(document: &Table, key: &str) -> bool {
+    match networks_of(document, key) {
         Some(networks) => are_everybody(networks),
         None => true,
     }

@@ -2,9 +2,9 @@
 //! a good one, and the document is read again, until no fault is left.
 use crate::findings::Findings;
 use crate::known_keys::KEY_COUNT;
-use crate::networks::{BALANCERS, TRUSTED_CLIENTS};
+use crate::networks::{BALANCERS, CLIENTS, TRUSTED_CLIENTS};
 use crate::position::Place;
-use relay_limits::{Balancers, Limit, Limits};
+use relay_limits::{AllowedClients, Balancers, Limit, Limits};
 use relay_routes::{Config, ConfigFault, Key};
 use std::alloc::{AllocError, Global};
 use std::fmt;
@@ -18,6 +18,7 @@ enum Good {
     NoRoutes,
     NoNetworks,
     NoBalancers,
+    NoClients,
 }
 
 impl Good {
@@ -26,7 +27,9 @@ impl Good {
             Good::Text(text) => Value::string(alloc, text)?,
             Good::Number(number) => Value::Integer(number),
             Good::NoRoutes => Value::Table(Table::new(alloc)),
-            Good::NoNetworks | Good::NoBalancers => Value::Array(Vec::new(alloc)),
+            Good::NoNetworks | Good::NoBalancers | Good::NoClients => {
+                Value::Array(Vec::new(alloc))
+            }
         })
     }
 }
@@ -41,6 +44,7 @@ impl fmt::Display for Good {
             ),
             Good::NoNetworks => f.write_str("[\"127.0.0.0/8\"]"),
             Good::NoBalancers => f.write_str("[\"192.0.2.5\"]"),
+            Good::NoClients => f.write_str("[\"192.0.2.0/24\"]"),
         }
     }
 }
@@ -68,6 +72,7 @@ pub(crate) fn check_values(
     set_routes_aside(alloc, &mut document)?;
     set_networks_aside(alloc, &mut document, TRUSTED_CLIENTS)?;
     set_networks_aside(alloc, &mut document, BALANCERS)?;
+    set_networks_aside(alloc, &mut document, CLIENTS)?;
     for _ in 0..KEY_COUNT {
         let Some(rule) = broken_rule(alloc, &document)? else {
             break;
@@ -112,13 +117,21 @@ fn broken_rule(alloc: Global, document: &Table) -> Result<Option<Rule>, AllocErr
         Err(ConfigFault::NoMemory) => Err(AllocError),
         Err(ConfigFault::Missing(key) | ConfigFault::BadValue(key)) => Ok(Some(rule_of(key))),
         Err(ConfigFault::NotToml) | Ok(_) => match Limits::of_document(document) {
-            Ok(_) => match Balancers::of_document(alloc, document)? {
-                Some(_) => Ok(None),
-                None => Ok(Some(rule_of_limit(Limit::Balancers))),
-            },
+            Ok(_) => broken_networks(alloc, document),
             Err(limit) => Ok(Some(rule_of_limit(limit))),
         },
     }
+}
+
+/// Returns the rule of the first key of `run` alone whose value must be an array of networks, and isn't.
+fn broken_networks(alloc: Global, document: &Table) -> Result<Option<Rule>, AllocError> {
+    if Balancers::of_document(alloc, document)?.is_none() {
+        return Ok(Some(rule_of_limit(Limit::Balancers)));
+    }
+    if AllowedClients::of_document(alloc, document)?.is_none() {
+        return Ok(Some(rule_of_limit(Limit::Clients)));
+    }
+    Ok(None)
 }
 
 /// Adds the finding for a key that breaks its rule.
@@ -198,6 +211,7 @@ fn rule_of_limit(limit: Limit) -> Rule {
         ),
         Limit::Log => ("\"text\" or \"json\"", Good::Text("json")),
         Limit::Balancers => ("an array of IPv4 networks", Good::NoBalancers),
+        Limit::Clients => ("an array of IPv4 networks", Good::NoClients),
     };
     Rule {
         key: limit.text(),

@@ -2,4 +2,5 @@ pub mod Compacting
 pub mod Port
 pub mod Limits
 pub mod Balancers
+pub mod AllowedClients
 pub mod Pace

@@ -2,6 +2,7 @@
 //! a next hop is on hold, and when its spool is compacted.
 #![tactic(auto)]
 
+mod allowed_clients;
 mod balancers;
 mod compacting;
 mod limit;
@@ -10,6 +11,7 @@ mod log_form;
 mod pace;
 mod port;
 
+pub use allowed_clients::AllowedClients;
 pub use balancers::Balancers;
 pub use compacting::is_worth_compacting;
 pub use limit::Limit;

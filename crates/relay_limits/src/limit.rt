@@ -20,6 +20,8 @@ pub enum Limit {
     Log,
     /// The networks of balancers.
     Balancers,
+    /// The networks of the clients that may connect.
+    Clients,
 }
 
 impl Limit {
@@ -35,6 +37,7 @@ impl Limit {
             Limit::StatusListen => "status_listen",
             Limit::Log => "log",
             Limit::Balancers => "balancers",
+            Limit::Clients => "clients",
         }
     }
 
@@ -46,7 +49,7 @@ impl Limit {
             Limit::SessionsPerClient | Limit::AttemptsPerHop => 64,
             Limit::RecipientsPerAttempt => 100,
             Limit::ClientTimeout => 3_600,
-            Limit::StatusListen | Limit::Log | Limit::Balancers => 0,
+            Limit::StatusListen | Limit::Log | Limit::Balancers | Limit::Clients => 0,
         }
     }
 
@@ -59,7 +62,7 @@ impl Limit {
             Limit::AttemptsPerHop => 20,
             Limit::RecipientsPerAttempt => 15,
             Limit::ClientTimeout => 300,
-            Limit::StatusListen | Limit::Log | Limit::Balancers => 0,
+            Limit::StatusListen | Limit::Log | Limit::Balancers | Limit::Clients => 0,
         }
     }
 }
