@@ -85,5 +85,5 @@ Starts host table number hop = StartsAtMost host table number hop None
 
 -- why none starts for all of them
 abbrev pub RefusesToStart :
-    {D : Type 0} → List ℕ → RouteTable → ℕ → List ℕ → ℕ → Kept D → List (Option Run) → NodeFault → Type 0
+    List ℕ → RouteTable → ℕ → List ℕ → ℕ → {D : Type 0} → Kept D → List (Option Run) → NodeFault → Type 0
 RefusesToStart host table number hop = RefusesToStartAtMost host table number hop None
