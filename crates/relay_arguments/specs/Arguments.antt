@@ -1,4 +1,4 @@
--- The words that the program is started with, its own name first, and the status that it ends with.
+-- The arguments of the program, the first of which is its name, and its exit status.
 use Rattle.std.specs.Prelude.{◌≡◌, ◌≢◌, ℕ, Bool, not, ◌&&◌, List, [], ◌∷◌, true, false, codes, is_some, Option}
 use Rattle.std.specs.Prelude.{Some, None, unwrap_or, if◌then◌else◌, option_map}
 use Rattle.std.specs.Option.{option_copied, option_map_or}
@@ -18,7 +18,7 @@ use Rattle.relay_arguments.specs.declared.words.Subcommand.TheVariants.{Check, R
 use Rattle.relay_arguments.specs.declared.words.Subcommand.TheVariants.{Listing as ListRows, Show, Status}
 use Rattle.relay_arguments.specs.declared.looks.Listing.{Listing}
 
--- a program that wants a subcommand, and has none for help
+-- the grammar without subcommands, one of which is required; there is no `help` subcommand
 abbrev pub without_subcommands : App
 without_subcommands = record {
   top = record (new_app (codes "relayd")).top {
@@ -29,11 +29,11 @@ without_subcommands = record {
   subs = [];
 }
 
--- an option of this name, which takes any text, as `--hop NAME`
+-- an option of this name with any value, as `--hop NAME`
 abbrev pub option_rule : Text → Rule
 option_rule name = record (new_rule name) { long = Some name; action = Some Set; value_names = 1 }
 
--- `--config FILE`, which must be given
+-- `--config FILE`, required
 abbrev pub config_rule : Rule
 config_rule = record (option_rule (codes "config")) { required = true }
 
@@ -41,11 +41,11 @@ config_rule = record (option_rule (codes "config")) { required = true }
 abbrev pub configured : Text → App
 configured name = with_rule (new_app name) config_rule
 
--- `--config FILE`, which may be missing
+-- `--config FILE`, optional
 abbrev pub optional_config_rule : Rule
 optional_config_rule = option_rule (codes "config")
 
--- a subcommand whose configuration file is the default one where none is given
+-- a subcommand with an optional configuration file
 abbrev pub configurable : Text → App
 configurable name = with_rule (new_app name) optional_config_rule
 
@@ -73,13 +73,13 @@ quiet_rule = record (new_rule (codes "quiet")) { long = Some (codes "quiet"); ac
 abbrev pub switch_rule : Text → Rule
 switch_rule name = record (new_rule name) { long = Some name; action = Some SetTrue }
 
--- profile: `NUMBER`, which must be given, from 1 to 2^64 - 1
+-- profile: `NUMBER`, required, from 1 to 2^64 - 1
 abbrev pub number_rule : Rule
 number_rule =
     record (new_rule (codes "number"))
     { action = Some Set; value_names = 1; required = true; parser = Some (Unsigned 1 18446744073709551615) }
 
--- the subcommand that lists the queue: as it is, as a table, as objects, and with these filters
+-- the subcommand that lists the queue, plainly, as a table or as JSON objects, with these filters
 abbrev pub with_forms : App
 with_forms =
     with_rule (with_rule (configured (codes "list")) (switch_rule (codes "long"))) (switch_rule (codes "json"))
@@ -93,7 +93,7 @@ listing =
 abbrev pub showing : App
 showing = with_rule (with_rule (configurable (codes "show")) number_rule) (switch_rule (codes "raw"))
 
--- the subcommand that sums the queue up
+-- the subcommand that sums up the queue
 abbrev pub reporting : App
 reporting = with_rule (configurable (codes "status")) (switch_rule (codes "prometheus"))
 
@@ -101,7 +101,7 @@ reporting = with_rule (configurable (codes "status")) (switch_rule (codes "prome
 abbrev pub checking : App
 checking = with_rule (configurable (codes "check")) route_rule
 
--- the subcommand that runs until its process is ended
+-- the subcommand that runs until its process is stopped
 abbrev pub running : App
 running = with_rule (configurable (codes "run")) quiet_rule
 
@@ -111,7 +111,7 @@ serving = with_rule (with_rule (with_rule (configured (codes "serve")) rounds_ru
 abbrev pub pushing : App
 pushing = with_rule (configured (codes "push")) log_rule
 
--- the program with its subcommands that need no file
+-- the grammar with the subcommands that need no file
 abbrev pub without_files : App
 without_files =
     with_subcommand (with_subcommand without_subcommands (new_app (codes "session")).top) (new_app (codes "play")).top
@@ -121,7 +121,7 @@ abbrev pub over_files : App
 over_files =
     with_subcommand (with_subcommand without_files (configured (codes "init")).top) listing.top
 
--- and with those that look at it
+-- and with those that show the queue
 abbrev pub with_queue : App
 with_queue = with_subcommand (with_subcommand over_files showing.top) reporting.top
 
@@ -133,19 +133,19 @@ with_compact = with_subcommand with_queue (configured (codes "compact")).top
 abbrev pub with_check : App
 with_check = with_subcommand with_compact checking.top
 
--- and with the one that runs until its process is ended
+-- and with the one that runs until its process is stopped
 abbrev pub with_run : App
 with_run = with_subcommand with_check running.top
 
--- the program and its subcommands
+-- the grammar of the program
 abbrev pub relayd : App
 relayd = with_subcommand (with_subcommand with_run serving.top) pushing.top
 
--- the kinds of error that the words may have; none if they name a subcommand as it is to be named
+-- the kinds of errors that the arguments have; none if they are right
 abbrev pub faults_in : List Text → Kinds
 faults_in words = fault_of relayd words
 
--- which recipients are listed, and how: as objects; by next hop, reverse path, forward path and age, where these are
+-- which recipients are listed, and how: as JSON objects; by next hop, reverse path, forward path and age, if these are
 -- given
 pub record AskedRows : Type 0 where
   pub json : Bool
@@ -154,7 +154,7 @@ pub record AskedRows : Type 0 where
   pub to : Option Text
   pub older : Option Text
 
--- what a program is asked to do
+-- what the program shall do
 pub data Asked : Type 0 where
   AskedSession : Asked
   AskedPlay : Asked
@@ -169,23 +169,23 @@ pub data Asked : Type 0 where
   AskedServe : Text → ℕ → ℕ → Bool → Asked
   AskedPush : Text → Bool → Asked
 
--- the file of `--config`; the argument reader refuses words without one
+-- the file of `--config`, where it is required
 abbrev pub config_in : List Row → Text
 config_in rows = unwrap_or (first_of (codes "config") rows) []
 
--- so it is where the words may be without one: a file that is there by convention
+-- the file of `--config`, where it is optional: by default a conventional one
 abbrev pub config_or_default_in : List Row → Text
 config_or_default_in rows = unwrap_or (first_of (codes "config") rows) (codes "/etc/relayd.toml")
 
--- the number that a text says, if it is one from 1 to the most; the argument reader refuses other texts
+-- the number in a text, from 1 to the most; the argument parser refuses other texts
 abbrev pub number_of : ℕ → Text → ℕ
 number_of most text = if is_unsigned_in 1 most text then digits_value 10 (without_leading_plus text) else 1
 
--- how many rounds are asked for: 1 where nothing is said
+-- the number of rounds, 1 by default
 abbrev pub rounds_in : List Row → ℕ
 rounds_in rows = option_map_or (number_of 1000000) (first_of (codes "rounds") rows) 1
 
--- how many connections a round is to take: 1 where nothing is said
+-- the number of connections in a round, 1 by default
 abbrev pub workers_in : List Row → ℕ
 workers_in rows = option_map_or (number_of 64) (first_of (codes "workers") rows) 1
 
@@ -193,7 +193,7 @@ workers_in rows = option_map_or (number_of 64) (first_of (codes "workers") rows)
 abbrev pub is_given_in : Text → List Row → Bool
 is_given_in switch rows = option_map_or (λ text. bytes_eq text (codes "true")) (first_of switch rows) false
 
--- what a listing asks for
+-- the options of a listing
 abbrev pub rows_asked_in : List Row → AskedRows
 rows_asked_in rows = record {
   json = is_given_in (codes "json") rows;
@@ -203,23 +203,23 @@ rows_asked_in rows = record {
   older = first_of (codes "older") rows;
 }
 
--- it asks for nothing
+-- it has no options
 abbrev pub is_plain : AskedRows → Bool
 is_plain asked =
     not asked.json && not (is_some asked.hop) && not (is_some asked.from) && not (is_some asked.to)
     && not (is_some asked.older)
 
--- `list` without any option but `--config` lists as ever, and else by these
+-- `list` without any option but `--config` is the plain list, else a listing
 abbrev pub list_asked : List Row → Asked
 list_asked rows =
     if is_plain (rows_asked_in rows) && not (is_given_in (codes "long") rows) then AskedList (config_in rows)
     else AskedListing (config_in rows) (rows_asked_in rows)
 
--- the number of the message that is asked for; the argument reader refuses words without one
+-- the number of the message; the argument parser refuses arguments without one
 abbrev pub message_number_in : List Row → ℕ
 message_number_in rows = option_map_or (number_of 18446744073709551615) (first_of (codes "number") rows) 1
 
--- `show`: a message, and whether its text alone
+-- `show`: a message, or only its text
 abbrev pub show_asked : List Row → Asked
 show_asked rows = AskedShow (config_or_default_in rows) (message_number_in rows) (is_given_in (codes "raw") rows)
 
@@ -227,7 +227,7 @@ show_asked rows = AskedShow (config_or_default_in rows) (message_number_in rows)
 abbrev pub status_asked : List Row → Asked
 status_asked rows = AskedStatus (config_or_default_in rows) (is_given_in (codes "prometheus") rows)
 
--- `check`: all of the configuration, or the next hop of one address
+-- `check`: the whole configuration, or the next hop of one address
 abbrev pub check_asked : List Row → Asked
 check_asked rows = AskedCheck (config_or_default_in rows) (first_of (codes "route") rows)
 
@@ -255,16 +255,16 @@ asked_by name rows =
     else if bytes_eq name (codes "play") then AskedPlay
     else AskedSession
 
--- a subcommand's name, and what it was given; without one the argument reader refuses the words
+-- a subcommand's name and its arguments; the argument parser requires a subcommand
 abbrev pub asked_of : Option (Text × List Row) → Asked
 asked_of None = AskedSession
 asked_of (Some (name, rows)) = asked_by name rows
 
--- the subcommand that the words name, and its file
+-- the subcommand that the arguments name, and its file
 abbrev pub asked_in : List Text → Asked
 asked_in words = asked_of (subcommand_of relayd words)
 
--- what a listing says
+-- the meaning of a listing's options
 abbrev pub rows_value : Listing → AskedRows
 rows_value listing = record {
   json = listing.json;
@@ -274,7 +274,7 @@ rows_value listing = record {
   older = option_copied listing.older;
 }
 
--- what a subcommand asks for
+-- the meaning of a subcommand
 abbrev pub asked : Subcommand → Asked
 asked Session = AskedSession
 asked Play = AskedPlay
@@ -289,12 +289,12 @@ asked (Run file quiet) = AskedRun file.now quiet
 asked (Serve file rounds workers log) = AskedServe file.now rounds workers log
 asked (Push file log) = AskedPush file.now log
 
--- the words of a subcommand with the file `c`, and more
+-- the arguments of a subcommand with the file `c`, and more
 abbrev pub words_of : Text → Text → List Text → List Text
 words_of name subcommand more = name ∷ subcommand ∷ codes "--config" ∷ codes "c" ∷ more
 
--- `serve` and `push` are taken with a file. A number of rounds is one from 1 to 1,000,000, one of workers from 1 to 64,
--- and each is 1 where none is said; `push` has neither.
+-- `serve` and `push` require a file. `--rounds` takes 1 to 1,000,000 and `--workers` 1 to 64, each 1 by default; `push`
+-- has neither.
 abbrev pub ServesAndPushes : Text → Type 0
 ServesAndPushes name =
     (faults_in (words_of name (codes "serve") (codes "--rounds" ∷ codes "1000000" ∷ [])) ≡ [])
@@ -313,14 +313,14 @@ ServesAndPushes name =
     ≡ AskedServe (codes "c") 3 8 false)
     × (asked_in (words_of name (codes "push") []) ≡ AskedPush (codes "c") false)
 
--- `compact` is taken with a file, and not without one
+-- `compact` requires a file
 abbrev pub Compacts : Text → Type 0
 Compacts name =
     (faults_in (words_of name (codes "compact") []) ≡ [])
     × (asked_in (words_of name (codes "compact") []) ≡ AskedCompact (codes "c"))
     × (faults_in (name ∷ codes "compact" ∷ []) ≡ MissingRequiredArgument ∷ [])
 
--- `check` is taken with a file and an address, and without them
+-- `check` takes a file and an address, both optional
 abbrev pub Checks : Text → Type 0
 Checks name =
     (faults_in (words_of name (codes "check") (codes "--route" ∷ codes "a" ∷ [])) ≡ [])
@@ -329,7 +329,7 @@ Checks name =
     × (faults_in (name ∷ codes "check" ∷ []) ≡ [])
     × (asked_in (name ∷ codes "check" ∷ []) ≡ AskedCheck (codes "/etc/relayd.toml") None)
 
--- `run` is taken with a file, and without one by the default; it may be quiet, and knows no rounds
+-- `run` takes an optional file and `--quiet`, but no rounds
 abbrev pub Runs : Text → Type 0
 Runs name =
     (faults_in (words_of name (codes "run") []) ≡ [])
@@ -339,8 +339,8 @@ Runs name =
     × (asked_in (words_of name (codes "run") []) ≡ AskedRun (codes "c") false)
     × (asked_in (words_of name (codes "run") (codes "--quiet" ∷ [])) ≡ AskedRun (codes "c") true)
 
--- `list` is taken with its options, of which `--long` and `--json` are switches; `show` wants a number from 1 on;
--- `status` is taken with its switch
+-- `list` takes its options, of which `--long` and `--json` are switches; `show` requires a number from 1 on; `status`
+-- takes its switch
 abbrev pub LooksAtQueue : Text → Type 0
 LooksAtQueue name =
     (faults_in (words_of name (codes "list") (codes "--long" ∷ codes "--older" ∷ codes "4h" ∷ [])) ≡ [])
@@ -356,8 +356,8 @@ LooksAtQueue name =
     × (asked_in (words_of name (codes "status") []) ≡ AskedStatus (codes "c") false)
     × (asked_in (name ∷ codes "status" ∷ []) ≡ AskedStatus (codes "/etc/relayd.toml") false)
 
--- `session` and `play` alone are taken, and so are `init` and `list` with a file; without a subcommand, without the
--- file and with a further word they aren't; `--help` asks for help, and `--version` for the version
+-- `session` and `play` take no arguments; `init` and `list` require a file. A missing subcommand, a missing file or a
+-- further argument is an error; `--help` asks for help, and `--version` for the version.
 abbrev pub WordsAreTaken : Type 0
 WordsAreTaken =
     (name : Text) → (faults_in (name ∷ codes "session" ∷ []) ≡ [])
@@ -380,14 +380,14 @@ WordsAreTaken =
     × Runs name
     × LooksAtQueue name
 
--- the argument reader finds no fault in the words, and they ask for a session
+-- the argument parser finds no error, and the arguments ask for a session
 abbrev pub AskForSession : List Text → Type 0
 AskForSession words = (faults_in words ≡ []) × (asked_in words ≡ AskedSession)
 
--- so it does, and they ask for a play
+-- the argument parser finds no error, and the arguments ask for a play
 abbrev pub AskForPlay : List Text → Type 0
 AskForPlay words = (faults_in words ≡ []) × (asked_in words ≡ AskedPlay)
 
--- the words are wrong, and ask neither for help nor for the version
+-- the arguments are wrong, and ask neither for help nor for the version
 abbrev pub AreWrong : Kinds → Type 0
 AreWrong kinds = (kinds ≢ []) × (¬ IsAmong DisplayHelp kinds) × (¬ IsAmong DisplayVersion kinds)

@@ -1,4 +1,4 @@
-//! What the argument reader is told of the program: its subcommands and their options.
+//! The grammar of the program's arguments: its subcommands and their options.
 ghost use Rattle.std.specs.Prelude.{◌≡◌, codes, false, IfOk};
 ghost use Rattle.clap.specs.Words.{app_of, new_app, rule_of};
 ghost use Rattle.relay_arguments.specs.Arguments.{checking, config_rule, configurable, configured, log_rule};
@@ -16,11 +16,11 @@ use std::alloc::{AllocError, Global};
 /// The version of the program.
 const VERSION: &str = "1.0.0";
 
-/// What the argument reader is told of the program. Fails if memory runs out.
+/// Returns the grammar of the program. Fails if memory runs out.
 pub(crate) fn program<'a>(alloc: Global) -> Result<Command<'a>, AllocError>
     ensures { IfOk result (λ command. app_of command ≡ relayd) }
 {
-    // Each subcommand is made when it is added, so that few are at hand if memory runs out.
+    // Each subcommand is added as soon as it is made, so that few have to be dropped if memory runs out.
     let with_run = with_run(alloc)?;
     let serve = serve(alloc)?;
     let with_serve = with_run.subcommand(serve)?;
@@ -28,7 +28,7 @@ pub(crate) fn program<'a>(alloc: Global) -> Result<Command<'a>, AllocError>
     with_serve.subcommand(push)
 }
 
-/// Returns the program with its subcommands but `serve` and `push`. Fails if memory runs out.
+/// Returns the grammar with all subcommands but `serve` and `push`. Fails if memory runs out.
 fn with_run<'a>(alloc: Global) -> Result<Command<'a>, AllocError>
     ensures { IfOk result (λ command. app_of command ≡ with_run) }
 {
@@ -37,7 +37,7 @@ fn with_run<'a>(alloc: Global) -> Result<Command<'a>, AllocError>
     with_check.subcommand(run)
 }
 
-/// Returns the program with its subcommands that need no socket. Fails if memory runs out.
+/// Returns the grammar with the subcommands that need no socket. Fails if memory runs out.
 fn with_check<'a>(alloc: Global) -> Result<Command<'a>, AllocError>
     ensures { IfOk result (λ command. app_of command ≡ with_check) }
 {
@@ -46,7 +46,7 @@ fn with_check<'a>(alloc: Global) -> Result<Command<'a>, AllocError>
     with_compact.subcommand(check)
 }
 
-/// Returns the program with its subcommands over a spool without sockets. Fails if memory runs out.
+/// Returns the grammar with the subcommands over a spool without sockets. Fails if memory runs out.
 fn with_compact<'a>(alloc: Global) -> Result<Command<'a>, AllocError>
     ensures { IfOk result (λ command. app_of command ≡ with_compact) }
 {
@@ -60,7 +60,7 @@ fn with_compact<'a>(alloc: Global) -> Result<Command<'a>, AllocError>
     with_queue.subcommand(compact)
 }
 
-/// Returns the program with its subcommands that make a spool and look at it. Fails if memory runs out.
+/// Returns the grammar with the subcommands that make and show a spool. Fails if memory runs out.
 fn with_queue<'a>(alloc: Global) -> Result<Command<'a>, AllocError>
     ensures { IfOk result (λ command. app_of command ≡ with_queue) }
 {
@@ -71,7 +71,7 @@ fn with_queue<'a>(alloc: Global) -> Result<Command<'a>, AllocError>
     with_show.subcommand(status)
 }
 
-/// Returns the program with its subcommands that make and list a spool. Fails if memory runs out.
+/// Returns the grammar with the subcommands that make and list a spool. Fails if memory runs out.
 fn over_files<'a>(alloc: Global) -> Result<Command<'a>, AllocError>
     ensures { IfOk result (λ command. app_of command ≡ over_files) }
 {
@@ -87,7 +87,7 @@ fn over_files<'a>(alloc: Global) -> Result<Command<'a>, AllocError>
     with_init.subcommand(list)
 }
 
-/// Returns the program with its subcommands that need no file. Fails if memory runs out.
+/// Returns the grammar with the subcommands that need no file. Fails if memory runs out.
 fn without_files<'a>(alloc: Global) -> Result<Command<'a>, AllocError>
     ensures { IfOk result (λ command. app_of command ≡ without_files) }
 {
@@ -97,7 +97,7 @@ fn without_files<'a>(alloc: Global) -> Result<Command<'a>, AllocError>
     with_session.subcommand(play)
 }
 
-/// Returns the program without its subcommands, of which one must be entered.
+/// Returns the grammar without subcommands, one of which is required.
 fn without_subcommands<'a>(alloc: Global) -> Command<'a>
     ensures { app_of result ≡ without_subcommands }
 {
@@ -128,7 +128,7 @@ fn play<'a>(alloc: Global) -> Command<'a>
         .after_help("Example: relayd play < docs/plays/lost_reply.play")
 }
 
-/// Returns a subcommand of this name with a configuration file. Fails if memory runs out.
+/// Returns a subcommand of this name with a required configuration file. Fails if memory runs out.
 pub(crate) fn with_file<'a>(
     alloc: Global,
     name: &'a str,
@@ -143,8 +143,7 @@ pub(crate) fn with_file<'a>(
         .arg(file_argument(alloc))
 }
 
-/// Returns a subcommand of this name whose configuration file is the default one where none is given. Fails if memory
-/// runs out.
+/// Returns a subcommand of this name with an optional configuration file. Fails if memory runs out.
 pub(crate) fn with_default_file<'a>(
     alloc: Global,
     name: &'a str,
@@ -226,7 +225,7 @@ fn file_argument<'a>(alloc: Global) -> Arg<'a>
         .help("The configuration file")
 }
 
-/// `--config FILE`, which may be missing
+/// `--config FILE`, optional
 fn optional_file_argument<'a>(alloc: Global) -> Arg<'a>
     ensures rule { rule_of result ≡ optional_config_rule }
     ensures local { result.global ≡ false }

@@ -1,4 +1,4 @@
-//! The words that `relayd` is started with: the subcommand that they ask for, or what is wrong with them.
+//! The arguments of `relayd`: the subcommand that they name, or what is wrong with them.
 #![tactic(auto)]
 
 mod grammar;

@@ -1,4 +1,4 @@
-//! The words of subcommands that look at the queue.
+//! The arguments of the subcommands that show the queue.
 ghost use Rattle.std.specs.Prelude.{◌≡◌, codes, false, IfOk};
 ghost use Rattle.std.specs.Option.{option_copied};
 ghost use Rattle.clap.specs.Words.{app_of, first_of, found_of, rows_of, rule_of};
@@ -15,19 +15,19 @@ use std::alloc::{AllocError, Global};
 /// Which queued recipients are listed, and how.
 #[derive(Clone, Copy, Debug, Drop)]
 pub struct Listing<'a> {
-    /// As JSON objects, and else as a table.
+    /// As JSON objects instead of a table.
     pub json: bool,
-    /// Of this next hop alone.
+    /// Only those of this next hop.
     pub hop: Option<&'a str>,
-    /// Of messages with this reverse path alone.
+    /// Only those of messages with this reverse path.
     pub from: Option<&'a str>,
-    /// Of this forward path alone.
+    /// Only those with this forward path.
     pub to: Option<&'a str>,
-    /// Of messages of this age alone.
+    /// Only those of messages that are at least this old.
     pub older: Option<&'a str>,
 }
 
-/// Returns what `list` asks for: with one of its options, a listing.
+/// Returns the subcommand `list`; with one of its options it is a listing.
 pub(crate) fn list_asked<'a>(matches: &ArgMatches<'a>) -> Subcommand<'a>
     ensures { asked result ≡ list_asked (rows_of (found_of matches.now)) }
 {
@@ -40,7 +40,7 @@ pub(crate) fn list_asked<'a>(matches: &ArgMatches<'a>) -> Subcommand<'a>
     }
 }
 
-/// Returns what `show` asks for.
+/// Returns the subcommand `show`.
 pub(crate) fn show_asked<'a>(matches: &ArgMatches<'a>) -> Subcommand<'a>
     ensures { asked result ≡ show_asked (rows_of (found_of matches.now)) }
 {
@@ -51,7 +51,7 @@ pub(crate) fn show_asked<'a>(matches: &ArgMatches<'a>) -> Subcommand<'a>
     }
 }
 
-/// Returns what `status` asks for.
+/// Returns the subcommand `status`.
 pub(crate) fn status_asked<'a>(matches: &ArgMatches<'a>) -> Subcommand<'a>
     ensures { asked result ≡ status_asked (rows_of (found_of matches.now)) }
 {
@@ -74,7 +74,7 @@ fn rows_asked<'a>(matches: &ArgMatches<'a>) -> Listing<'a>
     }
 }
 
-/// Returns whether a listing asks for nothing.
+/// Returns whether a listing has no options.
 fn is_plain(listing: &Listing<'_>) -> bool
     ensures { result ≡ is_plain (rows_value listing.now) }
 {
@@ -85,14 +85,14 @@ fn is_plain(listing: &Listing<'_>) -> bool
         && listing.older.is_none()
 }
 
-/// Returns the text of an option, if it was given.
+/// Returns the value of an option, if it was given.
 fn text_of<'a>(matches: &ArgMatches<'a>, option: &str) -> Option<&'a str>
     ensures { option_copied result ≡ first_of option.now (rows_of (found_of matches.now)) }
 {
     matches.get_str(option)
 }
 
-/// Returns the number of the message that is asked for; the argument reader refuses words without one.
+/// Returns the number of the message; the argument parser refuses arguments without one.
 fn message_number(matches: &ArgMatches<'_>) -> u64
     ensures { result ≡ message_number_in (rows_of (found_of matches.now)) }
 {
@@ -181,7 +181,7 @@ fn switch<'a>(alloc: Global, name: &'a str, help: &'a str) -> Arg<'a>
         .help(help)
 }
 
-/// Returns an option of this name, which takes any text; help calls it `value`.
+/// Returns an option of this name with any value, which `--help` calls `value`.
 fn option<'a>(alloc: Global, name: &'a str, value: &'a str, help: &'a str) -> Arg<'a>
     ensures rule { rule_of result ≡ option_rule name.now }
     ensures local { result.global ≡ false }
@@ -193,7 +193,7 @@ fn option<'a>(alloc: Global, name: &'a str, value: &'a str, help: &'a str) -> Ar
         .help(help)
 }
 
-/// `NUMBER`, which stands without a name.
+/// `NUMBER`, a positional argument
 fn number_argument<'a>(alloc: Global) -> Arg<'a>
     ensures rule { rule_of result ≡ number_rule }
     ensures local { result.global ≡ false }

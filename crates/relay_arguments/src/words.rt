@@ -11,87 +11,87 @@ use clap::{ArgMatches, Error};
 use std::alloc::Global;
 use std::convert::AsStr;
 
-/// What the program is asked to do.
+/// What the program shall do.
 #[derive(Clone, Copy, Debug, Drop)]
 pub enum Subcommand<'a> {
-    /// One session from standard input to standard output.
+    /// Run one session from standard input to standard output.
     Session,
-    /// A play of 2 to 16 relays, by a script from standard input.
+    /// Play a script for 2 to 16 relays from standard input.
     Play,
-    /// A spool is made, by the configuration in this file.
+    /// Make a spool, with the configuration in this file.
     Init(&'a str),
-    /// What is held in the spool is listed, by the configuration in this file.
+    /// List the spool, with the configuration in this file.
     List(&'a str),
-    /// Queued recipients are listed with all that is known of them, by the configuration in this file.
+    /// List queued recipients in detail.
     Listing {
-        /// The file of the configuration.
+        /// The configuration file.
         file: &'a str,
         /// Which recipients, and how.
         asked: Listing<'a>,
     },
-    /// A message is shown.
+    /// Show a message.
     Show {
-        /// The file of the configuration.
+        /// The configuration file.
         file: &'a str,
         /// The number of the message.
         number: u64,
-        /// Whether its text alone is written, as it is.
+        /// Whether to write only its text, octet by octet.
         raw: bool,
     },
-    /// The queue is summed up by next hop.
+    /// Sum up the queue by next hop.
     Status {
-        /// The file of the configuration.
+        /// The configuration file.
         file: &'a str,
-        /// Whether it is written as metrics for Prometheus.
+        /// Whether to write metrics for Prometheus.
         prometheus: bool,
     },
-    /// The spool is compacted, by the configuration in this file.
+    /// Compact the spool, with the configuration in this file.
     Compact(&'a str),
-    /// The configuration in this file is checked.
+    /// Check a configuration.
     Check {
-        /// The file of the configuration.
+        /// The configuration file.
         file: &'a str,
-        /// The address whose next hop is asked for, in place of the check.
+        /// The address to find the next hop of, instead of the check.
         route: Option<&'a str>,
     },
-    /// Clients are served and mail is forwarded, until the process is stopped.
+    /// Serve clients and relay mail, until the process is stopped.
     Run {
-        /// The file of the configuration.
+        /// The configuration file.
         file: &'a str,
-        /// Whether standard error says nothing of what was done.
+        /// Whether to log nothing.
         quiet: bool,
     },
-    /// Clients are served in rounds, and their mail is forwarded after each.
+    /// Serve clients in rounds, and relay mail after each.
     Serve {
-        /// The file of the configuration.
+        /// The configuration file.
         file: &'a str,
         /// How many rounds of connections are served, 1 to 1,000,000.
         rounds: u32,
         /// How many connections a round takes, 1 to 64.
         workers: u8,
-        /// Whether standard error says what was done.
+        /// Whether to log to standard error.
         log: bool,
     },
-    /// Due mail is forwarded.
+    /// Relay due mail once.
     Push {
-        /// The file of the configuration.
+        /// The configuration file.
         file: &'a str,
-        /// Whether standard error says what was done.
+        /// Whether to log to standard error.
         log: bool,
     },
 }
 
-/// The configuration where none is named: of the subcommands that needn't be told one.
+/// The configuration file of subcommands that need not be given one.
 const DEFAULT_CONFIG: &str = "/etc/relayd.toml";
 
-/// The most rounds of one run.
+/// The most rounds of `serve`.
 pub(crate) const MOST_ROUNDS: u64 = 1_000_000;
 
 /// The most connections of one round.
 pub(crate) const MOST_WORKERS: u64 = 64;
 
-/// Reads the subcommand that the words name, the program's own name first, and the file of its `--config`. An error
-/// has a text for the user: what is wrong with the words, or the help that they ask for.
+/// Reads the arguments, the first of which is the program's name. An error has a text for the user: what is wrong with
+/// the arguments, or the help that they ask for.
 pub fn arguments<'a, S: AsStr>(alloc: Global, words: &'a [S]) -> Result<Subcommand<'a>, Error>
     ensures faults { FailsBy (faults_in (map S.text words.now)) result }
     ensures asked { IfOk result (λ subcommand. asked subcommand ≡ asked_in (map S.text words.now)) }
@@ -100,7 +100,7 @@ pub fn arguments<'a, S: AsStr>(alloc: Global, words: &'a [S]) -> Result<Subcomma
     Ok(asked_for(&matches))
 }
 
-/// Returns the subcommand that was entered.
+/// Returns the subcommand that was given.
 fn asked_for<'a>(matches: &ArgMatches<'a>) -> Subcommand<'a>
     ensures { asked result ≡ asked_of (subcommand_rows_of matches.now) }
 {
@@ -139,7 +139,7 @@ fn named<'a>(name: &str, matches: &ArgMatches<'a>) -> Subcommand<'a>
     }
 }
 
-/// Returns what `check` asks for.
+/// Returns the subcommand `check`.
 fn check_asked<'a>(matches: &ArgMatches<'a>) -> Subcommand<'a>
     ensures { asked result ≡ check_asked (rows_of (found_of matches.now)) }
 {
@@ -149,7 +149,7 @@ fn check_asked<'a>(matches: &ArgMatches<'a>) -> Subcommand<'a>
     }
 }
 
-/// Returns what `run` asks for.
+/// Returns the subcommand `run`.
 fn run_asked<'a>(matches: &ArgMatches<'a>) -> Subcommand<'a>
     ensures { asked result ≡ run_asked (rows_of (found_of matches.now)) }
 {
@@ -159,7 +159,7 @@ fn run_asked<'a>(matches: &ArgMatches<'a>) -> Subcommand<'a>
     }
 }
 
-/// Returns what `serve` asks for.
+/// Returns the subcommand `serve`.
 fn serve_asked<'a>(matches: &ArgMatches<'a>) -> Subcommand<'a>
     ensures { asked result ≡ serve_asked (rows_of (found_of matches.now)) }
 {
@@ -171,7 +171,7 @@ fn serve_asked<'a>(matches: &ArgMatches<'a>) -> Subcommand<'a>
     }
 }
 
-/// Returns what `push` asks for.
+/// Returns the subcommand `push`.
 fn push_asked<'a>(matches: &ArgMatches<'a>) -> Subcommand<'a>
     ensures { asked result ≡ push_asked (rows_of (found_of matches.now)) }
 {
@@ -181,7 +181,7 @@ fn push_asked<'a>(matches: &ArgMatches<'a>) -> Subcommand<'a>
     }
 }
 
-/// Returns the file of `--config`, which the argument reader requires.
+/// Returns the file of `--config`, which the argument parser requires.
 pub(crate) fn config<'a>(matches: &ArgMatches<'a>) -> &'a str
     ensures { result.now ≡ config_in (rows_of (found_of matches.now)) }
 {
@@ -203,7 +203,7 @@ fn route<'a>(matches: &ArgMatches<'a>) -> Option<&'a str>
     matches.get_str("route")
 }
 
-/// Returns how many rounds `--rounds` asks for: 1 where it isn't given.
+/// Returns the number of `--rounds`, 1 by default.
 fn rounds(matches: &ArgMatches<'_>) -> u32
     ensures { result ≡ rounds_in (rows_of (found_of matches.now)) }
 {
@@ -213,7 +213,7 @@ fn rounds(matches: &ArgMatches<'_>) -> u32
     }
 }
 
-/// Returns how many connections a round takes by `--workers`: 1 where it isn't given.
+/// Returns the number of `--workers`, 1 by default.
 fn workers(matches: &ArgMatches<'_>) -> u8
     ensures { result ≡ workers_in (rows_of (found_of matches.now)) }
 {
@@ -223,7 +223,7 @@ fn workers(matches: &ArgMatches<'_>) -> u8
     }
 }
 
-/// Returns the number that a text says, if it is one from 1 to the most; the argument reader refuses other texts.
+/// Returns the number in a text, from 1 to `most`; the argument parser refuses other texts.
 pub(crate) fn number_of(text: &str, most: u64) -> u64
     requires { 1 ≤ most }
     ensures number { result ≡ number_of most text.now }
@@ -253,7 +253,7 @@ pub(crate) fn is_given(matches: &ArgMatches<'_>, switch: &str) -> bool
     }
 }
 
-/// The law that says of some words, written out, what is wrong with them and what they ask for.
+/// A law about arguments, written out: what is wrong with them, and what they ask for.
 pub fn words_are_taken()
     ensures { WordsAreTaken }
 {}

@@ -19,11 +19,11 @@ use Rattle.relay_connections.specs.declared.arrival.Progress.{Progress}
 use Rattle.relay_connections.specs.declared.arrival.Progress.TheVariants.{Waits, Whole, Fails}
 use Rattle.relay_connections.specs.declared.arrivals.Arrivals.{Arrivals}
 
--- the connections whose headers are waited for, by number
+-- the connections whose headers aren't complete yet, by number
 abbrev pub arrivals_of : {S : Type 0} → Arrivals S → List (Option (Box (Arrival S) Global))
 arrivals_of arrivals = arrivals.arrivals
 
--- profile: a header is waited for five seconds
+-- profile: a header may take five seconds
 abbrev pub deadline_from : ℕ → ℕ
 deadline_from tick = min (tick + 5 * 1000) (2 ^ 64 - 1)
 
@@ -36,13 +36,13 @@ IsFault tick deadline octets Late = IsLate tick deadline octets
 IsFault tick deadline octets OtherProtocol = IsHeader octets Other
 IsFault tick deadline octets NoMemory = IsSomeHeader octets
 
--- how far a header is read
+-- the state of a header
 abbrev pub HasProgressed : ℕ → ℕ → List ℕ → Progress → Type 0
 HasProgressed tick deadline octets Waits = IsWaiting tick deadline octets
 HasProgressed tick deadline octets (Whole source) = IsHeader octets source
 HasProgressed tick deadline octets (Fails fault) = IsFault tick deadline octets fault
 
--- a connection is the same but for what it may be ready for
+-- the connection is the same, except for its readiness
 pub record IsNotedArrival {S : Type 0} (reads : Bool) (old new : Arrival S) : Type 0 where
   pub stream : new.stream ≡ old.stream
   pub balancer : new.balancer ≡ old.balancer
@@ -50,59 +50,59 @@ pub record IsNotedArrival {S : Type 0} (reads : Bool) (old new : Arrival S) : Ty
   pub reads_is : new.reads ≡ old.reads || reads
   pub deadline : new.deadline ≡ old.deadline
 
--- so it is of a slot, where a connection is there
+-- a slot is the same, except for its connection's readiness
 abbrev pub IsNotedSlot : {S : Type 0} → Bool → Option (Box (Arrival S) Global) → Option (Box (Arrival S) Global) → Type 0
 IsNotedSlot reads None new = new ≡ None
 IsNotedSlot reads (Some arrival) None = ⊥
 IsNotedSlot reads (Some arrival) (Some later) = IsNotedArrival reads arrival.value later.value
 
--- a connection isn't closed before this tick, where one is in a slot
+-- a connection in the slot isn't closed before this tick
 abbrev pub Within : {S : Type 0} → ℕ → Option (Box (Arrival S) Global) → Type 0
 Within tick None = Unit {0}
 Within tick (Some arrival) = tick ≤ arrival.value.deadline
 
--- one of them is closed at this tick, if its header isn't whole before
+-- a connection is closed at this tick, unless its header is complete before
 pub record IsDueAt {S : Type 0} (tick : ℕ) (arrivals : List (Option (Box (Arrival S) Global))) : Type 0 where
   pub number : ℕ
   pub arrival : Box (Arrival S) Global
   pub there : slot_at arrivals number ≡ Some arrival
   pub due : arrival.value.deadline ≡ tick
 
--- a connection of which octets may be read at once
+-- octets of the connection may be read at once
 pub record IsReadable {S : Type 0} (arrivals : List (Option (Box (Arrival S) Global))) (number : ℕ) : Type 0 where
   pub arrival : Box (Arrival S) Global
   pub there : slot_at arrivals number ≡ Some arrival
   pub reads : arrival.value.reads ≡ true
 
--- there is one
+-- octets of some connection may be read at once
 pub record IsOneReadable {S : Type 0} (arrivals : List (Option (Box (Arrival S) Global))) : Type 0 where
   pub number : ℕ
   pub readable : IsReadable arrivals number
 
--- The words below are of what is known of the streams of connections.
+-- Below: given what is known of the streams of connections.
 module _ {S : Type 0} (remaining contents : S → Option (List ℕ)) where
-  -- more of a header has come to a connection, and nothing was written to it
+  -- more octets of a header arrived on a connection, and nothing was written to it
   pub record ReadsOn (old new : Arrival S) : Type 0 where
     pub comes : Comes (remaining old.stream) (remaining new.stream) old.header new.header
     pub output : contents new.stream ≡ contents old.stream
     pub balancer : new.balancer ≡ old.balancer
     pub deadline : new.deadline ≡ old.deadline
 
-  -- so it may be of a slot
+  -- more octets may have arrived on the connection in a slot
   abbrev pub MayReadOn : Option (Box (Arrival S) Global) → Option (Box (Arrival S) Global) → Type 0
   MayReadOn None new = new ≡ None
   MayReadOn (Some arrival) None = ⊥
   MayReadOn (Some arrival) (Some later) = ReadsOn arrival.value later.value
 
-  -- so it is of a slot, and its header is waited for still
+  -- more octets may have arrived on it, and its header isn't complete yet
   abbrev pub WaitsOn : ℕ → Option (Box (Arrival S) Global) → Option (Box (Arrival S) Global) → Type 0
   WaitsOn tick None new = new ≡ None
   WaitsOn tick (Some arrival) None = ⊥
   WaitsOn tick (Some arrival) (Some later) =
       ReadsOn arrival.value later.value × IsWaiting tick later.value.deadline later.value.header
 
-  -- A client has come by a connection: its header was read whole, and its stream gives next what follows that. The
-  -- header says whose it is.
+  -- The connection is a client's: its header was read to its end, and its stream yields next what follows. The client
+  -- has the address in the header.
   pub record IsClientOf (arrival : Arrival S) (stream : S) (peer : SocketAddrV4) : Type 0 where
     pub header : List ℕ
     pub source : Source
@@ -111,7 +111,7 @@ module _ {S : Type 0} (remaining contents : S → Option (List ℕ)) where
     pub peer_is : IsPeer source arrival.balancer peer
     pub output : contents stream ≡ contents arrival.stream
 
-  -- no client has come by it, for this reason, which its first octets show
+  -- the connection has no client, for this reason, which its first octets show
   pub record IsRefused (tick : ℕ) (arrival : Arrival S) (balancer : SocketAddrV4) (fault : HeaderFault) : Type 0 where
     pub octets : List ℕ
     pub left : Option (List ℕ)
@@ -119,12 +119,12 @@ module _ {S : Type 0} (remaining contents : S → Option (List ℕ)) where
     pub fault_is : IsFault tick arrival.deadline octets fault
     pub balancer_is : balancer ≡ arrival.balancer
 
-  -- the outcome of a connection
+  -- what a connection has turned out to be
   abbrev pub HasArrived : ℕ → Arrival S → Arrived S → Type 0
   HasArrived tick arrival (Client stream peer) = IsClientOf arrival stream peer
   HasArrived tick arrival (Refused balancer fault) = IsRefused tick arrival balancer fault
 
-  -- the connection of a number has left its slot, and this has come of it
+  -- the connection of a number has left its slot, and has turned out to be this
   pub record HasLeft (tick number : ℕ) (old new : List (Option (Box (Arrival S) Global))) (arrived : Arrived S)
       : Type 0 where
     pub arrival : Box (Arrival S) Global
@@ -132,19 +132,19 @@ module _ {S : Type 0} (remaining contents : S → Option (List ℕ)) where
     pub gone : slot_at new number ≡ None
     pub has : HasArrived tick arrival.value arrived
 
-  -- the connection of a number waits on, or it has left its slot
+  -- the connection of a number stays, or has left its slot
   abbrev pub IsReadOne : ℕ → ℕ → List (Option (Box (Arrival S) Global)) → List (Option (Box (Arrival S) Global))
       → Option (Arrived S) → Type 0
   IsReadOne tick number old new None = WaitsOn tick (slot_at old number) (slot_at new number)
   IsReadOne tick number old new (Some arrived) = HasLeft tick number old new arrived
 
-  -- one connection has left, and all others stand where they stood
+  -- one connection has left, and all others are where they were
   pub record OneLeaves (tick : ℕ) (old new : List (Option (Box (Arrival S) Global))) (arrived : Arrived S) : Type 0 where
     pub number : ℕ
     pub left : HasLeft tick number old new arrived
     pub others : (other : ℕ) → other ≢ number → MayReadOn (slot_at old other) (slot_at new other)
 
-  -- the next of them has left; or all of them wait on
+  -- the next connection has left; or all of them stay
   abbrev pub GivesNext : ℕ → List (Option (Box (Arrival S) Global)) → List (Option (Box (Arrival S) Global))
       → Option (Arrived S) → Type 0
   GivesNext tick old new None = (number : ℕ) → WaitsOn tick (slot_at old number) (slot_at new number)
@@ -169,14 +169,14 @@ module _ {S : Type 0} (remaining contents : S → Option (List ℕ)) where
     pub others : OthersStay old new number
     pub new_is : IsNew stream balancer tick arrival.value
 
-  -- it does, or nothing has changed
+  -- it was taken, or nothing has changed
   abbrev pub Takes : S → SocketAddrV4 → ℕ → List (Option (Box (Arrival S) Global))
       → List (Option (Box (Arrival S) Global)) → Bool → Type 0
   Takes stream balancer tick old new true = IsTaken stream balancer tick old new
   Takes stream balancer tick old new false = new ≡ old
 
-  -- A client has come by a connection of this balancer that began with this stream: a header stood first in it, and
-  -- what follows the header comes next. The header says whose the client is, and nothing was written.
+  -- A client has come by a balancer's connection that began with this stream: a header was first in it, what follows
+  -- the header comes next, and nothing was written. The client has the address in the header.
   pub record FollowsHeader (begun : S) (balancer : SocketAddrV4) (stream : S) (peer : SocketAddrV4) : Type 0 where
     pub header : List ℕ
     pub source : Source
@@ -185,13 +185,13 @@ module _ {S : Type 0} (remaining contents : S → Option (List ℕ)) where
     pub output : contents stream ≡ contents begun
     pub peer_is : IsPeer source balancer peer
 
-  -- So it is of each client, from the beginning of its connection on, however often something was read of that.
+  -- This holds for each client from the start of its connection on, however many reads there were.
   abbrev pub ClientsFollowHeaders : Type 0
   ClientsFollowHeaders =
       (begun stream : S) (balancer peer : SocketAddrV4) (tick : ℕ) (first last : Arrival S) → IsNew begun balancer tick first
       → ReadsOn first last → IsClientOf last stream peer → FollowsHeader begun balancer stream peer
 
-  -- What was read once, and then once more, was read; and to hear of a connection reads nothing.
+  -- Two reads are as one, and noting readiness reads nothing.
   pub record ReadsAreOne : Type 0 where
     pub again : (one two three : Arrival S) → ReadsOn one two → ReadsOn two three → ReadsOn one three
     pub noted : (reads : Bool) (one two : Arrival S) → IsNotedArrival reads one two → ReadsOn one two

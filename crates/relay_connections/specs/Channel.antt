@@ -16,38 +16,38 @@ held_of channel = channel.held
 abbrev pub is_writable : {S : Type 0} → Channel S → Bool
 is_writable channel = channel.ready.writes
 
--- the peer was told that nothing more is written
+-- its write side is shut down
 abbrev pub is_shut : {S : Type 0} → Channel S → Bool
 is_shut channel = channel.is_shut
 
--- what was read of it stays, what is held back, and its stream
+-- what was read and isn't used, what is held back, and the stream are the same
 pub record KeepsOctets {S : Type 0} (old new : Channel S) : Type 0 where
   pub unread : unread_of new ≡ unread_of old
   pub held : held_of new ≡ held_of old
   pub stream : new.stream ≡ old.stream
   pub shut : is_shut new ≡ is_shut old
 
--- What a stream has left of its input, and what it has taken of the output, where that is known.
+-- Below: given what a stream has left of its input, and what it has taken of the output, as far as that is known.
 module _ {S : Type 0} (remaining contents : S → Option (List ℕ)) where
-  -- what is left of the input of a connection: what was read and isn't used yet, and then what its stream has left
+  -- what is left of a connection's input: what was read and isn't used, followed by what its stream has left
   abbrev pub input_left : Channel S → Option (List ℕ)
   input_left channel = prepend_known (unread_of channel) (remaining channel.stream)
 
-  -- the output of a connection so far: what its stream has taken, and then what is held back
+  -- a connection's output so far: what its stream has taken, followed by what is held back
   abbrev pub output_of : Channel S → Option (List ℕ)
   output_of channel = append_known (contents channel.stream) (held_of channel)
 
-  -- where it counts as at its end, its stream has nothing left
+  -- if it counts as at its end, its stream has nothing left
   abbrev pub IsEndTrue : Channel S → Type 0
   IsEndTrue channel = channel.end ≡ Some Input → IsAtEnd (remaining channel.stream)
 
-  -- a call that writes nothing, nor takes from what is held
+  -- a call that writes nothing, and keeps what is held back
   pub record KeepsOutput (old new : Channel S) : Type 0 where
     pub held : held_of new ≡ held_of old
     pub taken : contents new.stream ≡ contents old.stream
     pub shut : is_shut new ≡ is_shut old
 
-  -- a call that reads nothing, nor takes from what was read
+  -- a call that reads nothing, and keeps what was read
   pub record KeepsInput (old new : Channel S) : Type 0 where
     pub unread : unread_of new ≡ unread_of old
     pub left : remaining new.stream ≡ remaining old.stream

@@ -1,4 +1,4 @@
--- The first octets of a balancer's connection: they are read up to the end of its header of the PROXY protocol, and no
+-- The first octets of a balancer's connection, which are read up to the end of its PROXY protocol header, and no
 -- further.
 use Rattle.std.specs.Prelude.{◌≡◌, ◌<◌, ◌≤◌, ℕ, List, ◌++◌, Option}
 use Rattle.std.specs.Io.KnownBytes.{Consumes}
@@ -10,18 +10,18 @@ use Rattle.relay_proxy.specs.declared.header.Reading.TheVariants.{Found, Unfinis
 use Rattle.relay_proxy.specs.declared.source.Source.{Source}
 use Rattle.relay_proxy.specs.declared.source.Source.TheVariants.{Own, Client, Other}
 
--- a header with which the octets begin is all of them
+-- if the octets begin with a header, it is all of them
 abbrev pub HasNothingAfter : List ℕ → Type 0
 HasNothingAfter octets =
     (header : List ℕ) (source : Source) → IsHeader header source → Begins header octets → header ≡ octets
 
--- octets after which nothing was read are a whole header, the beginning of one, or begin with none
+-- the octets are a complete header, a prefix of one, or don't begin with one
 abbrev pub ReadsWhole : List ℕ → Reading → Type 0
 ReadsWhole octets (Found header) = IsHeader octets header.source
 ReadsWhole octets (Unfinished count) = IsBegun octets count
 ReadsWhole octets Missing = IsNone octets
 
--- octets have come: they follow those that were there, and the stream has them no longer
+-- octets arrived: they follow the earlier ones, and the stream doesn't have them any longer
 pub record Comes (left later : Option (List ℕ)) (old new : List ℕ) : Type 0 where
   pub came : List ℕ
   pub octets : new ≡ old ++ came
@@ -36,17 +36,17 @@ pub record IsSomeHeader (octets : List ℕ) : Type 0 where
   pub source : Source
   pub is : IsHeader octets source
 
--- more octets are waited for, and there is time left for them
+-- more octets are needed, and there is time left
 pub record IsWaiting (tick deadline : ℕ) (octets : List ℕ) : Type 0 where
   pub unfinished : IsUnfinished octets
   pub early : tick < deadline
 
--- more octets are waited for, but there is no time left for them
+-- more octets are needed, but there is no time left
 pub record IsLate (tick deadline : ℕ) (octets : List ℕ) : Type 0 where
   pub unfinished : IsUnfinished octets
   pub late : deadline ≤ tick
 
--- a client's address and port, by its header: as it says, or the balancer's own
+-- a client's address and port according to its header, which may refer to the balancer's own
 abbrev pub IsPeer : Source → SocketAddrV4 → SocketAddrV4 → Type 0
 IsPeer Own balancer peer = peer ≡ balancer
 IsPeer (Client client) balancer peer = peer ≡ client

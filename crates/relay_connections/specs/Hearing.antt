@@ -1,5 +1,4 @@
--- What the sessions of clients hear at a turn: each the first lines that were read of its own connection, and none of
--- them twice.
+-- What the sessions of clients hear in a turn: the first lines read from their own connection, and none of them twice.
 use Rattle.std.specs.Prelude.{◌≡◌, ℕ, zero, suc, ◌+◌, ◌%◌, Bool, false, List, [], ◌∷◌, Option, None, Some, All, Box}
 use Rattle.std.specs.Prelude.{length, map}
 use Rattle.std.specs.Global.{Global}
@@ -23,20 +22,20 @@ abbrev pub hears : {S : Type 0} → Option (Box (Client S) Global) → Bool
 hears None = false
 hears (Some client) = client.value.hears
 
--- so has the client of a number
+-- the client of a number has octets that its session may hear
 abbrev pub hears_at : {S : Type 0} → List (Option (Box (Client S) Global)) → ℕ → Bool
 hears_at clients number = hears (slot_at clients number)
 
--- this many numbers of slots, of which there are this many: one after another from this one on, and 0 after the last
+-- this many numbers in a circle of slots, from one on: after the last comes 0
 abbrev pub turned : ℕ → ℕ → ℕ → List ℕ
 turned slots number zero = []
 turned slots number (suc count) = number % slots ∷ turned slots (number + 1) count
 
--- the numbers of all clients that have something to hear, from the first one on
+-- the numbers of all clients with octets to hear, from the first one on
 abbrev pub hearing_from : {S : Type 0} → List (Option (Box (Client S) Global)) → ℕ → List ℕ
 hearing_from clients first = filter (hears_at clients) (turned (length clients) first (length clients))
 
--- a piece is the first lines of what was read of its own session's client and isn't used yet
+-- a piece is the first lines of what was read from its session's client and isn't used yet
 pub record IsOwn {S : Type 0} (clients : List (Option (Box (Client S) Global))) (piece : Piece) : Type 0 where
   pub client : Box (Client S) Global
   pub there : slot_at clients piece.session ≡ Some client
@@ -45,8 +44,8 @@ pub record IsOwn {S : Type 0} (clients : List (Option (Box (Client S) Global))) 
 abbrev pub session_of : Piece → ℕ
 session_of piece = piece.session
 
--- Each session that has something to hear has heard octets of its own client, all of them in one call, and its answer
--- is at its place; and so have attempts these replies, in the same call.
+-- Each session with octets to hear has heard octets of its own client, all in one call, and its result is at its
+-- position; attempts have heard these replies in the same call.
 pub record HearOwn {D S : Type 0} (honest : Type 0) (words : DiskWords D)
     (clients : List (Option (Box (Client S) Global))) (first : ℕ) (replies : List ReplyPiece) (at : ℕ)
     (old new : RelayState D) (hearing : Hearing) : Type 0 where

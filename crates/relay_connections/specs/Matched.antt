@@ -1,5 +1,6 @@
--- The table of clients beside the relay: a client is under each number under which the relay has a connection and its
--- node a session, and its address is that of the session's peer, which the trace header of its mail tells.
+-- The table of clients agrees with the relay: there is a client under each number for which the relay has a connection
+-- and its node a session, and the client's address is that of the session's peer, which the trace header of its mail
+-- names.
 use Rattle.std.specs.Prelude.{◌≡◌, ◌≢◌, true, ℕ, List, Option, None, Some, Box, is_some}
 use Rattle.std.specs.Global.{Global}
 use Rattle.std.specs.Net.Addr.{ipv4_octets}
@@ -12,13 +13,13 @@ use Rattle.relay_connections.specs.Sessions.{EndsAlone}
 use Rattle.relay_connections.specs.declared.client.Client.{Client}
 use Rattle.std.specs.declared.net.socket_addr.SocketAddrV4.{SocketAddrV4}
 
--- the session of a number is one of this peer
+-- the session of a number belongs to this peer
 pub record IsOfPeer (seats : List (Option Seat)) (number : ℕ) (peer : List ℕ) : Type 0 where
   pub seat : Seat
   pub there : slot_at seats number ≡ Some seat
   pub same : seat.peer ≡ peer
 
--- what is under a number
+-- the client, the connection and the session of a number agree
 pub record IsMatched {S D : Type 0} (clients : List (Option (Box (Client S) Global))) (relay : RelayState D)
     (number : ℕ) : Type 0 where
   pub connection : is_some (slot_at relay.clients number) ≡ is_some (slot_at clients number)
@@ -26,11 +27,11 @@ pub record IsMatched {S D : Type 0} (clients : List (Option (Box (Client S) Glob
   pub peer : (client : Box (Client S) Global) → slot_at clients number ≡ Some client
       → IsOfPeer relay.node.seats number (ipv4_octets (v4_ip client.value.peer))
 
--- so it is of all numbers
+-- they agree for all numbers
 abbrev pub AreMatched : {S D : Type 0} → List (Option (Box (Client S) Global)) → RelayState D → Type 0
 AreMatched clients relay = (number : ℕ) → IsMatched clients relay number
 
--- At most one client more is after the call, which is this peer; all others are as before.
+-- There is at most one more client than before, at this address; all others are as before.
 pub record Opens {S D : Type 0} (peer : SocketAddrV4) (old new : List (Option (Box (Client S) Global)))
     (relay : RelayState D) : Type 0 where
   pub matched : AreMatched new relay
@@ -38,13 +39,13 @@ pub record Opens {S D : Type 0} (peer : SocketAddrV4) (old new : List (Option (B
   pub opened : (number : ℕ) (client : Box (Client S) Global) → slot_at old number ≡ None
       → slot_at new number ≡ Some client → client.value.peer ≡ peer
 
--- A session that was open is ended: its connection is gone, and its number is free.
+-- A session that was open has ended: its connection is gone, and its number is free.
 pub record IsFreed {D : Type 0} (session : ℕ) (old new : RelayState D) : Type 0 where
   pub ended : EndsAlone session old new
   pub seat : old.node.records.spool.live ≡ true → slot_at old.clients session ≢ None
       → slot_at old.node.seats session ≢ None → slot_at new.node.seats session ≡ None
 
--- a session has this client, who is of this peer, or it is ended
+-- a session has this client, who is this peer, or has ended
 abbrev pub IsGreeted : {S D : Type 0} → ℕ → SocketAddrV4 → RelayState D → RelayState D
     → Option (Box (Client S) Global) → Type 0
 IsGreeted session peer old new None = IsFreed session old new

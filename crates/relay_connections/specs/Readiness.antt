@@ -1,5 +1,5 @@
--- Connections of clients that were left in mid-read: nobody tells of their octets any more, so nothing may be waited
--- for before these are used.
+-- Connections of clients with octets that were not read to the end: the system won't report these again, so the relay
+-- mustn't wait before they are used.
 use Rattle.std.specs.Prelude.{◌≡◌, ◌≢◌, ℕ, List, [], Option, None, Some, Box}
 use Rattle.std.specs.Global.{Global}
 use Rattle.relay_slots.specs.Slots.{OthersStay, slot_at}
@@ -13,7 +13,7 @@ use Rattle.relay_connections.specs.declared.clients.Clients.{Clients}
 abbrev pub clients_of : {S : Type 0} → Clients S → List (Option (Box (Client S) Global))
 clients_of clients = clients.clients
 
--- the client of this number was left in mid-read, and nothing waits to be written to it
+-- the client of this number has octets that were not read to the end, and nothing is unwritten for it
 pub record IsLeftClient {S D : Type 0} (clients : List (Option (Box (Client S) Global))) (relay : RelayState D)
     (number : ℕ) : Type 0 where
   pub client : Box (Client S) Global
@@ -22,14 +22,14 @@ pub record IsLeftClient {S D : Type 0} (clients : List (Option (Box (Client S) G
   pub held : held_of client.value.channel ≡ []
   pub written : unwritten_at relay.clients number ≡ []
 
--- the client of a number, where one stands, is the same but for what its connection may be ready for
+-- the client in a slot, if any, is the same, except for its connection's readiness
 abbrev pub IsStill : {S : Type 0} → Option (Box (Client S) Global) → Option (Box (Client S) Global) → Type 0
 IsStill None new = new ≡ None
 IsStill (Some client) None = ⊥
 IsStill (Some client) (Some later) =
     (later.value.peer ≡ client.value.peer) × KeepsOctets client.value.channel later.value.channel
 
--- so it is of the client of this number, and all others are as before
+-- the client of this number is the same except for that, and all others are as before
 pub record IsNoted {S : Type 0} (number : ℕ) (old new : List (Option (Box (Client S) Global))) : Type 0 where
   pub still : IsStill (slot_at old number) (slot_at new number)
   pub others : OthersStay old new number

@@ -13,7 +13,7 @@ use Rattle.relay_connections.specs.Table.{count_of, count_of_such}
 abbrev pub is_at : {S : Type 0} → List ℕ → Box (Client S) Global → Bool
 is_at address client = bytes_eq (ipv4_octets (v4_ip client.value.peer)) address
 
--- profile: fewer than 64 clients stand, and at this address fewer than may
+-- profile: there are fewer than 64 clients in all, and fewer than the limit at this address
 pub record HasRoom {S : Type 0} (address : List ℕ) (clients : Clients S) : Type 0 where
   pub alike : count_of_such (is_at address) (clients_of clients) < clients.most
   pub all : count_of (clients_of clients) < SLOT_COUNT

@@ -1,5 +1,5 @@
--- What the relay has for each client of the table: the session of the client's number, to which it talks, and whose
--- dialogue the client's connection carries. Under a number without a client it has no session, and no connection.
+-- What the relay has for each client of the table: a session of the client's number, whose dialogue the client's
+-- connection carries. Under a number without a client it has no session and no connection.
 use Rattle.std.specs.Prelude.{◌≡◌, true, ℕ, ◌==◌, List, [], ◌∷◌, ◌++◌, Option, None, Some, Result, Ok, Err, Box}
 use Rattle.std.specs.Prelude.{if◌then◌else◌}
 use Rattle.std.specs.Global.{Global}
@@ -29,32 +29,31 @@ use Rattle.relay_connections.specs.declared.client.Next.TheVariants.{Stays, Leav
 abbrev pub address_of : {S : Type 0} → Client S → List ℕ
 address_of client = ipv4_octets (v4_ip client.peer)
 
--- the session of this number, whose client is at this address, has said this: of that a part was written, and the rest
--- waits
+-- the session of this number, whose client is at this address, has had this exchange, of which some output is unwritten
 pub record HasSaid {D : Type 0} (changes : List Change) (relay : RelayState D) (number : ℕ) (address : List ℕ)
     (said : Said) : Type 0 where
   pub written : List ℕ
   pub talks : TalksTo changes relay number address said written
 
--- the relay has no session of this number, and no connection
+-- the relay has no session and no connection of this number
 pub record IsUnused {D : Type 0} (relay : RelayState D) (number : ℕ) : Type 0 where
   pub connection : slot_at relay.clients number ≡ None
   pub seat : slot_at relay.node.seats number ≡ None
 
--- the session of a client at each address works with this
+-- sessions have these parameters, by client address
 abbrev pub HaveSetups : {D : Type 0} → (List ℕ → Setup) → RelayState D → Type 0
 HaveSetups setups relay = (address : List ℕ) → setup_for relay.node.config address ≡ setups address
 
--- the node is live, and its sessions work with these
+-- the node is live, and its sessions have these parameters
 pub record WorksWith {D : Type 0} (setups : List ℕ → Setup) (relay : RelayState D) : Type 0 where
   pub live : relay.node.records.spool.live ≡ true
   pub setups_are : HaveSetups setups relay
 
--- The words below are of what is known of the streams of clients, and of a relay whose node keeps these changes.
+-- Below: given what is known of the streams of clients, and a relay whose node keeps these changes.
 module _ {D S : Type 0} (remaining contents : S → Option (List ℕ)) (changes : List Change) (setting : Setting)
     (relay : RelayState D) (number : ℕ) where
-  -- The relay has a session of the number, whose client is at this address, as when its connection began, and this
-  -- connection carries its dialogue. This many octets of what was read of that were heard already.
+  -- The relay has a session of the number, whose client is at the address that it had at the start, and this connection
+  -- carries its dialogue. This many of the buffered octets were heard already.
   pub record HasSession (heard : ℕ) (address : List ℕ) (channel : Channel S) : Type 0 where
     pub address_is : (setting.beginnings number).address ≡ address
     pub said : Said
@@ -62,74 +61,72 @@ module _ {D S : Type 0} (remaining contents : S → Option (List ℕ)) (changes 
     pub carries : Carries remaining contents (setting.beginnings number) heard channel said
         (unwritten_at relay.clients number)
 
-  -- the relay has no session of the number any more, and the last octets of its dialogue go by this connection
+  -- the relay has no session of the number any more, and this connection carries the last octets of its dialogue
   pub record HasEnded (heard : ℕ) (channel : Channel S) (last : List ℕ) : Type 0 where
     pub unused : IsUnused relay number
     pub ends : CarriesLast remaining contents (setup_at setting number) (setting.beginnings number) heard channel last
 
-  -- what the relay has under the number, where this client is under it, or none
+  -- what the relay has under a number, for the client in its slot or for none
   abbrev pub Serves : Option (Box (Client S) Global) → Type 0
   Serves None = IsUnused relay number
   Serves (Some client) = HasSession 0 (address_of client.value) client.value.channel
 
-  -- where the connection of a client at this address is to become this, the relay has its session still, or nothing of
-  -- it any more
+  -- after a turn that leaves the connection so, the relay has the client's session still, or nothing of it any more
   abbrev pub HasNext : List ℕ → Channel S → Next → Type 0
   HasNext address channel Stays = HasSession 0 address channel
   HasNext address channel (Leaves last) = HasEnded 0 channel last
   HasNext address channel Gone = IsUnused relay number
 
-  -- so it is by the last octets of a session that has heard this many octets
+  -- the same, given the last octets, if any, of a session that has heard this many octets
   abbrev pub HasHeard : Option (Box (Client S) Global) → ℕ → Option (List ℕ) → Type 0
   HasHeard None heard last = IsUnused relay number
   HasHeard (Some client) heard None = HasSession heard (address_of client.value) client.value.channel
   HasHeard (Some client) heard (Some last) = HasEnded heard client.value.channel last
 
-  -- after this answer to octets of a client the relay has this of it
+  -- what the relay has of a client after this result of its octets
   abbrev pub HasAnswered : Option (Box (Client S) Global) → Result Heard NodeFault → Type 0
   HasAnswered slot (Ok heard) = HasHeard slot heard.used heard.last
   HasAnswered slot (Err fault) = IsUnused relay number
 
-  -- so it is if there is such an answer, and else the client is served
+  -- the same if there is such a result; else the client is served
   abbrev pub HasAnsweredOr : Option (Box (Client S) Global) → Option (Result Heard NodeFault) → Type 0
   HasAnsweredOr slot None = Serves slot
   HasAnsweredOr slot (Some answer) = HasAnswered slot answer
 
--- no change was made, and all other sessions and connections are as before, and the attempts, theirs, and the
--- configuration
+-- no change was added, and all other sessions, attempts and connections and the configuration are the same
 pub record LeavesRest {D : Type 0} (number : ℕ) (old new : RelayState D) : Type 0 where
   pub only : OnlyClient old new number
   pub records : new.node.records ≡ old.node.records
 
--- the same, and all other clients stand as before
+-- the same, and all other clients are as before
 pub record ActsOn {S D : Type 0} (number : ℕ) (old new : List (Option (Box (Client S) Global)))
     (before after : RelayState D) : Type 0 where
   pub clients : OthersStay old new number
   pub rest : LeavesRest number before after
 
--- what a session has said stays so, however much of that was written in between
+-- a session's exchange is the same, however much of its output was written in between
 abbrev pub StaysSaid : {D : Type 0} → ℕ → RelayState D → RelayState D → Type 0
 StaysSaid number old new = (changes : List Change) (address : List ℕ) (said : Said)
     → HasSaid changes old number address said → HasSaid changes new number address said
 
--- where the connection of a client is to become this, its session has said what it had, or has ended
+-- after a turn that leaves the connection so, its session's exchange is the same, or it has ended
 abbrev pub StaysOrEnds : {D : Type 0} → ℕ → RelayState D → RelayState D → Option Next → Type 0
 StaysOrEnds number old new None = StaysSaid number old new
 StaysOrEnds number old new (Some Stays) = StaysSaid number old new
 StaysOrEnds number old new (Some (Leaves last)) = IsFreed number old new
 StaysOrEnds number old new (Some Gone) = IsFreed number old new
 
--- the answer to octets of the client of a number, where one is among these
+-- the result of the octets of a client, if it is among these
 abbrev pub answer_to : ℕ → List (ℕ × Result Heard NodeFault) → Option (Result Heard NodeFault)
 answer_to number [] = None
 answer_to number (one ∷ answers) = if one.0 == number then Some one.1 else answer_to number answers
 
--- no two of these are of one client
+-- no two of these belong to one client
 abbrev pub AreApart : List (ℕ × Result Heard NodeFault) → Type 0
 AreApart [] = Unit {0}
 AreApart (one ∷ answers) = (answer_to one.0 answers ≡ None) × AreApart answers
 
--- the setting once a connection of this peer was opened, with this stream
+-- the setting after a connection of this peer was opened, on this stream
 abbrev pub opened
     : {S : Type 0} → (S → Option (List ℕ)) → (S → Option (List ℕ)) → Setting → List (Option (Box (Client S) Global))
     → SocketAddrV4 → S → Setting
@@ -140,7 +137,7 @@ opened remaining contents setting clients peer stream = record {
       (ipv4_octets (v4_ip peer)) stream;
 }
 
--- The words below are of the clients of a relay, by number.
+-- Below: the clients of a relay, by number.
 module _ {D S : Type 0} (honest : Type 0) (words : DiskWords D) (remaining contents : S → Option (List ℕ)) where
   -- each client is served, and the node keeps these changes
   pub record AreServed (changes : List Change) (setting : Setting) (clients : List (Option (Box (Client S) Global)))
@@ -149,13 +146,13 @@ module _ {D S : Type 0} (honest : Type 0) (words : DiskWords D) (remaining conte
     pub setups_are : HaveSetups setting.setups relay
     pub each : (number : ℕ) → Serves remaining contents changes setting relay number (slot_at clients number)
 
-  -- so it is after more changes
+  -- the same after more changes
   pub record AreServedBehind (changes : List Change) (setting : Setting)
       (clients : List (Option (Box (Client S) Global))) (relay : RelayState D) : Type 0 where
     pub added : List Change
     pub served : AreServed (changes ++ added) setting clients relay
 
-  -- each client is served, but where one of these answers is still to be taken
+  -- each client is served, except that some of these results are still to be taken
   pub record HaveAnswered (changes : List Change) (setting : Setting) (clients : List (Option (Box (Client S) Global)))
       (relay : RelayState D) (answers : List (ℕ × Result Heard NodeFault)) : Type 0 where
     pub keeps : Keeps honest words relay.node.records changes
@@ -164,13 +161,13 @@ module _ {D S : Type 0} (honest : Type 0) (words : DiskWords D) (remaining conte
     pub each : (number : ℕ) → HasAnsweredOr remaining contents changes setting relay number
         (slot_at clients number) (answer_to number answers)
 
-  -- A client that is served has its session and its connection under its own number, and is the session's peer.
+  -- A served client has its session and its connection under its own number, and is the session's peer.
   abbrev pub ServedAreMatched : Type 0
   ServedAreMatched =
       (changes : List Change) (setting : Setting) (clients : List (Option (Box (Client S) Global)))
       (relay : RelayState D) → AreServed changes setting clients relay → AreMatched clients relay
 
-  -- A relay that has just begun serves the clients of a free table.
+  -- A new relay serves an empty table of clients.
   abbrev pub FreeAreServed : Type 0
   FreeAreServed =
       (changes : List Change) (setting : Setting) (clients : List (Option (Box (Client S) Global)))
@@ -178,7 +175,7 @@ module _ {D S : Type 0} (honest : Type 0) (words : DiskWords D) (remaining conte
       → Keeps honest words relay.node.records changes → HaveSetups setting.setups relay
       → AreFree clients → AreFree relay.clients → AreFree relay.node.seats → AreServed changes setting clients relay
 
-  -- Clients are served as before where the system tells what the connection of one may be ready for.
+  -- Noting readiness doesn't change how clients are served.
   abbrev pub NotedAreServed : Type 0
   NotedAreServed =
       (changes : List Change) (setting : Setting) (old new : List (Option (Box (Client S) Global)))

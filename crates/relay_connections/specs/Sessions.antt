@@ -1,4 +1,4 @@
--- How the session of a client ends where its connection does, or where the relay cuts it off.
+-- Ending a client's session, because its connection has ended or the relay cuts it off.
 use Rattle.std.specs.Prelude.{◌≡◌, ◌⊎◌, ℕ, List, [], None, Some}
 use Rattle.relay_slots.specs.Slots.{slot_at}
 use Rattle.relay_loop.specs.declared.closing.Closing.TheVariants.{Timeout}
@@ -10,13 +10,14 @@ use Rattle.relay_connections.specs.declared.channel.Channel.{Channel}
 use Rattle.relay_connections.specs.declared.client.Next.{Next}
 use Rattle.relay_connections.specs.declared.client.Next.TheVariants.{Stays, Leaves, Gone}
 
--- the connection of a session is gone, no change was made, and all other connections stay
+-- the connection of a session is gone, no change was added, and all other connections stay
 pub record EndsAlone {D : Type 0} (session : ℕ) (old new : RelayState D) : Type 0 where
   pub gone : slot_at new.clients session ≡ None
   pub only : OnlyClient old new session
   pub records : new.node.records ≡ old.node.records
 
--- At the end of its input a client is still written what waits. It is closed at once only if it isn't known.
+-- After the end of its input a client's unwritten octets are still written. The connection is closed at once only if it
+-- isn't known.
 abbrev pub LeavesWithAll : {D : Type 0} → RelayState D → ℕ → Next → Type 0
 LeavesWithAll old session Stays = ⊥
 LeavesWithAll old session (Leaves last) = slot_at old.clients session ≡ Some last
@@ -28,15 +29,15 @@ IsTold host Stays = ⊥
 IsTold host (Leaves last) = last ≡ closing_of host Timeout
 IsTold host Gone = Unit {0}
 
--- it is told so only if nothing waited, so that the line comes after whole replies
+-- it gets that line only if nothing was unwritten, so that it follows whole replies
 abbrev pub IsCutOff : {D : Type 0} → RelayState D → ℕ → Next → Type 0
 IsCutOff old session Stays = ⊥
 IsCutOff old session (Leaves last) =
     (slot_at old.clients session ≡ Some []) × (last ≡ closing_of old.node.config.host Timeout)
 IsCutOff old session Gone = Unit {0}
 
--- A client whose connection was to become this is left at that; or it was to stay, and is cut off. It is told so only
--- if nothing is held either.
+-- A turn has this result for a client; or the client was to stay, and is cut off. It gets the line only if nothing is
+-- held back either.
 abbrev pub IsCutOffBehind : {D S : Type 0} → RelayState D → ℕ → Channel S → Next → Type 0
 IsCutOffBehind old session channel Stays = ⊥
 IsCutOffBehind old session channel (Leaves last) = (held_of channel ≡ []) × IsCutOff old session (Leaves last)

@@ -1,13 +1,13 @@
--- What the session of a client hears in one call, of the octets that were read of its connection: a bounded number of
--- lines. A line ends with its LF here, whatever is before that.
+-- How much of the octets read from its connection a client's session hears in one call: a bounded number of lines. Here
+-- a line ends with LF, whatever comes before it.
 use Rattle.std.specs.Prelude.{ℕ, zero, suc, ◌+◌, ◌==◌, List, [], ◌∷◌, if◌then◌else◌, drop, take}
 
--- how many octets the first line has, with its LF; all if there is none
+-- the length of the first line with its LF, or of all octets if there is no LF
 abbrev pub line_length : List ℕ → ℕ
 line_length [] = 0
 line_length (octet ∷ octets) = if octet == 10 then 1 else suc (line_length octets)
 
--- how many octets the first lines have, of which there are this many; all if there are fewer lines
+-- the length of the first lines, or of all octets if there are fewer
 abbrev pub lines_length : ℕ → List ℕ → ℕ
 lines_length zero octets = 0
 lines_length (suc count) octets =

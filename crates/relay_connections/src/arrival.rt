@@ -1,4 +1,4 @@
-//! A connection of a balancer whose header of the PROXY protocol isn't whole yet.
+//! A balancer's connection whose PROXY protocol header isn't complete yet.
 ghost use Rattle.std.specs.Prelude.{◌≡◌, ℕ, false};
 ghost use Rattle.relay_proxy.specs.Header.{IsBegun, IsHeader};
 ghost use Rattle.relay_connections.specs.Arrivals.{ReadsOn, HasArrived, HasProgressed, IsNew};
@@ -11,29 +11,29 @@ use relay_proxy::{Reading, Source};
 use std::io::ErrorKind;
 use std::net::SocketAddrV4;
 
-/// How many seconds a header is waited for.
+/// How many seconds a header may take.
 const HEADER_SECONDS: u64 = 5;
 
-/// The most reads of a header at a turn: each takes an octet at least, and a header has 536 at most.
+/// The most reads of a header in one turn: each yields at least one octet, and a header has at most 536.
 const READ_LIMIT: usize = 540;
 
-/// The outcome of a balancer's connection.
+/// What a balancer's connection has turned out to be.
 #[derive(Drop)]
 pub enum Arrived<S> {
-    /// A client's connection, of which the octets after its header come next, and the client's address and port.
+    /// The connection of a client, whose octets after the header come next, and the client's address and port.
     Client(S, SocketAddrV4),
-    /// Nothing: the connection of this balancer is closed.
+    /// No client: the connection of this balancer is closed, for this reason.
     Refused(SocketAddrV4, HeaderFault),
 }
 
-/// A connection whose header is waited for.
+/// A connection whose header isn't complete yet.
 pub(crate) struct Arrival<S> {
     stream: S,
     /// The balancer's own address and port.
     pub(crate) balancer: SocketAddrV4,
     /// What was read of the header.
     header: HeaderOctets,
-    /// A read may give octets, the end or a fault.
+    /// Whether a read may yield octets, the end or an error.
     pub(crate) reads: bool,
     /// The tick at which the connection is closed.
     pub(crate) deadline: u64,
@@ -52,19 +52,19 @@ impl<S: Drop> Drop for Arrival<S> {
     }
 }
 
-/// How far a header is read.
+/// The state of a header.
 #[derive(Drop)]
 pub(crate) enum Progress {
-    /// More octets are waited for.
+    /// More octets are needed.
     Waits,
-    /// It is whole, nothing after it was read, and it says this of the client.
+    /// The header is complete, and says this about the client. Nothing after it was read.
     Whole(Source),
-    /// There will be none.
+    /// There will be no header.
     Fails(HeaderFault),
 }
 
 impl<S: Stream + Drop> Arrival<S> {
-    /// Makes a connection of which nothing was read.
+    /// Makes a connection from which nothing was read.
     pub(crate) fn new(stream: S, balancer: SocketAddrV4, now: &Now) -> Self
         ensures { IsNew S.remaining S.contents stream balancer now.now.tick result }
     {
@@ -77,7 +77,7 @@ impl<S: Stream + Drop> Arrival<S> {
         }
     }
 
-    /// Reads what has come of the header, and nothing after it.
+    /// Reads octets of the header that have arrived, and nothing after it.
     pub(crate) fn read(&mut self, now: &Now) -> Progress
         ensures reads_on { ReadsOn S.remaining S.contents self.old self.new }
         ensures progress { HasProgressed now.now.tick self.new.deadline self.new.header result }
@@ -96,7 +96,7 @@ impl<S: Stream + Drop> Arrival<S> {
         self.progress(now)
     }
 
-    /// How far its header is read.
+    /// Returns the state of the header.
     fn progress(&self, now: &Now) -> Progress
         ensures { HasProgressed now.now.tick self.now.deadline self.now.header result }
     {
@@ -110,8 +110,8 @@ impl<S: Stream + Drop> Arrival<S> {
         }
     }
 
-    /// Reads as many octets of its header as are missing at least, or fewer. Returns whether the connection stands: not
-    /// where it has come to its end, or is broken.
+    /// Reads at most `count` octets of the header, which lacks at least that many. Returns whether the connection is
+    /// still open: it hasn't ended and isn't broken.
     fn read_some(&mut self, count: usize) -> bool
         requires { IsBegun self.old.header count }
         ensures reads_on { ReadsOn S.remaining S.contents self.old self.new }
@@ -130,7 +130,7 @@ impl<S: Stream + Drop> Arrival<S> {
         }
     }
 
-    /// Returns what its header says of it. The system tells of the connection no more.
+    /// Returns what the connection is according to its header. Its stream is no longer registered.
     pub(crate) fn arrived(self, registry: &S::Registry, source: Source) -> Arrived<S>
         requires { IsHeader self.header source }
         ensures { (tick : ℕ) → HasArrived S.remaining S.contents tick self result }

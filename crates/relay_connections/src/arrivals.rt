@@ -1,4 +1,4 @@
-//! Connections of balancers, which begin with a header of the PROXY protocol: those whose header isn't whole yet.
+//! Balancers' connections whose PROXY protocol header isn't complete yet.
 ghost use Rattle.std.specs.Prelude.{◌≡◌, ◌≤◌, ◌<◌, ◌↔◌, ◌⊎◌, ℕ, None, IfOk, IsTrue};
 ghost use Rattle.relay_slots.specs.Slots.{AreFree, OthersStay, slot_at};
 ghost use Rattle.relay_slots.specs.declared.slots.TheConstants.{SLOT_COUNT};
@@ -15,11 +15,11 @@ use relay_slots::SLOT_COUNT;
 use std::alloc::{AllocError, Global};
 use std::net::SocketAddrV4;
 
-/// The token of the first connection whose header is waited for.
+/// The token of the first such connection.
 const FIRST_TOKEN: usize = 3 * SLOT_COUNT;
 
-/// The connections of balancers whose headers are waited for, up to 64, each for five seconds. They are no sessions
-/// yet, and count for no client's address.
+/// Balancers' connections whose headers aren't complete yet, at most 64, each for at most five seconds. They have no
+/// session yet, and don't count towards any client address.
 pub struct Arrivals<S = TcpStream> {
     alloc: Global,
     arrivals: Table<Box<Arrival<S>>>,
@@ -36,12 +36,12 @@ impl<S: Drop> Drop for Arrivals<S> {
 }
 
 impl Arrivals {
-    /// The token of the first of them; those of the others follow, in the order of their numbers.
+    /// The token of the first connection; the others' follow in the order of their numbers.
     pub const FIRST_TOKEN: usize = FIRST_TOKEN;
 }
 
 impl<S: Stream + Drop> Arrivals<S> {
-    /// None. Fails if memory runs out.
+    /// Returns an empty table. Fails if memory runs out.
     pub fn new(alloc: Global) -> Result<Self, AllocError>
         ensures { IfOk result (λ arrivals. AreFree (arrivals_of arrivals)) }
     {
@@ -80,8 +80,8 @@ impl<S: Stream + Drop> Arrivals<S> {
         }
     }
 
-    /// Returns the first of them whose header is whole, or of which there will be none; none if all others wait.
-    /// Nothing that follows a header is read.
+    /// Returns the first connection whose header is complete or will never be; `None` if there is none. Reads nothing
+    /// that follows a header.
     pub fn next(&mut self, registry: &S::Registry, now: &Now) -> Option<Arrived<S>>
         ensures { GivesNext S.remaining S.contents now.now.tick (arrivals_of self.old) (arrivals_of self.new) result }
     {
@@ -94,7 +94,7 @@ impl<S: Stream + Drop> Arrivals<S> {
         None
     }
 
-    /// Reads what has come of the header of one of them. Returns its outcome once it no longer waits.
+    /// Reads octets of one connection's header. Returns what the connection is, once that is known.
     fn read_one(&mut self, number: usize, registry: &S::Registry, now: &Now) -> Option<Arrived<S>>
         ensures one { IsReadOne S.remaining S.contents now.now.tick number
             (arrivals_of self.old) (arrivals_of self.new) result }
@@ -114,7 +114,7 @@ impl<S: Stream + Drop> Arrivals<S> {
         }
     }
 
-    /// The system tells what the connection of a number may be ready for.
+    /// Notes what the connection of a number may be ready for, as the system reports it.
     pub fn note(&mut self, number: usize, ready: Readiness)
         ensures noted { IsNotedSlot ready.reads
             (slot_at (arrivals_of self.old) number) (slot_at (arrivals_of self.new) number) }
@@ -127,7 +127,7 @@ impl<S: Stream + Drop> Arrivals<S> {
         }
     }
 
-    /// Closes all of them.
+    /// Closes all connections.
     pub fn clear(&mut self)
         ensures { (number : ℕ) → number < SLOT_COUNT → slot_at (arrivals_of self.new) number ≡ None }
     {
@@ -136,7 +136,7 @@ impl<S: Stream + Drop> Arrivals<S> {
         }
     }
 
-    /// Returns whether one may have octets that weren't read.
+    /// Returns whether a connection may have unread octets.
     pub fn is_ready(&self) -> bool
         ensures { IsTrue result ↔ IsOneReadable (arrivals_of self.now) }
     {
@@ -151,7 +151,7 @@ impl<S: Stream + Drop> Arrivals<S> {
         false
     }
 
-    /// Returns the tick at which the next of them is closed, or the given one where that is earlier.
+    /// Returns the tick at which the next connection is closed, or `otherwise` if that is earlier.
     pub fn next_deadline(&self, otherwise: u64) -> u64
         ensures within { result ≤ otherwise }
         ensures each { (number : ℕ) → Within result (slot_at (arrivals_of self.now) number) }

@@ -6,11 +6,11 @@ use std::alloc::{AllocError, Global};
 use std::io;
 use std::marker::Model;
 
-/// How many octets are read of a connection at a time.
+/// How many octets are read from a connection at a time.
 pub(crate) const BLOCK_SIZE: usize = 65_536;
 
-/// The octets that were read of a connection and aren't used yet: one block at most. Allocates nothing before the first
-/// is read.
+/// The octets that were read from a connection and aren't used yet, at most one block. Allocates nothing before the
+/// first read.
 pub(crate) struct Block {
     octets: Vec<u8>,
     start: usize,
@@ -39,7 +39,7 @@ impl Model for Block {
 }
 
 impl Block {
-    /// Nothing was read.
+    /// Returns an empty block.
     pub(crate) fn new(alloc: Global) -> Self
         ensures { result ≡ [] }
     {
@@ -50,21 +50,21 @@ impl Block {
         }
     }
 
-    /// Returns what was read and isn't used yet.
+    /// Returns the octets that aren't used yet.
     pub(crate) fn piece(&self) -> &[u8]
         ensures { result.now ≡ self.now }
     {
         &self.octets[self.start..self.end]
     }
 
-    /// Returns whether all that was read is used.
+    /// Returns whether all octets are used.
     pub(crate) fn is_empty(&self) -> bool
         ensures { IsTrue result ↔ (self.now ≡ []) }
     {
         self.piece().is_empty()
     }
 
-    /// This many octets more are used; if there are fewer, all.
+    /// Marks `count` more octets as used, or all if there are fewer.
     pub(crate) fn used(&mut self, count: usize)
         ensures { self.new ≡ drop count self.old }
     {
@@ -75,8 +75,8 @@ impl Block {
         }
     }
 
-    /// Reads the next octets of a stream, where all of those before are used, and tells how many; none are the end of
-    /// its input. It fails as the stream does, and if memory runs out.
+    /// Reads the next octets of a stream, after all earlier ones were used, and returns how many; 0 means the end of
+    /// the input. Fails as the stream does, or if memory runs out.
     pub(crate) fn fill<S: Stream>(&mut self, alloc: Global, stream: &mut S) -> io::Result<usize>
         requires { self.old ≡ [] }
         ensures came { Consumes (S.remaining stream.old) (S.remaining stream.new) self.new }
@@ -96,7 +96,7 @@ impl Block {
     }
 }
 
-/// Returns this many zeros.
+/// Returns `count` zeros.
 fn zeros(alloc: Global, count: usize) -> Result<Vec<u8>, AllocError>
     ensures { IfOk result (λ zeros. length zeros.items ≡ count) }
 {

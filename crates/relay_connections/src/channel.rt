@@ -15,16 +15,16 @@ use std::io::{self, ErrorKind};
 /// What a connection may be ready for.
 #[derive(Clone, Copy, Debug)]
 pub struct Readiness {
-    /// A read gives octets, the end or a fault.
+    /// Whether a read may yield octets, the end or an error.
     pub reads: bool,
-    /// A write takes octets, or gives a fault.
+    /// Whether a write may take octets, or yield an error.
     pub writes: bool,
-    /// After what can be read comes the end, or a fault.
+    /// Whether the end or an error follows what can be read.
     pub ends: bool,
 }
 
 impl Readiness {
-    /// Returns what an event says.
+    /// Returns the readiness in an event.
     pub fn of(event: &Event) -> Self {
         Readiness {
             reads: event.is_readable() || event.is_read_closed() || event.is_error(),
@@ -34,20 +34,20 @@ impl Readiness {
     }
 }
 
-/// A connection, with what was read of it and isn't used, up to 65,536 octets; with what is held back to be written
-/// before all else, up to 4,096; and with what it may be ready for. The system tells of a change once: so a connection
-/// counts as ready from then on, up to the read or write that would have to wait. No call waits.
+/// A non-blocking connection, with up to 65,536 octets that were read and aren't used yet, up to 4,096 octets that are
+/// held back and written before all others, and its readiness. The system reports a change of readiness once, so the
+/// connection counts as ready from then on, until a read or a write would have to wait.
 pub struct Channel<S = TcpStream> {
     alloc: Global,
     stream: S,
-    /// What is written before all else.
+    /// The octets that are written before all others.
     held: Held,
-    /// The system tells of it.
+    /// Whether it is registered with the poll.
     is_registered: bool,
-    /// The peer was told that nothing more is written.
+    /// Whether its write side is shut down.
     is_shut: bool,
     ready: Readiness,
-    /// What it ends with: its input has come to its end, or a call has failed.
+    /// How it has ended, if it has: its input has ended, or a call has failed.
     end: Option<End>,
     block: Block,
 }
@@ -55,9 +55,9 @@ pub struct Channel<S = TcpStream> {
 /// How a connection has ended.
 #[derive(Clone, Copy, Debug, PartialEq, Eq)]
 pub enum End {
-    /// Its input has come to its end. What waits may still be written.
+    /// Its input has ended. What is unwritten may still be written.
     Input,
-    /// It is broken: nothing is read or written any more.
+    /// It is broken: nothing more is read or written.
     Broken,
 }
 
@@ -78,7 +78,8 @@ impl<S: Drop> Drop for Channel<S> {
 }
 
 impl<S: Stream> Channel<S> {
-    /// Returns the connection of this stream. It is written to at once, and read when the system tells that it may be.
+    /// Makes the connection of this stream. It may be written at once, and is read after the system reports it
+    /// readable.
     pub fn new(alloc: Global, stream: S) -> Self
         ensures stream { result.stream ≡ stream }
         ensures unread { unread_of result ≡ [] }
@@ -103,15 +104,15 @@ impl<S: Stream> Channel<S> {
         }
     }
 
-    /// Its stream.
+    /// Returns its stream.
     pub fn stream(&self) -> &S
         ensures { result.now ≡ self.now.stream }
     {
         &self.stream
     }
 
-    /// Has the system tell of it under this token from now on, also of what it is ready for already. It fails where the
-    /// system refuses that.
+    /// Registers it with the poll under this token; what it is ready for already is reported too. Fails if the system
+    /// refuses.
     pub fn register(&mut self, registry: &S::Registry, token: usize) -> io::Result<()>
         ensures input { KeepsInput S.remaining S.contents self.old self.new }
         ensures output { KeepsOutput S.remaining S.contents self.old self.new }
@@ -122,12 +123,12 @@ impl<S: Stream> Channel<S> {
         Ok(())
     }
 
-    /// Returns whether the connection that was begun has come about, or why it hasn't.
+    /// Returns whether it is connected, or why connecting has failed.
     pub fn has_connected(&self) -> io::Result<bool> {
         self.stream.has_connected()
     }
 
-    /// The system tells what it may be ready for.
+    /// Notes what it may be ready for, as the system reports it.
     pub fn note(&mut self, ready: Readiness)
         ensures octets { KeepsOctets self.old self.new }
         ensures end { self.new.end ≡ self.old.end }
@@ -138,7 +139,7 @@ impl<S: Stream> Channel<S> {
         self.ready.ends |= ready.ends;
     }
 
-    /// It counts as not ready to be written to, until the system tells that it is.
+    /// Counts it as not writable, until the system reports that it is.
     pub fn awaits_writing(&mut self)
         ensures octets { KeepsOctets self.old self.new }
         ensures end { self.new.end ≡ self.old.end }
@@ -147,7 +148,7 @@ impl<S: Stream> Channel<S> {
         self.ready.writes = false;
     }
 
-    /// How it has ended, if it has and all that was read is used.
+    /// Returns how it has ended, if it has, and all that was read is used.
     pub fn end(&self) -> Option<End>
         ensures used { result ≡ Some End.Input → unread_of self.now ≡ [] }
         ensures end { (end : End) → result ≡ Some end → self.now.end ≡ Some end }
@@ -174,7 +175,7 @@ impl<S: Stream> Channel<S> {
         self.block.is_empty()
     }
 
-    /// This many octets of that are used; if there are fewer, all.
+    /// Marks `count` more octets as used, or all if there are fewer.
     pub fn used(&mut self, count: usize)
         ensures used { unread_of self.new ≡ drop count (unread_of self.old) }
         ensures left { self.new.stream ≡ self.old.stream }
@@ -184,7 +185,7 @@ impl<S: Stream> Channel<S> {
         self.block.used(count);
     }
 
-    /// Returns whether something can be done with it at once, where octets wait to be written to it or don't.
+    /// Returns whether it can be read, or written if `waits` says that octets are unwritten, at once.
     pub fn is_ready(&self, waits: bool) -> bool
         ensures { unread_of self.now ≢ [] → waits ≡ false → result ≡ true }
     {
@@ -197,15 +198,15 @@ impl<S: Stream> Channel<S> {
         }
     }
 
-    /// Returns whether it may be ready to be written to.
+    /// Returns whether it may be writable.
     pub fn may_write(&self) -> bool
         ensures { result ≡ is_writable self.now }
     {
         self.ready.writes
     }
 
-    /// Reads a block of up to 65,536 octets, where all of the last one is used and there may be more. Returns whether
-    /// octets came.
+    /// Reads a block of up to 65,536 octets, if the last one is used and there may be more. Returns whether octets
+    /// arrived.
     pub fn fill(&mut self) -> bool
         ensures unread { unread_of self.old ≢ [] → self.new ≡ self.old }
         ensures none { unread_of self.old ≢ [] → result ≡ false }
@@ -224,8 +225,8 @@ impl<S: Stream> Channel<S> {
                 false
             }
             Ok(count) => {
-                // A read that leaves room has taken all that there is, and the system tells of what comes after
-                // it: but for an end of which it has told already.
+                // A read that doesn't fill the block has taken all there is, and the system will report what comes
+                // later; except an end that it has reported already.
                 if count < BLOCK_SIZE && !self.ready.ends {
                     self.ready.reads = false;
                 }
@@ -249,15 +250,15 @@ impl<S: Stream> Channel<S> {
         }
     }
 
-    /// Returns whether octets are held that are to be written.
+    /// Returns whether octets are held back.
     pub(crate) fn is_holding(&self) -> bool
         ensures { IsTrue result ↔ (held_of self.now ≢ []) }
     {
         !self.held.is_empty()
     }
 
-    /// Holds octets back, to be written with those that come next, and returns whether: not where they are too many, or
-    /// memory runs out.
+    /// Holds octets back, to be written with those that come next. Returns false if they are too many or memory runs
+    /// out; they aren't held then.
     pub(crate) fn hold(&mut self, octets: &[u8]) -> bool
         ensures held { result ≡ true → held_of self.new ≡ held_of self.old ++ octets.now }
         ensures stream { self.new.stream ≡ self.old.stream }
@@ -268,8 +269,8 @@ impl<S: Stream> Channel<S> {
         self.held.push(octets)
     }
 
-    /// Writes what is held, and of these octets after it what goes at once; it tells how many of these are done with:
-    /// they are written, or held. If the peer was told that nothing more is written, nothing is.
+    /// Writes what is held back, and then as many of these octets as the stream takes at once. Returns how many of
+    /// these are written or held. Writes nothing after its write side was shut down.
     pub fn write(&mut self, octets: &[u8]) -> usize
         ensures output { Appends (output_of S.remaining S.contents self.old) (output_of S.remaining S.contents self.new)
             (take result octets.now) }
@@ -292,7 +293,7 @@ impl<S: Stream> Channel<S> {
         }
     }
 
-    /// Writes of what is held what goes at once.
+    /// Writes as much of what is held back as the stream takes at once.
     fn write_held(&mut self)
         ensures output { Keeps (output_of S.remaining S.contents self.old) (output_of S.remaining S.contents self.new) }
         ensures input { KeepsInput S.remaining S.contents self.old self.new }
@@ -307,7 +308,7 @@ impl<S: Stream> Channel<S> {
         self.held.wrote(count);
     }
 
-    /// Writes of these octets what goes at once, and tells how many, if none are held.
+    /// Writes as many of these octets as the stream takes at once, and returns how many; nothing is held back.
     fn write_now(&mut self, octets: &[u8]) -> usize
         requires { held_of self.old ≡ [] }
         ensures output { Appends (output_of S.remaining S.contents self.old) (output_of S.remaining S.contents self.new)
@@ -361,7 +362,7 @@ impl<S: Stream> Channel<S> {
         }
     }
 
-    /// Tells the peer that nothing more is written.
+    /// Shuts the write side down.
     pub(crate) fn shut_down(&mut self)
         ensures input { KeepsInput S.remaining S.contents self.old self.new }
         ensures held { held_of self.new ≡ held_of self.old }

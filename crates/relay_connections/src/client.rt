@@ -1,4 +1,4 @@
-//! The connection of a client, and what is done with it at a turn.
+//! The connection of a client, and what a turn does with it.
 ghost use Rattle.std.specs.Prelude.{◌≡◌, ◌≢◌, ◌↔◌, ℕ, List, [], None, Some, Err, IfErr, IfOk, false, true};
 ghost use Rattle.std.specs.Io.KnownBytes.{Keeps};
 ghost use Rattle.relay_loop.specs.Outboxes.{unwritten_at};
@@ -17,43 +17,44 @@ use relay_loop::{Heard, Outbox, Relay};
 use relay_node::NodeFault;
 use std::net::SocketAddrV4;
 
-/// How many seconds a session may last without mail that is accepted.
+/// How many seconds a session may last without accepted mail.
 const SESSION_SECONDS: u64 = 30 * 60;
 
-/// How many seconds a client may be idle while few places are left for others, if no mail of it was accepted.
+/// How many seconds a client may be idle while few places are left for others, if none of its mail was accepted.
 const CROWDED_SECONDS: u64 = 10;
 
-/// How many octets of a text or a chunk are waited for as long as for a command line.
+/// How many octets of mail data or of a chunk have the same time limit as a command line.
 const PART_SIZE: usize = 65_536;
 
-/// How many writes a connection has at a turn, where each takes a part alone.
+/// The most writes on a connection in one turn, if each takes a part only.
 const WRITE_LIMIT: usize = 16;
 
-/// How the reply begins to mail for which the spool has no room.
+/// The start of the reply to mail for which the spool has no room.
 const SPOOL_FULL: &[u8] = b"452 spool full";
 
-/// The connection of a client, which is under its session's number.
+/// The connection of a client; it has its session's number.
 pub(crate) struct Client<S> {
     pub(crate) channel: Channel<S>,
     pub(crate) peer: SocketAddrV4,
-    /// Octets were read that its session hasn't heard yet, and may hear.
+    /// Whether octets were read that its session may hear.
     pub(crate) hears: bool,
-    /// How many octets were read since the last answer, or since the deadline was set anew.
+    /// How many octets were read since the last reply, or since the deadline was renewed.
     unanswered: usize,
-    /// A line end was among them.
+    /// Whether a line end was among them.
     has_line_end: bool,
-    /// The tick at which it is cut off. It is set anew by the first octet after an answer, by 65,536 octets that lead
-    /// to none and have a line end, since they are of a text or a chunk, and by each write of which it takes something:
-    /// so a command line must stand whole within the timeout of its first octet.
+    /// The tick at which an idle client is cut off. The deadline is renewed by the first octet after a reply; by each
+    /// 65,536 octets without a reply that contain a line end, since these are mail data or a chunk; and by each write
+    /// of which the client takes something. So a command line must be complete within the timeout after its first
+    /// octet.
     idle_deadline: u64,
-    /// The tick at which it is cut off while few places are left, unless mail of it was accepted or it has begun to say
-    /// something. It is set anew with the deadline before.
+    /// The tick at which the client is cut off while few places are left, unless its mail was accepted or it has begun
+    /// to send something. It is renewed with the idle deadline.
     crowded_deadline: u64,
-    /// Mail of it was accepted.
+    /// Whether mail of this client was accepted.
     has_accepted: bool,
-    /// The tick at which it is cut off, unless mail of it is accepted before.
+    /// The tick at which the client is cut off, unless its mail is accepted before.
     session_deadline: u64,
-    /// What the log tells of it at its end.
+    /// What the log says about it when it ends.
     pub(crate) record: ClientRecord,
 }
 
@@ -75,10 +76,10 @@ impl<S: Drop> Drop for Client<S> {
     }
 }
 
-/// What becomes of a connection after a turn.
+/// What happens to a connection after a turn.
 #[derive(Drop)]
 pub(crate) enum Next {
-    /// It stays.
+    /// It stays open.
     Stays,
     /// Its session has ended, and these are its last octets.
     Leaves(Outbox),
@@ -86,17 +87,17 @@ pub(crate) enum Next {
     Gone,
 }
 
-/// What clients have led to at a turn.
+/// What the clients' octets have led to in a turn.
 #[derive(Clone, Copy, Debug)]
 pub struct Intake {
-    /// Mail was refused since the spool is full.
+    /// Whether mail was refused because the spool is full.
     pub was_full: bool,
-    /// A connection was closed.
+    /// Whether a connection was closed.
     pub closed: bool,
 }
 
 impl<S: Stream> Client<S> {
-    /// Makes a client that has just connected, and may be idle for this many seconds.
+    /// Makes a client that has just connected, and may be idle for `timeout` seconds.
     pub(crate) fn new(channel: Channel<S>, peer: SocketAddrV4, timeout: u64, now: &Now) -> Self
         ensures channel { result.channel ≡ channel }
         ensures peer { result.peer ≡ peer }
@@ -115,7 +116,7 @@ impl<S: Stream> Client<S> {
         }
     }
 
-    /// Its connection alone.
+    /// Returns its connection.
     pub(crate) fn into_channel(self) -> Channel<S>
         ensures { result ≡ self.channel }
     {
@@ -134,7 +135,7 @@ impl<S: Stream> Client<S> {
         channel
     }
 
-    /// Returns the tick at which it is cut off as things stand, while few places are left for others or not.
+    /// Returns the tick at which it is cut off as things are, given whether few places are left for others.
     pub(crate) fn deadline(&self, is_crowded: bool) -> u64 {
         let deadline = self.idle_deadline.min(self.session_deadline);
         if is_crowded && !self.has_accepted && self.unanswered == 0 {
@@ -144,7 +145,7 @@ impl<S: Stream> Client<S> {
         }
     }
 
-    /// It may be idle for as long as at its beginning from now on.
+    /// Renews its idle time.
     fn wait_anew(&mut self, timeout: u64, now: &Now)
         ensures channel { self.new.channel ≡ self.old.channel }
         ensures peer { self.new.peer ≡ self.old.peer }
@@ -153,7 +154,7 @@ impl<S: Stream> Client<S> {
         self.crowded_deadline = now.behind(CROWDED_SECONDS);
     }
 
-    /// Writes what waits for it as far as that goes at once.
+    /// Writes as many unwritten octets as the client takes at once.
     pub(crate) fn flush<D: Disk>(
         &mut self,
         relay: &mut Relay<D>,
@@ -172,7 +173,7 @@ impl<S: Stream> Client<S> {
         }
     }
 
-    /// Writes what waits for it once. Returns whether some of that is done with.
+    /// Writes once. Returns whether octets were written or held.
     fn write<D: Disk>(
         &mut self,
         relay: &mut Relay<D>,
@@ -193,7 +194,7 @@ impl<S: Stream> Client<S> {
         true
     }
 
-    /// Returns whether octets wait to be written to it.
+    /// Returns whether octets for it are unwritten.
     fn waits<D: Disk>(&self, relay: &Relay<D>, session: usize) -> bool
         ensures { held_of self.now.channel ≡ [] → unwritten_at relay.now.clients session ≡ []
             → result ≡ false }
@@ -209,8 +210,8 @@ impl<S: Stream> Client<S> {
         self.channel.is_ready(self.waits(relay, session))
     }
 
-    /// Holds what waits for it back, where more of what was read is heard at this turn: what that leads to goes in the
-    /// same write. If it is too much to be held, it is written at once as far as that goes.
+    /// Holds its unwritten octets back, because its session hears more of what was read in this turn, so that all
+    /// replies go in one write. If they are too many to be held, writes as many as the client takes at once.
     fn hold<D: Disk>(&mut self, relay: &mut Relay<D>, session: usize, timeout: u64, now: &Now)
         ensures hands { Hands S.remaining S.contents session relay.old relay.new self.old.channel self.new.channel }
         ensures said { StaysSaid session relay.old relay.new }
@@ -223,7 +224,7 @@ impl<S: Stream> Client<S> {
         }
     }
 
-    /// Holds what waits for it back, and returns whether.
+    /// Holds its unwritten octets back, and returns whether it could.
     fn hold_back<D: Disk>(&mut self, relay: &mut Relay<D>, session: usize) -> bool
         ensures hands { Hands S.remaining S.contents session relay.old relay.new self.old.channel self.new.channel }
         ensures said { StaysSaid session relay.old relay.new }
@@ -238,7 +239,7 @@ impl<S: Stream> Client<S> {
         true
     }
 
-    /// Writes the replies that were held back, since what they tell of stands, though nothing comes after them.
+    /// Writes the replies that were held back: what they acknowledge has happened, even if nothing follows.
     pub(crate) fn give_held(&mut self)
         ensures output { Keeps (output_of S.remaining S.contents self.old.channel)
             (output_of S.remaining S.contents self.new.channel) }
@@ -248,8 +249,8 @@ impl<S: Stream> Client<S> {
         let _none = self.channel.write(&[]);
     }
 
-    /// Writes what waits, and reads a block where nothing waits any more and all of the last one is used. It tells what
-    /// becomes of the connection, unless there are octets for its session to hear.
+    /// Writes unwritten octets, and reads a block if there are none left and the last block is used. Returns what
+    /// happens to the connection, or `None` if there are octets for its session to hear.
     pub(crate) fn read<D: Disk>(
         &mut self,
         relay: &mut Relay<D>,
@@ -283,12 +284,12 @@ impl<S: Stream> Client<S> {
         }
     }
 
-    /// Returns whether it has octets for its session to hear, which may do so.
+    /// Returns whether there are octets that its session may hear.
     pub(crate) fn has_more<D: Disk>(&self, relay: &Relay<D>, session: usize) -> bool {
         !self.channel.is_used() && relay.to_client(session).is_empty()
     }
 
-    /// A block was read.
+    /// Notes that a block was read.
     fn note_read(&mut self, timeout: u64, now: &Now)
         ensures channel { self.new.channel ≡ self.old.channel }
         ensures peer { self.new.peer ≡ self.old.peer }
@@ -308,8 +309,8 @@ impl<S: Stream> Client<S> {
         }
     }
 
-    /// Takes what its session has said to the octets that were read, and writes that at once as far as that goes, or
-    /// `holds` it back where more of them is heard at this turn.
+    /// Takes the result of the octets that its session has heard, and writes the replies, or holds them back if `holds`
+    /// says that more is heard in this turn.
     pub(crate) fn answer<D: Disk>(
         &mut self,
         relay: &mut Relay<D>,
@@ -336,7 +337,7 @@ impl<S: Stream> Client<S> {
         let Heard { used, change, last } = match heard {
             Ok(heard) => heard,
             Err(NodeFault::Stopped) => return Err(NodeFault::Stopped),
-            // The session is gone: there is no memory, or no number, for its mail.
+            // The session is gone: there was too little memory, or no number, for its mail.
             Err(_) => {
                 self.give_held();
                 return Ok(Next::Gone);
@@ -367,7 +368,7 @@ impl<S: Stream> Client<S> {
     }
 }
 
-/// Logs what a client was replied. Returns whether that says that the spool is full.
+/// Logs the replies to a client. Returns whether one of them says that the spool is full.
 fn tell_replies(
     peer: SocketAddrV4,
     replies: &[u8],
@@ -379,7 +380,7 @@ fn tell_replies(
     tells_full(replies)
 }
 
-/// Tells of the mail that was accepted as the message of a number.
+/// Logs that mail was accepted as the message of a number.
 fn tell_accepted<D: Disk>(
     relay: &Relay<D>,
     peer: SocketAddrV4,
@@ -392,7 +393,7 @@ fn tell_accepted<D: Disk>(
     }
 }
 
-/// Returns whether a line of these replies says that the spool is full.
+/// Returns whether one of these replies says that the spool is full.
 fn tells_full(replies: &[u8]) -> bool {
     replies
         .split(|octet| *octet == b'\n')

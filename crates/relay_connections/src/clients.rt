@@ -36,18 +36,18 @@ fn is_at<S>(slot: &Option<Box<Client<S>>>, address: [u8; 4]) -> bool
     }
 }
 
-/// The connections of clients, up to 64, each under its session's number, which is its token too.
+/// The connections of clients, at most 64, each with its session's number, which is its token too.
 pub struct Clients<S = TcpStream> {
     pub(crate) alloc: Global,
-    // In boxes, so that a walk over the slots touches little memory, and a client isn't copied where it is taken out.
+    // Boxed, so that a walk over the slots touches little memory, and taking a client out doesn't copy it.
     pub(crate) clients: Table<Box<Client<S>>>,
-    /// The most of one address.
+    /// The most clients at one address.
     most: usize,
-    /// How many seconds one may be idle.
+    /// How many seconds a client may be idle.
     pub(crate) timeout: u64,
-    /// Few places are left: one that only holds its own has less time.
+    /// Whether few places are left, so that idle clients have less time.
     pub(crate) is_crowded: bool,
-    /// Which is served first at the next turn.
+    /// The number of the client that is served first in the next turn.
     pub(crate) first: usize,
 }
 
@@ -66,7 +66,7 @@ impl<S: Drop> Drop for Clients<S> {
 }
 
 impl<S: Stream + Drop> Clients<S> {
-    /// None, within these limits. Fails if memory runs out.
+    /// Returns an empty table with these limits. Fails if memory runs out.
     pub fn new(alloc: Global, limits: &Limits) -> Result<Self, AllocError>
         ensures { IfOk result (λ clients. AreFree (clients_of clients)) }
     {
@@ -80,15 +80,15 @@ impl<S: Stream + Drop> Clients<S> {
         })
     }
 
-    /// Returns whether there is room for one more at this address: fewer than 64 stand, and at this address fewer than
-    /// may.
+    /// Returns whether there is room for one more client at this address: fewer than 64 in all, and fewer than the
+    /// limit at this address.
     pub fn has_room(&self, address: Ipv4Addr) -> bool
         ensures { IsTrue result ↔ HasRoom (ipv4_octets address) self.now }
     {
         self.count_at(address.octets()) < self.most && self.clients.count() < SLOT_COUNT
     }
 
-    /// Returns how many clients stand, 64 at most.
+    /// Returns how many clients there are, at most 64.
     pub fn count(&self) -> usize
         ensures { result ≡ count_of (clients_of self.now) }
     {
@@ -109,8 +109,8 @@ impl<S: Stream + Drop> Clients<S> {
         count
     }
 
-    /// Opens a session for a client, and greets it. If the system or the node has no room for it, it is closed unheard.
-    /// Only a device that failed is a fault.
+    /// Opens a session for a client, and greets it. If the system or the node has no room for it, closes the connection
+    /// unserved. Fails only if the device has failed.
     pub fn open<D: Disk>(
         &mut self,
         registry: &S::Registry,
@@ -138,8 +138,8 @@ impl<S: Stream + Drop> Clients<S> {
         Ok(())
     }
 
-    /// Greets the client of a session that was opened for it. If the system doesn't tell of its connection, or memory
-    /// runs out, the session is ended.
+    /// Greets the client of a new session. If its stream can't be registered, or memory runs out, ends the session and
+    /// returns `None`.
     fn greet<D: Disk>(
         &self,
         registry: &S::Registry,
@@ -155,7 +155,7 @@ impl<S: Stream + Drop> Clients<S> {
             (unwritten_at relay.old.clients session) client.value.channel (unwritten_at relay.new.clients session)) }
     {
         let mut stream = stream;
-        // Replies are written whole, and wait for no more.
+        // Replies are written whole, and needn't wait for more.
         stream.set_nodelay();
         let mut channel = Channel::new(self.alloc, stream);
         if channel.register(registry, session).is_err() {
@@ -171,7 +171,7 @@ impl<S: Stream + Drop> Clients<S> {
         Some(client)
     }
 
-    /// The system tells what the connection of a number may be ready for.
+    /// Notes what the connection of a number may be ready for, as the system reports it.
     pub fn note(&mut self, number: usize, ready: Readiness)
         ensures noted { IsNoted number (clients_of self.old) (clients_of self.new) }
     {
@@ -182,7 +182,7 @@ impl<S: Stream + Drop> Clients<S> {
         }
     }
 
-    /// Closes all connections. The replies that are held back go out first, as far as they go at once.
+    /// Closes all connections, after writing as many of the replies held back as the clients take at once.
     pub fn clear(&mut self)
         ensures { (number : ℕ) → number < SLOT_COUNT → slot_at (clients_of self.new) number ≡ None }
     {
@@ -194,7 +194,7 @@ impl<S: Stream + Drop> Clients<S> {
         }
     }
 
-    /// Returns whether one is left with something to be done at once.
+    /// Returns whether something can be done for one of them at once.
     pub fn is_ready<D: Disk>(&self, relay: &Relay<D>) -> bool
         ensures { (number : ℕ) → IsLeftClient (clients_of self.now) relay.now number → result ≡ true }
     {
@@ -208,7 +208,7 @@ impl<S: Stream + Drop> Clients<S> {
         false
     }
 
-    /// Returns the tick at which the next of them is cut off, or the given one where that is earlier.
+    /// Returns the tick at which the next of them is cut off, or `otherwise` if that is earlier.
     pub fn next_deadline(&self, otherwise: u64) -> u64
         ensures { result ≤ otherwise }
     {

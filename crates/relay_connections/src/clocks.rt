@@ -1,21 +1,20 @@
-//! What the clocks show at a turn.
+//! The clocks of a turn.
 ghost use Rattle.std.specs.Prelude.{◌≡◌, ◌+◌, ◌-◌, ◌*◌, ◌^◌, min};
 
 use relay_trace::{Moment, clock_moment};
 use std::rt::Clock;
 
-/// What both clocks show. Mail is due by the wall clock, which may be set back; connections are waited for by the
-/// other, which goes on alone.
+/// The times of both clocks. Mail is due by the wall clock, which may be set; timeouts are by the monotonic clock.
 #[derive(Debug, Drop)]
 pub struct Now {
-    /// The wall clock's time, in whole seconds.
+    /// The wall clock's time, in seconds.
     pub moment: Moment,
-    /// The monotonic clock, in milliseconds.
+    /// The monotonic clock's time, in milliseconds.
     pub tick: u64,
 }
 
 impl Now {
-    /// Returns what both clocks show. A wall clock that can't be read shows the first second, and a monotonic one 0.
+    /// Reads both clocks. A wall clock that can't be read is at the first second, and a monotonic clock at 0.
     pub fn of<C: Clock>(clock: &C) -> Self {
         Now {
             moment: clock_moment(clock),
@@ -23,14 +22,15 @@ impl Now {
         }
     }
 
-    /// Returns the tick that is this many seconds from now, or the last that there is.
+    /// Returns the tick this many seconds from now, or the last tick.
     pub fn behind(&self, seconds: u64) -> u64
         ensures { result ≡ min (self.now.tick + seconds * 1000) (2 ^ 64 - 1) }
     {
         self.tick.saturating_add(seconds.saturating_mul(1_000))
     }
 
-    /// Returns the tick at which the wall clock shows a time, unless it is set; that of now for one that has passed.
+    /// Returns the tick at which the wall clock reaches a time, unless it is set; the present tick for a time that has
+    /// passed.
     pub fn tick_at(&self, moment: Moment) -> u64
         ensures { result ≡ min (self.now.tick + (moment - self.now.moment) * 1000) (2 ^ 64 - 1) }
     {
@@ -38,7 +38,7 @@ impl Now {
     }
 }
 
-/// Returns the monotonic clock, in milliseconds. One that can't be read is at 0, and nobody is cut off by it.
+/// Reads the monotonic clock, in milliseconds; 0, at which no timeout expires, if it can't be read.
 pub fn tick_of<C: Clock>(clock: &C) -> u64 {
     match clock.monotonic() {
         Ok(time) => time

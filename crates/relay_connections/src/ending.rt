@@ -1,4 +1,4 @@
-//! How the session of a client ends where its connection does, or where the relay cuts it off.
+//! Ending a client's session, because its connection has ended or the relay cuts it off.
 ghost use Rattle.std.specs.Prelude.{◌≡◌, IfErr, IfOk, false};
 ghost use Rattle.relay_connections.specs.Matched.{IsFreed};
 ghost use Rattle.relay_connections.specs.Sessions.{EndsAlone, IsCutOff, IsTold, LeavesWithAll};
@@ -9,7 +9,7 @@ use relay_loop::{Closing, Outbox, Relay, closing_line};
 use relay_node::NodeFault;
 use std::alloc::Global;
 
-/// Ends the session of a client whose input has come to its end. What waits is still written.
+/// Ends the session of a client whose input has ended. Unwritten octets are still written.
 pub(crate) fn end_session<D: Disk>(relay: &mut Relay<D>, session: usize) -> Result<Next, NodeFault>
     ensures ends { EndsAlone session relay.old relay.new }
     ensures freed { IsFreed session relay.old relay.new }
@@ -30,7 +30,7 @@ pub(crate) fn dismiss<D: Disk>(relay: &mut Relay<D>, session: usize)
 {
     match relay.end_client(session) {
         Ok(_) => {}
-        // A node that is stopped has no session any more, and a session that isn't known is none.
+        // A stopped node has no sessions any more, and an unknown session has ended already.
         Err(_) => {}
     }
 }
@@ -49,8 +49,8 @@ pub(crate) fn drop_session<D: Disk>(relay: &mut Relay<D>, session: usize) -> Res
     }
 }
 
-/// Ends the session of a client that is late. It is told so where it has taken all that was written before; else it
-/// takes nothing, and is told nothing more.
+/// Ends the session of a client that is late. If it has taken all earlier octets, it gets a last reply; else it takes
+/// nothing, and gets none.
 pub(crate) fn cut_off<D: Disk>(
     alloc: Global,
     relay: &mut Relay<D>,
@@ -69,7 +69,7 @@ pub(crate) fn cut_off<D: Disk>(
     }
 }
 
-/// Returns the last octets of a client that is late.
+/// Returns the last reply to a client that is late.
 fn farewell<D: Disk>(alloc: Global, relay: &Relay<D>) -> Next
     ensures { IsTold relay.now.node.config.host result }
 {

@@ -1,4 +1,4 @@
-//! What was read of a header of the PROXY protocol, and of nothing after it.
+//! The octets that were read of a PROXY protocol header, and nothing after it.
 ghost use Rattle.std.specs.Prelude.{◌≡◌, [], IfOk, OnErr};
 ghost use Rattle.relay_proxy.specs.Header.{IsBegun};
 ghost use Rattle.relay_connections.specs.HeaderFront.{Comes, ReadsWhole};
@@ -11,7 +11,7 @@ use std::marker::Model;
 /// The most octets of a header.
 const HEADER_SIZE: usize = 536;
 
-/// The first octets of a connection, of which a header is read, and none that comes after it.
+/// The first octets of a connection, up to the end of its header.
 pub(crate) struct HeaderOctets {
     octets: [u8; HEADER_SIZE],
     /// How many of them were read.
@@ -40,7 +40,7 @@ impl Model for HeaderOctets {
 }
 
 impl HeaderOctets {
-    /// None was read.
+    /// Returns no octets.
     pub(crate) fn new() -> Self
         ensures { result ≡ [] }
     {
@@ -50,16 +50,16 @@ impl HeaderOctets {
         }
     }
 
-    /// Returns whether they are a whole header, none, or the beginning of one.
+    /// Returns whether they are a complete header, can't be one, or are a prefix of one.
     pub(crate) fn reading(&self) -> Reading
         ensures { ReadsWhole self.now result }
     {
         read_header(&self.octets[..self.length])
     }
 
-    /// Reads the next octets of a stream, at most `count`, where this many are missing at least: so none after the
-    /// header is read. Returns how many came; none are the end of the input. It fails as the stream does, and then none
-    /// came.
+    /// Reads the next octets of a stream, at most `count`; the header must lack at least that many, so that nothing
+    /// after it is read. Returns how many arrived; 0 means the end of the input. Fails as the stream does, without
+    /// octets then.
     pub(crate) fn fill<S: Stream>(&mut self, stream: &mut S, count: usize) -> io::Result<usize>
         requires { IsBegun self.old count }
         ensures came { Comes (S.remaining stream.old) (S.remaining stream.new) self.old self.new }

@@ -1,5 +1,5 @@
-//! What the sessions of clients hear at a turn, all in one call with the replies of next hops: the first lines that
-//! were read of their own connections.
+//! What sessions and attempts hear in a turn, all in one call of the relay: clients' first lines, and the replies of
+//! next hops.
 ghost use Rattle.std.specs.Prelude.{◌≡◌, ◌<◌, All, IfErr, IfOk, IfSome, MatchOption, None, Ok, Some, map};
 ghost use Rattle.relay_slots.specs.Slots.{slot_at};
 ghost use Rattle.relay_connections.specs.Hearing.{HearOwn, IsOwn, hearing_from, session_of};
@@ -13,11 +13,11 @@ use relay_loop::{Answered, Group, Heard, Piece, Relay, ReplyPiece};
 use relay_node::{NodeFault, Noted};
 use std::alloc::{AllocError, Global};
 
-/// What came of a client's octets.
+/// The result of a client's octets.
 pub(crate) type Answer = Result<Heard, NodeFault>;
 
-/// The sessions that heard something in one call, and the outcome for each, in the same order; and the outcomes of the
-/// replies that were used in the same call.
+/// The sessions that heard octets in one call and the result for each, in the same order; and the results of the
+/// replies in the same call.
 #[derive(Drop)]
 pub(crate) struct Hearing {
     pub(crate) sessions: Vec<usize>,
@@ -25,18 +25,18 @@ pub(crate) struct Hearing {
     pub(crate) replies: Replied,
 }
 
-/// The outcome of the replies of next hops that were used in one call with what clients had sent.
+/// The results of next hops' replies that were used in one call with clients' octets.
 #[derive(Drop)]
 pub struct Replied {
-    /// The outcome of each reply, in their order.
+    /// The result of each reply, in their order.
     pub answered: Vec<Result<Answered, NodeFault>>,
-    /// A note of each change that the call has made, in the order of their numbers.
+    /// A note of each change that the call has added, in the order of their numbers.
     pub notes: Vec<Noted>,
 }
 
-/// Lets all sessions that have something to hear do so in one call, the first of them first, and after them the
-/// attempts of next hops that have replied, so that the mail they bring and the outcomes of attempts come into the
-/// spool after one pair of syncs. It answers nothing if no memory is left for that; nothing was heard then.
+/// Passes unread octets to all sessions that may hear some, the first one first, and then the replies to their
+/// attempts, in one call, so that accepted mail and outcomes share one pair of syncs. Returns `None` if memory runs
+/// out; nothing was heard then.
 pub(crate) fn hear_all<S: Stream, D: Disk>(
     alloc: Global,
     clients: &[Option<Box<Client<S>>>],
@@ -74,7 +74,7 @@ pub(crate) fn hear_all<S: Stream, D: Disk>(
     }
 }
 
-/// Returns the first lines of each client whose session has something to hear, the first of them first.
+/// Returns the first lines of each client whose session may hear some, the first one first.
 fn pieces_of<S: Stream>(
     alloc: Global,
     clients: &[Option<Box<Client<S>>>],
@@ -114,7 +114,7 @@ pub(crate) fn client_at<S>(
     }
 }
 
-/// Returns the sessions that pieces are of.
+/// Returns the sessions of these pieces.
 fn sessions_of(alloc: Global, pieces: &[Piece<'_>]) -> Result<Vec<usize>, AllocError>
     ensures { IfOk result (λ sessions. sessions.items ≡ map session_of pieces.now) }
 {

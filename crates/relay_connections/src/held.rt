@@ -3,14 +3,14 @@ ghost use Rattle.std.specs.Prelude.{◌≡◌, ◌↔◌, [], ◌++◌, IsTrue, 
 use std::alloc::Global;
 use std::marker::Model;
 
-/// The most octets that are held.
+/// The most octets that are held back.
 const HELD_SIZE: usize = 4_096;
 
-/// Octets that wait to be written to a connection before all others, so that they go in one write with what comes next.
-/// Allocates nothing before some are held.
+/// Octets that are held back, so that they go in one write with those that come next. Allocates nothing before the
+/// first.
 pub(crate) struct Held {
     octets: Vec<u8>,
-    /// How many of them are written.
+    /// How many of them were written.
     written: usize,
 }
 
@@ -35,7 +35,7 @@ impl Model for Held {
 }
 
 impl Held {
-    /// None.
+    /// Returns no octets.
     pub(crate) fn new(alloc: Global) -> Self
         ensures { result ≡ [] }
     {
@@ -45,21 +45,21 @@ impl Held {
         }
     }
 
-    /// Returns those that wait.
+    /// Returns the unwritten octets.
     pub(crate) fn as_slice(&self) -> &[u8]
         ensures { result.now ≡ self.now }
     {
         &self.octets[self.written..]
     }
 
-    /// Returns whether none waits.
+    /// Returns whether there are no unwritten octets.
     pub(crate) fn is_empty(&self) -> bool
         ensures { IsTrue result ↔ (self.now ≡ []) }
     {
         self.as_slice().is_empty()
     }
 
-    /// Puts octets after the others, and returns whether: not where they are too many, or memory runs out.
+    /// Appends octets. Returns false if they are too many or memory runs out; none are appended then.
     pub(crate) fn push(&mut self, octets: &[u8]) -> bool
         ensures held { result ≡ true → self.new ≡ self.old ++ octets.now }
         ensures same { result ≡ false → self.new ≡ self.old }
@@ -72,7 +72,7 @@ impl Held {
             && self.octets.extend_from_slice(octets).is_ok()
     }
 
-    /// This many of them were written; if there are fewer, all.
+    /// Counts octets as written; all if there are fewer.
     pub(crate) fn wrote(&mut self, count: usize)
         ensures { self.new ≡ drop count self.old }
     {

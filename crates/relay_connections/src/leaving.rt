@@ -1,5 +1,5 @@
 //! Connections whose session or attempt has ended: their last octets are written, and what the peer still sends is read
-//! and dropped for a short time, since the system else resets the connection, and the last octets with it.
+//! and dropped for a short time. Otherwise the system would reset the connection, and the last octets might be lost.
 ghost use Rattle.std.specs.Prelude.{◌≡◌, ◌≤◌, ◌<◌, ◌+◌, ◌⊎◌, ◌↔◌, ℕ, None, IfOk, IsTrue, false, true};
 ghost use Rattle.std.specs.Prelude.{if◌then◌else◌};
 ghost use Rattle.relay_slots.specs.Slots.{AreFree, OthersStay, slot_at};
@@ -19,10 +19,10 @@ use relay_loop::Outbox;
 use relay_slots::SLOT_COUNT;
 use std::alloc::{AllocError, Global};
 
-/// How many seconds a connection is read after its last octets.
+/// How many seconds a connection is read after its last octets were written.
 const DRAIN_SECONDS: u64 = 1;
 
-/// Where this many connections are leaving, one that had no session is closed at once.
+/// If this many connections are leaving, one that had no session is closed at once.
 const MOST_STRANGERS: usize = SLOT_COUNT / 2;
 
 /// The token of the first of them.
@@ -31,11 +31,11 @@ const FIRST_TOKEN: usize = 2 * SLOT_COUNT;
 /// A connection that is leaving.
 struct Leaver<S> {
     channel: Channel<S>,
-    /// The last octets, which wait to be written.
+    /// The last octets, as far as they are unwritten.
     outbox: Outbox,
-    /// Whether they are written, and the peer was told that nothing more comes.
+    /// Whether they are written, and the write side is shut down.
     is_shut: bool,
-    /// The number of the place that it goes to, if it goes to a next hop.
+    /// The number of the next hop's address, if it leads to a next hop.
     place: Option<usize>,
     /// The tick at which the connection is closed.
     deadline: u64,
@@ -54,7 +54,7 @@ impl<S: Drop> Drop for Leaver<S> {
     }
 }
 
-/// Returns whether the connection in a slot goes to the place of a number.
+/// Returns whether the connection in a slot leads to the next-hop address of this number.
 fn goes_to<S>(slot: &Option<Box<Leaver<S>>>, place: usize) -> bool
     ensures { result ≡ is_such (goes_to place) slot.now }
 {
@@ -64,11 +64,11 @@ fn goes_to<S>(slot: &Option<Box<Leaver<S>>>, place: usize) -> bool
     }
 }
 
-/// The connections that are leaving, up to 64.
+/// The connections that are leaving, at most 64.
 pub struct Leaving<S = TcpStream> {
     alloc: Global,
     leavers: Table<Box<Leaver<S>>>,
-    /// How many seconds their last octets wait to be written.
+    /// How many seconds their last octets may take to be written.
     seconds: u64,
 }
 
@@ -84,12 +84,12 @@ impl<S: Drop> Drop for Leaving<S> {
 }
 
 impl Leaving {
-    /// The token of the first of them; those of the others follow, in the order of their numbers.
+    /// The token of the first connection; the others' follow in the order of their numbers.
     pub const FIRST_TOKEN: usize = FIRST_TOKEN;
 }
 
 impl<S: Stream + Drop> Leaving<S> {
-    /// None, whose last octets will wait for this many seconds at most. Fails if memory runs out.
+    /// Returns an empty table; last octets may take `seconds` to be written. Fails if memory runs out.
     pub fn new(alloc: Global, seconds: u64) -> Result<Self, AllocError>
         ensures { IfOk result (λ leaving. AreFree (leavers_of leaving)) }
     {
@@ -100,8 +100,8 @@ impl<S: Stream + Drop> Leaving<S> {
         })
     }
 
-    /// Takes a connection with its last octets, and the number of the place that it goes to, if it goes to a next hop.
-    /// The octets are written at once as far as they go. If 64 are leaving already, or no memory is left, it is closed
+    /// Takes a connection with its last octets, and the number of the next hop's address if it leads to one. Writes as
+    /// many octets as the peer takes at once. If 64 connections are leaving already, or memory runs out, closes it
     /// after that.
     pub fn take(
         &mut self,
@@ -134,14 +134,14 @@ impl<S: Stream + Drop> Leaving<S> {
         }
     }
 
-    /// Returns whether a connection may be taken that had no session: this many of these at once leave room for others.
+    /// Returns whether a connection without a session may be taken: half of the room is kept for others.
     pub fn has_room_for_strangers(&self) -> bool
         ensures { IsTrue result ↔ (count_of self.now.leavers < MOST_STRANGERS) }
     {
         self.leavers.count() < MOST_STRANGERS
     }
 
-    /// Returns how many are leaving that go to the next hops at the place of a number.
+    /// Returns how many connections to the next-hop address of this number are leaving.
     pub fn count_to(&self, place: usize) -> usize
         ensures { result ≡ count_of_such (goes_to place) (leavers_of self.now) }
     {
@@ -164,7 +164,7 @@ impl<S: Stream + Drop> Leaving<S> {
         }
     }
 
-    /// The system tells what the connection of a number may be ready for.
+    /// Notes what the connection of a number may be ready for, as the system reports it.
     pub fn note(&mut self, number: usize, ready: Readiness)
         ensures stays { Stays S.remaining S.contents (slot_at (leavers_of self.old) number)
             (slot_at (leavers_of self.new) number) }
@@ -177,8 +177,8 @@ impl<S: Stream + Drop> Leaving<S> {
         }
     }
 
-    /// Serves each of them once: writes what goes, or reads a block and drops it. Returns how many were closed, since
-    /// their last octets have gone, or failed, or their time is over.
+    /// Serves each connection once: writes, or reads a block and drops it. Returns how many were closed, because their
+    /// last octets were written, a call failed or their time is over.
     pub fn serve(&mut self, now: &Now) -> usize
         ensures each { (number : ℕ) → StaysOrCloses S.remaining S.contents now.now.tick
             (slot_at (leavers_of self.old) number) (slot_at (leavers_of self.new) number) }
@@ -215,7 +215,7 @@ impl<S: Stream + Drop> Leaving<S> {
         true
     }
 
-    /// Returns whether one is left with something to be done at once.
+    /// Returns whether something can be done for one of them at once.
     pub fn is_ready(&self) -> bool {
         for slot in self.leavers.standing() {
             if let Some(leaver) = slot {
@@ -227,7 +227,7 @@ impl<S: Stream + Drop> Leaving<S> {
         false
     }
 
-    /// Returns the tick at which the next of them is closed, or the given one where that is earlier.
+    /// Returns the tick at which the next of them is closed, or `otherwise` if that is earlier.
     pub fn next_deadline(&self, otherwise: u64) -> u64
         ensures { result ≤ otherwise }
     {
@@ -242,7 +242,7 @@ impl<S: Stream + Drop> Leaving<S> {
 }
 
 impl<S: Stream> Leaver<S> {
-    /// Writes what goes, and tells the peer where that was all.
+    /// Writes octets, and shuts the write side down after the last of them.
     fn write(&mut self, now: &Now)
         ensures one { IsOneOf S.remaining S.contents self.old.place (whole_output S.remaining S.contents self.old)
             self.new }
@@ -266,7 +266,7 @@ impl<S: Stream> Leaver<S> {
         }
     }
 
-    /// Writes what goes, or reads a block and drops it. Returns whether the connection stays.
+    /// Writes octets, or reads a block and drops it. Returns whether the connection stays open.
     fn serve(&mut self, now: &Now) -> bool
         ensures goes_on { GoesOn S.remaining S.contents now.now.tick self.old self.new }
         ensures over { result ≡ false → IsOver now.now.tick self.new }
@@ -291,8 +291,7 @@ impl<S: Stream> Leaver<S> {
         self.channel.used(count);
     }
 
-    /// Returns whether nothing is left to be done: the connection is broken, or all was written and read, or its time
-    /// is over.
+    /// Returns whether nothing is left to do: the connection is broken, all is written and read, or its time is over.
     fn is_over(&self, tick: u64) -> bool
         ensures over { result ≡ true → IsOver tick self.now }
         ensures time { result ≡ false → tick < self.now.deadline }
@@ -307,7 +306,7 @@ impl<S: Stream> Leaver<S> {
         }
     }
 
-    /// Returns whether its last octets have gone, and nothing is held.
+    /// Returns whether its last octets are written, and nothing is held back.
     fn has_gone(&self) -> bool
         ensures { IsTrue result ↔ HasGone self.now }
     {

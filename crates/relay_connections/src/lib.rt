@@ -1,5 +1,5 @@
-//! The connections of a relay that stays up, without a wait: a connection and what is read of it and written to it,
-//! those of its clients, whose sessions hear what was read of their own, and those that are leaving.
+//! The connections of a long-running relay, without waiting: a connection and its buffers, the connections of clients,
+//! and those that are leaving.
 #![tactic(auto)]
 
 mod arrival;

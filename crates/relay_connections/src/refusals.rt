@@ -1,4 +1,4 @@
-//! Which refused clients are told of in the log: each address in one line a minute at most, which tells of how many.
+//! Which refused clients are logged: at most one line per address and minute, with the number of refusals.
 ghost use Rattle.std.specs.Prelude.{◌≡◌, ◌≢◌, ◌≤◌, ◌<◌, ℕ, None, Some, IfOk, MatchOption, false, true};
 ghost use Rattle.std.specs.Prelude.{length, slice_set};
 ghost use Rattle.std.specs.Net.Addr.{ipv4_octets};
@@ -15,22 +15,22 @@ use relay_slots::SLOT_COUNT;
 use std::alloc::{AllocError, Global};
 use std::net::SocketAddrV4;
 
-/// For this many seconds after a line nothing more is told of its address.
+/// How many seconds after a line no other line is written for its address.
 const SILENT_SECONDS: u64 = 60;
 
-/// The refusals of an address that aren't told yet.
+/// The refusals of an address that aren't logged yet.
 #[derive(Clone, Copy, Debug)]
 pub(crate) struct Tally {
     /// The client of that address that was refused last.
     peer: SocketAddrV4,
-    /// How many were refused since the address was told of last.
+    /// How many were refused since the last line for the address.
     count: u64,
-    /// The tick before which nothing is told of it.
+    /// The tick before which no line is written for it.
     until: u64,
 }
 
 impl Tally {
-    /// The client was told of just now.
+    /// Returns the tally of an address for which a line was just written.
     fn told(peer: SocketAddrV4, now: &Now) -> Self
         ensures { result ≡ told peer now.now.tick }
     {
@@ -41,7 +41,7 @@ impl Tally {
         }
     }
 
-    /// One more of its address was refused.
+    /// Returns the tally after one more refusal.
     fn again(self, peer: SocketAddrV4) -> Self
         ensures { result ≡ again peer self }
     {
@@ -52,7 +52,7 @@ impl Tally {
         }
     }
 
-    /// Tells of those that aren't told yet.
+    /// Logs the refusals of the tally.
     fn tell(&self, log: &mut Log<'_, Vec<u8>>) {
         if 0 < self.count {
             log.refused(self.peer, self.count);
@@ -60,7 +60,7 @@ impl Tally {
     }
 }
 
-/// Returns whether the tally in a slot is of an address.
+/// Returns whether the tally in a slot is of this address.
 fn is_of(slot: &Option<Tally>, address: [u8; 4]) -> bool
     ensures { result ≡ is_such (is_of address) slot.now }
 {
@@ -70,11 +70,11 @@ fn is_of(slot: &Option<Tally>, address: [u8; 4]) -> bool
     }
 }
 
-/// The clients that were refused, by their addresses: of up to 64, when it was told of each last, and how many were
-/// refused since. Each refusal is told once, by a line of its own or in the number of another.
+/// Refused clients by address, for up to 64 addresses: when the last line was written, and how many were refused since.
+/// Each refusal is logged once, by a line of its own or in the number of a later line.
 pub struct Refusals {
     tallies: Table<Tally>,
-    /// Whose place was taken last for another address.
+    /// The slot that was last given to another address.
     dropped: usize,
 }
 
@@ -89,7 +89,7 @@ impl Drop for Refusals {
 }
 
 impl Refusals {
-    /// None was refused yet. Fails if memory runs out.
+    /// Returns an empty table. Fails if memory runs out.
     pub fn new(alloc: Global) -> Result<Self, AllocError>
         ensures { IfOk result (λ refusals. AreFree (tallies_of refusals)) }
     {
@@ -99,7 +99,7 @@ impl Refusals {
         })
     }
 
-    /// Takes note that a client was refused, which is told at once where nothing was told of its address for a minute.
+    /// Notes that a client was refused; logs it at once if there was no line for its address within a minute.
     pub fn note(&mut self, peer: SocketAddrV4, now: &Now, log: &mut Log<'_, Vec<u8>>) {
         self.tell(now, log);
         if self.count(peer) {
@@ -113,7 +113,7 @@ impl Refusals {
         log.refused(peer, 1);
     }
 
-    /// Tells of the refusals of those addresses of which nothing was told for a minute.
+    /// Logs the refusals of the addresses that had no line for a minute.
     pub fn tell(&mut self, now: &Now, log: &mut Log<'_, Vec<u8>>) {
         for number in 0..self.tallies.standing().len() {
             if let Some(tally) = self.take_over(number, now) {
@@ -122,7 +122,7 @@ impl Refusals {
         }
     }
 
-    /// Returns the tick at which it is to be told of one of them, or the given one where that is earlier.
+    /// Returns the tick at which the next line is due, or `otherwise` if that is earlier.
     pub fn next_deadline(&self, otherwise: u64) -> u64
         ensures { result ≤ otherwise }
     {
@@ -135,7 +135,7 @@ impl Refusals {
         next
     }
 
-    /// Counts the refusal of a client where it was told of its address already. Returns whether it was.
+    /// Counts a client's refusal if its address has a tally. Returns whether it has.
     fn count(&mut self, peer: SocketAddrV4) -> bool
         ensures counted { result ≡ true → Counts peer (tallies_of self.old) (tallies_of self.new) }
         ensures unknown { result ≡ false → IsUnknown (ipv4_octets (v4_ip peer)) (tallies_of self.old) }
@@ -150,7 +150,7 @@ impl Refusals {
         true
     }
 
-    /// Returns the number of an address of which it was told already.
+    /// Returns the slot of an address, if it has a tally.
     fn number_of(&self, address: [u8; 4]) -> Option<usize>
         ensures found { MatchOption result (IsUnknown address (tallies_of self.now))
             (λ number. is_such (is_of address) (slot_at (tallies_of self.now) number) ≡ true) }
@@ -165,8 +165,8 @@ impl Refusals {
         None
     }
 
-    /// Returns a number for one more address. If 64 have theirs, it is taken from one of them, each time from the next,
-    /// and what wasn't told of that comes with it.
+    /// Returns a slot for one more address. If all 64 are taken, takes the next one in turn, and returns what isn't
+    /// logged of its address.
     fn make_room(&mut self) -> (usize, Option<Tally>)
         ensures taken { result.1 ≡ slot_at (tallies_of self.old) result.0 }
         ensures rest { tallies_of self.new ≡ slice_set (tallies_of self.old) result.0 None }
@@ -183,7 +183,7 @@ impl Refusals {
         (number, self.tallies.take(number))
     }
 
-    /// What isn't told of the address of a number, where nothing was told of it for a minute: from now on it is told.
+    /// Takes what isn't logged of the address in a slot, if a line is due for it.
     fn take_over(&mut self, number: usize, now: &Now) -> Option<Tally>
         ensures taken { result ≡ over_at now.now.tick (slot_at (tallies_of self.old) number) }
         ensures left { tallies_of self.new ≡ left_behind now.now.tick (tallies_of self.old) number }

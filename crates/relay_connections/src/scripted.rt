@@ -1,11 +1,11 @@
-//! A stream without a system, for tests: a reader and a writer that give and take in parts, as a script says.
+//! A stream without a system, for tests: its reads and writes take parts, as a script says.
 ghost use Rattle.std.specs.Prelude.{◌≡◌, ◌≤◌, ◌<◌, IfOk};
 
 use crate::stream::Stream;
 use std::io::{self, Error, ErrorKind, Read, Write};
 
-/// A stream that gives what its reader gives, and writes to its writer. Each read and each write takes the next number
-/// of the script: this many octets go at most, and at a 0 it would have to wait. After the script all go.
+/// A stream that reads from its reader, and writes to its writer. Each read and each write takes the next number of the
+/// script, which is the most octets that it moves; at 0 it would have to wait. After the script all octets move.
 #[derive(Drop)]
 pub struct ScriptedStream<R, W> {
     pub reader: R,
@@ -16,7 +16,7 @@ pub struct ScriptedStream<R, W> {
 }
 
 impl<R, W> ScriptedStream<R, W> {
-    /// Nothing was read or written yet.
+    /// Returns a stream from which nothing was read, and to which nothing was written.
     pub fn new(reader: R, writer: W, script: Vec<usize>) -> Self
         ensures reader { result.reader ≡ reader }
         ensures writer { result.writer ≡ writer }
@@ -30,7 +30,7 @@ impl<R, W> ScriptedStream<R, W> {
     }
 }
 
-/// Returns how many octets go by the next number of a script, if there is room for this many.
+/// Returns how many octets the next read or write moves, if there is room for `room`.
 fn next(script: &[usize], step: &mut usize, room: usize) -> io::Result<usize>
     ensures within { IfOk result (λ count. count ≤ room) }
     ensures some { IfOk result (λ count. 0 < room → 0 < count) }

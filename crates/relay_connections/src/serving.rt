@@ -1,5 +1,4 @@
-//! A turn of the clients: what was read of them is heard by their sessions, all in one call, and what these say to it
-//! is written.
+//! A turn of the clients: their sessions hear what was read, all in one call, and the replies are written.
 ghost use Rattle.std.specs.List.{zip};
 ghost use Rattle.std.specs.Prelude.{◌≡◌, ◌<◌, List, None, IfErr, IfOk};
 ghost use Rattle.relay_book.specs.declared.change.Change.{Change};
@@ -27,16 +26,15 @@ use relay_loop::{Relay, ReplyPiece};
 use relay_node::NodeFault;
 use relay_slots::SLOT_COUNT;
 
-/// While more clients than these stand, one that is idle and has brought no mail is cut off early.
+/// The number of clients above which an idle one without accepted mail is cut off early.
 const CROWD: usize = 48;
 
 impl<S: Stream + Drop> Clients<S> {
-    /// Serves each of them once, each time beginning with another: first a block is read of each that has nothing to be
-    /// written, and then their sessions hear what was read, all in one call. What is after a message in the same block
-    /// is heard in a second one, since clients send the commands of the next message with it (RFC 2920), and what both
-    /// lead to goes out in one write. Attempts hear the replies of their next hops in the first of these calls, and
-    /// their outcomes comes back, unless no memory was left for that: then nothing was heard. Only a device that failed
-    /// is a fault.
+    /// Serves each client once, beginning with another one each time. First reads a block from each client that has no
+    /// unwritten octets. Then passes the octets to their sessions, all in one call. What follows a message in the same
+    /// block is heard in a second call, because clients pipeline the commands of the next message (RFC 2920), and the
+    /// replies to both go in one write. The replies of next hops are heard by their attempts in the first call, and
+    /// their results are returned, unless memory ran out and nothing was heard. Fails only if the device has failed.
     pub fn serve<D: Disk>(
         &mut self,
         registry: &S::Registry,
@@ -80,7 +78,7 @@ impl<S: Stream + Drop> Clients<S> {
         Ok((intake, replied))
     }
 
-    /// Reads of each of them, where nothing is to be written. Returns whether a session has something to hear.
+    /// Reads from each client without unwritten octets. Returns whether a session has octets to hear.
     fn read_each<D: Disk>(
         &mut self,
         registry: &S::Registry,
@@ -108,8 +106,9 @@ impl<S: Stream + Drop> Clients<S> {
         Ok(hears)
     }
 
-    /// Lets all sessions that have something to hear do so, with the replies of next hops, and writes what they say, or
-    /// `holds` it back where they have more to hear. Returns whether one has, and the answers to the replies.
+    /// Passes octets to all sessions that may hear some, with the replies of next hops, and writes the sessions'
+    /// replies, or holds them back if `holds` is set and a session has more to hear. Returns whether one has, and the
+    /// results of the replies.
     fn hear<D: Disk>(
         &mut self,
         holds: bool,
@@ -147,7 +146,7 @@ impl<S: Stream + Drop> Clients<S> {
         Ok((hears, Some(replies)))
     }
 
-    /// Takes the answers to octets of these clients. Returns whether the session of one has more to hear.
+    /// Takes the results of octets of these clients. Returns whether a session has more to hear.
     fn answer_each<D: Disk>(
         &mut self,
         sessions: Vec<usize>,
@@ -177,7 +176,7 @@ impl<S: Stream + Drop> Clients<S> {
         Ok(hears)
     }
 
-    /// Reads of the client of a number. Returns whether its session has something to hear.
+    /// Reads from the client of a number. Returns whether its session has octets to hear.
     fn read_one<D: Disk>(
         &mut self,
         number: usize,
@@ -215,7 +214,7 @@ impl<S: Stream + Drop> Clients<S> {
         Ok(false)
     }
 
-    /// Takes the answer to octets of the client of a number. Returns whether its session has more to hear.
+    /// Takes the result of octets of the client of a number. Returns whether its session has more to hear.
     fn answer_one<D: Disk>(
         &mut self,
         number: usize,
@@ -259,7 +258,7 @@ impl<S: Stream + Drop> Clients<S> {
         Ok(hears)
     }
 
-    /// Closes the first of those whose sessions have something to hear, since no memory is left.
+    /// Closes the first client whose session has octets to hear, because memory ran out.
     fn give_one_up<D: Disk>(
         &mut self,
         relay: &mut Relay<D>,
@@ -290,7 +289,7 @@ impl<S: Stream + Drop> Clients<S> {
         Ok(())
     }
 
-    /// Puts a client where it belongs after a turn. One that is late is cut off.
+    /// Puts a client back after a turn, into the table or among those that leave. Cuts a client off that is late.
     fn settle<D: Disk>(
         &mut self,
         number: usize,
@@ -326,7 +325,7 @@ impl<S: Stream + Drop> Clients<S> {
         Ok(())
     }
 
-    /// Cuts a client off that stays and is late. Returns what becomes of the client's connection then.
+    /// Cuts a client off that would stay but is late. Returns what happens to its connection.
     fn cut_off_late<D: Disk>(
         &self,
         number: usize,
@@ -349,7 +348,7 @@ impl<S: Stream + Drop> Clients<S> {
             Next::Stays if client.deadline(self.is_crowded) <= now.tick => {
                 log.client_ended(client.peer, &client.record, ClientEnd::Timeout, now.tick);
                 if client.channel.is_holding() {
-                    // It takes nothing.
+                    // The client takes nothing.
                     drop_session(relay, number)
                 } else {
                     cut_off(self.alloc, relay, number)
@@ -360,7 +359,7 @@ impl<S: Stream + Drop> Clients<S> {
     }
 }
 
-/// Returns why the connection of a client has ended, unless something is left to be read of it.
+/// Returns why the connection of a client has ended, unless something is left to be read.
 fn read_end<S: Stream>(client: &Client<S>) -> ClientEnd {
     match client.channel.end() {
         Some(End::Broken) => ClientEnd::Reset,
@@ -368,8 +367,8 @@ fn read_end<S: Stream>(client: &Client<S>) -> ClientEnd {
     }
 }
 
-/// Logs that a client's connection has ended, unless it stays: for the one reason if its last octets are still written,
-/// and else for the other.
+/// Logs the end of a client's connection, unless it stays: `leaves` is the reason if its last octets are still to be
+/// written, else `gone`.
 fn tell_end<S: Stream>(
     client: &Client<S>,
     next: &Next,

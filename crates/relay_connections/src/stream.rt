@@ -1,4 +1,4 @@
-//! A connection as the system has it: what it gives and what it takes, without a wait.
+//! A system's stream, without waiting.
 ghost use Rattle.std.specs.Prelude.{◌≡◌};
 ghost use Rattle.std.specs.Io.{ReadsAtMost, WritesAtMost};
 
@@ -7,56 +7,56 @@ use mio::{Interest, Registry, Token};
 use std::io::{self, Read, Write};
 use std::net::Shutdown;
 
-/// A stream of octets in both directions. No call waits: what would have to wait is answered by `WouldBlock`. The
-/// system is told of it by a registry of its own kind.
+/// A non-blocking stream of octets in both directions: a call that would have to wait fails with `WouldBlock`. Its
+/// readiness is reported through a registry of its own type.
 pub trait Stream {
     ghost use Rattle.std.specs.Prelude.{◌≡◌, ℕ, List, Option, None};
     ghost use Rattle.std.specs.Io.{ReadsAtMost, WritesAtMost};
     ghost use Rattle.std.specs.Io.KnownBytes.{ReadConsumes, WriteAppends};
 
-    /// What tells of its readiness.
+    /// What reports its readiness.
     type Registry;
 
-    // the octets that reads will give from here on, if they are known
+    // the octets that reads will yield from here on, if they are known
     ghost remaining: { Self → Option (List ℕ) } = { λ _. None };
 
     // the octets that writes have taken so far, if they are known
     ghost contents: { Self → Option (List ℕ) } = { λ _. None };
 
-    /// Reads the next octets into this place, and tells how many; none are the end of the input. It fails where it
-    /// would have to wait, and where the connection is broken.
+    /// Reads the next octets into a buffer, and returns how many; 0 means the end of the input. Fails if it would have
+    /// to wait, or the connection is broken.
     fn try_read(&mut self, into: &mut [u8]) -> io::Result<usize>
         ensures bound { ReadsAtMost result into.new }
         ensures bytes { ReadConsumes (remaining self.old) (remaining self.new) result into.new }
         ensures contents { contents self.new ≡ contents self.old };
 
-    /// Writes a prefix of these octets, and returns how many. It fails where it would have to wait, and where the
-    /// connection is broken.
+    /// Writes a prefix of these octets, and returns its length. Fails if it would have to wait, or the connection is
+    /// broken.
     fn try_write(&mut self, octets: &[u8]) -> io::Result<usize>
         ensures bound { WritesAtMost result octets.now }
         ensures bytes { WriteAppends (contents self.old) (contents self.new) result octets.now }
         ensures remaining { remaining self.new ≡ remaining self.old };
 
-    /// Has what is written go at once, however little it is.
+    /// Disables Nagle's algorithm, so that octets are sent at once.
     fn set_nodelay(&mut self)
         ensures remaining { remaining self.new ≡ remaining self.old }
         ensures contents { contents self.new ≡ contents self.old };
 
-    /// Tells the peer that nothing more is written.
+    /// Shuts the write side down.
     fn shut_down(&mut self)
         ensures remaining { remaining self.new ≡ remaining self.old }
         ensures contents { contents self.new ≡ contents self.old };
 
-    /// Returns whether the connection that was begun has come about, or why it hasn't.
+    /// Returns whether it is connected, or why connecting has failed.
     fn has_connected(&self) -> io::Result<bool>;
 
-    /// Has the system tell of it under this token from now on, also of what it is ready for already; `again` where the
-    /// system has told of it before. It fails where the system refuses that.
+    /// Registers the stream under this token; what it is ready for already is reported too. `again` says that it was
+    /// registered before. Fails if the system refuses.
     fn register(&mut self, registry: &Self::Registry, token: usize, again: bool) -> io::Result<()>
         ensures remaining { remaining self.new ≡ remaining self.old }
         ensures contents { contents self.new ≡ contents self.old };
 
-    /// Has the system tell of it no more, until it is registered anew.
+    /// Deregisters the stream, until it is registered again.
     fn deregister(&mut self, registry: &Self::Registry) -> io::Result<()>
         ensures remaining { remaining self.new ≡ remaining self.old }
         ensures contents { contents self.new ≡ contents self.old };
@@ -74,12 +74,12 @@ impl Stream for TcpStream {
     }
 
     fn set_nodelay(&mut self) {
-        // One that is slower is served all the same.
+        // Without that the connection only is slower.
         let _ = TcpStream::set_nodelay(self, true);
     }
 
     fn shut_down(&mut self) {
-        // A connection that is gone has nobody to tell.
+        // If the connection is gone, there is nobody to signal.
         let _ = self.shutdown(Shutdown::Write);
     }
 

@@ -1,4 +1,4 @@
-//! Connections by number, of which those that stand are found without a walk over all that may.
+//! A table of connections by number, which is walked only up to the last one in use.
 ghost use Rattle.std.specs.Prelude.{◌≡◌, ◌≤◌, ◌<◌, ◌+◌, ◌-◌, ◌%◌, ◌^◌, ℕ, None, Some, IfOk, MatchOption, is_some};
 ghost use Rattle.std.specs.Prelude.{length};
 ghost use Rattle.std.specs.Prelude.{min, slice_set};
@@ -10,10 +10,10 @@ use relay_slots::Slots;
 use std::alloc::{AllocError, Global};
 use std::marker::Model;
 
-/// Up to 64 connections, numbered from 0 to 63. A walk over those that stand touches no slot after the last of them.
+/// Up to 64 connections, numbered from 0 to 63. A walk touches no slot after the last occupied one.
 pub struct Table<T> {
     slots: Slots<T>,
-    /// Nothing is in a slot from this one on.
+    /// All slots from this one on are free.
     end: usize,
 }
 
@@ -42,7 +42,7 @@ impl<T> Model for Table<T> {
 }
 
 impl<T: Drop> Table<T> {
-    /// None stands. Fails if memory runs out.
+    /// Returns an empty table. Fails if memory runs out.
     pub fn new(alloc: Global) -> Result<Self, AllocError>
         ensures { IfOk result AreFree }
     {
@@ -52,7 +52,7 @@ impl<T: Drop> Table<T> {
         })
     }
 
-    /// Returns the slots up to the last in which something stands, by number.
+    /// Returns the slots up to the last occupied one, by number.
     pub fn standing(&self) -> &[Option<T>]
         ensures slots { (number : ℕ) → slot_at result.now number ≡ slot_at self.now number }
         ensures within { length result.now ≤ SLOT_COUNT }
@@ -60,7 +60,7 @@ impl<T: Drop> Table<T> {
         &self.slots.as_slice()[..self.end]
     }
 
-    /// Returns the least number of a free slot.
+    /// Returns the lowest number of a free slot.
     pub fn free(&self) -> Option<usize>
         ensures least { MatchOption result (IsFull self.now) (IsLeastFree self.now) }
         ensures within { MatchOption result (Unit {0}) (λ number. number < length self.now) }
@@ -68,7 +68,7 @@ impl<T: Drop> Table<T> {
         self.slots.free()
     }
 
-    /// Returns how many stand.
+    /// Returns how many slots are occupied.
     pub fn count(&self) -> usize
         ensures { result ≡ count_of self.now }
     {
@@ -82,7 +82,7 @@ impl<T: Drop> Table<T> {
         count
     }
 
-    /// Takes what is under a number out, to be worked on outside of the table.
+    /// Takes the value of a number out, to work on it outside of the table.
     pub fn take(&mut self, number: usize) -> Option<T>
         ensures taken { result ≡ slot_at self.old number }
         ensures rest { self.new ≡ slice_set self.old number None }
@@ -95,8 +95,7 @@ impl<T: Drop> Table<T> {
         taken
     }
 
-    /// Puts a value under the number under which it was taken out, or under a free one. After the last slot there is
-    /// no place for one.
+    /// Puts a value back under its number, or under a free one. Drops it if the number is too large.
     pub fn put(&mut self, number: usize, value: T)
         ensures stands { number < length self.old
             → self.new ≡ slice_set self.old number (Some value) }
@@ -111,7 +110,7 @@ impl<T: Drop> Table<T> {
     }
 }
 
-/// Returns the number after the last slot in which something stands, where nothing stands from this one on.
+/// Returns the number after the last occupied slot, given that all slots from `end` on are free.
 fn end_of<T>(slots: &[Option<T>], end: usize) -> usize
     requires within { end ≤ length slots.now }
     requires free { AreFreeFrom slots.now end }
@@ -125,14 +124,14 @@ fn end_of<T>(slots: &[Option<T>], end: usize) -> usize
     last
 }
 
-/// Returns whether a value is under this number. To take nothing out costs as much as to take a value.
+/// Returns whether there is a value under this number. Taking a missing value out would cost as much as taking one.
 pub fn holds<T>(slots: &[Option<T>], number: usize) -> bool
     ensures { result ≡ is_some (slot_at slots.now number) }
 {
     matches!(slots.get(number), Some(Some(_)))
 }
 
-/// Returns the number that comes this many places after another, of this many, where 0 comes after the last.
+/// Returns the number `step` places after another, of `count` numbers in a circle.
 pub fn turned(number: usize, step: usize, count: usize) -> usize
     requires { 0 < count }
     ensures place { result ≡ min (number + step) (2 ^ 64 - 1) % count }

@@ -1,4 +1,4 @@
--- What connections to next hops are made for, and where they go.
+-- What connections to next hops are for, and where they lead.
 use Rattle.std.specs.Prelude.{◌≡◌, ℕ, false, List, [], Option, None, Some, slice_set}
 use Rattle.std.specs.declared.net.socket_addr.SocketAddrV4.{SocketAddrV4}
 use Rattle.relay_slots.specs.Slots.{slot_at}
@@ -13,13 +13,13 @@ use Rattle.relay_next_hops.specs.declared.errand.Course.{Course}
 use Rattle.relay_next_hops.specs.declared.errand.Course.TheVariants.{Stays, Ended, Lost, TurnedAway, Void}
 use Rattle.relay_next_hops.specs.declared.hop.Hop.{Hop}
 
--- it is a connection for the same message and next hop, in the same lane, to the same place
+-- the connection is for the same message and next hop, in the same lane, to the same address
 pub record KeepsErrand {S : Type 0} (old new : Hop S) : Type 0 where
   pub aim : new.aim ≡ old.aim
   pub message : new.message ≡ old.message
   pub name : new.name ≡ old.name
 
--- the connection goes to the place that the routes give for its next hop
+-- the connection leads to the address that the routes give for its next hop
 abbrev pub IsAimed : {S : Type 0} → List Route → Hop S → Type 0
 IsAimed routes hop = place_of routes hop.name ≡ Some hop.aim.at
 
@@ -27,7 +27,7 @@ IsAimed routes hop = place_of routes hop.name ≡ Some hop.aim.at
 abbrev pub AreAimed : {S : Type 0} → List Route → List (Option (Hop S)) → Type 0
 AreAimed {S} routes hops = (number : ℕ) (hop : Hop S) → slot_at hops number ≡ Some hop → IsAimed routes hop
 
--- what is left in the table of a connection that has come to this: itself where it stays
+-- what is left in the table of a connection with this course: itself, if it stays
 abbrev pub left_of : {S : Type 0} → Course → Hop S → Option (Hop S)
 left_of Stays hop = Some hop
 left_of (Ended outbox noted) hop = None
@@ -35,7 +35,7 @@ left_of (Lost loss) hop = None
 left_of TurnedAway hop = None
 left_of Void hop = None
 
--- this attempt has begun at a time for a message and a next hop
+-- this attempt has begun, at a time, for a message and a next hop
 pub record StartsFor {D : Type 0} (at message : ℕ) (name : List ℕ) (attempt : Option ℕ) (old new : RelayState D)
     : Type 0 where
   pub started : Started
@@ -45,8 +45,8 @@ pub record StartsFor {D : Type 0} (at message : ℕ) (name : List ℕ) (attempt 
   pub records : new.node.records ≡ old.node.records
   pub only : OnlyHop old new started.attempt
 
--- The connection is that of a stream that was opened to this place. Nothing was read of it or written to it yet, nor
--- is anything held back, or the peer told that nothing comes.
+-- A connection of a stream that was opened to this address. Nothing was read from it or written to it, nothing is held
+-- back, and its write side is open.
 pub record IsOpenedTo {S : Type 0} (leads_to : S → SocketAddrV4 → Type 0) (remaining contents : S → Option (List ℕ))
     (at : SocketAddrV4) (channel : Channel S) : Type 0 where
   pub stream : S
@@ -57,8 +57,8 @@ pub record IsOpenedTo {S : Type 0} (leads_to : S → SocketAddrV4 → Type 0) (r
   pub held : held_of channel ≡ []
   pub shut : is_shut channel ≡ false
 
--- A connection for this message and next hop is put under a number, which was opened to the place of its aim. Its
--- attempt hasn't begun.
+-- A connection for this message and next hop is under a number; it was opened to the address of its aim. Its attempt
+-- hasn't begun.
 pub record PutsFor {S : Type 0} (Opened : SocketAddrV4 → Channel S → Type 0) (aim : Aim) (message : ℕ) (name : List ℕ)
     (number : ℕ) (old new : List (Option (Hop S))) : Type 0 where
   pub hop : Hop S

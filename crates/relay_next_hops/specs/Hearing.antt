@@ -1,5 +1,4 @@
--- What the attempts hear at a turn: each the octets that were read of its own next hop's connection, and none of them
--- twice.
+-- What attempts hear in a turn: the octets that were read from their own next hop's connection, and none of them twice.
 use Rattle.std.specs.Prelude.{◌≡◌, ◌≢◌, ◌⊎◌, ℕ, ◌%◌, ◌≤◌, List, [], ◌∷◌, Option, None, Some, Result, Ok, Err}
 use Rattle.std.specs.Prelude.{MatchOption, drop, if◌then◌else◌, min, option_and_then, option_map}
 use Rattle.std.specs.List.{filter_map}
@@ -21,31 +20,31 @@ use Rattle.relay_next_hops.specs.declared.hops.Hops.{Hops}
 abbrev pub told_of : ReplyPiece → ℕ × List ℕ
 told_of reply = (reply.attempt, reply.octets.now)
 
--- the attempt of a connection, if it has octets that it may hear
+-- the attempt of a connection, if there are octets that it may hear
 abbrev pub hearing_of : {S : Type 0} → Hop S → Option ℕ
 hearing_of hop = if hop.hears then hop.attempt else None
 
--- what the attempt of a connection must hear: all that was read of that connection and isn't used yet
+-- what the attempt of a connection is to hear: all that was read from the connection and isn't used yet
 abbrev pub reply_of : {S : Type 0} → Option (Hop S) → Option (ℕ × List ℕ)
 reply_of None = None
 reply_of (Some hop) = option_map (λ attempt. (attempt, unread_of hop.channel)) (hearing_of hop)
 
--- the attempt of the connection of a number that has something to hear
+-- the attempt of the connection of a number, if it has octets to hear
 abbrev pub hearing_at : {S : Type 0} → List (Option (Hop S)) → ℕ → Option ℕ
 hearing_at hops number = option_and_then hearing_of (slot_at hops number)
 
 abbrev pub reply_at : {S : Type 0} → List (Option (Hop S)) → ℕ → Option (ℕ × List ℕ)
 reply_at hops number = reply_of (slot_at hops number)
 
--- the numbers of all connections, in the order in which they are served: from the first on, and 0 after the last
+-- the numbers of all connections, in the order in which they are served: a circle, from the first on
 unfoldable pub order_of : {S : Type 0} → Hops S → List ℕ
 order_of hops = turned 64 (hops.first % 64) 64
 
--- what all attempts must hear, in that order
+-- what all attempts are to hear, in that order
 abbrev pub replies_of : {S : Type 0} → Hops S → List (ℕ × List ℕ)
 replies_of hops = filter_map (reply_at hops.hops) (order_of hops)
 
--- no octet of the reply was used, since the call took no more, and the attempt goes on
+-- no octet of the reply was used, because the call took no more, and the attempt goes on
 abbrev pub IsLeft : Answered → Type 0
 IsLeft answered = (answered.used ≡ 0) × (answered.last ≡ None)
 
@@ -57,9 +56,9 @@ WasLeft (Err fault) = ⊥
 abbrev pub IsLate : {S : Type 0} → ℕ → Hop S → Type 0
 IsLate tick hop = min hop.idle_deadline hop.answer_deadline ≤ tick
 
--- What becomes of a connection by the outcome of octets that its attempt has heard: at a fault the attempt is gone; if
--- it has ended these are its last octets; and otherwise it goes on without the octets that were used, unless its next
--- hop has taken too long.
+-- What happens to a connection after its attempt has heard octets. After a fault the attempt is gone; if the attempt
+-- has ended, these are its last octets; else the connection goes on without the used octets, unless its next hop has
+-- taken too long.
 abbrev pub IsCourse : {S : Type 0} → ℕ → Result Answered NodeFault → Hop S → Hop S → Course → Type 0
 IsCourse tick (Err fault) old new course = course ≡ Void
 IsCourse tick (Ok answered) old new course =
@@ -68,28 +67,28 @@ IsCourse tick (Ok answered) old new course =
     × ((course ≡ Stays) ⊎ ((course ≡ Lost Silent) × IsLate tick new)))
     (λ outbox. (noted : Option Noted) × (course ≡ Ended outbox noted))
 
--- A connection stays for its errand without the octets that were used. If none was used, its attempt may hear them
--- alone, and then some of them are used.
+-- A connection stays for its errand, without the used octets. If none was used, its attempt may hear them in a call of
+-- its own, and then some are used.
 pub record UsesOwn {S : Type 0} (answered : Answered) (old new : Hop S) : Type 0 where
   pub goes_on : answered.last ≡ None
   pub unread : (unread_of new.channel ≡ drop answered.used (unread_of old.channel))
       ⊎ (IsLeft answered × (used : ℕ) × (unread_of new.channel ≡ drop used (unread_of old.channel)))
   pub errand : KeepsErrand old new
 
--- The words below are of a tick.
+-- Below: at a tick.
 module _ {S : Type 0} (tick : ℕ) where
-  -- it went on so, and then its next hop had taken too long
+  -- the connection went on so, and then its next hop had taken too long
   pub record WentLate (answered : Answered) (old : Hop S) : Type 0 where
     pub new : Hop S
     pub uses : UsesOwn answered old new
     pub late : IsLate tick new
 
   -- A connection is gone: its attempt has ended, or its next hop has taken too long. If none of its octets was used,
-  -- its attempt has heard them alone.
+  -- its attempt has heard them in a call of its own.
   abbrev pub IsGone : Answered → Hop S → Type 0
   IsGone answered old = (answered.last ≢ None) ⊎ IsLeft answered ⊎ WentLate answered old
 
-  -- what became of a connection by an answer to its attempt; if that is a fault, the connection is gone
+  -- what happened to a connection after this result for its attempt; after a fault it is gone
   abbrev pub IsAnswered : Result Answered NodeFault → Option (Hop S) → Option (Hop S) → Type 0
   IsAnswered answer None None = Unit {0}
   IsAnswered answer None (Some new) = ⊥
@@ -98,13 +97,13 @@ module _ {S : Type 0} (tick : ℕ) where
   IsAnswered (Ok answered) (Some old) None = IsGone answered old
   IsAnswered (Ok answered) (Some old) (Some new) = UsesOwn answered old new
 
-  -- the connection of this number was answered so, and no other changes
+  -- the connection of this number got this result, and no other has changed
   pub record AnswersOne (number : ℕ) (answer : Result Answered NodeFault) (old new : List (Option (Hop S)))
       : Type 0 where
     pub own : IsAnswered answer (slot_at old number) (slot_at new number)
     pub others : OthersStay old new number
 
-  -- the next of these answers goes to the connection of this number, and the others go on from there
+  -- the next of these results goes to the connection of this number, and the others go on from there
   pub record HearsNext (GoesOn : List (Result Answered NodeFault) → List (Option (Hop S)) → Type 0) (number : ℕ)
       (answers : List (Result Answered NodeFault)) (old : List (Option (Hop S)))
       : Type 0 where
@@ -115,8 +114,8 @@ module _ {S : Type 0} (tick : ℕ) where
     pub one : AnswersOne number answer old between
     pub goes_on : GoesOn rest between
 
-  -- Of these connections, in this order, each that has something to hear is answered by the next of these answers, as
-  -- far as there are any.
+  -- Of these connections, in this order, each with octets to hear gets the next of these results, as long as there are
+  -- any.
   abbrev pub AnswersEach
       : List ℕ → List (Result Answered NodeFault) → List (Option (Hop S)) → List (Option (Hop S)) → Type 0
   AnswersEach [] answers old new = new ≡ old

@@ -1,4 +1,4 @@
--- What is due at the next hops, by lanes: the place of each, how many of its attempts run, and its tasks.
+-- The due mail at next hops, by lanes: the address of each lane, its running attempts, and its tasks.
 use Rattle.std.specs.Prelude.{◌≡◌, ◌≢◌, ◌⊎◌, ◌==◌, ◌+◌, ℕ, false, true, List, [], ◌∷◌, Option, None, Some, Contains}
 use Rattle.std.specs.Prelude.{option_map, slice_get}
 use Rattle.std.specs.List.{list_any}
@@ -9,11 +9,11 @@ use Rattle.relay_next_hops.specs.declared.lanes.Lanes.{Lanes}
 use Rattle.relay_next_hops.specs.declared.next_hops.NextHops.{NextHops}
 use Rattle.relay_next_hops.specs.Paces.{RunAsBefore, has_answered_at}
 
--- the tick at which something is due that isn't listed, as the node has told
+-- the tick at which mail is due that isn't listed, according to the node
 abbrev pub next_due_of : {S : Type 0} → NextHops S → ℕ
 next_due_of next_hops = next_hops.lanes.next_due
 
--- what is due for the lane of a number, in the order in which it is begun; nothing if there is no such lane
+-- the tasks of the lane of a number, in the order in which they begin; none if there is no such lane
 abbrev pub tasks_at : Lanes → ℕ → List Task
 tasks_at lanes number = option_map_or (λ lane. lane.tasks.items) (slice_get lanes.lanes.items number) []
 
@@ -21,16 +21,16 @@ tasks_at lanes number = option_map_or (λ lane. lane.tasks.items) (slice_get lan
 abbrev pub first_message : List Task → Option ℕ
 first_message tasks = option_map (λ task. task.message) (slice_get tasks 0)
 
--- each lane keeps its place
+-- each lane keeps its address
 abbrev pub KeepsPlaces : Lanes → Lanes → Type 0
 KeepsPlaces old new = new.places ≡ old.places
 
--- each lane keeps its place, and as many of its attempts run as before
+-- each lane keeps its address, and its number of running attempts
 pub record KeepsCounts (old new : Lanes) : Type 0 where
   pub places : new.places ≡ old.places
   pub runs : RunAsBefore old.paces new.paces
 
--- no place is known, nothing is listed, and all of it is to be
+-- no address is known, nothing is listed, and a listing is requested
 pub record IsNew (most : ℕ) (lanes : Lanes) : Type 0 where
   pub limit : lanes.most ≡ most
   pub places : lanes.places ≡ []
@@ -41,18 +41,18 @@ pub record IsNew (most : ℕ) (lanes : Lanes) : Type 0 where
   pub stale : lanes.is_stale ≡ true
   pub opened : lanes.is_open ≡ true
 
--- No lane loses its place, and as many attempts of each lane run as before; lanes may have come.
+-- No lane loses its address, and each has as many running attempts as before; lanes may have been added.
 pub record ListsMore (old new : Lanes) : Type 0 where
   pub places : (number : ℕ) (place : SocketAddrV4) → slice_get old.places number ≡ Some place
       → slice_get new.places number ≡ Some place
   pub runs : RunAsBefore old.paces new.paces
 
--- the message waits to be given up, or all that is due is to be listed anew
+-- the message waits to be given up, or all due mail is to be listed again
 abbrev pub IsListedUnroutable : ℕ → Lanes → Type 0
 IsListedUnroutable message lanes = Contains lanes.unroutable.items message ⊎ (lanes.is_stale ≡ true)
 
--- The task is the first of its lane again. If it isn't, its message is listed anyway, or all that is due is, or there
--- is no such lane.
+-- The task is in front of its lane again. If it isn't, its message or all due mail will be listed anyway, or there is
+-- no such lane.
 abbrev pub IsPutBack : ℕ → Task → Lanes → Lanes → Type 0
 IsPutBack lane task old new =
     (tasks_at new lane ≡ task ∷ tasks_at old lane)
@@ -60,12 +60,12 @@ IsPutBack lane task old new =
     ⊎ (new.is_stale ≡ true)
     ⊎ (slice_get old.lanes.items lane ≡ None)
 
--- of this many lanes this is the one that comes this many places after the first, where lane 0 comes after the last
+-- this is the lane so many places after the first, of this many in a circle
 abbrev pub IsNth : ℕ → ℕ → ℕ → ℕ → Type 0
 IsNth first count step lane = (first + step ≡ lane) ⊎ (first + step ≡ lane + count)
 
--- A call for one lane: each other keeps its tasks and its pace, no next hop counts as one that has answered which
--- didn't before, and lanes that were open stay so.
+-- A call for one lane: each other lane keeps its tasks and its pace, no next hop counts as having answered that didn't
+-- before, and lanes that were open stay open.
 pub record OnlyLane (lane : ℕ) (old new : Lanes) : Type 0 where
   pub most : new.most ≡ old.most
   pub tasks : (other : ℕ) → other ≢ lane → tasks_at new other ≡ tasks_at old other
@@ -73,10 +73,10 @@ pub record OnlyLane (lane : ℕ) (old new : Lanes) : Type 0 where
   pub silent : has_answered_at old.paces lane ≡ false → has_answered_at new.paces lane ≡ false
   pub opened : new.is_open ≡ old.is_open
 
--- nothing may be begun that couldn't be before
+-- nothing may begin that couldn't before
 abbrev pub closed : Lanes → Lanes
 closed lanes = record lanes { is_open = false }
 
--- this lane is checked first, and the next room is kept for one that waits
+-- this lane is looked at first, and the next free connection is reserved for one that waits
 abbrev pub turned_to : ℕ → Option ℕ → Lanes → Lanes
 turned_to first waiting lanes = record lanes { first = first; waiting = waiting }

@@ -1,5 +1,5 @@
--- What is listed of a message: each place that is due by a task in the lane of its next hop, and the message as
--- unroutable where a held place of it has no next hop.
+-- What is listed of a message: each due place by a task in the lane of its next hop, and the message as unroutable if
+-- one of its held places has no next hop.
 use Rattle.std.specs.Prelude.{◌≡◌, ◌⊎◌, ◌==◌, ◌&&◌, ◌<◌, ◌≤◌, ℕ, Bool, true, List, [], Option, Some}
 use Rattle.std.specs.Prelude.{MatchOption, bytes_eq, drop, length, slice_get}
 use Rattle.std.specs.List.{list_any}
@@ -22,11 +22,11 @@ use Rattle.relay_next_hops.specs.declared.listing.TheConstants.{PART_SIZE}
 abbrev pub is_for : ℕ → List ℕ → Task → Bool
 is_for message name task = (task.message == message) && bytes_eq task.hop name
 
--- a task for this message and next hop waits in the lane of this number
+-- a task for this message and next hop is in the lane of this number
 abbrev pub Waits : ℕ → List ℕ → Lanes → ℕ → Type 0
 Waits message name lanes lane = list_any (is_for message name) (tasks_at lanes lane) ≡ true
 
--- a connection for this message and next hop is being made or stands, in the lane of this number
+-- there is a connection for this message and next hop, in the lane of this number
 pub record HasConnection {S : Type 0} (hops : List (Option (Hop S))) (message : ℕ) (name : List ℕ) (lane : ℕ)
     : Type 0 where
   pub number : ℕ
@@ -36,19 +36,18 @@ pub record HasConnection {S : Type 0} (hops : List (Option (Hop S))) (message : 
   pub its_name : hop.name ≡ name
   pub its_lane : hop.aim.lane ≡ lane
 
--- what is due of this message for this next hop waits in the lane of the hop's place, or has a connection there
+-- the due mail of this message for this next hop is in the lane of the hop's address, or has a connection there
 abbrev pub HasTurn : {S : Type 0} → List (Option (Hop S)) → ℕ → List ℕ → SocketAddrV4 → Lanes → Type 0
 HasTurn hops message name at lanes = (lane : ℕ) × (slice_get lanes.places lane ≡ Some at)
     × (Waits message name lanes lane ⊎ HasConnection hops message name lane)
 
--- What was listed stays so: what waits in a lane still does, and so does each message that is to be given up, or all
--- that is due is to be listed anew.
+-- What was listed stays listed, in its lane or as a message to be given up; or all due mail is to be listed again.
 pub record KeepsListed (old new : Lanes) : Type 0 where
   pub tasks : (message lane : ℕ) (name : List ℕ) → Waits message name old lane → Waits message name new lane
   pub unroutable : (message : ℕ) → IsListedUnroutable message old → IsListedUnroutable message new
   pub stale : old.is_stale ≡ true → new.is_stale ≡ true
 
--- it has its turn, or all that is due is to be listed anew
+-- it is listed or has a connection, or all due mail is to be listed again
 abbrev pub IsListedFor : {S : Type 0} → List (Option (Hop S)) → ℕ → List ℕ → SocketAddrV4 → Lanes → Type 0
 IsListedFor hops message name at lanes = HasTurn hops message name at lanes ⊎ (lanes.is_stale ≡ true)
 
@@ -57,33 +56,33 @@ abbrev pub route_of : RouteTable → List Recipient → ℕ → Option NextHop
 route_of table recipients place =
     option_and_then (λ recipient. hop_at table recipient.path) (slice_get recipients place)
 
--- The words below are of a time, with these connections to next hops.
+-- Below: at a time, with these connections to next hops.
 module _ {S : Type 0} (hops : List (Option (Hop S))) (moment : ℕ) where
-  -- A place of a message is listed: where it is held and has no next hop its message is unroutable, and where it is due
-  -- the message has its turn at its next hop.
+  -- A place of a message is listed: if it is held and has no next hop, its message is unroutable; if it is due, the
+  -- message is listed for its next hop.
   abbrev pub IsPlaceListed : RouteTable → ℕ → List Recipient → ℕ → Place → Lanes → Type 0
   IsPlaceListed table message recipients index place lanes = place.held ≡ true
       → MatchOption (route_of table recipients index) (IsListedUnroutable message lanes)
       (λ hop. place.due ≤ moment → IsListedFor hops message hop.name hop.at lanes)
 
-  -- this many of its places are, from the first on
+  -- this many of its places are listed, from the first on
   abbrev pub ArePlacesListed : RouteTable → ℕ → List Recipient → List Place → ℕ → Lanes → Type 0
   ArePlacesListed table message recipients places count lanes = (index : ℕ) (place : Place) → index < count
       → slice_get places index ≡ Some place → IsPlaceListed table message recipients index place lanes
 
-  -- each place of a message is, if there is such a message
+  -- each place of a message is listed, if there is such a message
   abbrev pub IsListed : {D : Type 0} → NodeState D → ℕ → Lanes → Type 0
   IsListed node number lanes =
       MatchOption (message_of node.records.queue.messages number) (Unit {0})
       (λ message. ArePlacesListed node.config.routes number message.accept.envelope.recipients message.places
       (length message.places) lanes)
 
-  -- each message from one number on, and before another, is
+  -- each message from one number on, and before another, is listed
   abbrev pub AreListedFrom : {D : Type 0} → NodeState D → ℕ → ℕ → Lanes → Type 0
   AreListedFrom node first next lanes = (number : ℕ) → first ≤ number → number < next → IsListed node number lanes
 
-  -- Of the walk over the queued messages the next ones were checked, and are listed: as many as a part has, or all that
-  -- were left. It goes on after them, and what was listed before stays so.
+  -- The next messages of the walk over the queue were listed, as many as a part has, or all that were left. The walk
+  -- goes on after them, and what was listed before stays listed.
   pub record ListsPart {D : Type 0} (node : NodeState D) (old new : Lanes) : Type 0 where
     pub kept : KeepsListed old new
     pub size : ℕ

@@ -14,7 +14,7 @@ use Rattle.relay_next_hops.specs.Paces.{IsHeldAt}
 use Rattle.relay_next_hops.specs.declared.errand.Errand.{Errand}
 use Rattle.relay_report.specs.Report.{reporter_of}
 
--- The words below are of a call at a time, of a relay on a disk of these words.
+-- Below: a call at a time, of a relay on a disk with these words.
 module _ {D : Type 0} (words : DiskWords D) (at : ℕ) (old new : RelayState D) where
   -- the attempt of this number has ended, and its outcome was recorded; its connection is gone
   pub record LosesAttempt (attempt : ℕ) : Type 0 where
@@ -29,9 +29,9 @@ module _ {D : Type 0} (words : DiskWords D) (at : ℕ) (old new : RelayState D) 
     pub refused : RefusesHop {T = ℕ} words attempt old new (Err fault)
     pub gone : slot_at new.hops attempt ≡ None
 
--- The words below are of such a call, for a message and a next hop.
+-- Below: such a call, for a message and a next hop.
 module _ {D : Type 0} (words : DiskWords D) (at message : ℕ) (hop : List ℕ) (old new : RelayState D) where
-  -- an attempt has begun for them, and was lost at once
+  -- an attempt has begun for them, and its loss was recorded at once
   pub record StartsAndLoses : Type 0 where
     pub started : Started
     pub between : RelayState D
@@ -61,12 +61,12 @@ abbrev pub StartsNothing
 StartsNothing words at message hop old new =
     StartsNone words at message hop old new ⊎ StartsAndRefuses words at message hop old new
 
--- the loss of an errand is recorded: that of its attempt, or where it has none that of one that begins for it
+-- the loss of an errand is recorded: that of its attempt, or, if it has none, that of one that begins for it
 abbrev pub Loses : {D : Type 0} → DiskWords D → ℕ → Errand → RelayState D → RelayState D → Option ℕ → Type 0
 Loses words at errand old new (Some attempt) = LosesAttempt words at old new attempt
 Loses words at errand old new None = StartsAndLoses words at errand.message errand.name old new
 
--- it isn't recorded: no attempt may begin, or the node refuses its loss
+-- the loss isn't recorded: no attempt may begin, or the node refuses the loss
 abbrev pub LosesNot : {D : Type 0} → DiskWords D → ℕ → Errand → RelayState D → RelayState D → Option ℕ → Type 0
 LosesNot words at errand old new (Some attempt) = RefusesLoss words at old new attempt
 LosesNot words at errand old new None = StartsNothing words at errand.message errand.name old new
@@ -84,13 +84,13 @@ pub record IsRecorded {D : Type 0} (words : DiskWords D) (at : ℕ) (errand : Er
   pub loses : Loses words at errand old between errand.attempt
   pub noted : TakesNote between new
 
--- it is recorded so, or the node refuses that
+-- the loss is recorded, or the node refuses it
 abbrev pub IsRecordedOrRefused : {D : Type 0} → DiskWords D → ℕ → Errand → RelayState D → RelayState D → Type 0
 IsRecordedOrRefused words at errand old new =
     IsRecorded words at errand old new ⊎ LosesNot words at errand old new errand.attempt
 
--- An errand has ended as lost: that is recorded, or refused. Only where its attempt hasn't begun, and its place is on
--- hold, it stays due instead, and nothing changes.
+-- An errand has ended as lost: that is recorded, or refused. If its attempt hasn't begun, and its next hop is on hold,
+-- it stays due instead, and nothing changes.
 abbrev pub EndsLost : {D : Type 0} → DiskWords D → Now → Errand → List Pace → RelayState D → RelayState D → Type 0
 EndsLost words now errand paces old new =
     ((errand.attempt ≡ None) × IsHeldAt now.tick paces errand.aim.lane × (new ≡ old))

@@ -1,8 +1,8 @@
 -- The numbers of the messages that may be queued, and how far a walk over them has come.
 use Rattle.std.specs.Prelude.{ℕ, ◌==◌, List, [], ◌∷◌, ◌++◌, if◌then◌else◌}
 
--- Numbers in order: those that the walk is still to come to, of which there are none if none is under way; those that
--- it has come to, and that were queued then; and those that have come since it began.
+-- Three lists of numbers, in order: those that the walk is still to come to, none if there is no walk; those that it
+-- has come to and that were queued then; and those that have arrived since it began.
 pub record Walk : Type 0 where
   pub left : List ℕ
   pub passed : List ℕ
@@ -12,23 +12,23 @@ pub record Walk : Type 0 where
 abbrev pub no_numbers : Walk
 no_numbers = record { left = []; passed = []; newer = [] }
 
--- one more has come
+-- one more message has arrived
 abbrev pub with_newer : ℕ → Walk → Walk
 with_newer number walk = record { left = walk.left; passed = walk.passed; newer = walk.newer ++ number ∷ [] }
 
--- the walk has come to one more that is queued
+-- the walk has come to one more message, which is queued
 abbrev pub with_passed : ℕ → Walk → Walk
 with_passed number walk = record { left = walk.left; passed = walk.passed ++ number ∷ []; newer = walk.newer }
 
--- this is left of the walk
+-- these numbers are left of the walk
 abbrev pub with_left : List ℕ → Walk → Walk
 with_left left walk = record { left = left; passed = walk.passed; newer = walk.newer }
 
--- the walk begins: over those that the last one has found queued, and those that have come since
+-- the walk begins: over the numbers that the last one has found queued, and those that have arrived since
 abbrev pub begun : Walk → Walk
 begun walk = record { left = walk.passed ++ walk.newer; passed = []; newer = [] }
 
--- the numbers of these places, without each that is after the same; no place has the number 0
+-- the numbers of these places, each once; no place has the number 0
 abbrev pub numbers_behind : ℕ → List (ℕ × ℕ) → List ℕ
 numbers_behind last [] = []
 numbers_behind last (place ∷ places) =

@@ -1,4 +1,4 @@
--- Overdue mail: tasks at a place that is on hold, which have been due there for too long.
+-- Overdue mail: tasks at a next hop on hold that have been due for too long.
 use Rattle.std.specs.Prelude.{◌≡◌, ◌-◌, ◌+◌, ◌*◌, ℕ, Bool, false, nat_lt, ◌&&◌, List, [], ◌∷◌, ◌++◌, Option}
 use Rattle.std.specs.Prelude.{take, drop, find, length, slice_get}
 use Rattle.std.specs.List.{list_any}
@@ -28,7 +28,7 @@ is_overdue at message = option_map_or (λ message. list_any (is_late at) message
 abbrev pub is_overdue_task : ℕ → List (ℕ × Message) → Task → Bool
 is_overdue_task at messages task = is_overdue at (message_of messages task.message)
 
--- the tasks of a lane that weren't checked for being overdue since it was emptied last, in their order
+-- the tasks of a lane that weren't checked for being overdue since it was last emptied, in their order
 abbrev pub unchecked_of : Lane → List Task
 unchecked_of lane = drop (length lane.tasks.items - lane.unchecked) lane.tasks.items
 
@@ -36,23 +36,23 @@ unchecked_of lane = drop (length lane.tasks.items - lane.unchecked) lane.tasks.i
 abbrev pub checked_of : Lane → List Task
 checked_of lane = take (length lane.tasks.items - lane.unchecked) lane.tasks.items
 
--- the same of the lane of a number, and none if there is no such lane
+-- the unchecked tasks of the lane of a number, none if there is no such lane
 abbrev pub unchecked_at : Lanes → ℕ → List Task
 unchecked_at lanes number = option_map_or unchecked_of (slice_get lanes.lanes.items number) []
 
 abbrev pub checked_at : Lanes → ℕ → List Task
 checked_at lanes number = option_map_or checked_of (slice_get lanes.lanes.items number) []
 
--- the first overdue task of a lane, among the next so many that weren't checked
+-- the first overdue task of a lane, among its next unchecked ones
 abbrev pub overdue_at : ℕ → List (ℕ × Message) → Lanes → ℕ → ℕ → Option Task
 overdue_at at messages lanes lane most = find (is_overdue_task at messages) (take most (unchecked_at lanes lane))
 
--- the next this many tasks of the lane that weren't checked are, and each stays where it is
+-- the next unchecked tasks of the lane, at most this many, are checked, and stay where they are
 pub record Checks (lane most : ℕ) (old new : Lanes) : Type 0 where
   pub tasks : tasks_at new lane ≡ tasks_at old lane
   pub unchecked : unchecked_at new lane ≡ drop most (unchecked_at old lane)
 
--- the task leaves the lane, and each other stays in its order
+-- the task has left the lane, and the others stay in their order
 pub record TakesOut (lane : ℕ) (task : Task) (old new : Lanes) : Type 0 where
   pub before : List Task
   pub rest : List Task

@@ -1,5 +1,5 @@
--- Connections to next hops that were left in mid-read: nobody tells of their octets any more, so nothing may be waited
--- for before these are used.
+-- Connections to next hops with octets that were not read to the end: the system won't report these again, so the relay
+-- mustn't wait before they are used.
 use Rattle.std.specs.Prelude.{◌≡◌, ◌≢◌, ℕ, List, [], Option, Some}
 use Rattle.relay_slots.specs.Slots.{slot_at}
 use Rattle.relay_loop.specs.Outboxes.{unwritten_at}
@@ -12,8 +12,8 @@ use Rattle.relay_next_hops.specs.declared.next_hops.NextHops.{NextHops}
 abbrev pub hops_of : {S : Type 0} → NextHops S → List (Option (Hop S))
 hops_of next_hops = next_hops.hops.hops
 
--- the next hop of an attempt, which has this number among the connections to next hops, was left in mid-read, and
--- nothing waits to be written to it
+-- the connection of this number, whose attempt is running, has octets that were not read to the end, and nothing is
+-- unwritten for it
 pub record IsLeftHop {S D : Type 0} (hops : List (Option (Hop S))) (relay : RelayState D) (number : ℕ) : Type 0 where
   pub hop : Hop S
   pub there : slot_at hops number ≡ Some hop

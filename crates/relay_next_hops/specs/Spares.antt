@@ -1,4 +1,4 @@
--- Descriptors that are kept for attempts.
+-- Spare file descriptors for attempts.
 use Rattle.std.specs.Prelude.{ℕ, vec_len}
 use Rattle.relay_next_hops.specs.declared.spares.Spares.{Spares}
 

@@ -1,4 +1,4 @@
--- The outcome of tasks: connections that begin for them, and messages that are lost or given up without one.
+-- The results for tasks: connections that begin for them, and messages that are lost or given up without one.
 use Rattle.std.specs.Prelude.{◌≡◌, ◌⊎◌, ◌<◌, ◌≤◌, ◌+◌, ℕ, Bool, true, false, List, [], ◌∷◌, Option}
 use Rattle.std.specs.Prelude.{None, Some, length}
 use Rattle.std.specs.declared.net.socket_addr.SocketAddrV4.{SocketAddrV4}
@@ -37,8 +37,7 @@ pub record IsOfTask (task : Task) (errand : Errand) : Type 0 where
   pub name : errand.name ≡ task.hop
   pub none : errand.attempt ≡ None
 
--- A connection for the task is put under this number, which was opened to the place that the routes give for its next
--- hop.
+-- A connection for the task is under this number; it was opened to the address that the routes give for its next hop.
 pub record ConnectsFor {D S : Type 0} (Opened : SocketAddrV4 → Channel S → Type 0) (lane number : ℕ) (task : Task)
     (hops_old hops_new : List (Option (Hop S))) (lanes_old lanes_new : Lanes) (relay : RelayState D)
     : Type 0 where
@@ -58,7 +57,7 @@ pub record FailsFor {D : Type 0} (words : DiskWords D) (now : Now) (lane : ℕ) 
   pub of_task : IsOfTask task errand
   pub lost : EndsLost words now errand paces old new
 
--- the outcome of a task of a lane for which a connection was to begin under a number
+-- the result for a task of a lane for which a connection was to begin under a number
 abbrev pub IsTried : {D S : Type 0} → DiskWords D → (SocketAddrV4 → Channel S → Type 0) → Now → ℕ → ℕ → Task
     → List (Option (Hop S)) → List (Option (Hop S)) → Lanes → Lanes → RelayState D → RelayState D → Tried → Type 0
 IsTried words Opened now lane number task hops_old hops_new lanes_old lanes_new old new Connects =
@@ -79,7 +78,7 @@ pub record GivesUp {D : Type 0} (words : DiskWords D) (at message : ℕ) (old ne
       between.node.records added
   pub noted : TakesNote between new
 
--- The message is given up. If it isn't, that isn't due any more, or what is due is to be listed anew.
+-- The message was given up. If not, giving up isn't due any more, or all due mail is to be listed again.
 abbrev pub IsGivenUp : {D : Type 0} → DiskWords D → ℕ → ℕ → RelayState D → RelayState D → Lanes → Bool → Type 0
 IsGivenUp words at message old new lanes true = GivesUp words at message old new
 IsGivenUp words at message old new lanes false =
@@ -89,8 +88,8 @@ IsGivenUp words at message old new lanes false =
     new.node.records NotDue
     ⊎ (lanes.is_stale ≡ true)
 
--- No more may begin for a lane: its pace lets none begin, or no task is left, or its next hop hasn't said anything yet,
--- as the next hops of this many connections that there is no room for it.
+-- No more may begin for a lane: its pace lets none begin, or no task is left, or its next hop hasn't answered yet and
+-- no more connections to such next hops may begin.
 abbrev pub IsDone : {S : Type 0} → ℕ → List (Option (Hop S)) → Lanes → ℕ → Type 0
 IsDone tick hops lanes lane = MayBeginAt lanes.most tick lanes.paces lane
     → (tasks_at lanes lane ≡ [])
@@ -101,21 +100,21 @@ IsDone tick hops lanes lane = MayBeginAt lanes.most tick lanes.paces lane
 abbrev pub IsTriedOut : ℕ → Lanes → Lanes → ℕ → Type 0
 IsTriedOut spares old new lane = length (tasks_at new lane) + SLOT_COUNT ≤ length (tasks_at old lane) + spares
 
--- a task is put back where the system has no descriptor for its connection
+-- a task is put back if the system has no descriptor for its connection
 abbrev pub back_of : Tried → ℕ
 back_of Connects = 0
 back_of Wants = 1
 back_of Fails = 0
 back_of HasNoPlace = 0
 
--- the outcome of the next task of a lane, if it was tried with this end
+-- the result for the next task of a lane, if it was tried so
 abbrev pub step_after : Tried → Step
 step_after Connects = Left
 step_after Wants = Back
 step_after Fails = Left
 step_after HasNoPlace = Left
 
--- The next task of a lane was tried, since one more may begin, and its next hop has answered or there is room among
+-- The next task of a lane was tried, because one more may begin, and its next hop has answered or there is room among
 -- those that haven't.
 pub record TriesNext {D S : Type 0} (words : DiskWords D) (Opened : SocketAddrV4 → Channel S → Type 0) (now : Now)
     (lane : ℕ) (hops_old hops_new : List (Option (Hop S))) (lanes_old lanes_new : Lanes) (old new : RelayState D)
@@ -131,7 +130,7 @@ pub record TriesNext {D S : Type 0} (words : DiskWords D) (Opened : SocketAddrV4
   pub runs : between.paces ≡ lanes_old.paces
   pub comes : IsTried words Opened now lane number task hops_old hops_new between lanes_new old new tried
 
--- the outcome of the next task of a lane
+-- the result for the next task of a lane
 abbrev pub IsStep : {D S : Type 0} → DiskWords D → (SocketAddrV4 → Channel S → Type 0) → Now → ℕ
     → List (Option (Hop S)) → List (Option (Hop S)) → Lanes → Lanes → RelayState D → RelayState D → Step → Type 0
 IsStep words Opened now lane hops_old hops_new lanes_old lanes_new old new Left =
@@ -146,8 +145,8 @@ IsStep words Opened now lane hops_old hops_new lanes_old lanes_new old new NoRoo
     IsDone now.tick hops_new lanes_new lane
 IsStep words Opened now lane hops_old hops_new lanes_old lanes_new old new NoSlot = IsFull hops_new
 
--- Where a step is the last of a lane, this is how far it has come with the lane. A task that was put back takes one of
--- the descriptors that are kept, of which there were and are this many.
+-- If a step is the last of a lane, this is how far the lane has come. A task that was put back uses up one of the spare
+-- descriptors, whose numbers before and after are these.
 abbrev pub IsEndOf : Step → ℕ → ℕ → Option Begun → Type 0
 IsEndOf Left old new begun = (begun ≡ None) × (new ≡ old)
 IsEndOf Back old new begun =
@@ -164,7 +163,7 @@ IsStoppedBy HasMore stops = stops ≡ false
 IsStoppedBy Full stops = stops ≡ true
 IsStoppedBy Wanting stops = stops ≡ true
 
--- how far it has come with a lane, where this many descriptors were kept before, and this many are left
+-- how far a lane has come, with these numbers of spare descriptors before and after
 abbrev pub IsBegun : {S : Type 0} → ℕ → ℕ → Lanes → List (Option (Hop S)) → Lanes → ℕ → ℕ → Begun → Type 0
 IsBegun tick kept old hops new left lane AllDone = IsDone tick hops new lane
 IsBegun tick kept old hops new left lane Crowded = IsDone tick hops new lane

@@ -1,4 +1,4 @@
-//! What is done with a connection to a next hop after its attempt has heard what was read.
+//! The connection to a next hop after its attempt has heard replies.
 ghost use Rattle.std.specs.Prelude.{◌≡◌, ℕ, IfOk, Some, drop, false};
 ghost use Rattle.relay_connections.specs.Channel.{unread_of};
 ghost use Rattle.relay_next_hops.specs.Errands.{KeepsErrand, left_of};
@@ -14,7 +14,8 @@ use relay_loop::{Answered, Relay};
 use relay_node::{NodeFault, Noted};
 
 impl<S: Stream> Hop<S> {
-    /// Takes the outcome of the octets that its attempt has heard, or lets it hear them alone if they were left unread.
+    /// Takes the result of the octets that its attempt has heard, or has the attempt hear them in a call of its own if
+    /// they were left unread.
     pub(crate) fn take_answer<D: Disk>(
         &mut self,
         relay: &mut Relay<D>,
@@ -34,8 +35,8 @@ impl<S: Stream> Hop<S> {
         }
     }
 
-    /// Takes the outcome of the octets that its attempt has heard, and writes what they lead to at once as far as that
-    /// goes. If they end the attempt, the note is that of its outcome.
+    /// Takes the result of the octets that its attempt has heard, and writes the commands that follow. If the attempt
+    /// has ended, `noted` is the note of its outcome.
     fn answer<D: Disk>(
         &mut self,
         relay: &mut Relay<D>,
@@ -50,7 +51,7 @@ impl<S: Stream> Hop<S> {
         ensures course { IsCourse now.now.tick answered self.old self.new result }
     {
         self.hears = false;
-        // At a fault the attempt is gone, and its message stays due.
+        // After a fault the attempt is gone, and its message stays due.
         let Ok(answered) = answered else {
             return Course::Void;
         };
@@ -69,7 +70,7 @@ impl<S: Stream> Hop<S> {
         self.unless_late(Course::Stays, now)
     }
 
-    /// Lets its attempt hear what was read by a call of its own.
+    /// Has its attempt hear what was read, in a call of its own.
     fn hear_alone<D: Disk>(
         &mut self,
         relay: &mut Relay<D>,

@@ -1,4 +1,4 @@
-//! What is left to be done where the connection to a next hop has ended.
+//! What follows the end of a connection to a next hop.
 ghost use Rattle.std.specs.Prelude.{◌≡◌, None, Ok, OnOk, false, true};
 ghost use Rattle.relay_next_hops.specs.Lanes.{KeepsCounts, KeepsPlaces, OnlyLane};
 ghost use Rattle.relay_next_hops.specs.Losses.{EndsLost, IsRecordedOrRefused, Loses, LosesAttempt, LosesNot};
@@ -15,7 +15,7 @@ use relay_loop::{Outbox, Relay};
 use relay_node::{NodeFault, Noted};
 use relay_routes::HostName;
 
-/// Does what is left to be done for an errand that has come to this end.
+/// Does what follows after an errand has ended.
 #[tactic(auto, using(crate::proofs::PaceLemmas::less_then_same))]
 pub(crate) fn conclude<S: Stream + Drop, D: Disk>(
     registry: &S::Registry,
@@ -38,7 +38,7 @@ pub(crate) fn conclude<S: Stream + Drop, D: Disk>(
     )
 }
 
-/// Does what is left to be done for an errand that counts no more among its lane's.
+/// Does what follows after an errand has ended and is no longer counted in its lane.
 fn finish<S: Stream + Drop, D: Disk>(
     registry: &S::Registry,
     relay: &mut Relay<D>,
@@ -66,7 +66,7 @@ fn finish<S: Stream + Drop, D: Disk>(
             lanes.turn_away(lane, errand.into_task());
             Ok(())
         }
-        // Refused, or closed without a greeting, beside others: the next hop takes no more of them.
+        // It was refused, or closed without a greeting, while others are open: the next hop accepts no more of them.
         Course::Lost(Loss::Refused | Loss::Cut) if is_shared && errand.attempt.is_none() => {
             lanes.turn_away(lane, errand.into_task());
             Ok(())
@@ -79,7 +79,7 @@ fn finish<S: Stream + Drop, D: Disk>(
     }
 }
 
-/// Lets a connection leave whose attempt has ended with an outcome.
+/// Hands over a connection whose attempt has ended with an outcome, so that its last octets are written.
 fn end_well<S: Stream + Drop>(
     registry: &S::Registry,
     lanes: &mut Lanes,
@@ -102,8 +102,8 @@ fn end_well<S: Stream + Drop>(
     lanes.note_leaving_of(lane, leaving);
 }
 
-/// Records that the attempt of an errand is lost. A next hop that has said nothing is on hold then; and where it is
-/// already, an attempt that hasn't begun is none.
+/// Records that the attempt of an errand is lost. Puts a next hop on hold that has sent nothing. If it is on hold
+/// already, and the attempt hasn't begun, nothing is recorded.
 pub(crate) fn lose<D: Disk>(
     relay: &mut Relay<D>,
     lanes: &mut Lanes,
@@ -130,7 +130,7 @@ pub(crate) fn lose<D: Disk>(
     Ok(())
 }
 
-/// Records that an errand was lost to a place that is on hold.
+/// Records that an errand is lost because its next hop is on hold.
 pub(crate) fn lose_held<D: Disk>(
     relay: &mut Relay<D>,
     errand: Errand,
@@ -148,7 +148,7 @@ pub(crate) fn lose_held<D: Disk>(
     Ok(())
 }
 
-/// Ends an attempt as lost, as [`record_loss`], and takes the note of what was recorded.
+/// Ends an attempt as lost, as [`record_loss`] does, and takes its note.
 fn record_and_note<D: Disk>(
     relay: &mut Relay<D>,
     errand: &Errand,
@@ -164,7 +164,7 @@ fn record_and_note<D: Disk>(
     }
 }
 
-/// Leaves the place of an errand's lane alone, since its connection failed for this.
+/// Puts the next hop of an errand's lane on hold, because its connection has failed for this reason.
 fn hold(lanes: &mut Lanes, errand: &Errand, loss: Loss, log: &mut Log<'_, Vec<u8>>, now: &Now)
     ensures counts { KeepsCounts lanes.old lanes.new }
     ensures only { OnlyLane errand.now.aim.lane lanes.old lanes.new }
@@ -177,8 +177,8 @@ fn hold(lanes: &mut Lanes, errand: &Errand, loss: Loss, log: &mut Log<'_, Vec<u8
     }
 }
 
-/// Ends an attempt as lost, which begins for that where it hasn't begun. Returns whether that is recorded: it isn't if
-/// there is no memory or no number for it, and where the message isn't due there any more.
+/// Ends an attempt as lost; if it hasn't begun, begins it first. Returns whether that is recorded: it isn't if there is
+/// too little memory or no number for it, or the message isn't due there any more.
 fn record_loss<D: Disk>(relay: &mut Relay<D>, errand: &Errand, now: &Now) -> Result<bool, Fault>
     ensures lost { result ≡ Ok true
         → Loses D.words now.now.moment errand.now relay.old relay.new errand.now.attempt }
@@ -210,7 +210,7 @@ fn lose_at_once<D: Disk>(
     }
 }
 
-/// Ends an attempt that runs as lost.
+/// Ends a running attempt as lost.
 fn lose_attempt<D: Disk>(relay: &mut Relay<D>, attempt: usize, now: &Now) -> Result<bool, Fault>
     ensures lost { result ≡ Ok true → LosesAttempt D.words now.now.moment relay.old relay.new attempt }
     ensures refused { result ≡ Ok false → RefusesLoss D.words now.now.moment relay.old relay.new attempt }
@@ -237,7 +237,7 @@ fn tell_void(errand: &Errand, now: &Now, log: &mut Log<'_, Vec<u8>>) {
     tell(errand, None, None, &talk, now, log);
 }
 
-/// Logs the outcome of an attempt, whose connection failed for this if it did.
+/// Logs the outcome of an attempt; `loss` is why its connection has failed, if it has.
 fn tell(
     errand: &Errand,
     loss: Option<Loss>,

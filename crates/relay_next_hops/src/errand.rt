@@ -1,4 +1,4 @@
-//! What the connections to next hops are made for, and what becomes of them.
+//! What connections to next hops are for, and how they end.
 ghost use Rattle.std.specs.Prelude.{◌≡◌};
 
 use crate::lane::Task;
@@ -10,21 +10,21 @@ use relay_routes::HostName;
 use relay_trace::Moment;
 use std::net::SocketAddrV4;
 
-/// Where a connection goes, and since when its message is there.
+/// Where a connection leads, and the age of its message.
 #[derive(Clone, Copy, Debug)]
 pub(crate) struct Aim {
     /// The number of the lane.
     pub(crate) lane: usize,
-    /// The lane's place.
+    /// The address of the lane.
     pub(crate) at: SocketAddrV4,
-    /// Other connections to the place stood when it was begun.
+    /// Whether there were other connections to the address when it was begun.
     pub(crate) beside: bool,
-    /// When the message was accepted, where that is known.
+    /// When the message was accepted, if that is known.
     pub(crate) accepted: Option<Moment>,
 }
 
 impl Aim {
-    /// Returns how many seconds ago the message was accepted, where that is known.
+    /// Returns how many seconds ago the message was accepted, if that is known.
     pub(crate) fn age(&self, now: &Now) -> Option<u64> {
         match self.accepted {
             Some(moment) => Some(now.moment.seconds().saturating_sub(moment.seconds())),
@@ -33,16 +33,16 @@ impl Aim {
     }
 }
 
-/// What a connection was made for, and its outcome.
+/// What a connection was made for, and how far it has come.
 pub(crate) struct Errand {
     pub(crate) aim: Aim,
     pub(crate) message: u64,
     pub(crate) name: HostName,
-    /// The attempt's number, if it has begun.
+    /// The attempt's number, if the attempt has begun.
     pub(crate) attempt: Option<usize>,
-    /// The next hop has said something.
+    /// Whether the next hop has sent anything.
     pub(crate) has_spoken: bool,
-    /// The next hop has greeted by 2yz.
+    /// Whether the next hop has greeted with a 2yz reply.
     pub(crate) is_welcome: bool,
     /// What the next hop has replied, for the log, where a connection to it was begun.
     pub(crate) talk: Option<Talk>,
@@ -81,17 +81,17 @@ impl Errand {
     }
 }
 
-/// What becomes of the connection to a next hop after a turn.
+/// What happens to a connection to a next hop after a turn.
 #[derive(Drop)]
 pub(crate) enum Course {
-    /// It stays.
+    /// It stays open.
     Stays,
     /// Its attempt has ended, and these are its last octets, with the note of its outcome.
     Ended(Outbox, Option<Noted>),
-    /// It is lost.
+    /// It is lost, for this reason.
     Lost(Loss),
-    /// The next hop serves other connections, and takes no more of them. Its attempt hasn't begun.
+    /// The next hop serves other connections, and accepts no more of them. The attempt hasn't begun.
     TurnedAway,
-    /// The message isn't due there any more, or there is no memory or no number to say its outcome.
+    /// The message isn't due there any more, or there is too little memory or no number for its outcome.
     Void,
 }

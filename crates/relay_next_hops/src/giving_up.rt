@@ -1,4 +1,4 @@
-//! Messages without a next hop, which are given up.
+//! Giving up messages that no route leads on.
 ghost use Rattle.std.specs.Prelude.{◌≡◌, ◌∷◌, [], ℕ, List, IfOk, Ok, false};
 ghost use Rattle.relay_next_hops.specs.Lanes.{KeepsCounts};
 ghost use Rattle.relay_next_hops.specs.Starting.{IsGivenUp};
@@ -11,7 +11,7 @@ use relay_log::{Attempt, Log, Talk};
 use relay_loop::Relay;
 use relay_node::{NodeFault, Noted};
 
-/// Gives up the places of the next message that have no hop, if there is one. Returns whether that was recorded.
+/// Gives up the places without a hop of the next such message, if there is one. Returns whether that was recorded.
 pub(crate) fn give_up_next<D: Disk>(
     relay: &mut Relay<D>,
     lanes: &mut Lanes,

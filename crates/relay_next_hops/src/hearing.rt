@@ -1,4 +1,4 @@
-//! What attempts hear at a turn: each the octets that were read of its own next hop.
+//! What attempts hear in a turn: the octets that were read from their own next hop.
 ghost use Rattle.std.specs.Prelude.{◌≡◌, ◌↔◌, ◌<◌, ◌≤◌, ◌%◌, IfOk, IfSome, IsTrue, List, OnOk, map, option_map};
 ghost use Rattle.relay_routes.specs.Routes.{Route};
 ghost use Rattle.relay_next_hops.specs.Counts.{CountsMatch};
@@ -18,13 +18,13 @@ use relay_node::{NodeFault, Noted};
 use relay_slots::SLOT_COUNT;
 use std::alloc::AllocError;
 
-/// The most attempts that hear their replies alone at a turn, where the call for all took no more. Each may take two
-/// syncs.
+/// The most attempts that hear their replies in a call of their own in one turn, because the common call took no more.
+/// Each may take two syncs.
 const MOST_ALONE: usize = 4;
 
 impl<S: Stream + Drop> Hops<S> {
-    /// Returns the number of the connection that is served first, of the first this many: 0 where none of these comes
-    /// after those that were served last.
+    /// Returns the number of the connection that is served first, of `count`: 0 if none comes after those that were
+    /// served last.
     fn first_of(&self, count: usize) -> usize
         ensures first { self.now.first % 64 < count → result ≡ self.now.first % 64 }
         ensures over { count ≤ self.now.first % 64 → result ≡ 0 }
@@ -33,8 +33,8 @@ impl<S: Stream + Drop> Hops<S> {
         if first < count { first } else { 0 }
     }
 
-    /// Returns what was read of each of them whose attempt may hear it, the first of them first. It fails if memory
-    /// runs out.
+    /// Returns what was read from each connection whose attempt may hear it, the first one first. Fails if memory runs
+    /// out.
     pub(crate) fn replies(&self) -> Result<Vec<ReplyPiece<'_>>, AllocError>
         ensures { IfOk result (λ replies. map told_of replies.items ≡ replies_of self.now) }
     {
@@ -49,7 +49,7 @@ impl<S: Stream + Drop> Hops<S> {
         Ok(replies)
     }
 
-    /// Returns what was read of the connection of a number, if its attempt may hear it.
+    /// Returns what was read from the connection of a number, if its attempt may hear it.
     fn reply_at(&self, number: usize) -> Option<ReplyPiece<'_>>
         ensures { option_map told_of result ≡ reply_at self.now.hops number }
     {
@@ -61,9 +61,9 @@ impl<S: Stream + Drop> Hops<S> {
         Some(ReplyPiece { attempt, octets })
     }
 
-    /// Takes the outcome of the replies, in the order in which they were told. Returns whether a connection was closed.
-    /// If clients have brought so much that replies were left unread, a few are heard even so, each time others. If no
-    /// memory was left to hear them, the first of them is lost.
+    /// Takes the results of the replies, in the order in which they were handed over. Returns whether a connection was
+    /// closed. If clients have brought so much that replies were left unread, a few are heard all the same, others each
+    /// time. If there was no memory to hear them, the first one is lost.
     pub(crate) fn answer<D: Disk>(
         &mut self,
         replied: Option<Replied>,
@@ -83,7 +83,7 @@ impl<S: Stream + Drop> Hops<S> {
         let Some(Replied { answered, notes }) = replied else {
             return self.lose_one(registry, relay, lanes, leaving, now, log);
         };
-        // The outcomes of attempts come after the mail of clients.
+        // The notes of the attempts' outcomes follow those of clients' mail.
         let others = notes.len().saturating_sub(count_ended(answered.as_slice()));
         let mut notes = notes.into_iter().skip(others);
         let mut answers = answered.into_iter();
@@ -112,7 +112,7 @@ impl<S: Stream + Drop> Hops<S> {
         Ok(closed)
     }
 
-    /// Returns the attempt of a number that may hear what was read, if there is one.
+    /// Returns the attempt of a connection, if it may hear what was read.
     fn hearing_at(&self, number: usize) -> Option<usize>
         ensures { result ≡ hearing_at self.now.hops number }
     {
@@ -122,8 +122,8 @@ impl<S: Stream + Drop> Hops<S> {
         }
     }
 
-    /// Takes the outcome of the reply to the attempt of a number, which hears it alone where it was left unread, and
-    /// this many others may. Returns whether its connection stays.
+    /// Takes the result of the reply to the attempt of a connection. If the reply was left unread, the attempt hears it
+    /// in a call of its own, as long as `alone` allows more of these. Returns whether the connection stays.
     fn answer_one<D: Disk>(
         &mut self,
         number: usize,
@@ -159,7 +159,7 @@ impl<S: Stream + Drop> Hops<S> {
         )
     }
 
-    /// Gives the first of those up whose attempts may hear something, since no memory is left. Returns whether there
+    /// Gives up the first connection whose attempt may hear something, because memory ran out. Returns whether there
     /// was one.
     fn lose_one<D: Disk>(
         &mut self,
@@ -199,12 +199,12 @@ impl<S: Stream + Drop> Hops<S> {
     }
 }
 
-/// Returns how many of these attempts have ended with an outcome.
+/// Returns how many attempts have ended with an outcome.
 fn count_ended(answers: &[Result<Answered, NodeFault>]) -> usize {
     answers.iter().filter(|answer| has_ended(answer)).count()
 }
 
-/// Returns whether the attempt of an answer has ended, with an outcome.
+/// Returns whether the attempt has ended with an outcome.
 pub(crate) fn has_ended(answer: &Result<Answered, NodeFault>) -> bool {
     match answer {
         Ok(answered) => answered.change.is_some(),
@@ -212,7 +212,7 @@ pub(crate) fn has_ended(answer: &Result<Answered, NodeFault>) -> bool {
     }
 }
 
-/// Returns whether a reply was left unread, since the call took no more.
+/// Returns whether the reply was left unread, because the call took no more.
 pub(crate) fn was_left(answer: &Result<Answered, NodeFault>) -> bool
     ensures { IsTrue result ↔ WasLeft answer.now }
 {

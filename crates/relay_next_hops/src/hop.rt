@@ -1,4 +1,4 @@
-//! The connection to a next hop, and what is done with it at a turn.
+//! The connection to a next hop, and what a turn does with it.
 ghost use Rattle.std.specs.Prelude.{◌≡◌, ◌≢◌, ◌⊎◌, ℕ, [], None, Some, false, min, true};
 ghost use Rattle.relay_loop.specs.Outboxes.{unwritten_at};
 ghost use Rattle.relay_connections.specs.Channel.{unread_of};
@@ -16,28 +16,28 @@ use relay_node::NodeFault;
 use relay_routes::HostName;
 use std::alloc::Global;
 
-/// How many seconds a next hop may take octet by octet to answer what was written to it.
+/// How many seconds a next hop may take for its answer, however often it sends an octet.
 const ANSWER_SECONDS: u64 = 30 * 60;
 
-/// How many writes a connection has at a turn, where each takes a part alone.
+/// The most writes on a connection in one turn, if each takes a part only.
 const WRITE_LIMIT: usize = 16;
 
-/// The connection to a next hop for a message. It has an attempt of the node once the next hop has begun to greet.
+/// The connection to a next hop for a message. Its attempt begins when the greeting arrives.
 pub(crate) struct Hop<S> {
     pub(crate) channel: Channel<S>,
     pub(crate) aim: Aim,
     pub(crate) message: u64,
     pub(crate) name: HostName,
     pub(crate) attempt: Option<usize>,
-    /// The next hop has said something.
+    /// Whether the next hop has sent anything.
     pub(crate) has_spoken: bool,
-    /// The first octet of its greeting, where that was read: the class of its reply (RFC 5321, 4.2.1).
+    /// The first octet of the greeting, if it was read: the class of the reply (RFC 5321, section 4.2.1).
     greeting: Option<u8>,
-    /// Octets were read that its attempt hasn't heard yet, and may hear.
+    /// Whether octets were read that its attempt may hear.
     pub(crate) hears: bool,
-    /// What it replies, for the log.
+    /// The replies, for the log.
     pub(crate) talk: Talk,
-    /// What it is waited for.
+    /// What it waits for.
     pub(crate) phase: Phase,
     /// The tick at which it is lost, unless an octet is read or written before.
     idle_deadline: u64,
@@ -66,7 +66,8 @@ impl<S: Drop> Drop for Hop<S> {
 }
 
 impl<S: Stream> Hop<S> {
-    /// Makes a connection that is being made for a message. Where it `tells`, the next hop's replies are kept in mind.
+    /// Makes a connection that is being opened for a message. If `tells` is set, keeps the next hop's replies for the
+    /// log.
     pub(crate) fn new(
         alloc: Global,
         channel: Channel<S>,
@@ -97,7 +98,7 @@ impl<S: Stream> Hop<S> {
         }
     }
 
-    /// Its connection, and what is told of it.
+    /// Splits it into its connection and its errand.
     pub(crate) fn into_parts(self) -> (Channel<S>, Errand)
         ensures aim { result.1.aim ≡ self.aim }
         ensures errand { (result.1.message ≡ self.message) × (result.1.name ≡ self.name) }
@@ -137,15 +138,15 @@ impl<S: Stream> Hop<S> {
         self.message == message && self.aim.lane == lane && self.name.as_slice() == name.as_slice()
     }
 
-    /// Returns the tick at which it is lost as things stand.
+    /// Returns the tick at which it is lost as things are.
     pub(crate) fn deadline(&self) -> u64
         ensures { result ≡ min self.now.idle_deadline self.now.answer_deadline }
     {
         self.idle_deadline.min(self.answer_deadline)
     }
 
-    /// Does one thing more: makes the connection, awaits the greeting, writes what waits, or reads what its attempt may
-    /// hear then. The next hop is shared where other connections to it stand, or stood when this one was begun.
+    /// Does one thing: connects, waits for the greeting, writes, or reads what its attempt may hear then. The next hop
+    /// is shared if there are other connections to it, or were when this one was begun.
     pub(crate) fn attend<D: Disk>(
         &mut self,
         relay: &mut Relay<D>,
@@ -165,7 +166,7 @@ impl<S: Stream> Hop<S> {
         Ok(self.unless_late(course, now))
     }
 
-    /// Makes the connection, awaits the greeting, writes what waits, or reads.
+    /// Connects, waits for the greeting, writes, or reads.
     fn go_on<D: Disk>(
         &mut self,
         relay: &mut Relay<D>,
@@ -191,7 +192,7 @@ impl<S: Stream> Hop<S> {
         if self.hears { self.attempt } else { None }
     }
 
-    /// Returns what becomes of it, if it has taken so long by now.
+    /// Returns its course, which is a loss if it has taken too long.
     pub(crate) fn unless_late(&self, course: Course, now: &Now) -> Course
         ensures stays { course ≡ Course.Stays
             → (result ≡ Course.Stays) ⊎ ((result ≡ Course.Lost Loss.Silent) × IsLate now.now.tick self.now) }
@@ -215,7 +216,7 @@ impl<S: Stream> Hop<S> {
         }
     }
 
-    /// Waits for the greeting, once the connection has come about.
+    /// Waits for the greeting, once it is connected.
     fn connect(&mut self, now: &Now) -> Course
         ensures errand { KeepsErrand self.old self.new }
         ensures attempt { self.new.attempt ≡ self.old.attempt }
@@ -238,8 +239,8 @@ impl<S: Stream> Hop<S> {
         }
     }
 
-    /// Begins the attempt once the next hop has begun to greet. A next hop that greets by 4yz, as 421 for too many
-    /// connections, while it serves others puts no message off for that.
+    /// Begins the attempt when the greeting arrives. A shared next hop that greets with 4yz, as 421 for too many
+    /// connections, doesn't delay the message.
     fn await_greeting<D: Disk>(
         &mut self,
         relay: &mut Relay<D>,
@@ -284,7 +285,7 @@ impl<S: Stream> Hop<S> {
         }
     }
 
-    /// Writes what waits, or else reads what its attempt may hear.
+    /// Writes, or, if nothing is unwritten, reads what its attempt may hear.
     fn exchange<D: Disk>(&mut self, relay: &mut Relay<D>, attempt: usize, now: &Now) -> Course
         ensures errand { KeepsErrand self.old self.new }
         ensures attempt { self.new.attempt ≡ self.old.attempt }
@@ -311,7 +312,7 @@ impl<S: Stream> Hop<S> {
         }
     }
 
-    /// It has as long from now on as what it is waited for may take.
+    /// Renews its deadlines, by what it waits for now.
     pub(crate) fn wait_on<D: Disk>(&mut self, relay: &Relay<D>, attempt: usize, now: &Now)
         ensures errand { KeepsErrand self.old self.new }
         ensures attempt { self.new.attempt ≡ self.old.attempt }
@@ -321,7 +322,7 @@ impl<S: Stream> Hop<S> {
         self.idle_deadline = now.behind(self.phase.seconds(writes));
     }
 
-    /// Writes what waits for the next hop as far as that goes at once.
+    /// Writes as many unwritten octets as the next hop takes at once.
     pub(crate) fn flush<D: Disk>(&mut self, relay: &mut Relay<D>, attempt: usize, now: &Now)
         ensures errand { KeepsErrand self.old self.new }
         ensures attempt { self.new.attempt ≡ self.old.attempt }

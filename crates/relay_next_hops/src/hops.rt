@@ -26,17 +26,17 @@ use std::alloc::{AllocError, Global};
 use std::io;
 use std::net::SocketAddrV4;
 
-/// The most connections that are lost at a turn. Each takes two syncs, for which clients wait.
+/// The most connections that are lost in one turn. Each takes two syncs, for which clients wait.
 const MOST_LOSSES: usize = 4;
 
-/// The token of the first of them.
+/// The token of the first connection.
 pub(crate) const FIRST_TOKEN: usize = SLOT_COUNT;
 
-/// The connections to next hops, up to 64.
+/// The connections to next hops, at most 64.
 pub(crate) struct Hops<S> {
     pub(crate) alloc: Global,
     pub(crate) hops: Table<Hop<S>>,
-    /// Which is served first at the next turn.
+    /// The number of the connection that is served first in the next turn.
     pub(crate) first: usize,
 }
 
@@ -52,7 +52,7 @@ impl<S: Drop> Drop for Hops<S> {
 }
 
 impl<S: Stream + Drop> Hops<S> {
-    /// None. Fails if memory runs out.
+    /// Returns an empty table. Fails if memory runs out.
     pub(crate) fn new(alloc: Global) -> Result<Self, AllocError>
         ensures { IfOk result (λ hops. AreFree hops.hops) }
     {
@@ -63,7 +63,7 @@ impl<S: Stream + Drop> Hops<S> {
         })
     }
 
-    /// Returns the number that the next of them will have, if there is room for one. At most 64 stand.
+    /// Returns the number of the next connection, if there is room for one. There are at most 64.
     pub(crate) fn free(&self) -> Option<usize>
         ensures least { MatchOption result (IsFull self.now.hops) (IsLeastFree self.now.hops) }
         ensures within { MatchOption result (Unit {0}) (λ number. number < length self.now.hops) }
@@ -73,14 +73,14 @@ impl<S: Stream + Drop> Hops<S> {
         self.hops.free()
     }
 
-    /// Returns how many of them stand, 64 at most.
+    /// Returns how many connections there are, at most 64.
     pub(crate) fn count(&self) -> usize
         ensures { result ≡ count_of self.now.hops }
     {
         self.hops.count()
     }
 
-    /// Returns whether a connection for this message and next hop, in this lane, is being made or stands.
+    /// Returns whether there is a connection for this message and next hop, in this lane.
     pub(crate) fn is_tried(&self, message: u64, lane: usize, name: &HostName) -> bool
         ensures { result ≡ true → HasConnection self.now.hops message name.now lane }
     {
@@ -94,7 +94,7 @@ impl<S: Stream + Drop> Hops<S> {
         false
     }
 
-    /// Returns whether a connection is being made.
+    /// Returns whether a connection is being opened.
     pub(crate) fn is_any_connecting(&self) -> bool {
         for slot in self.hops.standing() {
             if let Some(hop) = slot {
@@ -106,7 +106,7 @@ impl<S: Stream + Drop> Hops<S> {
         false
     }
 
-    /// Returns how many connections stand to next hops that haven't said anything yet.
+    /// Returns how many connections lead to next hops that haven't answered yet.
     pub(crate) fn count_unanswered(&self, lanes: &Lanes) -> usize
         ensures { result ≡ unanswered_of self.now.hops lanes.now.paces }
     {
@@ -130,7 +130,7 @@ impl<S: Stream + Drop> Hops<S> {
         }
     }
 
-    /// Begins to make a connection under this number, which is free.
+    /// Begins to open a connection under this number, which is free.
     pub(crate) fn connect<N: Dial<Stream = S>>(
         &mut self,
         dial: &mut N,
@@ -159,7 +159,7 @@ impl<S: Stream + Drop> Hops<S> {
         }
     }
 
-    /// The system tells what the connection of a number may be ready for.
+    /// Notes what the connection of a number may be ready for, as the system reports it.
     pub(crate) fn note(&mut self, number: usize, ready: Readiness)
         ensures counts { (paces : List Pace) → CountsMatch self.old.hops paces → CountsMatch self.new.hops paces }
         ensures aimed { (routes : List Route) → AreAimed routes self.old.hops → AreAimed routes self.new.hops }
@@ -171,8 +171,8 @@ impl<S: Stream + Drop> Hops<S> {
         }
     }
 
-    /// Attends to each of them once, each time beginning with another, until this many were lost that clients are to
-    /// have their turn; it goes on after these then. Returns whether one was closed.
+    /// Serves each connection once, beginning with another one each time, until `MOST_LOSSES` are lost, so that clients
+    /// have their turn; the next turn goes on after these. Returns whether a connection was closed.
     pub(crate) fn attend<D: Disk>(
         &mut self,
         registry: &S::Registry,
@@ -205,7 +205,7 @@ impl<S: Stream + Drop> Hops<S> {
         Ok(0 < closed)
     }
 
-    /// Attends to the connection of a number. Returns whether that stays.
+    /// Serves the connection of a number. Returns whether it stays.
     fn attend_one<D: Disk>(
         &mut self,
         number: usize,
@@ -233,7 +233,7 @@ impl<S: Stream + Drop> Hops<S> {
         )
     }
 
-    /// Puts a connection where it belongs after what was done with it. Returns whether it stays.
+    /// Puts a connection back, or does what follows its end. Returns whether it stays.
     pub(crate) fn settle<D: Disk>(
         &mut self,
         number: usize,
@@ -268,7 +268,7 @@ impl<S: Stream + Drop> Hops<S> {
         }
     }
 
-    /// Returns whether one is left with something to be done at once.
+    /// Returns whether something can be done for one of them at once.
     pub(crate) fn is_ready<D: Disk>(&self, relay: &Relay<D>) -> bool
         ensures { (number : ℕ) → IsLeftHop self.now.hops relay.now number → result ≡ true }
     {
@@ -282,7 +282,7 @@ impl<S: Stream + Drop> Hops<S> {
         false
     }
 
-    /// Returns the tick at which the next of them is lost, or the given one where that is earlier.
+    /// Returns the tick at which the next of them is lost, or `otherwise` if that is earlier.
     pub(crate) fn next_deadline(&self, otherwise: u64) -> u64
         ensures { result ≤ otherwise }
     {
@@ -296,7 +296,7 @@ impl<S: Stream + Drop> Hops<S> {
     }
 }
 
-/// Returns a connection to this place that is being made, of which the system tells under this token.
+/// Returns a connection that is being opened to this address, registered with the poll under this token.
 fn connecting<S: Stream + Drop, N: Dial<Stream = S>>(
     alloc: Global,
     dial: &mut N,
@@ -308,7 +308,7 @@ fn connecting<S: Stream + Drop, N: Dial<Stream = S>>(
     ensures kept { N.spares dial.new ≡ N.spares dial.old }
 {
     let mut stream = dial.connect(at)?;
-    // All that belongs together is written by one call.
+    // What belongs together is written by one call.
     stream.set_nodelay();
     let mut channel = Channel::new(alloc, stream);
     channel.awaits_writing();
@@ -316,7 +316,7 @@ fn connecting<S: Stream + Drop, N: Dial<Stream = S>>(
     Ok(channel)
 }
 
-/// Returns whether a connection is in a slot whose next hop hasn't said anything yet.
+/// Returns whether the connection in a slot leads to a next hop that hasn't answered yet.
 fn is_unanswered<S>(slot: &Option<Hop<S>>, lanes: &Lanes) -> bool
     ensures { result ≡ is_such (is_unanswered lanes.now.paces) slot.now }
 {
@@ -326,7 +326,7 @@ fn is_unanswered<S>(slot: &Option<Hop<S>>, lanes: &Lanes) -> bool
     }
 }
 
-/// Takes note where the next hop of a connection has said something for the first time.
+/// Notes if the next hop of a connection has answered for the first time.
 fn note_spoken<S>(
     hop: &Hop<S>,
     had_spoken: bool,
@@ -342,7 +342,7 @@ fn note_spoken<S>(
     }
 }
 
-/// Logs that the next hop of a connection has said something, if it was put on hold and has said nothing since.
+/// Logs that the next hop of a connection has answered, if it was put on hold and hadn't answered since.
 fn tell_back<S>(hop: &Hop<S>, lanes: &Lanes, now: &Now, log: &mut Log<'_, Vec<u8>>) {
     if let Some(outage) = lanes.outage(hop.aim.lane) {
         let seconds = now.tick.saturating_sub(outage.since) / 1_000;

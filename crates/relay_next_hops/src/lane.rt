@@ -1,4 +1,4 @@
-//! What is due for the next hops at one place.
+//! The tasks for the next hops at one address.
 ghost use Rattle.std.specs.Prelude.{◌≡◌, ◌↔◌, ◌-◌, [], ◌∷◌, ◌++◌, IsTrue, None, drop, false, length, option_to_list, true};
 ghost use Rattle.std.specs.List.{list_any};
 ghost use Rattle.relay_next_hops.specs.Lanes.{first_message};
@@ -10,7 +10,7 @@ use std::alloc::Global;
 use std::collections::VecDeque;
 use std::mem;
 
-/// A message that is due, and the next hop that it is for.
+/// A due message, and the next hop that it is for.
 pub(crate) struct Task {
     pub(crate) message: u64,
     pub(crate) hop: HostName,
@@ -27,7 +27,7 @@ impl Drop for Task {
 }
 
 impl Task {
-    /// Returns the message, and the name of its next hop.
+    /// Splits the task into the message and the name of its next hop.
     pub(crate) fn into_parts(self) -> (u64, HostName)
         ensures { result ≡ (self.message, self.hop) }
     {
@@ -36,13 +36,13 @@ impl Task {
     }
 }
 
-/// What is due for the next hops at one place, in the order in which it is begun.
+/// The tasks for the next hops at one address, in the order in which they begin.
 pub(crate) struct Lane {
     tasks: VecDeque<Task>,
-    /// How many of them, the last ones, weren't checked for being overdue since the lane was emptied. If fewer are
-    /// left, all of these.
+    /// How many tasks, the last ones, weren't checked for being overdue since the lane was emptied; all, if there are
+    /// fewer.
     unchecked: usize,
-    /// What was due before the lane was emptied.
+    /// The tasks from before the lane was emptied.
     bygone: VecDeque<Task>,
 }
 
@@ -58,7 +58,7 @@ impl Drop for Lane {
 }
 
 impl Lane {
-    /// Nothing is due yet. Allocates nothing.
+    /// Returns an empty lane. Allocates nothing.
     pub(crate) fn new(alloc: Global) -> Self
         ensures { result.tasks.items ≡ [] }
     {
@@ -69,7 +69,7 @@ impl Lane {
         }
     }
 
-    /// Nothing is due any more. To let go of all that was takes a while, and is left to `let_go`.
+    /// Empties the lane. Dropping the tasks takes a while, and is left to `let_go`.
     pub(crate) fn clear(&mut self)
         ensures { self.new.tasks.items ≡ [] }
     {
@@ -78,7 +78,7 @@ impl Lane {
         self.unchecked = 0;
     }
 
-    /// Lets go of what was due before, up to so much.
+    /// Drops up to `most` tasks from before the lane was emptied.
     pub(crate) fn let_go(&mut self, most: usize)
         ensures tasks { self.new.tasks ≡ self.old.tasks }
         ensures unchecked { self.new.unchecked ≡ self.old.unchecked }
@@ -90,14 +90,14 @@ impl Lane {
         }
     }
 
-    /// Returns whether nothing is due.
+    /// Returns whether the lane is empty.
     pub(crate) fn is_empty(&self) -> bool
         ensures { IsTrue result ↔ (self.now.tasks.items ≡ []) }
     {
         self.tasks.is_empty()
     }
 
-    /// Returns whether a message is due for this next hop, after all others.
+    /// Returns whether the last task is for this message and next hop.
     pub(crate) fn ends_with(&self, message: u64, hop: &HostName) -> bool
         ensures { result ≡ true → list_any (is_for message hop.now) self.now.tasks.items ≡ true }
     {
@@ -108,7 +108,7 @@ impl Lane {
             .any(|task| task.hop.as_slice() == hop.as_slice())
     }
 
-    /// Adds a task after the others, which is to be checked, and returns whether memory was left for it.
+    /// Appends an unchecked task, and returns whether there was memory for it.
     pub(crate) fn push(&mut self, task: Task) -> bool
         ensures pushed { IsTrue result → self.new.tasks.items ≡ self.old.tasks.items ++ task ∷ [] }
         ensures unchecked { IsTrue result → unchecked_of self.new ≡ unchecked_of self.old ++ task ∷ [] }
@@ -122,7 +122,7 @@ impl Lane {
         true
     }
 
-    /// Puts a task that was taken back before the others, and returns whether memory was left for it.
+    /// Puts a task back in front, and returns whether there was memory for it.
     pub(crate) fn put_back(&mut self, task: Task) -> bool
         ensures pushed { IsTrue result → self.new.tasks.items ≡ task ∷ self.old.tasks.items }
         ensures failed { result ≡ false → self.new.tasks.items ≡ self.old.tasks.items }
@@ -138,7 +138,7 @@ impl Lane {
         self.tasks.pop_front()
     }
 
-    /// Returns the message of the first task that wasn't checked yet.
+    /// Returns the message of the first unchecked task.
     pub(crate) fn next_unchecked(&self) -> Option<u64>
         ensures { result ≡ first_message (unchecked_of self.now) }
     {
@@ -148,7 +148,7 @@ impl Lane {
         }
     }
 
-    /// The first task that wasn't checked yet is checked.
+    /// Marks the first unchecked task as checked.
     pub(crate) fn check(&mut self)
         ensures tasks { self.new.tasks ≡ self.old.tasks }
         ensures unchecked { unchecked_of self.new ≡ drop 1 (unchecked_of self.old) }
@@ -156,7 +156,7 @@ impl Lane {
         self.unchecked = self.unchecked.min(self.tasks.len()).saturating_sub(1);
     }
 
-    /// Takes the first task that wasn't checked yet.
+    /// Takes the first unchecked task out.
     pub(crate) fn take_unchecked(&mut self) -> Option<Task>
         ensures unchecked { unchecked_of self.old ≡ option_to_list result ++ unchecked_of self.new }
         ensures checked { checked_of self.new ≡ checked_of self.old }
@@ -168,7 +168,7 @@ impl Lane {
         task
     }
 
-    /// Returns the place of the first task that wasn't checked yet.
+    /// Returns the index of the first unchecked task.
     fn first_unchecked(&self) -> usize
         ensures { result ≡ length self.now.tasks.items - self.now.unchecked }
     {

@@ -1,4 +1,4 @@
-//! What is due, by the places of the next hops, and which of it may be begun.
+//! The due mail by the addresses of next hops, and which of it may begin.
 ghost use Rattle.std.specs.Prelude.{◌≡◌, ◌+◌, ◌≤◌, ◌↔◌, ◌++◌, [], IfSome, IsTrue, None};
 ghost use Rattle.std.specs.Prelude.{false, length, option_to_list, slice_get, true};
 ghost use Rattle.relay_next_hops.specs.Lanes.{IsNew, IsPutBack, KeepsCounts, KeepsPlaces};
@@ -17,48 +17,48 @@ use std::alloc::Global;
 use std::collections::VecDeque;
 use std::net::SocketAddrV4;
 
-/// What is due.
+/// The due mail.
 pub(crate) struct Lanes {
     pub(crate) alloc: Global,
-    /// The place of each lane, by number.
+    /// The address of each lane, by number.
     pub(crate) places: Places,
-    /// How many connections to each place there are, and whether it is on hold.
+    /// How many connections each lane has, and whether it is on hold.
     pub(crate) paces: Paces,
-    /// What is due for each place.
+    /// The tasks of each lane.
     pub(crate) lanes: Vec<Lane>,
     /// The messages with places that have no hop.
     pub(crate) unroutable: VecDeque<u64>,
-    /// The most connections to one place.
+    /// The most connections to one address.
     pub(crate) most: usize,
-    /// The number of the first change that wasn't checked.
+    /// The number of the first change that wasn't looked at.
     pub(crate) next_number: u64,
-    /// The messages that may be queued, and how far it has come to list what is due of them.
+    /// The messages that may be queued, and how far the listing has come.
     pub(crate) queued: Numbers,
-    /// They are all there.
+    /// Whether these are all of them.
     pub(crate) knows_all: bool,
-    /// It goes on to list what is due.
+    /// Whether a listing is in progress.
     pub(crate) is_listing: bool,
-    /// How many milliseconds that took so far.
+    /// How many milliseconds it has taken so far.
     pub(crate) took: u64,
-    /// Something may be due that isn't listed.
+    /// Whether mail may be due that isn't listed.
     pub(crate) is_stale: bool,
-    /// What is due next may be due at another time than the node has told.
+    /// Whether the next time at which mail is due may differ from what the node has said.
     pub(crate) is_unsure: bool,
-    /// Something may be begun that couldn't be before.
+    /// Whether something may begin that couldn't before.
     pub(crate) is_open: bool,
-    /// Something was listed since it was last begun what may be.
+    /// Whether something was listed since tasks were last begun.
     pub(crate) is_fresh: bool,
-    /// The tick before which nothing is listed.
+    /// The tick before which no listing begins.
     pub(crate) next_listing: u64,
-    /// The tick at which it is searched for what is due even so.
+    /// The tick at which a listing begins even if nothing is known to be due.
     pub(crate) next_minute: u64,
-    /// The tick at which something is due that isn't listed, as the node has told.
+    /// The tick at which mail is due that isn't listed, according to the node.
     pub(crate) next_due: u64,
-    /// The tick at which the next place isn't on hold any more.
+    /// The tick at which the next hold ends.
     pub(crate) next_hold_end: u64,
-    /// Which lane is checked first.
+    /// The lane that is looked at first.
     pub(crate) first: usize,
-    /// The lane that the next room among those is for whose next hops haven't said anything yet, where one waits.
+    /// The lane that gets the next free connection among those to next hops that haven't answered, if one waits for it.
     pub(crate) waiting: Option<usize>,
 }
 
@@ -92,7 +92,7 @@ impl Drop for Lanes {
 }
 
 impl Lanes {
-    /// Nothing is listed yet. At most this many connections will go to one place.
+    /// Returns lanes without tasks, with at most `most` connections to one address. Allocates nothing.
     pub(crate) fn new(alloc: Global, most: usize) -> Self
         ensures { IsNew most result }
     {
@@ -121,21 +121,21 @@ impl Lanes {
         }
     }
 
-    /// The same as when nothing was listed yet, for a relay that was opened again.
+    /// Returns the lanes as they were before anything was listed, for a relay that was opened again.
     pub(crate) fn renewed(self) -> Self
         ensures { IsNew self.most result }
     {
         Lanes::new(self.alloc, self.most)
     }
 
-    /// Returns whether something may be begun that couldn't be before.
+    /// Returns whether something may begin that couldn't before.
     pub(crate) fn is_open(&self) -> bool
         ensures { result ≡ self.now.is_open }
     {
         self.is_open
     }
 
-    /// All was begun that may be.
+    /// Notes that all has begun that may.
     pub(crate) fn close(&mut self)
         ensures counts { KeepsCounts self.old self.new }
         ensures rest { self.new ≡ closed self.old }
@@ -150,7 +150,7 @@ impl Lanes {
         self.lanes.len()
     }
 
-    /// Returns whether a lane has a task, and one more of its connections may be begun.
+    /// Returns whether a lane has a task and may begin one more connection.
     pub(crate) fn may_begin(&self, number: usize, now: &Now) -> bool
         ensures { result ≡ false → MayBeginAt self.now.most now.now.tick self.now.paces number
             → tasks_at self.now number ≡ [] }
@@ -161,7 +161,7 @@ impl Lanes {
         }
     }
 
-    /// Takes the next task of a lane, if one more of its connections may be begun.
+    /// Takes the next task of a lane, if the lane may begin one more connection.
     pub(crate) fn next(&mut self, number: usize, now: &Now) -> Option<Task>
         ensures begins { IfSome result (λ _. MayBeginAt self.old.most now.now.tick self.old.paces number) }
         ensures tasks { tasks_at self.old number ≡ option_to_list result ++ tasks_at self.new number }
@@ -178,7 +178,7 @@ impl Lanes {
         }
     }
 
-    /// Takes the next task of a lane, whether one may be begun or not.
+    /// Takes the next task of a lane, whether it may begin or not.
     pub(crate) fn pop(&mut self, number: usize) -> Option<Task>
         ensures tasks { tasks_at self.old number ≡ option_to_list result ++ tasks_at self.new number }
         ensures none { result ≡ None → tasks_at self.old number ≡ [] }
@@ -192,7 +192,8 @@ impl Lanes {
         }
     }
 
-    /// Puts a task that was taken back, unless its message is listed anyway. If memory runs out, it is listed anew.
+    /// Puts a task back in front, unless its message will be listed anyway. If memory runs out, all due mail is listed
+    /// again.
     pub(crate) fn put_back(&mut self, number: usize, task: Task)
         ensures back { IsPutBack number task self.old self.new }
         ensures counts { KeepsCounts self.old self.new }
@@ -209,7 +210,7 @@ impl Lanes {
         }
     }
 
-    /// Returns the place of a lane.
+    /// Returns the address of a lane.
     pub(crate) fn place_of(&self, number: usize) -> Option<SocketAddrV4>
         ensures { result ≡ slice_get self.now.places number }
     {
@@ -225,7 +226,7 @@ impl Lanes {
         self.unroutable.pop_front()
     }
 
-    /// All that is due is to be listed anew.
+    /// Requests that all due mail is listed again.
     pub(crate) fn list_anew(&mut self)
         ensures stale { self.new.is_stale ≡ true }
         ensures unroutable { self.new.unroutable ≡ self.old.unroutable }
@@ -234,13 +235,13 @@ impl Lanes {
         self.is_stale = true;
     }
 
-    /// Returns whether such a message is left, something was listed since it was last begun what may be, or it goes on
-    /// to list what is due.
+    /// Returns whether such a message is left, something was listed since tasks were last begun, or a listing is in
+    /// progress.
     pub(crate) fn is_ready(&self) -> bool {
         self.is_fresh || self.is_listing || !self.unroutable.is_empty()
     }
 
-    /// A connection of a lane is made.
+    /// Notes that a connection of a lane was begun.
     #[tactic(auto, using(crate::proofs::PaceLemmas::begun_runs))]
     pub(crate) fn began(&mut self, number: usize)
         ensures runs { HasLane self.old.paces number → RunsOneMore number self.old.paces self.new.paces }
@@ -251,7 +252,7 @@ impl Lanes {
         self.paces.began(number);
     }
 
-    /// A connection of a lane is gone, and what is due next may be another.
+    /// Notes that a connection of a lane is gone; the next due mail may be another then.
     pub(crate) fn ended(&mut self, number: usize)
         ensures runs { RunsOneLess number self.old.paces self.new.paces }
         ensures places { KeepsPlaces self.old self.new }
@@ -261,7 +262,7 @@ impl Lanes {
         self.paces.ended(number);
     }
 
-    /// The next hop of a lane has said something: more may be begun.
+    /// Notes that the next hop of a lane has answered: more may begin.
     pub(crate) fn answered(&mut self, number: usize)
         ensures counts { KeepsCounts self.old self.new }
     {
@@ -269,7 +270,7 @@ impl Lanes {
         self.is_open = true;
     }
 
-    /// Returns how many connections of a lane stand.
+    /// Returns how many connections a lane has.
     pub(crate) fn standing(&self, number: usize) -> usize {
         match self.paces.get(number) {
             Some(pace) => pace.standing(),
@@ -277,20 +278,20 @@ impl Lanes {
         }
     }
 
-    /// Returns whether others of its lane stand beside a connection, or stood when it was begun: one that is refused
-    /// may have been one too many.
+    /// Returns whether a lane has, or had when a connection was begun, others beside it: if it is refused, it may have
+    /// been one too many.
     pub(crate) fn is_shared(&self, aim: &Aim) -> bool {
         aim.beside || 1 < self.standing(aim.lane)
     }
 
-    /// A connection of a lane may be leaving.
+    /// Notes how many connections of a lane are leaving.
     pub(crate) fn note_leaving_of<S: Stream + Drop>(&mut self, number: usize, leaving: &Leaving<S>)
         ensures counts { KeepsCounts self.old self.new }
     {
         self.paces.note_leaving(number, leaving.count_to(number));
     }
 
-    /// Connections that were leaving are closed: more may be begun where the next hop takes no more than stood.
+    /// Notes that leaving connections were closed: lanes at the limit of their next hop may begin more.
     pub(crate) fn note_leaving<S: Stream + Drop>(&mut self, leaving: &Leaving<S>)
         ensures counts { KeepsCounts self.old self.new }
     {
@@ -309,7 +310,7 @@ impl Lanes {
         }
     }
 
-    /// Returns whether the next hop of a lane has said something since it was put on hold last.
+    /// Returns whether the next hop of a lane has answered since it was last put on hold.
     pub(crate) fn has_answered(&self, number: usize) -> bool
         ensures { result ≡ has_answered_at self.now.paces number }
     {
@@ -319,7 +320,7 @@ impl Lanes {
         }
     }
 
-    /// Returns the outage of a lane's next hop, if it was put on hold and has said nothing since.
+    /// Returns the outage of a lane's next hop, if it was put on hold and hasn't answered since.
     pub(crate) fn outage(&self, number: usize) -> Option<Outage> {
         match self.paces.get(number) {
             Some(pace) => pace.outage(),
@@ -327,8 +328,8 @@ impl Lanes {
         }
     }
 
-    /// The next hop of a lane takes no more connections than those that stand: the task of one that it refused is the
-    /// lane's next again.
+    /// Notes that the next hop of a lane accepts no more connections than there are, and puts the task of the refused
+    /// one back in front.
     pub(crate) fn turn_away(&mut self, number: usize, task: Task)
         ensures counts { KeepsCounts self.old self.new }
     {
@@ -336,21 +337,21 @@ impl Lanes {
         self.put_back(number, task);
     }
 
-    /// An attempt of a lane has ended well: its next hop may take one more connection.
+    /// Notes that an attempt of a lane has ended with an outcome: its next hop may accept one more connection.
     pub(crate) fn ended_well(&mut self, number: usize)
         ensures counts { KeepsCounts self.old self.new }
     {
         self.paces.raise_limit(number);
     }
 
-    /// Returns whether the place of a lane is on hold.
+    /// Returns whether a lane is on hold.
     pub(crate) fn is_held(&self, number: usize, now: &Now) -> bool
         ensures { IsTrue result ↔ IsHeldAt now.now.tick self.now.paces number }
     {
         self.paces.is_held(number, now.tick)
     }
 
-    /// Leaves the place of a lane alone, and tells for how many seconds, unless it is already.
+    /// Puts a lane on hold, and returns for how many seconds, unless it is already.
     pub(crate) fn hold(&mut self, number: usize, now: &Now) -> Option<u64>
         ensures counts { KeepsCounts self.old self.new }
         ensures only { OnlyLane number self.old self.new }
@@ -364,8 +365,8 @@ impl Lanes {
         Some(seconds)
     }
 
-    /// Returns the tick at which something is to be done, or the given one where that is earlier. It is never later
-    /// than the tick at which the node has told that work may start.
+    /// Returns the tick at which something is to be done, or `otherwise` if that is earlier. It is never later than the
+    /// tick at which the node's next work is due.
     pub(crate) fn next_deadline(&self, otherwise: u64) -> u64
         ensures otherwise { result ≤ otherwise }
         ensures due { result ≤ self.now.next_due }

@@ -1,4 +1,5 @@
-//! The next hops of a relay that stays up: the connections to them, what is due for them, and which of it may be begun.
+//! The next hops of a long-running relay: the connections to them, the mail that is due for them, and which of it may
+//! begin.
 #![tactic(auto)]
 
 mod answering;

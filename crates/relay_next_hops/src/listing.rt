@@ -1,11 +1,11 @@
-//! When it is searched for what is due. To list it all is a walk over what is queued, so that is done where the node
-//! tells that something is due which isn't listed, and once a minute while something waits; and in parts, one at a
-//! turn, so that nobody waits for it. A message that has just come is put after the others at once.
+//! When due mail is listed. A complete listing walks the whole queue, so it begins only when the node says that mail is
+//! due that isn't listed, and once a minute while tasks wait; and it goes on in parts, one per turn, so that nobody
+//! waits for it. A message that has just been accepted is listed at once, after the others.
 //!
-//! Between two parts messages come, are relayed and are put off. The lanes are emptied when the walk begins, and each
-//! message that is queued then is checked once, when the walk comes to it; so it is listed then as it stands then, but
-//! for the next hops to which a connection for it is being made or stands. Before that nothing of it is listed: what a
-//! next hop turns away of it isn't put back. Each that comes later is listed when it comes, and the walk passes it by.
+//! Between two parts, messages arrive, leave and are deferred. The lanes are emptied when the walk begins, and each
+//! message that was queued then is looked at once, when the walk comes to it. It is listed as it is at that time,
+//! except for next hops to which a connection for it exists. Before that nothing of it is listed: a task that a next
+//! hop turns away isn't put back. Messages that arrive later are listed when they arrive, and the walk skips them.
 ghost use Rattle.std.specs.Prelude.{◌≡◌, ◌<◌, OnOk, true};
 ghost use Rattle.relay_next_hops.specs.Lanes.{KeepsCounts, ListsMore};
 ghost use Rattle.relay_next_hops.specs.Listing.{AreListedFrom, IsListed, KeepsListed, ListsPart};
@@ -21,23 +21,21 @@ use relay_node::NodeFault;
 use relay_trace::Moment;
 use std::rt::Clock;
 
-/// The least milliseconds between two listings.
+/// The least number of milliseconds between two listings.
 const LISTING_PAUSE: u64 = 1_000;
 
-/// Between two listings lies this many times what the last one took.
+/// The pause between two listings, as a multiple of what the last one took.
 const LISTING_SHARE: u64 = 10;
 
-/// How many messages are checked in one part.
+/// How many messages are looked at in one part.
 const PART_SIZE: usize = 512;
 
-/// After this many seconds it is searched for what is due, also where nothing has changed: the wall clock may have been
-/// set.
+/// After this many seconds a listing begins even if nothing has changed: the wall clock may have been set.
 const LISTING_SECONDS: u64 = 60;
 
 impl Lanes {
-    /// Lists what has come since the last time; and a part of all that is due, where something is due that isn't
-    /// listed, and the last listing is long enough ago, or hasn't come to its end. Lack of memory leaves it for the
-    /// next time.
+    /// Lists the messages that have arrived. Also lists a part of all due mail, if a listing is in progress, or if mail
+    /// is due that isn't listed and the pause is over. If memory runs out, the next call tries again.
     pub(crate) fn refresh<C: Clock, S: Stream + Drop, D: Disk>(
         &mut self,
         clock: &C,
@@ -60,7 +58,7 @@ impl Lanes {
         Ok(())
     }
 
-    /// Lists a part of all that is due, of which it may be the first. Lack of memory leaves it for the next time.
+    /// Lists a part of all due mail, which may be the first. If memory runs out, the next call tries again.
     fn list_more<S: Stream + Drop, D: Disk>(
         &mut self,
         relay: &Relay<D>,
@@ -78,8 +76,8 @@ impl Lanes {
         Ok(())
     }
 
-    /// Lists what has come since, and asks the node when something is due next, where nothing waits that is due
-    /// already: of that alone it would tell.
+    /// Lists the messages that have arrived, and asks the node when mail is next due. Doesn't ask while tasks wait,
+    /// because the node would only say that these are due.
     pub(crate) fn look_ahead<S: Stream + Drop, D: Disk>(
         &mut self,
         relay: &Relay<D>,
@@ -105,7 +103,7 @@ impl Lanes {
         }
     }
 
-    /// Takes note that a minute is over, that something is due, or that a place isn't on hold any more.
+    /// Notes that a minute has passed, mail is due, or a hold has ended.
     fn note_time<S: Stream + Drop>(&mut self, hops: &Hops<S>, now: &Now)
         ensures counts { KeepsCounts self.old self.new }
         ensures kept { KeepsListed self.old self.new }
@@ -115,7 +113,7 @@ impl Lanes {
         self.note_hold_end(now);
     }
 
-    /// Takes note that a minute is over, or that something is due.
+    /// Notes that a minute has passed, or mail is due.
     fn note_due<S: Stream + Drop>(&mut self, hops: &Hops<S>, now: &Now)
         ensures counts { KeepsCounts self.old self.new }
         ensures kept { KeepsListed self.old self.new }
@@ -124,8 +122,8 @@ impl Lanes {
         if self.next_minute <= now.tick {
             self.next_minute = now.behind(LISTING_SECONDS);
             self.is_unsure = true;
-            // The node tells that what waits is due, and nothing of what is due after that. A walk also lets go of
-            // the numbers of those that have left.
+            // The node says only that waiting mail is due, and nothing of what is due later. A walk also drops the
+            // numbers of messages that have left.
             self.is_stale = self.is_stale || self.has_waiting(hops) || self.queued.has_grown();
         }
         if self.next_due <= now.tick {
@@ -134,7 +132,7 @@ impl Lanes {
         }
     }
 
-    /// Where a place isn't on hold any more, sets when the next one isn't.
+    /// When a hold has ended, computes when the next one ends.
     fn note_hold_end(&mut self, now: &Now)
         ensures counts { KeepsCounts self.old self.new }
         ensures kept { KeepsListed self.old self.new }
@@ -146,7 +144,7 @@ impl Lanes {
         }
     }
 
-    /// Returns the tick at which the next place isn't on hold any more.
+    /// Returns the tick at which the next hold ends.
     fn hold_end(&self, now: &Now) -> u64 {
         let mut end = u64::MAX;
         for pace in self.paces.as_slice() {
@@ -157,14 +155,14 @@ impl Lanes {
         end
     }
 
-    /// Returns whether something that is due waits to be begun, or a connection is being made for it.
+    /// Returns whether a task waits, or a connection is being opened for one.
     fn has_waiting<S: Stream + Drop>(&self, hops: &Hops<S>) -> bool {
         !self.unroutable.is_empty()
             || hops.is_any_connecting()
             || self.lanes.as_slice().iter().any(|lane| !lane.is_empty())
     }
 
-    /// Takes note of when something is due next.
+    /// Notes when mail is next due.
     fn note_next(&mut self, next: Option<Moment>, now: &Now)
         ensures counts { KeepsCounts self.old self.new }
         ensures kept { KeepsListed self.old self.new }
@@ -176,8 +174,7 @@ impl Lanes {
         }
     }
 
-    /// Lists what is due of the messages that have come since the last time, reports too. Returns whether there was a
-    /// change.
+    /// Lists the due mail of the messages that have arrived, reports included. Returns whether there was a change.
     fn take_new<S: Stream + Drop, D: Disk>(
         &mut self,
         relay: &Relay<D>,
@@ -200,7 +197,7 @@ impl Lanes {
         true
     }
 
-    /// Lists what is due of the messages that have come since the last time, before this one.
+    /// Lists the due mail of the messages that have arrived, before this number.
     fn take_up_to<S: Stream + Drop, D: Disk>(
         &mut self,
         relay: &Relay<D>,
@@ -214,7 +211,7 @@ impl Lanes {
             self.old.next_number next_number self.new }
         ensures walk { (self.new.queued.left ≡ self.old.queued.left) × (self.new.is_listing ≡ self.old.is_listing) }
     {
-        // What was there at the start is listed as a whole.
+        // The messages from before the start are listed as a whole.
         if self.next_number == 0 {
             return;
         }
@@ -223,7 +220,8 @@ impl Lanes {
         }
     }
 
-    /// Lists what is due of a message that has come. If memory runs out for its number, the next listing asks the node.
+    /// Lists the due mail of a message that has arrived. If there is no memory for its number, the next listing asks
+    /// the node.
     fn take_one<S: Stream + Drop, D: Disk>(
         &mut self,
         relay: &Relay<D>,
@@ -244,7 +242,7 @@ impl Lanes {
         }
     }
 
-    /// Begins to list all that is due, with nothing listed, and returns whether: not where no memory is left for that.
+    /// Begins to list all due mail, with nothing listed, and returns whether there was memory for that.
     fn begin_listing<D: Disk>(&mut self, relay: &Relay<D>, now: &Now) -> Result<bool, Fault>
         ensures counts { KeepsCounts self.old self.new }
     {
@@ -267,8 +265,8 @@ impl Lanes {
         Ok(true)
     }
 
-    /// Asks the node which messages are queued: those that come later are listed as they come. Lack of memory leaves it
-    /// for the first listing.
+    /// Asks the node which messages are queued; those that arrive later are listed when they arrive. If memory runs
+    /// out, the first listing asks.
     pub(crate) fn prepare<D: Disk>(&mut self, relay: &Relay<D>) -> Result<(), Fault>
         ensures counts { KeepsCounts self.old self.new }
         ensures due { self.new.next_due ≡ self.old.next_due }
@@ -279,7 +277,7 @@ impl Lanes {
         Ok(())
     }
 
-    /// Asks the node which messages are queued, and returns whether it has said: not where no memory is left for that.
+    /// Asks the node which messages are queued, and returns whether there was memory for that.
     fn gather<D: Disk>(&mut self, relay: &Relay<D>) -> Result<bool, Fault>
         ensures counts { KeepsCounts self.old self.new }
         ensures due { self.new.next_due ≡ self.old.next_due }
@@ -299,7 +297,7 @@ impl Lanes {
         }
     }
 
-    /// Lists what is due of the next messages, and lets go of as much that was listed before.
+    /// Lists the due mail of the next messages, and drops as many old tasks.
     fn list_part<S: Stream + Drop, D: Disk>(&mut self, relay: &Relay<D>, hops: &Hops<S>, now: &Now)
         ensures more { ListsMore self.old self.new }
         ensures part { ListsPart hops.now.hops now.now.moment relay.now.node self.old self.new }
@@ -308,7 +306,7 @@ impl Lanes {
         self.list_next(relay, hops, now);
     }
 
-    /// Lets go of as much that was listed before.
+    /// Drops as many old tasks.
     fn let_go(&mut self)
         ensures counts { KeepsCounts self.old self.new }
         ensures kept { KeepsListed self.old self.new }
@@ -329,7 +327,7 @@ impl Lanes {
         }
     }
 
-    /// Lists what is due of the next messages.
+    /// Lists the due mail of the next messages.
     fn list_next<S: Stream + Drop, D: Disk>(&mut self, relay: &Relay<D>, hops: &Hops<S>, now: &Now)
         ensures more { ListsMore self.old self.new }
         ensures part { ListsPart hops.now.hops now.now.moment relay.now.node self.old self.new }
@@ -342,8 +340,8 @@ impl Lanes {
         }
     }
 
-    /// Lists what is due of a message that the walk has come to. If memory runs out for its number, the next listing
-    /// asks the node.
+    /// Lists the due mail of a message that the walk has come to. If there is no memory for its number, the next
+    /// listing asks the node.
     fn look_at<S: Stream + Drop, D: Disk>(
         &mut self,
         relay: &Relay<D>,
@@ -364,7 +362,7 @@ impl Lanes {
         }
     }
 
-    /// Takes note of a part that has lasted from one tick to another, and of whether it was the last.
+    /// Notes how long a part has taken, between two ticks, and whether it was the last.
     fn end_part(&mut self, begun: u64, ended: u64)
         ensures counts { KeepsCounts self.old self.new }
         ensures kept { KeepsListed self.old self.new }

@@ -23,7 +23,7 @@ use relay_loop::{Relay, ReplyPiece};
 use std::alloc::{AllocError, Global};
 use std::rt::Clock;
 
-/// The connections to next hops, up to 64, and what is due for them.
+/// The connections to next hops, at most 64, and the mail that is due for them.
 pub struct NextHops<S = TcpStream> {
     hops: Hops<S>,
     lanes: Lanes,
@@ -42,12 +42,12 @@ impl<S: Drop> Drop for NextHops<S> {
 }
 
 impl NextHops {
-    /// The token of the first connection; those of the others follow, in the order of their numbers.
+    /// The token of the first connection; the others' follow in the order of their numbers.
     pub const FIRST_TOKEN: usize = FIRST_TOKEN;
 }
 
 impl<S: Stream + Drop> NextHops<S> {
-    /// No connection, and nothing that is due is listed yet; within these limits. Fails if memory runs out.
+    /// Returns an empty table without listed mail, with these limits. Fails if memory runs out.
     #[tactic(auto, using(crate::proofs::SlotLemmas::free_aimed, crate::proofs::SlotLemmas::free_counts))]
     pub fn new(alloc: Global, limits: &Limits) -> Result<Self, AllocError>
         ensures free { IfOk result (λ next_hops. AreFree (hops_of next_hops)) }
@@ -60,7 +60,7 @@ impl<S: Stream + Drop> NextHops<S> {
         })
     }
 
-    /// Returns the same without a connection and with nothing listed, for a relay that is opened again.
+    /// Returns the same without connections and without listed mail, for a relay that was opened again.
     #[tactic(auto, using(crate::proofs::SlotLemmas::free_aimed, crate::proofs::SlotLemmas::free_counts))]
     pub fn renewed(self) -> Self
         ensures free { AreFree (hops_of result) }
@@ -81,16 +81,15 @@ impl<S: Stream + Drop> NextHops<S> {
         }
     }
 
-    /// Returns how many connections are being made or stand, each for one attempt, 64 at most.
+    /// Returns how many connections there are, each for one attempt, at most 64.
     pub fn running(&self) -> usize
         ensures { result ≡ count_of (hops_of self.now) }
     {
         self.hops.count()
     }
 
-    /// Asks the node which messages are queued, before there is a turn that clients wait for: it takes some
-    /// milliseconds for 100,000 of them. Without memory for that, the first listing asks again. Only a device that
-    /// failed is a fault.
+    /// Asks the node which messages are queued, before clients wait for turns: it takes some milliseconds for 100,000
+    /// messages. If memory runs out, the first listing asks. Fails only if the device has failed.
     pub fn prepare<D: Disk>(&mut self, relay: &Relay<D>) -> Result<(), Fault>
         ensures matches { (routes : List Route) → TablesMatch routes self.old → TablesMatch routes self.new }
         ensures due { next_due_of self.new ≡ next_due_of self.old }
@@ -98,16 +97,16 @@ impl<S: Stream + Drop> NextHops<S> {
         self.lanes.prepare(relay)
     }
 
-    /// The system tells what the connection of a number may be ready for.
+    /// Notes what the connection of a number may be ready for, as the system reports it.
     pub fn note(&mut self, number: usize, ready: Readiness)
         ensures { (routes : List Route) → TablesMatch routes self.old → TablesMatch routes self.new }
     {
         self.hops.note(number, ready);
     }
 
-    /// Attends to each connection once, each time beginning with another: makes it, writes what waits, or reads a block
-    /// that its attempt may hear then. If this many were lost that clients are to have their turn, it goes on after
-    /// these the next time. Returns whether one was closed. Only a device that failed is a fault.
+    /// Serves each connection once, beginning with another one each time: connects, writes, or reads a block that its
+    /// attempt may hear then. After a few losses leaves the rest to the next turn, so that clients have theirs. Returns
+    /// whether a connection was closed. Fails only if the device has failed.
     pub fn attend<D: Disk>(
         &mut self,
         registry: &S::Registry,
@@ -122,16 +121,16 @@ impl<S: Stream + Drop> NextHops<S> {
             .attend(registry, relay, &mut self.lanes, leaving, now, log)
     }
 
-    /// Returns what was read of each next hop whose attempt may hear it. Fails if memory runs out.
+    /// Returns what was read from each next hop whose attempt may hear it. Fails if memory runs out.
     pub fn replies(&self) -> Result<Vec<ReplyPiece<'_>>, AllocError>
         ensures { IfOk result (λ replies. map told_of replies.items ≡ replies_of self.now.hops) }
     {
         self.hops.replies()
     }
 
-    /// Takes the outcome of those replies, in their order, and writes what they lead to as far as that goes at once. If
-    /// no memory was left to hear them, the first of them is lost. Returns whether a connection was closed. Only a
-    /// device that failed is a fault.
+    /// Takes the results of these replies, in their order, and writes the commands that follow. If there was no memory
+    /// to hear them, the first one is lost. Returns whether a connection was closed. Fails only if the device has
+    /// failed.
     pub fn answer<D: Disk>(
         &mut self,
         replied: Option<Replied>,
@@ -150,15 +149,15 @@ impl<S: Stream + Drop> NextHops<S> {
         self.hops.answer(replied, registry, relay, &mut self.lanes, leaving, now, log)
     }
 
-    /// Connections that were leaving are closed: a next hop that took no more than stood may take another.
+    /// Notes that leaving connections were closed: a next hop at its limit may accept another one.
     pub fn note_leaving(&mut self, leaving: &Leaving<S>)
         ensures { (routes : List Route) → TablesMatch routes self.old → TablesMatch routes self.new }
     {
         self.lanes.note_leaving(leaving);
     }
 
-    /// Begins what is due and may be begun, with the descriptors that are kept for that, and gives the places of one
-    /// message up that have no next hop. Returns whether it did that. Only a device that failed is a fault.
+    /// Begins due attempts, as far as they may begin, with the spare file descriptors; and gives up the places of one
+    /// message that have no next hop. Returns whether it gave any up. Fails only if the device has failed.
     pub fn begin<C: Clock, N: Dial<Stream = S>, D: Disk>(
         &mut self,
         clock: &C,
@@ -188,7 +187,7 @@ impl<S: Stream + Drop> NextHops<S> {
         Ok(gave_up)
     }
 
-    /// Returns whether something can be done at once. Without leave to begin what is due, that waits.
+    /// Returns whether something can be done at once; `may_begin` says whether due mail counts.
     pub fn is_ready<D: Disk>(&self, relay: &Relay<D>, may_begin: bool) -> bool
         ensures { (number : ℕ) → IsLeftHop (hops_of self.now) relay.now number → result ≡ true }
     {
@@ -198,8 +197,8 @@ impl<S: Stream + Drop> NextHops<S> {
         may_begin && self.lanes.is_ready()
     }
 
-    /// Returns the tick at which something is to be done, or the given one where that is earlier. It is never later
-    /// than the tick at which the node has told that work may start, unless there is no leave to begin what is due.
+    /// Returns the tick at which something is to be done, or `otherwise` if that is earlier. It is never later than the
+    /// tick at which the node's next work is due, unless `may_begin` is false.
     pub fn next_deadline(&self, may_begin: bool, otherwise: u64) -> u64
         ensures otherwise { result ≤ otherwise }
         ensures due { may_begin ≡ true → result ≤ next_due_of self.now }

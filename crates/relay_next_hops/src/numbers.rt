@@ -1,4 +1,4 @@
-//! The numbers of the messages that may be queued, and a walk over them in parts, while messages come and go.
+//! The numbers of the messages that may be queued, and a walk over them in parts, while messages arrive and leave.
 ghost use Rattle.std.specs.Prelude.{◌≡◌, ◌==◌, ◌↔◌, [], ◌∷◌, IfOk, IsTrue, MatchOption, OnErr, OnOk};
 ghost use Rattle.std.specs.List.{list_any};
 ghost use Rattle.relay_next_hops.specs.Numbers.{begun, no_numbers, numbers_behind, with_left, with_newer, with_passed};
@@ -9,13 +9,13 @@ use std::mem;
 
 /// The numbers of the messages that may be queued, each once, in order.
 pub(crate) struct Numbers {
-    /// What the walk goes over.
+    /// The numbers of the walk.
     walk: Vec<u64>,
     /// How many of these it has come to.
     place: usize,
-    /// Those that it has come to, and that were queued then.
+    /// Those that it has come to and that were queued then.
     passed: Vec<u64>,
-    /// Those that have come since it began.
+    /// Those that have arrived since it began.
     newer: Vec<u64>,
 }
 
@@ -47,7 +47,7 @@ impl Model for Numbers {
 }
 
 impl Numbers {
-    /// None, and no walk is under way.
+    /// Returns no numbers, and no walk.
     pub(crate) fn new(alloc: Global) -> Self
         ensures { result ≡ no_numbers }
     {
@@ -59,8 +59,8 @@ impl Numbers {
         }
     }
 
-    /// Returns those of the messages of which these places are held, the places of each message one after another.
-    /// Fails if memory runs out.
+    /// Returns the numbers of the messages of these held places, which are grouped by message. Fails if memory runs
+    /// out.
     pub(crate) fn of_places(alloc: Global, places: &[(u64, u8)]) -> Result<Self, AllocError>
         ensures numbers { IfOk result (λ numbers. numbers.newer ≡ numbers_behind 0 places.now) }
         ensures rest { IfOk result (λ numbers. (numbers.left ≡ []) × (numbers.passed ≡ [])) }
@@ -77,7 +77,7 @@ impl Numbers {
         Ok(numbers)
     }
 
-    /// A message has come. Fails if memory runs out, and the number is left out.
+    /// Adds the number of a message that has arrived. Fails if memory runs out; the number is left out then.
     pub(crate) fn push(&mut self, number: u64) -> Result<(), AllocError>
         ensures pushed { OnOk result (self.new ≡ with_newer number self.old) }
         ensures failed { OnErr result (self.new ≡ self.old) }
@@ -86,7 +86,7 @@ impl Numbers {
         Ok(())
     }
 
-    /// Begins a walk over all of them, once the last has come to its end. Fails if memory runs out.
+    /// Begins a walk over all numbers; the last walk must be over. Fails if memory runs out.
     pub(crate) fn begin(&mut self) -> Result<(), AllocError>
         ensures begins { self.old.left ≡ [] → OnOk result (self.new ≡ begun self.old) }
         ensures failed { OnErr result (self.new ≡ self.old) }
@@ -102,14 +102,14 @@ impl Numbers {
         Ok(())
     }
 
-    /// Returns whether the walk has come to its end.
+    /// Returns whether the walk is over.
     pub(crate) fn is_over(&self) -> bool
         ensures { IsTrue result ↔ (self.now.left ≡ []) }
     {
         self.walk[self.place..].is_empty()
     }
 
-    /// Returns the next of the walk.
+    /// Returns the next number of the walk.
     pub(crate) fn next(&mut self) -> Option<u64>
         ensures next { MatchOption result (self.old.left ≡ []) (λ number. self.old.left ≡ number ∷ self.new.left) }
         ensures rest { self.new ≡ with_left self.new.left self.old }
@@ -123,7 +123,8 @@ impl Numbers {
         Some(number)
     }
 
-    /// The walk has come to this one, and its message is queued. Fails if memory runs out, and the number is left out.
+    /// Keeps a number that the walk has come to, whose message is queued. Fails if memory runs out; the number is left
+    /// out then.
     pub(crate) fn pass(&mut self, number: u64) -> Result<(), AllocError>
         ensures passed { OnOk result (self.new ≡ with_passed number self.old) }
         ensures failed { OnErr result (self.new ≡ self.old) }
@@ -139,7 +140,7 @@ impl Numbers {
         self.walk[self.place..].contains(&number)
     }
 
-    /// Returns whether more have come since the last walk began than were left then.
+    /// Returns whether more messages have arrived since the last walk began than were left then.
     pub(crate) fn has_grown(&self) -> bool {
         self.passed.len() < self.newer.len()
     }

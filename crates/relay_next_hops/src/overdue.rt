@@ -1,6 +1,6 @@
-//! Mail that is overdue at a place that is on hold: after four hours it counts as lost there without a connection. Else
-//! a message that is one of many would be given up, or be told of as delayed, days late. Each listing of what is due
-//! lets each task of such a place be checked once, whatever is before it; a bounded number at a turn.
+//! Overdue mail at a next hop that is on hold: after four hours an attempt counts as lost there without a connection.
+//! Otherwise one message among many would be given up, or reported as delayed, days late. Between two listings each
+//! task of such a lane is checked once, whatever comes before it; a bounded number in each turn.
 ghost use Rattle.std.specs.Prelude.{◌≡◌, ◌⊎◌, ◌≤◌, ◌++◌, [], IfOk, IfSome, None, Ok, Some, drop, false};
 ghost use Rattle.std.specs.Prelude.{length, option_to_list, true};
 ghost use Rattle.std.specs.List.{list_any};
@@ -25,11 +25,11 @@ use relay_files::Fault;
 use relay_log::Log;
 use relay_loop::Relay;
 
-/// How many seconds a message may be due at a place that is on hold, before it counts as lost without a connection.
+/// How many seconds a message may be due at a next hop on hold before an attempt counts as lost without a connection.
 const OVERDUE_SECONDS: u64 = 4 * 60 * 60;
 
-/// Records that the first overdue message of a lane whose place is on hold is lost, among the next tasks that weren't
-/// checked yet, and returns whether it was. It checks no more than `checks`, and takes off what it has checked.
+/// Records the loss of the first overdue task of a lane on hold, among the next unchecked ones, and returns whether
+/// there was one. Checks at most `checks` tasks, and subtracts what it has checked.
 pub(crate) fn lose_overdue<D: Disk>(
     relay: &mut Relay<D>,
     lanes: &mut Lanes,
@@ -53,7 +53,7 @@ pub(crate) fn lose_overdue<D: Disk>(
     ensures fewer { length (tasks_at lanes.new lane) ≤ length (tasks_at lanes.old lane) }
     ensures config { relay.new.node.config ≡ relay.old.node.config }
 {
-    // Where 64 attempts run, none can be recorded now.
+    // While 64 attempts are running, no loss can be recorded.
     if !lanes.is_held(lane, now) || relay.node().is_full_of_attempts() {
         return Ok(false);
     }
@@ -67,8 +67,8 @@ pub(crate) fn lose_overdue<D: Disk>(
     Ok(true)
 }
 
-/// Takes the first overdue task of a lane, among the next that weren't checked yet. It checks no more than `checks`,
-/// and takes off what it has checked.
+/// Takes the first overdue task of a lane out, among the next unchecked ones. Checks at most `checks` tasks, and
+/// subtracts what it has checked.
 fn next_overdue<D: Disk>(
     relay: &Relay<D>,
     lanes: &mut Lanes,
@@ -99,7 +99,7 @@ fn next_overdue<D: Disk>(
 }
 
 impl Lanes {
-    /// Returns the message of the first task of a lane that wasn't checked yet.
+    /// Returns the message of the first unchecked task of a lane.
     fn next_unchecked(&self, number: usize) -> Option<u64>
         ensures { result ≡ first_message (unchecked_at self.now number) }
     {
@@ -109,7 +109,7 @@ impl Lanes {
         }
     }
 
-    /// The first task of a lane that wasn't checked yet is checked.
+    /// Marks the first unchecked task of a lane as checked.
     fn check(&mut self, number: usize)
         ensures tasks { tasks_at self.new number ≡ tasks_at self.old number }
         ensures unchecked { unchecked_at self.new number ≡ drop 1 (unchecked_at self.old number) }
@@ -121,7 +121,7 @@ impl Lanes {
         }
     }
 
-    /// Takes the first task of a lane that wasn't checked yet.
+    /// Takes the first unchecked task of a lane out.
     fn take_unchecked(&mut self, number: usize) -> Option<Task>
         ensures unchecked { unchecked_at self.old number ≡ option_to_list result ++ unchecked_at self.new number }
         ensures checked { checked_at self.new number ≡ checked_at self.old number }
@@ -136,7 +136,7 @@ impl Lanes {
     }
 }
 
-/// Returns whether a place of a message has been due for longer than it may without an attempt.
+/// Returns whether a place of a message has been due for too long without an attempt.
 fn is_overdue<D: Disk>(relay: &Relay<D>, message: u64, now: &Now) -> bool
     ensures { result ≡ is_overdue now.now.moment (message_of relay.now.node.records.queue.messages message) }
 {
@@ -146,7 +146,7 @@ fn is_overdue<D: Disk>(relay: &Relay<D>, message: u64, now: &Now) -> bool
     }
 }
 
-/// Returns whether one of these places has been due for longer than it may.
+/// Returns whether one of these places has been due for too long.
 fn has_late(places: &[Place], now: &Now) -> bool
     ensures { result ≡ list_any (is_late now.now.moment) places.now }
 {
@@ -158,7 +158,7 @@ fn has_late(places: &[Place], now: &Now) -> bool
     false
 }
 
-/// Returns whether a place is held, and has been due for longer than it may.
+/// Returns whether a place is held, and has been due for too long.
 fn is_late(place: &Place, now: &Now) -> bool
     ensures { result ≡ is_late now.now.moment place.now }
 {

@@ -1,4 +1,4 @@
-//! The pace of each lane: how many of its attempts run, and whether its place is on hold.
+//! The pace of each lane: how many of its attempts are running, and whether it is on hold.
 ghost use Rattle.std.specs.Prelude.{◌≡◌, ◌↔◌, [], IsTrue, option_copied, option_map, slice_get};
 ghost use Rattle.relay_limits.specs.Pace.{answered_pace, held_from, next_hold, with_leaving};
 ghost use Rattle.relay_next_hops.specs.Paces.{IsHeldAt, MayBeginAt, RunAsBefore, begun, changed_at, ended};
@@ -8,7 +8,7 @@ use relay_limits::Pace;
 use std::alloc::{AllocError, Global};
 use std::marker::Model;
 
-/// The paces of lanes, by their numbers. A number without a lane has none, and what is told of it changes nothing.
+/// The paces of lanes, by number. A call for a number without a lane changes nothing.
 pub(crate) struct Paces {
     paces: Vec<Pace>,
 }
@@ -30,7 +30,7 @@ impl Model for Paces {
 }
 
 impl Paces {
-    /// Returns a table without a lane. Allocates nothing.
+    /// Returns an empty table. Allocates nothing.
     pub(crate) fn new(alloc: Global) -> Self
         ensures { result ≡ [] }
     {
@@ -39,7 +39,7 @@ impl Paces {
         }
     }
 
-    /// Adds lanes of which no attempt runs, until there are this many. Fails if memory runs out.
+    /// Adds lanes without running attempts, up to `count`. Fails if memory runs out.
     #[tactic(auto, using(crate::proofs::PaceLemmas::runs_none_more))]
     pub(crate) fn grow(&mut self, count: usize) -> Result<(), AllocError>
         ensures { RunAsBefore self.old self.new }
@@ -64,7 +64,7 @@ impl Paces {
         self.paces.get(number)
     }
 
-    /// Returns whether one more connection of a lane may be begun, of `most` at most.
+    /// Returns whether a lane may begin one more connection, of at most `most`.
     pub(crate) fn may_begin(&self, number: usize, most: usize, tick: u64) -> bool
         ensures { IsTrue result ↔ MayBeginAt most tick self.now number }
     {
@@ -74,7 +74,7 @@ impl Paces {
         }
     }
 
-    /// Returns whether the place of a lane is on hold.
+    /// Returns whether a lane is on hold.
     pub(crate) fn is_held(&self, number: usize, tick: u64) -> bool
         ensures { IsTrue result ↔ IsHeldAt tick self.now number }
     {
@@ -84,7 +84,7 @@ impl Paces {
         }
     }
 
-    /// A connection of a lane is made.
+    /// Notes that a connection of a lane was begun.
     pub(crate) fn began(&mut self, number: usize)
         ensures { self.new ≡ changed_at begun self.old number }
     {
@@ -93,7 +93,7 @@ impl Paces {
         }
     }
 
-    /// A connection of a lane is gone, or is leaving.
+    /// Notes that a connection of a lane is gone, or is leaving.
     pub(crate) fn ended(&mut self, number: usize)
         ensures { self.new ≡ changed_at ended self.old number }
     {
@@ -102,7 +102,7 @@ impl Paces {
         }
     }
 
-    /// The next hop of a lane has said something.
+    /// Notes that the next hop of a lane has answered.
     pub(crate) fn answered(&mut self, number: usize)
         ensures { self.new ≡ changed_at answered_pace self.old number }
     {
@@ -111,7 +111,7 @@ impl Paces {
         }
     }
 
-    /// This many connections of a lane are leaving.
+    /// Notes that this many connections of a lane are leaving.
     pub(crate) fn note_leaving(&mut self, number: usize, count: usize)
         ensures { self.new ≡ changed_at (with_leaving count) self.old number }
     {
@@ -120,7 +120,7 @@ impl Paces {
         }
     }
 
-    /// The next hop of a lane takes no more connections than those that stand.
+    /// Notes that the next hop of a lane accepts no more connections than there are.
     pub(crate) fn lower_limit(&mut self, number: usize)
         ensures { self.new ≡ changed_at refused self.old number }
     {
@@ -129,7 +129,7 @@ impl Paces {
         }
     }
 
-    /// The next hop of a lane may take one connection more.
+    /// Notes that the next hop of a lane may accept one more connection.
     pub(crate) fn raise_limit(&mut self, number: usize)
         ensures { self.new ≡ changed_at welcomed self.old number }
     {
@@ -138,7 +138,7 @@ impl Paces {
         }
     }
 
-    /// Leaves the place of a lane alone from this tick on, and returns for how many seconds.
+    /// Puts a lane on hold from this tick on, and returns for how many seconds.
     pub(crate) fn hold(&mut self, number: usize, tick: u64) -> Option<u64>
         ensures seconds { result ≡ option_map (λ pace. next_hold pace.hold) (slice_get self.old number) }
         ensures held { self.new ≡ changed_at (held_from tick) self.old number }

@@ -1,41 +1,41 @@
-//! How long a next hop is waited for, by what it was told last (RFC 5321, section 4.5.3.2).
+//! How long to wait for a next hop, by what was sent last (RFC 5321, section 4.5.3.2).
 ghost use Rattle.std.specs.Prelude.{◌≡◌};
 ghost use Rattle.relay_next_hops.specs.Phases.{patience};
 
-/// How many seconds a next hop may take to answer a connection.
+/// How many seconds connecting may take.
 const CONNECT_SECONDS: u64 = 30;
 
-/// How many seconds a next hop may take to greet, and to answer EHLO, MAIL or RCPT (sections 4.5.3.2.1 to 4.5.3.2.3).
+/// How many seconds the greeting, and the reply to EHLO, MAIL or RCPT may take (sections 4.5.3.2.1 to 4.5.3.2.3).
 const COMMAND_SECONDS: u64 = 300;
 
-/// How many seconds a next hop may take to answer DATA (section 4.5.3.2.4).
+/// How many seconds the reply to DATA may take (section 4.5.3.2.4).
 const DATA_SECONDS: u64 = 120;
 
-/// How many seconds a next hop may take nothing of a content (section 4.5.3.2.5).
+/// How many seconds a next hop may take no octet of the mail data (section 4.5.3.2.5).
 const BLOCK_SECONDS: u64 = 180;
 
-/// How many seconds a next hop may take to answer a content that it has (section 4.5.3.2.6).
+/// How many seconds the reply to complete mail data may take (section 4.5.3.2.6).
 const CONTENT_SECONDS: u64 = 600;
 
-/// How the commands begin that stand before a content. They may come several at a time.
+/// How the commands before the mail data begin. Several may be pipelined.
 const COMMANDS: [&[u8]; 5] = [b"EHLO ", b"HELO ", b"MAIL FROM:", b"RCPT TO:", b"QUIT\r\n"];
 
-/// What a next hop is waited for.
+/// What is waited for.
 #[derive(Clone, Copy, Debug, PartialEq, Eq)]
 pub(crate) enum Phase {
-    /// Its answer to the connection.
+    /// The connection.
     Connecting,
-    /// Its greeting, or its answers to commands before DATA.
+    /// The greeting, or replies to commands before DATA.
     Command,
-    /// Its answer to DATA.
+    /// The reply to DATA.
     Data,
-    /// That it takes a content, and its answer to that.
+    /// The transfer of the mail data, and the reply to it.
     Content,
 }
 
 impl Phase {
-    /// Returns what a next hop is waited for after these octets, which its replies have led to. A content begins with a
-    /// line of its own, a trace field or one of a report, or with the line of its chunk.
+    /// Returns what is waited for after these octets were sent. Mail data begins with a trace field, with a line of a
+    /// report, or with the BDAT line of its chunk.
     pub(crate) fn behind(self, octets: &[u8]) -> Self {
         if octets.is_empty() {
             self
@@ -48,7 +48,7 @@ impl Phase {
         }
     }
 
-    /// Returns how many seconds may pass without an octet, where octets are still to be written, or aren't.
+    /// Returns how many seconds may pass without an octet; `writes` says whether octets are still to be written.
     pub(crate) fn seconds(self, writes: bool) -> u64
         ensures { result ≡ patience self writes }
     {

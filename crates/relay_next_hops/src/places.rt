@@ -1,4 +1,4 @@
-//! The places of next hops, each under a number.
+//! The addresses of next hops, by number.
 ghost use Rattle.std.specs.Prelude.{◌≡◌, ℕ, [], None, Some, IfSome, slice_get};
 ghost use Rattle.std.specs.Net.Socket.{IsSocketAddrV4};
 ghost use Rattle.std.specs.declared.net.socket_addr.SocketAddrV4.{SocketAddrV4};
@@ -9,10 +9,10 @@ use std::collections::HashMap;
 use std::marker::Model;
 use std::net::SocketAddrV4;
 
-/// The places of next hops, numbered from 0 in the order in which they were added. None is ever removed.
+/// The addresses of next hops, numbered from 0 in the order in which they were added. None is ever removed.
 pub(crate) struct Places {
     places: Vec<SocketAddrV4>,
-    /// The number of each place, by its key.
+    /// The number of each address, by its key.
     numbers: HashMap<u64, usize>,
 }
 
@@ -39,7 +39,7 @@ impl Model for Places {
 }
 
 impl Places {
-    /// Returns a table without a place. Allocates nothing.
+    /// Returns an empty table. Allocates nothing.
     pub(crate) fn new(alloc: Global) -> Self
         ensures { result ≡ [] }
     {
@@ -49,7 +49,7 @@ impl Places {
         }
     }
 
-    /// Returns the place of a number, if it has one.
+    /// Returns the address of a number, if it has one.
     pub(crate) fn get(&self, number: usize) -> Option<SocketAddrV4>
         ensures { result ≡ slice_get self.now number }
     {
@@ -59,8 +59,8 @@ impl Places {
         }
     }
 
-    /// Returns the number of a place, and adds the place if it has none yet. Returns `None` if memory runs out; no
-    /// place was added then.
+    /// Returns the number of an address, and adds the address if it has none yet. Returns `None` if memory runs out;
+    /// nothing was added then.
     pub(crate) fn number_of(&mut self, at: SocketAddrV4) -> Option<usize>
         ensures place { IfSome result (λ number. slice_get self.new number ≡ Some at) }
         ensures others { (number : ℕ) (place : SocketAddrV4) → slice_get self.old number ≡ Some place
@@ -74,7 +74,8 @@ impl Places {
         }
     }
 
-    /// Adds a place that has no number yet, under the next. Returns `None` if memory runs out; nothing was added then.
+    /// Adds an address that has no number yet, under the next one. Returns `None` if memory runs out; nothing was added
+    /// then.
     fn add(&mut self, key: u64, at: SocketAddrV4) -> Option<usize>
         requires key { key ≡ key_of at }
         requires fits { IsSocketAddrV4 at }
@@ -98,7 +99,7 @@ impl Places {
     }
 }
 
-/// Returns the key of a place, which no other place has.
+/// Returns the key of an address, which no other address has.
 fn key_of(at: SocketAddrV4) -> u64
     ensures key { result ≡ key_of at }
     ensures fits { IsSocketAddrV4 at }

@@ -1,4 +1,4 @@
-//! What opens streams without a system, for tests.
+//! Opens streams without a system, for tests.
 ghost use Rattle.std.specs.Prelude.{◌≡◌};
 
 use crate::dial::Dial;
@@ -8,7 +8,7 @@ use std::collections::VecDeque;
 use std::io::{self, Error, ErrorKind};
 use std::net::SocketAddrV4;
 
-/// A stream that keeps in mind to which place it was opened.
+/// A stream that remembers to which address it was opened.
 #[derive(Drop)]
 pub struct PlacedStream<S> {
     place: SocketAddrV4,
@@ -16,7 +16,7 @@ pub struct PlacedStream<S> {
 }
 
 impl<S> PlacedStream<S> {
-    /// Returns the place to which it was opened.
+    /// Returns the address to which it was opened.
     pub fn place(&self) -> SocketAddrV4
         ensures { result ≡ self.now.place }
     {
@@ -67,17 +67,17 @@ impl<S: Stream> Stream for PlacedStream<S> {
     }
 }
 
-/// Streams that wait to be opened, in their order: each goes to the place that is asked for next. If none is left, each
-/// place refuses.
+/// Streams to be opened, in this order, each to the address that is requested next. After the last one each address
+/// refuses.
 #[derive(Drop)]
 pub struct ScriptedDial<S> {
     streams: VecDeque<S>,
-    /// How many descriptors are kept.
+    /// How many spare descriptors there are.
     spares: usize,
 }
 
 impl<S> ScriptedDial<S> {
-    /// Returns these streams will be opened. No descriptor is kept yet.
+    /// Returns a source of these streams, without spare descriptors.
     pub fn new(streams: VecDeque<S>) -> Self
         ensures { result.streams ≡ streams }
     {

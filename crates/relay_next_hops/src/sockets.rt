@@ -1,4 +1,4 @@
-//! Streams to next hops as the system opens them.
+//! Streams to next hops, opened by the system.
 ghost use Rattle.std.specs.Prelude.{◌≡◌};
 
 use crate::dial::Dial;
@@ -7,7 +7,7 @@ use mio::net::TcpStream;
 use std::io;
 use std::net::{Net, SocketAddr, SocketAddrV4};
 
-/// What opens the system's streams, and keeps descriptors for them. Nothing is known of where such a stream leads.
+/// Opens the system's streams, and keeps spare descriptors for them. Nothing is known about where such a stream leads.
 pub struct Sockets<'a, N> {
     net: &'a N,
     spares: Spares,
@@ -24,7 +24,7 @@ impl<N> Drop for Sockets<'_, N> {
 }
 
 impl<'a, N: Net> Sockets<'a, N> {
-    /// Returns what opens streams of this system, with these descriptors.
+    /// Makes a source of this system's streams, with these spare descriptors.
     pub fn new(net: &'a N, spares: Spares) -> Self
         ensures { result.spares ≡ spares }
     {

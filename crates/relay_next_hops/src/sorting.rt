@@ -1,4 +1,4 @@
-//! Where what is due of a message is listed: under the lane of each next hop's place, or as unroutable.
+//! Where the due mail of a message is listed: in the lane of each next hop's address, or as unroutable.
 ghost use Rattle.std.specs.Prelude.{◌≡◌, ℕ, IfSome, Some, length, option_copied, slice_get, true};
 ghost use Rattle.relay_next_hops.specs.Lanes.{IsListedUnroutable, KeepsCounts, ListsMore, tasks_at};
 ghost use Rattle.relay_next_hops.specs.Listing.{ArePlacesListed, HasTurn, IsListed, IsListedFor, IsPlaceListed};
@@ -16,8 +16,9 @@ use relay_routes::{Hop, HostName, Table};
 use std::net::SocketAddrV4;
 
 impl Lanes {
-    /// Lists what is due of a message, and isn't tried. Returns whether there is such a message. One that has a held
-    /// place without a hop is listed as unroutable; if memory runs out, all is listed anew.
+    /// Lists the due mail of a message, except where a connection for it exists. Returns whether the message exists. A
+    /// message with a held place without a hop is listed as unroutable. If memory runs out, all due mail is listed
+    /// again.
     pub(crate) fn add<S: Stream + Drop, D: Disk>(
         &mut self,
         relay: &Relay<D>,
@@ -46,7 +47,7 @@ impl Lanes {
         true
     }
 
-    /// Lists what is due of these places of a message.
+    /// Lists the due ones of these places of a message.
     fn add_places<S: Stream + Drop>(
         &mut self,
         hops: &Hops<S>,
@@ -67,8 +68,8 @@ impl Lanes {
         }
     }
 
-    /// Lists a place of a message for its next hop, if it is due, or the message as unroutable, if the place is held
-    /// and has no hop.
+    /// Lists a place of a message for its next hop, if it is due; or lists the message as unroutable, if the place is
+    /// held and has no hop.
     fn add_place<S: Stream + Drop>(
         &mut self,
         hops: &Hops<S>,
@@ -98,8 +99,8 @@ impl Lanes {
         }
     }
 
-    /// Lists a message for a next hop, after all others, unless it is tried there. If memory runs out, all is listed
-    /// anew.
+    /// Lists a message for a next hop, after all others, unless a connection for it exists. If memory runs out, all due
+    /// mail is listed again.
     fn push<S: Stream + Drop>(
         &mut self,
         hops: &Hops<S>,
@@ -117,7 +118,7 @@ impl Lanes {
         }
     }
 
-    /// Puts a message into the lane of its next hop's place, and returns whether memory was left for it.
+    /// Puts a message into the lane of its next hop's address, and returns whether there was memory for it.
     fn sort_in<S: Stream + Drop>(
         &mut self,
         hops: &Hops<S>,
@@ -149,7 +150,7 @@ impl Lanes {
         lane.push(Task { message, hop })
     }
 
-    /// Lists a message that has places without a hop. If memory runs out, all is listed anew.
+    /// Lists a message that has places without a hop. If memory runs out, all due mail is listed again.
     fn push_unroutable(&mut self, message: u64)
         ensures listed { IsListedUnroutable message self.new }
         ensures kept { KeepsListed self.old self.new }
@@ -166,7 +167,8 @@ impl Lanes {
         }
     }
 
-    /// Returns the number of the lane for a place, which is made if there is none. Returns `None` if memory runs out.
+    /// Returns the number of the lane of an address, which is added if there is none. Returns `None` if memory runs
+    /// out.
     fn number_of(&mut self, at: SocketAddrV4) -> Option<usize>
         ensures place { IfSome result (λ number. slice_get self.new.places number ≡ Some at) }
         ensures more { ListsMore self.old self.new }
@@ -178,7 +180,7 @@ impl Lanes {
         if self.grow(count) { Some(number) } else { None }
     }
 
-    /// Makes lanes until there are this many, and returns whether memory was left for them.
+    /// Adds lanes up to this many, and returns whether there was memory for them.
     fn grow(&mut self, count: usize) -> bool
         ensures counts { KeepsCounts self.old self.new }
         ensures tasks { (lane : ℕ) → tasks_at self.new lane ≡ tasks_at self.old lane }

@@ -1,4 +1,4 @@
-//! Descriptors that are kept for attempts, so that clients can't take all that there are.
+//! Spare file descriptors for attempts, so that clients can't take all there are.
 ghost use Rattle.std.specs.Prelude.{◌≡◌, ◌-◌, ◌↔◌, ◌≤◌, ◌<◌, IfOk, IsTrue};
 ghost use Rattle.relay_next_hops.specs.Spares.{held_of};
 ghost use Rattle.relay_next_hops.specs.declared.spares.TheConstants.{SPARE_COUNT};
@@ -6,10 +6,10 @@ ghost use Rattle.relay_next_hops.specs.declared.spares.TheConstants.{SPARE_COUNT
 use std::alloc::{AllocError, Global};
 use std::fs::File;
 
-/// How many descriptors are kept.
+/// How many spare descriptors are kept.
 pub(crate) const SPARE_COUNT: usize = 4;
 
-/// Copies of an open file, each of which keeps a descriptor: four, where the system has them.
+/// Duplicates of an open file, each of which keeps a descriptor: four, if the system has them.
 pub struct Spares {
     file: File,
     copies: Vec<File>,
@@ -26,7 +26,7 @@ impl Drop for Spares {
 }
 
 impl Spares {
-    /// None are kept yet; they will be copies of this file. Fails if memory runs out.
+    /// Returns no descriptors yet; they will be duplicates of this file. Fails if memory runs out.
     pub fn new(alloc: Global, file: File) -> Result<Self, AllocError>
         ensures { IfOk result (λ spares. held_of spares ≡ 0) }
     {
@@ -36,7 +36,7 @@ impl Spares {
         })
     }
 
-    /// Takes descriptors until all are kept, and returns whether they are: a client may be taken only then.
+    /// Takes descriptors until all four are kept, and returns whether they are: only then may a client be accepted.
     pub(crate) fn fill(&mut self) -> bool
         ensures { IsTrue result ↔ (SPARE_COUNT ≤ held_of self.new) }
     {

@@ -1,4 +1,4 @@
-//! Attempts that begin.
+//! Beginning attempts.
 ghost use Rattle.std.specs.Prelude.{◌≡◌, ◌+◌, ◌<◌, ◌≤◌, IfOk, MatchOption, None, Ok, OnOk, Some, length, option_map};
 ghost use Rattle.relay_book.specs.Queue.{message_of};
 ghost use Rattle.relay_routes.specs.Routes.{place_of};
@@ -23,21 +23,21 @@ use relay_loop::Relay;
 use relay_slots::SLOT_COUNT;
 use relay_trace::Moment;
 
-/// How many milliseconds no connection is begun after one for which the system had no descriptor or no memory.
+/// How many milliseconds no connection is begun after the system had no file descriptor or no memory for one.
 const WANT_PAUSE: u64 = 1_000;
 
-/// The most connections to next hops that haven't said anything yet, so that those that answer always find room.
+/// The most connections to next hops that haven't answered yet, so that there is always room for those that answer.
 const MOST_UNANSWERED: usize = 48;
 
-/// When connections may be begun.
+/// When connections may begin.
 #[derive(Clone, Copy, Debug)]
 pub(crate) struct Starts {
-    /// The tick before which none is.
+    /// The tick before which none begins.
     pub(crate) paused_until: u64,
 }
 
 impl Starts {
-    /// They may be begun at once.
+    /// Returns a state in which they may begin at once.
     pub(crate) fn new() -> Self
         ensures { result.paused_until ≡ 0 }
     {
@@ -68,46 +68,46 @@ impl Starts {
     }
 }
 
-/// How far it has come to begin what is due for a lane.
+/// How far a lane has come in a turn.
 #[derive(Clone, Copy, Debug, PartialEq, Eq)]
 pub(crate) enum Begun {
-    /// No more of it may be begun now.
+    /// No more of it may begin now.
     AllDone,
-    /// Its next hop hasn't said anything yet, as the next hops of this many connections that there is no room for it.
+    /// Its next hop hasn't answered yet, and no more connections to such next hops may begin.
     Crowded,
-    /// So much of it was tried that the others have their turn.
+    /// It has had its share of this turn, and has more.
     HasMore,
     /// There is no room for another connection.
     Full,
-    /// The system has no descriptor or no memory for another.
+    /// The system has no file descriptor or no memory for another.
     Wanting,
 }
 
-/// The outcome of the next task of a lane.
+/// The result for the next task of a lane.
 #[derive(Clone, Copy, Debug, PartialEq, Eq)]
 pub(crate) enum Step {
-    /// It has left the lane: a connection is being made for it, or none could be.
+    /// It has left the lane: a connection is being opened for it, or none could be.
     Left,
-    /// The system has no descriptor or no memory for a connection: the task is the lane's next again.
+    /// The system has no file descriptor or no memory for a connection: the task is in front of the lane again.
     Back,
-    /// None may be begun now, or there is none.
+    /// None may begin now, or there is none.
     Over,
-    /// The lane's next hop hasn't said anything yet, as the next hops of this many connections that there is no room.
+    /// The lane's next hop hasn't answered yet, and no more connections to such next hops may begin.
     NoRoom,
     /// There is no room for another connection.
     NoSlot,
 }
 
-/// The outcome of a task for which a connection was to be begun.
+/// The result of beginning a connection for a task.
 #[derive(Clone, Copy, Debug, PartialEq, Eq)]
 pub(crate) enum Tried {
-    /// A connection is being made for it.
+    /// A connection is being opened for it.
     Connects,
-    /// The system has no descriptor or no memory for one: the task is the lane's next again.
+    /// The system has no file descriptor or no memory for one: the task is in front of the lane again.
     Wants,
     /// It failed at once, and counts as lost.
     Fails,
-    /// The routes give no place for its next hop.
+    /// The routes give no address for its next hop.
     HasNoPlace,
 }
 

@@ -1,4 +1,4 @@
-//! In which order the lanes have their turn, and how far a turn goes.
+//! In which order lanes have their turn, and how far a turn goes.
 ghost use Rattle.std.specs.Prelude.{◌≡◌, ◌≢◌, ◌⊎◌, ◌+◌, ◌<◌, ◌≤◌, ℕ, OnOk, false, length, min, true};
 ghost use Rattle.relay_next_hops.specs.Counts.{CountsMatch};
 ghost use Rattle.relay_next_hops.specs.Errands.{AreAimed};
@@ -17,24 +17,24 @@ use relay_files::Fault;
 use relay_log::Log;
 use relay_loop::Relay;
 
-/// How many tasks are checked at a turn for being overdue.
+/// How many tasks are checked for being overdue in one turn.
 const MOST_CHECKS: usize = 512;
 
 impl Lanes {
-    /// Returns which lane is checked first.
+    /// Returns the lane that is looked at first.
     pub(crate) fn first(&self) -> usize
         ensures { result ≡ self.now.first }
     {
         self.first
     }
 
-    /// Returns the lane that the next room among those is for whose next hops haven't said anything yet, where one
-    /// waits.
+    /// Returns the lane that gets the next free connection among those to next hops that haven't answered, if one waits
+    /// for it.
     pub(crate) fn waiting(&self) -> Option<usize> {
         self.waiting
     }
 
-    /// Begins with the next lane from now on, and keeps the next room for one that waits.
+    /// Lets the next turn begin with the next lane, and reserves the next free connection for a waiting lane.
     pub(crate) fn turn(&mut self, waiting: Option<usize>)
         ensures counts { KeepsCounts self.old self.new }
         ensures rest { self.new ≡ turned_to self.new.first waiting self.old }
@@ -47,7 +47,7 @@ impl Lanes {
     }
 }
 
-/// Returns the lane that comes this many places after the first, of this many, where lane 0 comes after the last.
+/// Returns the lane `step` places after the first, of `count` lanes in a circle.
 fn nth(first: usize, step: usize, count: usize) -> usize
     ensures place { IsNth (min first count) count step result }
     ensures within { step < count → result < count }
@@ -60,7 +60,7 @@ fn nth(first: usize, step: usize, count: usize) -> usize
     }
 }
 
-/// Returns the one of two lanes that comes first from a third on, of this many, where lane 0 comes after the last.
+/// Returns which of two lanes comes first from a third one on, of `count` lanes in a circle.
 pub(crate) fn nearer(from: usize, count: usize, one: Option<usize>, other: usize) -> Option<usize> {
     match one {
         Some(one) if behind(from, count, one) <= behind(from, count, other) => Some(one),
@@ -68,7 +68,7 @@ pub(crate) fn nearer(from: usize, count: usize, one: Option<usize>, other: usize
     }
 }
 
-/// Returns how many places a lane comes after another, of this many.
+/// Returns how many places a lane comes after another, of `count` lanes in a circle.
 fn behind(from: usize, count: usize, lane: usize) -> usize {
     match lane.checked_sub(from) {
         Some(places) => places,
@@ -76,8 +76,8 @@ fn behind(from: usize, count: usize, lane: usize) -> usize {
     }
 }
 
-/// Returns the lane that has its turn at a step: at first the one that waits for room, and then each of this many, from
-/// the first on.
+/// Returns the lane that has its turn at a step: first the one that waits for a connection, then each lane, from the
+/// first on.
 pub(crate) fn visited(first: usize, count: usize, waiting: Option<usize>, step: usize) -> usize
     ensures { (past : ℕ) → step ≡ past + 1 → past < count
         → IsNth (min first count) count past result × (result < count) }
@@ -88,11 +88,11 @@ pub(crate) fn visited(first: usize, count: usize, waiting: Option<usize>, step: 
     }
 }
 
-/// Begins what is due and may be begun: of each lane in turn, the first lane each time another. Next hops that haven't
-/// said anything yet have this many connections together, one each. If there is no room for another, the next room is
-/// for the first that waits, after the one that had the last: each waits until the others have had one connection, and
-/// no longer. It goes over every lane, unless it is paused, there is no room at all, or no descriptor is kept; and the
-/// lanes are closed only if none of them has more that may begin.
+/// Begins due tasks, lane by lane, beginning with another lane each time. Next hops that haven't answered yet share a
+/// limited number of connections, one each. If that limit is reached, the next free connection goes to the first
+/// waiting lane after the one that got the last, so that each waits until the others have had one, and no longer. Goes
+/// over every lane, unless it is paused, there is no room at all, or no spare descriptor is left. The lanes are closed
+/// only if none of them has more that may begin.
 pub(crate) fn start_tasks<S: Stream + Drop, N: Dial<Stream = S>, D: Disk>(
     dial: &mut N,
     registry: &S::Registry,
@@ -127,7 +127,7 @@ pub(crate) fn start_tasks<S: Stream + Drop, N: Dial<Stream = S>, D: Disk>(
         has_lost = lose_once(has_lost, relay, lanes, lane, &mut checks, now, log)?;
         let begun = start_lane(dial, registry, relay, hops, lanes, lane, now, log)?;
         if stops(begun) {
-            // What ends next opens the lanes again.
+            // The next end of a connection opens the lanes again.
             lanes.turn(if step == 0 { waiting } else { crowded });
             starts.pause(begun, now);
             return Ok(());
@@ -138,7 +138,7 @@ pub(crate) fn start_tasks<S: Stream + Drop, N: Dial<Stream = S>, D: Disk>(
         }
     }
     lanes.turn(crowded);
-    // One is lost at a turn, and this many are checked, and then the others have theirs.
+    // After one loss, or after the last check, the other connections have their turn.
     if has_lost || has_more || checks == 0 {
         return Ok(());
     }
@@ -146,8 +146,8 @@ pub(crate) fn start_tasks<S: Stream + Drop, N: Dial<Stream = S>, D: Disk>(
     Ok(())
 }
 
-/// Records that an overdue message of a lane is lost, as [`lose_overdue`], unless one was lost already. Returns whether
-/// one was.
+/// Records the loss of an overdue task of a lane, as [`lose_overdue`] does, unless there was a loss already. Returns
+/// whether there was one.
 fn lose_once<D: Disk>(
     has_lost: bool,
     relay: &mut Relay<D>,
@@ -178,7 +178,7 @@ fn stops(begun: Begun) -> bool
     }
 }
 
-/// Returns whether a lane has more that its turn didn't come to: one that had its turn before, or this one.
+/// Returns whether a lane has more that this turn didn't come to: an earlier one, or this one.
 fn is_more(has_more: bool, begun: Begun) -> bool
     ensures { result ≡ false → (has_more ≡ false) × (begun ≢ Begun.HasMore) }
 {

@@ -1,4 +1,4 @@
--- A script of a play: its lines, and what they do to relays.
+-- A script of a play: its lines, and their effect on relays.
 use Rattle.std.specs.Prelude.{◌≡◌, ◌⊎◌, ◌<◌, ◌==◌, ℕ, Bool, true, false, List, [], ◌∷◌, ◌++◌, Option, None, Some}
 use Rattle.std.specs.Prelude.{Result, ⊤}
 use Rattle.std.specs.List.{slice_split}
@@ -26,12 +26,12 @@ use Rattle.relay_play.specs.declared.state.PlayState.{PlayState}
 abbrev pub is_line_feed : ℕ → Bool
 is_line_feed octet = octet == 10
 
--- none of these octets does
+-- none of these octets is a line feed
 abbrev pub HasNoLineFeed : List ℕ → Type 0
 HasNoLineFeed [] = ⊤
 HasNoLineFeed (octet ∷ octets) = (is_line_feed octet ≡ false) × HasNoLineFeed octets
 
--- the event of relays that an event of a script is
+-- the event that a line of a script stands for
 abbrev pub event_in : Said → Event
 event_in (said.Connect node) = Connect node
 event_in (said.Send link text) = Send link text
@@ -63,29 +63,29 @@ named_in Marks = None
 named_in (Copies node number place) = Some node
 named_in (Lost node number place) = Some node
 
--- a node that is named is one of this many
+-- a named node is one of this many
 abbrev pub IsAmong : Option ℕ → ℕ → Type 0
 IsAmong None nodes = ⊤
 IsAmong (Some node) nodes = node < nodes
 
--- octets were read, of which this is true
+-- the octets that were read have this property
 abbrev pub IsRead : Option (List ℕ) → Option (List ℕ) → (List ℕ → Type 0) → Type 0
 IsRead old new IsOf = (octets : List ℕ) × Consumes old new octets × IsOf octets
 
--- so it is of all octets that were left
+-- all octets that were left were read, and have this property
 abbrev pub IsReadTo : Option (List ℕ) → Option (List ℕ) → (List ℕ → Type 0) → Type 0
 IsReadTo old new IsOf = IsAtEnd new × IsRead old new IsOf
 
 module _ (honest : Type 0) (words : DiskWords MemoryDisk) where
-  -- two relays to which nothing has happened, by no line yet: they are as the promise has it
+  -- two relays before any event and any line, which keep the promise
   pub record HasNotBegun (play : PlayState) : Type 0 where
     pub two : HasBegunAsTwo honest words play.pair
     pub promise : KeepsItsPromise honest words play.pair play.pair
     pub nodes : play.nodes ≡ 2
     pub said : play.has_begun ≡ false
 
-  -- What a line does to a play: how many nodes play is said by the first line that says something, an event happens,
-  -- and what is asked for changes nothing.
+  -- The effect of a line on a play: the first significant line may set the number of nodes; an event happens; a
+  -- question changes nothing.
   abbrev pub Does : ScriptLine → PlayState → PlayState → Type 0
   Does Skipped old new = new ≡ old
   Does (Nodes count) old new =
@@ -100,28 +100,27 @@ module _ (honest : Type 0) (words : DiskWords MemoryDisk) where
   Does (Copies node number place) old new = new ≡ record old { has_begun = true }
   Does (Lost node number place) old new = new ≡ record old { has_begun = true }
 
-  -- a text spells a line that names no node but those that play, and this is what it does
+  -- a text spells a line that names only nodes of the play, and has this effect
   pub record PlaysLine (text : List ℕ) (old new : PlayState) : Type 0 where
     pub line : ScriptLine
     pub spells : Spells text line
     pub among : IsAmong (named_in line) old.nodes
     pub does : Does line old new
 
-  -- so does each line, one after another
+  -- the effect of lines, one after another
   abbrev pub PlaysEach : List (List ℕ) → PlayState → PlayState → Type 0
   PlaysEach [] old new = new ≡ old
   PlaysEach (text ∷ texts) old new = (mid : PlayState) × PlaysLine text old mid × PlaysEach texts mid new
 
-  -- so do the lines of a script: each ends at an LF, and the last one where the script does
+  -- the effect of the lines of a script: each ends with LF, the last one also with the script
   abbrev pub PlaysAll : PlayState → List ℕ → PlayState → Type 0
   PlaysAll first script last = PlaysEach (slice_split is_line_feed script) first last
 
-  -- the relays to which all that a script says happens: the two, or as many as it says
+  -- the relays at the start of a script: two, or as many as it says
   abbrev pub StartsAs : PlayState → World MemoryDisk → Type 0
   StartsAs first start = (start ≡ first.pair) ⊎ ((count : ℕ) × HasBegunAsMany honest words count start)
 
-  -- These relays are those that a script leaves. By all that has happened since they began they keep the promise of
-  -- mail.
+  -- These are the relays at the end of a script. By all events since the start they keep the promise for mail.
   pub record IsPlayed (script : List ℕ) (world : World MemoryDisk) : Type 0 where
     pub first : PlayState
     pub begins : HasNotBegun first
@@ -132,7 +131,7 @@ module _ (honest : Type 0) (words : DiskWords MemoryDisk) where
     pub starts : StartsAs first start
     pub promise : KeepsItsPromise honest words start world
 
-  -- Of a script that goes on, the lines that have ended were played, and the octets after them are of one line.
+  -- The state within a script: the complete lines were played, and the octets after them belong to one line.
   pub record HasPlayed (first : PlayState) (front begun : List ℕ) (now : PlayState) : Type 0 where
     pub lines : List (List ℕ)
     pub splits : (more : List ℕ)
@@ -140,7 +139,7 @@ module _ (honest : Type 0) (words : DiskWords MemoryDisk) where
     pub bare : HasNoLineFeed begun
     pub plays : PlaysEach lines first now
 
-  -- a read gave octets, whose lines were played; if the script has ended, its last line was too
+  -- one read gave octets, whose complete lines were played; at the end of the input the last line was too
   abbrev pub PlaysBlock : Option (List ℕ) → Option (List ℕ) → PlayState → List ℕ → List ℕ → PlayState → Bool → Type 0
   PlaysBlock old new first front begun now false =
       IsRead old new (λ octets. HasPlayed first (front ++ octets) begun now)

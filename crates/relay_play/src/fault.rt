@@ -6,16 +6,16 @@ use std::alloc::AllocError;
 use std::io::{self, ErrorKind};
 use thiserror::Error;
 
-/// Why a play ends before its script does. Its text is after `relayd: `.
+/// Why a play ends before its script does. Its text follows `relayd: `.
 #[derive(Clone, Copy, Debug, PartialEq, Eq, Error)]
 pub enum PlayFault {
-    /// The line of this number, from 1, is no line of a script.
+    /// The line of this number, from 1, isn't a line of a script.
     #[error("script line {0}")]
     Line(u64),
     /// The script can't be read.
     #[error("input")]
     Input,
-    /// What is seen can't be written.
+    /// The results can't be written.
     #[error("output")]
     Output,
     /// Memory ran out.

@@ -1,4 +1,4 @@
-//! An event of a script, and what is seen of it.
+//! An event of a script, and its result.
 ghost use Rattle.std.specs.Prelude.{◌≡◌, Result};
 ghost use Rattle.relay_events.specs.Happened.{HasHappened};
 ghost use Rattle.relay_events.specs.Step.{Steps};
@@ -10,8 +10,8 @@ use relay_pair::{Event, Pair, PairFault, Seen};
 use relay_script::Event as Said;
 use std::io;
 
-/// Does an event to the relays. What is seen of it, or why it was refused, is added as a line, or a line for
-/// each node that has stopped. Fails if memory runs out.
+/// Does an event, and adds a line with its result or its fault, or a line for each node that has stopped. Fails if
+/// memory runs out.
 pub(crate) fn happen(pair: &mut Pair<MemoryDisk>, said: Said, out: &mut Vec<u8>) -> io::Result<()>
     ensures steps { (answer : Result Seen PairFault) × Steps ⟦<MemoryDisk as Disk>⟧.honest
         ⟦<MemoryDisk as Disk>⟧.words pair.old (event_in said) pair.new answer }
@@ -24,7 +24,7 @@ pub(crate) fn happen(pair: &mut Pair<MemoryDisk>, said: Said, out: &mut Vec<u8>)
     }
 }
 
-/// Returns the event that a line of a script says.
+/// Returns the event in a line of a script.
 fn event_of(said: Said) -> Event
     ensures { result ≡ event_in said }
 {

@@ -1,4 +1,4 @@
-//! A play of relays: a script of what happens to them, read line by line, and for each line what is seen of it.
+//! A play of relays: a script of events, read line by line, and the result of each line.
 #![tactic(auto)]
 
 mod fault;

@@ -1,4 +1,4 @@
-//! The lines that tell what is seen of an event.
+//! The lines for the results of events.
 use relay_disk::Disk;
 use relay_node::NodeFault;
 use relay_pair::{Event, Pair, PairFault, Seen};
@@ -6,13 +6,13 @@ use relay_script::push_text;
 use relay_world::Link;
 use std::io::{self, Write};
 
-/// Returns the letter of a node: `a` for the first.
+/// Returns the letter of a node, from `a` on.
 pub(crate) fn letter(node: usize) -> char {
-    // A play has 16 at most, up to the letter p.
+    // A play has at most 16 nodes, up to `p`.
     char::from(b'a' + node.min(15) as u8)
 }
 
-/// Adds the line of what is seen of an event.
+/// Adds the line for the result of an event.
 pub(crate) fn print_seen<D: Disk>(
     pair: &Pair<D>,
     event: &Event,
@@ -44,12 +44,12 @@ pub(crate) fn print_seen<D: Disk>(
         (Seen::Compacted(node, size), _) => writeln!(out, "compact {} size {size}", letter(*node)),
         (Seen::Armed, Event::Stop { node, .. }) => writeln!(out, "armed {}", letter(*node)),
         (Seen::Stopped(nodes), _) => print_stopped(nodes.as_slice(), out),
-        // Nothing else is seen of another event.
+        // No other event has this result.
         _ => Ok(()),
     }
 }
 
-/// Adds the line of an event that was refused.
+/// Adds the line for an event that was refused.
 pub(crate) fn print_refused(fault: PairFault, out: &mut Vec<u8>) -> io::Result<()> {
     let name = match fault {
         PairFault::NoMemory => "NoMemory",
@@ -77,7 +77,7 @@ fn name_of(fault: NodeFault) -> &'static str {
     }
 }
 
-/// Adds the line of a link that outside has opened, with its greeting.
+/// Adds the line for a link that outside has opened, with its greeting.
 fn print_linked<D: Disk>(
     pair: &Pair<D>,
     number: usize,
@@ -98,7 +98,7 @@ fn link_at<D: Disk>(pair: &Pair<D>, number: usize) -> Option<&Link> {
     pair.links().get(number.checked_sub(1)?)
 }
 
-/// Returns what a node has written on a link: as its server, or else as its client.
+/// Returns what a node has written on a link: as its server, else as its client.
 fn written_by<D: Disk>(pair: &Pair<D>, number: usize, node: usize) -> &[u8] {
     let Some(link) = link_at(pair, number) else {
         return b"";
@@ -109,13 +109,13 @@ fn written_by<D: Disk>(pair: &Pair<D>, number: usize, node: usize) -> &[u8] {
     }
 }
 
-/// Adds the text of the last of some octets, this many of them.
+/// Adds the last `count` octets as text.
 fn print_last(octets: &[u8], count: usize, out: &mut Vec<u8>) -> io::Result<()> {
     let first = octets.len().saturating_sub(count);
     Ok(push_text(out, &octets[first..])?)
 }
 
-/// Ends the line of what was carried with the change that was made, if one was, and whether the end has closed.
+/// Ends the line for carried octets with the change that was added, if any, and whether the end has closed.
 fn print_change(change: Option<u64>, end: bool, out: &mut Vec<u8>) -> io::Result<()> {
     if let Some(number) = change {
         write!(out, " change {number}")?;
@@ -126,7 +126,7 @@ fn print_change(change: Option<u64>, end: bool, out: &mut Vec<u8>) -> io::Result
     writeln!(out)
 }
 
-/// Adds the line of an attempt that has begun.
+/// Adds the line for an attempt that has begun.
 fn print_started<D: Disk>(pair: &Pair<D>, place: usize, out: &mut Vec<u8>) -> io::Result<()> {
     let Some(attempt) = pair.attempts().get(place) else {
         return Ok(());

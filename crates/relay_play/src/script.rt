@@ -1,4 +1,4 @@
-//! A script, from its first line to its last.
+//! Playing a script, from its first line to its last.
 ghost use Rattle.std.specs.Prelude.{◌≡◌, ◌<◌, ◌++◌, ◌∷◌, [], IfOk, IsTrue, List, MatchOption, OnOk, length, ℕ};
 ghost use Rattle.std.specs.Io.KnownBytes.{IsAtEnd};
 ghost use Rattle.relay_play.specs.declared.state.PlayState.{PlayState as State};
@@ -17,11 +17,11 @@ use std::io::{ErrorKind, Read, Write};
 /// How many octets are read at a time.
 const BLOCK: usize = 65_536;
 
-/// How many times a reader is read at most: 2^40.
+/// The most reads of a script: 2^40.
 const READS: u64 = 1_099_511_627_776;
 
-/// A play that goes on: its relays, how many lines of its script were read, and the octets of a line whose end hasn't
-/// come.
+/// A play in progress: its relays, how many lines of its script were read, and the start of a line whose end wasn't
+/// read yet.
 #[derive(Drop)]
 struct Player {
     alloc: Global,
@@ -30,12 +30,13 @@ struct Player {
     begun: Vec<u8>,
 }
 
-/// Plays a script of relays from `reader`, over disks in memory, and writes what is seen of each line to `writer`,
-/// before it reads on. The relays are two, or as many as the first line that says something tells (`nodes`). A line
-/// ends at LF, and the last one where the input does. It ends well only with the whole script read and played, and
-/// gives the relays as they stand then; else it ends at the first line that isn't one, or names a node that doesn't
-/// play, or at its 2^40th read as by a fault of the reader. By all that has happened to the relays the promise of mail
-/// is kept.
+/// Plays a script of relays from `reader`, over disks in memory, and writes the result of each line to `writer` before
+/// it reads on. There are two relays, or as many as the first significant line says (`nodes`). A line ends with LF, the
+/// last one also with the input.
+///
+/// Returns the relays after the whole script was played. Fails at the first line that isn't one or that names a node
+/// outside the play, or after 2^40 reads, as if the reader had failed. Whatever happens to the relays, they keep their
+/// promise for mail.
 pub fn play<R: Read, W: Write>(
     alloc: Global,
     reader: &mut R,
@@ -63,7 +64,7 @@ pub fn play<R: Read, W: Write>(
 }
 
 impl Player {
-    /// Plays all that a reader gives, read into a block, over and over.
+    /// Plays all that a reader gives, block by block.
     fn play_blocks<R: Read, W: Write>(
         &mut self,
         block: &mut [u8],
@@ -86,7 +87,7 @@ impl Player {
         Err(PlayFault::Input)
     }
 
-    /// Plays what one read gives, or, where the script has ended, its last line. Whether it has ended is answered.
+    /// Plays what one read gives or, at the end of the input, the last line. Returns whether the input has ended.
     fn play_block<R: Read, W: Write>(
         &mut self,
         block: &mut [u8],
@@ -115,7 +116,7 @@ impl Player {
         Ok(false)
     }
 
-    /// Plays the lines that have come to their ends with these octets.
+    /// Plays the lines that end within these octets.
     fn go_on<W: Write>(&mut self, octets: &[u8], writer: &mut W) -> Result<(), PlayFault>
         ensures { OnOk result ((first : State) (front : List ℕ)
             → HasPlayed ⟦<MemoryDisk as Disk>⟧.honest ⟦<MemoryDisk as Disk>⟧.words first front
@@ -129,7 +130,7 @@ impl Player {
         end
     }
 
-    /// Plays the last line, which no LF ends.
+    /// Plays the last line, which has no LF.
     fn end<W: Write>(&mut self, writer: &mut W) -> Result<(), PlayFault>
         ensures { OnOk result (PlaysLine ⟦<MemoryDisk as Disk>⟧.honest ⟦<MemoryDisk as Disk>⟧.words
             self.old.begun.items self.old.play self.new.play) }
@@ -140,7 +141,7 @@ impl Player {
         end
     }
 
-    /// Plays the lines that end with these octets, adds what is seen of them, and keeps what is after them.
+    /// Plays the lines that end within these octets, adds their results, and keeps the rest.
     fn play_lines(&mut self, octets: &[u8], seen: &mut Vec<u8>) -> Result<(), PlayFault>
         ensures { OnOk result ((first : State) (front : List ℕ)
             → HasPlayed ⟦<MemoryDisk as Disk>⟧.honest ⟦<MemoryDisk as Disk>⟧.words first front
@@ -157,7 +158,7 @@ impl Player {
         Ok(self.begun.extend_from_slice(rest)?)
     }
 
-    /// Plays the line whose octets have come, and adds what is seen of it. None has begun then.
+    /// Plays the line that is complete now, adds its result, and clears it.
     fn play_begun(&mut self, seen: &mut Vec<u8>) -> Result<(), PlayFault>
         ensures plays { OnOk result (PlaysLine ⟦<MemoryDisk as Disk>⟧.honest ⟦<MemoryDisk as Disk>⟧.words
             self.old.begun.items self.old.play self.new.play) }
@@ -171,7 +172,7 @@ impl Player {
     }
 }
 
-/// Returns what is before the first LF of a text, and what is after that.
+/// Splits a text at its first LF.
 fn first_line(text: &[u8]) -> Option<(&[u8], &[u8])>
     ensures { MatchOption result (HasNoLineFeed text.now)
         (λ parts. HasNoLineFeed parts.0.now × (text.now ≡ parts.0.now ++ 10 ∷ parts.1.now)) }
@@ -180,7 +181,7 @@ fn first_line(text: &[u8]) -> Option<(&[u8], &[u8])>
     Some((&text[..place], &text[place + 1..]))
 }
 
-/// Writes what was seen, if there is anything: also before a fault is told.
+/// Writes results, if there are any; also before a fault is returned.
 fn hand_out<W: Write>(seen: &[u8], writer: &mut W) -> Result<(), PlayFault> {
     if seen.is_empty() {
         return Ok(());

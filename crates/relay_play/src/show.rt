@@ -1,5 +1,4 @@
-//! The lines that a script asks for: the ledger, what is held, how many copies there are, and how many replies were
-//! lost.
+//! The lines that a script asks for: the ledger, held places, copies, and lost replies.
 use crate::print::letter;
 use relay_book::{PlaceStep, Way};
 use relay_disk::Disk;
@@ -89,7 +88,7 @@ pub(crate) fn show_copies<D: Disk>(
     writeln!(out, "{}", pair.copies(alloc, node.index(), number, place)?)
 }
 
-/// Adds the line with the number of lost replies to attempts at a place of a message. Fails if memory runs out.
+/// Adds the line with the number of lost replies to attempts for a place of a message. Fails if memory runs out.
 pub(crate) fn show_lost<D: Disk>(
     pair: &Pair<D>,
     node: NodeIndex,

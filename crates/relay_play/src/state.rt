@@ -1,4 +1,4 @@
-//! The relays of a play, and what a line of its script does to them.
+//! The relays of a play, and the effect of a line on them.
 ghost use Rattle.std.specs.Prelude.{◌≡◌, ◌↔◌, IfOk, IsTrue, OnOk};
 ghost use Rattle.relay_pair.specs.Promise.{KeepsItsPromise};
 ghost use Rattle.relay_play.specs.Script.{Does, HasNotBegun, IsAmong, PlaysLine, named_in};
@@ -12,10 +12,10 @@ use relay_script::{Event, NodeCount, NodeIndex, ScriptLine, script_line};
 use std::alloc::{AllocError, Global};
 use std::io;
 
-/// How many relays a play has whose script doesn't say so.
+/// How many relays a play has if its script doesn't say.
 const NODES: usize = 2;
 
-/// The relays of a play, how many they are, and whether a line has said something.
+/// The relays of a play, their number, and whether a significant line was played.
 #[derive(Drop)]
 pub(crate) struct PlayState {
     pair: Pair<MemoryDisk>,
@@ -24,7 +24,7 @@ pub(crate) struct PlayState {
 }
 
 impl PlayState {
-    /// Two relays, to which nothing has happened. Fails if memory runs out.
+    /// Returns two relays before any event. Fails if memory runs out.
     pub(crate) fn new(alloc: Global) -> Result<Self, AllocError>
         ensures { IfOk result (HasNotBegun ⟦<MemoryDisk as Disk>⟧.honest ⟦<MemoryDisk as Disk>⟧.words) }
     {
@@ -35,7 +35,7 @@ impl PlayState {
         })
     }
 
-    /// Returns the relays as they stand.
+    /// Returns the relays.
     pub(crate) fn into_pair(self) -> Pair<MemoryDisk>
         ensures { result ≡ self.pair }
     {
@@ -47,7 +47,7 @@ impl PlayState {
         pair
     }
 
-    /// Plays the line of this number, from 1, which comes without its LF, and adds what is seen of it.
+    /// Plays the line of this number, from 1, which comes without its LF, and adds its result.
     pub(crate) fn play_line(
         &mut self,
         alloc: Global,
@@ -66,7 +66,7 @@ impl PlayState {
         }
     }
 
-    /// Plays what a line says that names no node but those that play.
+    /// Plays a line that names only nodes of the play.
     fn play_said(
         &mut self,
         alloc: Global,
@@ -91,7 +91,7 @@ impl PlayState {
         }
     }
 
-    /// Returns this many nodes play, where nothing was said before the line of this number.
+    /// Sets the number of nodes. Fails unless no significant line came before the line of this number.
     fn take_nodes(&mut self, alloc: Global, nodes: NodeCount, number: u64) -> Result<(), PlayFault>
         ensures { OnOk result (Does ⟦<MemoryDisk as Disk>⟧.honest ⟦<MemoryDisk as Disk>⟧.words
             (ScriptLine.Nodes nodes) self.old self.new) }
@@ -106,7 +106,7 @@ impl PlayState {
         Ok(())
     }
 
-    /// Adds what a line asks for. What happens isn't asked for.
+    /// Adds the answer to a question in a line. An event asks nothing.
     fn show(&self, alloc: Global, question: &ScriptLine, seen: &mut Vec<u8>) -> io::Result<()> {
         match question {
             ScriptLine::Ledger => show_ledger(&self.pair, seen),
@@ -126,7 +126,7 @@ impl PlayState {
     }
 }
 
-/// Relays as they are. What a run of them promises is so before anything happens, by a run of no event.
+/// Returns the same relays. A run without events shows that they keep their promise from the start.
 fn not_begun(mut pair: Pair<MemoryDisk>) -> Pair<MemoryDisk>
     ensures same { result ≡ pair }
     ensures promise { KeepsItsPromise ⟦<MemoryDisk as Disk>⟧.honest ⟦<MemoryDisk as Disk>⟧.words result result }
@@ -135,12 +135,12 @@ fn not_begun(mut pair: Pair<MemoryDisk>) -> Pair<MemoryDisk>
     pair
 }
 
-/// Octets in memory fail to be written by lack of memory alone.
+/// Writing octets to memory fails only if memory runs out.
 fn unless_memory(shown: io::Result<()>) -> Result<(), PlayFault> {
     shown.map_err(|_| PlayFault::NoMemory)
 }
 
-/// Returns whether a line names no node but this many.
+/// Returns whether a line names only nodes of this many.
 fn names_none_but(said: &ScriptLine, nodes: usize) -> bool
     ensures { IsTrue result ↔ IsAmong (named_in said.now) nodes }
 {

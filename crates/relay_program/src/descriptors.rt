@@ -1,10 +1,10 @@
-//! The descriptors of the standard streams.
+//! The file descriptors of the standard streams.
 use std::fs::{File, OpenOptions};
 use std::io;
 use std::os::fd::{AsRawFd, IntoRawFd, RawFd};
 use std::rt::Files;
 
-/// The device that is in for a stream that was closed.
+/// The device that takes the place of a closed stream.
 const NULL_DEVICE: &str = "/dev/null";
 
 /// The descriptor of standard input.
@@ -13,11 +13,10 @@ const STANDARD_INPUT: RawFd = 0;
 /// The descriptor of standard error, the last of the standard streams.
 const STANDARD_ERROR: RawFd = 2;
 
-/// Makes sure that the descriptors of the three standard streams are held, so that no file that is opened from here on
-/// gets one of them: what is written to that stream would be written into it. The system gives the least that is free,
-/// so the null device holds each that was closed, up to the end of the process: standard input's for writing alone and
-/// the others' for reading alone, so that each use of a stream that was closed fails. It fails where the system gives
-/// no descriptor.
+/// Opens the null device for each standard stream that is closed, until the process ends, so that no file opened later
+/// gets such a descriptor and then receives what is written to the stream. The system gives the lowest free descriptor.
+/// Standard input is opened for writing only, the others for reading only, so that each use of a stream that was closed
+/// still fails. Fails if the system gives no descriptor.
 pub fn hold_standard_streams<F: Files<File = File>>(files: &F) -> io::Result<()> {
     hold_up_to(
         STANDARD_INPUT,
@@ -31,8 +30,8 @@ pub fn hold_standard_streams<F: Files<File = File>>(files: &F) -> io::Result<()>
     Err(io::Error::from(io::ErrorKind::Unsupported))
 }
 
-/// Leaves a file open up to the end of the process where its descriptor is this one or less, and returns whether it is.
-/// It is closed else.
+/// Keeps a file open until the process ends if its descriptor is at most `last`, and returns whether it is; else closes
+/// it.
 fn hold_up_to(last: RawFd, file: File) -> bool {
     let holds = file.as_raw_fd() <= last;
     if holds {

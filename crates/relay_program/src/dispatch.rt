@@ -27,22 +27,22 @@ use std::sync::Wait;
 use std::thread::Threads;
 use std::time::Duration;
 
-/// How many seconds the lines that still wait may take at the end of a relay that stays up.
+/// How many seconds `run` may take at its end to write the log lines that are left.
 const LOG_SECONDS: u64 = 1;
 
-/// The status of a run that did what it was asked for.
+/// The exit status of a run without a fault.
 const DONE: u8 = 0;
 
-/// The status of a run that met a fault.
+/// The exit status of a run with a fault.
 const FAULT: u8 = 1;
 
-/// The status of a run with wrong arguments.
+/// The exit status for wrong arguments.
 const WRONG_ARGUMENTS: u8 = 2;
 
-/// Runs the subcommand that the words name, the program's own name first, and returns the status for the system: 0
-/// done, 1 a fault, with its line on `errors`, or the answer no of `check`, 2 wrong arguments, with the argument
-/// reader's text on `errors`. `--help` and `--version` write that reader's text on `writer`, and are done. What `run`
-/// logs goes to `log`, from a thread of its own: two writers of one stream.
+/// Runs the subcommand that the arguments name, the first of which is the program's name. Returns the exit status: 0
+/// for success; 1 for a fault, which gets a line on `errors`, or if `check` finds an error; 2 for wrong arguments, with
+/// the argument parser's text on `errors`. `--help` and `--version` write that parser's text to `writer`, and succeed.
+/// `run` logs to `log` from a thread of its own: `log` and `errors` are two writers of one stream.
 pub fn command<
     S: AsStr,
     F: Files<File = File>
@@ -121,7 +121,7 @@ pub fn command<
     }
 }
 
-/// Returns the rounds that `serve` asks for.
+/// Returns the options of `serve`.
 fn rounds_asked(rounds: u32, workers: u8, log: bool) -> ServeOptions {
     ServeOptions {
         rounds,
@@ -130,9 +130,9 @@ fn rounds_asked(rounds: u32, workers: u8, log: bool) -> ServeOptions {
     }
 }
 
-/// Runs a relay that stays up, whose lines another thread writes to `log`, the line of its fault too: who doesn't read
-/// them doesn't stop it. At its end the lines that wait are written, for a second at most. Where no thread can be had
-/// all lines go to `errors` from this one.
+/// Runs the relay while another thread writes its log lines to `log`, including the line of its fault, so that a
+/// stalled reader of the log doesn't stop the relay. At the end writes the lines that are left, for at most a second.
+/// If no thread is available, all lines go to `errors` from this one.
 fn run_apart_from_its_log<
     F: Files<File = File>
         + Clock
@@ -158,7 +158,7 @@ fn run_apart_from_its_log<
     }
 }
 
-/// Runs a relay that stays up. What is found in its configuration is told on `errors` before, unless it is quiet.
+/// Runs the relay. Unless it is quiet, first writes the findings in its configuration to `errors`.
 fn run_checked<
     F: Files<File = File>
         + Clock
@@ -173,7 +173,7 @@ fn run_checked<
     ensures { result ≡ 1 }
 {
     if !quiet {
-        // A relay runs also where this can't be told.
+        // A relay runs even if these can't be written.
         let _ = warn(alloc, system, file, errors);
     }
     match run(alloc, system, file, quiet, writer, errors) {
@@ -182,8 +182,8 @@ fn run_checked<
     }
 }
 
-/// Writes the line of a fault that ended `run`, and after it what helps: the faults of the configuration, how a spool
-/// is made, or the advice on the fault. Returns the status.
+/// Writes the line of a fault that ended `run`, and then what helps: the errors of the configuration, how to make a
+/// spool, or the advice on the fault. Returns the exit status.
 fn fail_to_run<F: Files<File = File>, E: Write>(
     alloc: Global,
     system: &F,
@@ -194,7 +194,7 @@ fn fail_to_run<F: Files<File = File>, E: Write>(
     ensures { result ≡ 1 }
 {
     let status = fail_with_advice(errors, fault);
-    // Nothing is left to do where this can't be written: the line of the fault was.
+    // If this can't be written, nothing is left to do: the line of the fault was.
     match fault {
         Fault::Config(_) | Fault::Limit(_) => {
             let _ = check(alloc, system, file, errors);
@@ -207,8 +207,8 @@ fn fail_to_run<F: Files<File = File>, E: Write>(
     status
 }
 
-/// Checks a configuration, or tells the next hop of an address by it. Answers whether a relay can run by it, or whether
-/// there is one.
+/// Checks a configuration, or writes the next hop of an address. Returns whether a relay can run with it, or whether
+/// there is a next hop.
 fn look_into<F: Files<File = File>, W: Write>(
     alloc: Global,
     system: &F,
@@ -222,7 +222,7 @@ fn look_into<F: Files<File = File>, W: Write>(
     }
 }
 
-/// Plays a script to its end, and lets its relays go.
+/// Plays a script to its end, and drops its relays.
 fn play_script<R: Read, W: Write>(
     alloc: Global,
     reader: &mut R,
@@ -234,7 +234,7 @@ fn play_script<R: Read, W: Write>(
     Ok(())
 }
 
-/// Returns the status of a subcommand's end; a fault has its line on `errors`.
+/// Returns the exit status of a subcommand; a fault gets a line on `errors`.
 fn ended<F: Display + Drop, E: Write>(end: Result<(), F>, errors: &mut E) -> u8
     ensures { MatchResult end (λ _. result ≡ 0) (λ _. result ≡ 1) }
 {
@@ -244,8 +244,8 @@ fn ended<F: Display + Drop, E: Write>(end: Result<(), F>, errors: &mut E) -> u8
     }
 }
 
-/// Returns the status of the end of a subcommand that locks the spool: as that of [`ended`], with the advice on a fault
-/// after its line.
+/// Returns the exit status of a subcommand that locks the spool; a fault gets its line and the advice on it on
+/// `errors`.
 fn ended_alone<E: Write>(end: Result<(), Fault>, errors: &mut E) -> u8
     ensures { MatchResult end (λ _. result ≡ 0) (λ _. result ≡ 1) }
 {
@@ -255,7 +255,7 @@ fn ended_alone<E: Write>(end: Result<(), Fault>, errors: &mut E) -> u8
     }
 }
 
-/// Returns the status of a subcommand whose answer is yes or no: 0 for yes, 1 for no; a fault has its line on `errors`.
+/// Returns the exit status of a subcommand that answers yes (0) or no (1); a fault gets a line on `errors`.
 fn answered<E: Write>(answer: Result<bool, Fault>, errors: &mut E) -> u8
     ensures { MatchResult answer (λ yes. (yes ≡ true → result ≡ 0) × (yes ≡ false → result ≡ 1)) (λ _. result ≡ 1) }
 {
@@ -266,8 +266,8 @@ fn answered<E: Write>(answer: Result<bool, Fault>, errors: &mut E) -> u8
     }
 }
 
-/// Answers the status where the system can't give the words: 1 if memory ran out, and else 2, since one isn't UTF-8. A
-/// line on `errors` says so.
+/// Returns the exit status if the arguments can't be read: 1 if memory ran out, else 2, because one isn't UTF-8. Writes
+/// a line to `errors`.
 pub fn refuse_words<E: Write>(error: &io::Error, errors: &mut E) -> u8
     ensures memory { error_kind error.now ≡ IoErrorKind.OutOfMemory → result ≡ 1 }
     ensures wrong { error_kind error.now ≢ IoErrorKind.OutOfMemory → result ≡ 2 }
@@ -275,21 +275,21 @@ pub fn refuse_words<E: Write>(error: &io::Error, errors: &mut E) -> u8
     match error.kind() {
         IoErrorKind::OutOfMemory => fail(errors, "no memory"),
         _ => {
-            // Nothing is left to do where this line can't be written either: the status tells of the fault.
+            // If this line can't be written, nothing is left to do: the exit status reports the fault.
             let _ = writeln!(errors, "relayd: an argument is not UTF-8");
             WRONG_ARGUMENTS
         }
     }
 }
 
-/// Answers the status where the descriptors of the standard streams can't be held, and says so on `errors`.
+/// Returns the exit status if the standard streams can't be opened, and writes a line to `errors`.
 pub fn refuse_streams<E: Write>(errors: &mut E) -> u8
     ensures { result ≡ 1 }
 {
     fail(errors, "standard streams")
 }
 
-/// Writes the argument reader's text where it belongs, and returns the status.
+/// Writes the argument parser's text to its stream, and returns the exit status.
 fn explain<W: Write, E: Write>(error: &Error, writer: &mut W, errors: &mut E) -> u8
     ensures help { (kind_of error.now ≡ ErrorKind.DisplayHelp) ⊎ (kind_of error.now ≡ ErrorKind.DisplayVersion)
         → (result ≡ 0) ⊎ (result ≡ 1) }
@@ -308,30 +308,30 @@ fn explain<W: Write, E: Write>(error: &Error, writer: &mut W, errors: &mut E) ->
         }
         ErrorKind::OutOfMemory => fail(errors, "no memory"),
         _ => {
-            // Nothing is left to do where this text can't be written either: the status tells of the fault.
+            // If this text can't be written, nothing is left to do: the exit status reports the fault.
             let _ = write!(errors, "{error}");
             WRONG_ARGUMENTS
         }
     }
 }
 
-/// Writes the line of a fault and, on a line of its own, the advice on it, if there is one. Returns the status.
+/// Writes the line of a fault, and the advice on it in a line of its own, if there is any. Returns the exit status.
 fn fail_with_advice<E: Write>(errors: &mut E, fault: Fault) -> u8
     ensures { result ≡ 1 }
 {
     let status = fail(errors, fault);
     if let Some(advice) = fault.advice() {
-        // Nothing is left to do where this can't be written: the line of the fault was.
+        // If this can't be written, nothing is left to do: the line of the fault was.
         let _ = writeln!(errors, "relayd: {advice}");
     }
     status
 }
 
-/// Writes the line of a fault, and returns the status.
+/// Writes the line of a fault, and returns the exit status.
 fn fail<E: Write, F: Display + Drop>(errors: &mut E, fault: F) -> u8
     ensures { result ≡ 1 }
 {
-    // Nothing is left to do where this line can't be written either: the status tells of the fault.
+    // If this line can't be written, nothing is left to do: the exit status reports the fault.
     let _ = writeln!(errors, "relayd: {fault}");
     FAULT
 }

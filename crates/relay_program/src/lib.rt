@@ -1,5 +1,5 @@
-//! The program `relayd` as a library: its subcommands by their words, and the calls that it is made of, each over any
-//! reader and writer.
+//! The program `relayd` as a library: its subcommands, and the calls of which it is made, each over any reader and
+//! writer.
 #![tactic(auto)]
 
 mod descriptors;

@@ -1,4 +1,4 @@
-//! The subcommands that look at the queue, by their words.
+//! The subcommands that show the queue.
 use relay_arguments::Listing;
 use relay_queue::{
     Filter, ListForm, MessageForm, QueueFault, StatusForm, print_list, print_message, print_status,
@@ -9,7 +9,7 @@ use std::fs::File;
 use std::io::Write;
 use std::rt::{Clock, Env, Files};
 
-/// Prints the queued recipients that are asked for.
+/// Prints the queued recipients that match the options.
 pub(crate) fn list_rows<R: Files<File = File> + Env + Clock + AllocGlobal, W: Write>(
     alloc: Global,
     rt: &R,
@@ -35,7 +35,7 @@ pub(crate) fn list_rows<R: Files<File = File> + Env + Clock + AllocGlobal, W: Wr
     print_list(alloc, rt, path, &filter, form, writer)
 }
 
-/// Returns the age that a text says, in seconds.
+/// Returns the age in an argument, in seconds.
 fn asked_age(text: &str) -> Result<u64, QueueFault> {
     match read_age(text) {
         Some(age) => Ok(age),
@@ -43,7 +43,7 @@ fn asked_age(text: &str) -> Result<u64, QueueFault> {
     }
 }
 
-/// Prints a message, or its text alone.
+/// Prints a message, or its text only.
 pub(crate) fn show<R: Files<File = File> + Env + Clock + AllocGlobal, W: Write>(
     alloc: Global,
     rt: &R,
@@ -60,7 +60,7 @@ pub(crate) fn show<R: Files<File = File> + Env + Clock + AllocGlobal, W: Write>(
     print_message(alloc, rt, path, number, form, writer)
 }
 
-/// Prints the queue by next hop.
+/// Prints a summary of the queue by next hop.
 pub(crate) fn status<R: Files<File = File> + Env + Clock + AllocGlobal, W: Write>(
     alloc: Global,
     rt: &R,

@@ -7,21 +7,20 @@ use relay_trace::Moment;
 use std::alloc::{AllocError, Global};
 use std::net::{Ipv4Addr, SocketAddrV4};
 
-/// The address in the time stamp lines of a session from standard input, which has no peer: this
-/// host's own, 127.0.0.1.
+/// The client's IPv4 address in the time stamp lines of `session`, which has no peer: 127.0.0.1.
 pub const ADDRESS: [u8; 4] = [127, 0, 0, 1];
 
-/// The seconds from 1970 in the time stamp lines of a session from standard input, which has no clock.
+/// The time in the time stamp lines of `session`, which has no clock, in seconds since 1970.
 const SECONDS: u64 = 0;
 
-/// The most octets of a content.
+/// The most octets of mail data.
 const MAX_CONTENT: usize = 1_048_576;
 
 /// The most octets of a spool.
 const SPOOL_LIMIT: u64 = 67_108_864;
 
-/// Returns the configuration of a session from standard input: the host `relay.example`, contents of up to 1,048,576
-/// octets, taken as they come, and `example.org` as the only domain that mail is taken for. Fails if memory runs out.
+/// Returns the configuration of `session`: host `relay.example`, mail data of up to 1,048,576 octets in which bare
+/// newlines pass, and `example.org` as the only domain. Fails if memory runs out.
 #[tactic(auto, using(crate::proofs::ProfileLemmas::is_profile))]
 pub fn configuration(alloc: Global) -> Result<Config, AllocError>
     ensures { IfOk result IsProfile }
@@ -47,7 +46,7 @@ pub fn configuration(alloc: Global) -> Result<Config, AllocError>
     Ok(config)
 }
 
-/// Returns the route of `example.org`, to `next.example`.
+/// Adds the route of `example.org`, to `next.example`.
 fn add_route(alloc: Global, routes: &mut Table) -> Result<(), AllocError>
     requires { routes.old.routes ≡ [] }
     ensures host { routes.new.host ≡ routes.old.host }
@@ -59,12 +58,12 @@ fn add_route(alloc: Global, routes: &mut Table) -> Result<(), AllocError>
     };
     match routes.add(alloc, b"example.org", hop) {
         Ok(()) => Ok(()),
-        // The domain is one, and no other route is in the table, so nothing but memory can be wanting.
+        // The domain is valid, and the table has no other route, so only memory can have run out.
         Err(_) => Err(AllocError),
     }
 }
 
-/// Returns the name of a host. Fails if memory runs out.
+/// Returns a host name. Fails if memory runs out.
 fn host_name(alloc: Global, name: &[u8]) -> Result<HostName, AllocError>
     requires { IsHostName name.now }
     ensures { IfOk result (λ host. host ≡ name.now) }
@@ -75,14 +74,14 @@ fn host_name(alloc: Global, name: &[u8]) -> Result<HostName, AllocError>
     }
 }
 
-/// Returns this host's own address, with a port.
+/// Returns the loopback address, with a port.
 fn at_port(port: u16) -> SocketAddrV4
     ensures { result ≡ loopback_at port }
 {
     SocketAddrV4::new(Ipv4Addr::new(127, 0, 0, 1), port)
 }
 
-/// Returns the time at which the mail of a session from standard input counts as accepted. Allocates nothing.
+/// Returns the acceptance time of the mail of `session`. Allocates nothing.
 pub fn moment() -> Moment
     ensures { result ≡ session_moment }
 {

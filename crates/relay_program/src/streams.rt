@@ -12,9 +12,9 @@ use relay_node::{Connected, Node};
 use std::alloc::Global;
 use std::io::{Read, Write};
 
-/// Holds one session with the profile's configuration, over a node whose spool is in memory and goes with the program:
-/// reads commands and mail from `reader`, and writes the replies to `writer`. It ends at a close, and at the end of the
-/// input. After a fault a prefix of the replies was written.
+/// Runs one SMTP session over a node whose spool is in memory and is gone when the program ends: reads commands and
+/// mail from `reader`, and writes the replies to `writer`. Returns when the session closes or the input ends. After a
+/// fault a prefix of the replies was written.
 pub fn session<R: Read, W: Write>(
     alloc: Global,
     reader: &mut R,
@@ -33,7 +33,7 @@ pub fn session<R: Read, W: Write>(
     }
 }
 
-/// Returns a new node over memory, with the session of one client.
+/// Returns a new node over memory, with one session.
 fn open_session(alloc: Global) -> Result<(Node<MemoryDisk>, Connected), Fault>
     ensures { IfOk result (λ opened. IsOpened opened.0 opened.1) }
 {
@@ -48,7 +48,7 @@ fn open_session(alloc: Global) -> Result<(Node<MemoryDisk>, Connected), Fault>
     }
 }
 
-/// Returns the node with the session of one client.
+/// Opens a session at a node.
 fn connect(node: Node<MemoryDisk>) -> Result<(Node<MemoryDisk>, Connected), Fault>
     requires keeps { Keeps (Unit {0}) memory_words node.records [] }
     requires size { node.records.spool.size ≡ 18 }

@@ -1,4 +1,4 @@
--- When the spool of a device that has failed is opened again, and when it isn't.
+-- When the spool of a failed device is opened again, and when it isn't.
 use Rattle.std.specs.Prelude.{◌≡◌, ◌⊎◌, ℕ, ◌*◌, ◌≤◌, min, IsTrue, MatchOption}
 use Rattle.relay_disk.specs.declared.disks.Disks.{Disks}
 use Rattle.relay_disk.specs.declared.file.FileDisk.{FileDisk}
@@ -13,18 +13,17 @@ HasFailedToSync disks = IsTrue (sync_failed disks.first) ⊎ IsTrue (sync_failed
 abbrev pub next_pause : ℕ → ℕ
 next_pause seconds = min (seconds * 2) 60
 
--- What is opened again has all that was known before: no lower number for the next change, and no fewer octets.
+-- The opened spool has all that was known: no lower number for the next change, and no fewer octets.
 pub record HasAll (next size found_next found_size : ℕ) : Type 0 where
   pub changes : next ≤ found_next
   pub octets : size ≤ found_size
 
--- A compaction adds no change, and it is done or it isn't: the spool has the size from before, or the one that this
--- leaves.
+-- A compaction adds no change, and is done or isn't: the spool has its size from before, or the one after it.
 pub record IsEither (next size left found_next found_size : ℕ) : Type 0 where
   pub changes : found_next ≡ next
   pub octets : (found_size ≡ size) ⊎ (found_size ≡ left)
 
--- what is opened again may be the spool of which this is known
+-- the opened spool may be the known one
 abbrev pub IsWhole : Known → ℕ → ℕ → Type 0
 IsWhole known found_next found_size =
     MatchOption known.compacted (HasAll known.next_number known.size found_next found_size)

@@ -1,4 +1,4 @@
--- The spool of a relay is compacted while it serves: where that is worth it, and nothing but its files changes.
+-- Compaction of a spool while the relay serves: only if it is worth it, and nothing but the spool's files changes.
 use Rattle.std.specs.Prelude.{◌≡◌, ◌+◌, ◌-◌, ◌^◌, ℕ, min, Bool, length}
 use Rattle.relay_disk.specs.Device.{DiskWords}
 use Rattle.relay_book.specs.Snapshot.{snapshot}
@@ -7,11 +7,11 @@ use Rattle.relay_spool.specs.Trim.{IsTrimmed}
 use Rattle.relay_limits.specs.Compacting.{IsWorthIt}
 use Rattle.relay_loop.specs.Relay.{RelayState}
 
--- how many octets the spool has once it is rewritten, of which 2^64 - 1 stand for as many and more
+-- the size of the spool after a compaction, in octets, at most 2^64 - 1
 abbrev pub compacted_size_of : {D : Type 0} → RelayState D → ℕ
 compacted_size_of relay = min (23 + length (snapshot relay.node.records.queue)) (2 ^ 64 - 1)
 
--- it is worth it to compact the spool, where mail was refused because it was full, or wasn't
+-- compacting the spool is worth it, given whether mail was refused because it was full
 abbrev pub MayShrink : {D : Type 0} → Bool → RelayState D → Type 0
 MayShrink was_full relay =
     IsWorthIt relay.node.records.spool.size (compacted_size_of relay) relay.node.config.spool_limit was_full
@@ -26,21 +26,21 @@ pub record KeepsRest {D : Type 0} (old new : RelayState D) : Type 0 where
   pub clients : new.clients ≡ old.clients
   pub hops : new.hops ≡ old.hops
 
--- the spool was compacted, which was worth it, and nothing else changes
+-- the spool was compacted, which was worth it, and nothing else has changed
 pub record IsCompacted {D : Type 0} (honest : Type 0) (words : DiskWords D) (was_full : Bool) (old new : RelayState D)
     : Type 0 where
   pub worth : MayShrink was_full old
   pub compacts : Compacts honest words old.node.records new.node.records
   pub rest : KeepsRest old new
 
--- one turn made the other file shorter, by this many octets at most, and nothing else changes
+-- one turn made the other file shorter, by at most this many octets, and nothing else has changed
 pub record MayBeTrimmed {D : Type 0} (honest : Type 0) (words : DiskWords D) (old new : RelayState D) : Type 0 where
   pub most : ℕ
   pub more : Bool
   pub trimmed : IsTrimmed honest words most old.node.records.spool new.node.records.spool more
   pub rest : KeepsRest old new
 
--- it was to be rewritten, which was worth it, and failed; nothing else changes
+-- compacting it was worth it, but failed; nothing else has changed
 pub record FailsToCompact {D : Type 0} (was_full : Bool) (old new : RelayState D) : Type 0 where
   pub worth : MayShrink was_full old
   pub rest : KeepsRest old new

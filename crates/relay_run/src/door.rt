@@ -1,4 +1,4 @@
-//! The listener, and the clients that come by it.
+//! The listener, and the clients that connect to it.
 ghost use Rattle.std.specs.Prelude.{◌≤◌};
 
 use crate::listen::{Found, Listen};
@@ -16,24 +16,25 @@ use relay_slots::SLOT_COUNT;
 use std::alloc::{AllocError, Global};
 use std::net::SocketAddrV4;
 
-/// How many milliseconds no client is taken after one that couldn't be had.
+/// How many milliseconds no client is accepted after the system had no file descriptor for one.
 const WANT_PAUSE: u64 = 1_000;
 
-/// The most clients that are taken at a turn.
+/// The most clients that are accepted in one turn.
 const MOST_AT_ONCE: usize = 64;
 
-/// When clients are taken, those whose header is waited for, and whom it was told that there is no room.
+/// The state of the listener, the balancers' connections whose headers aren't read yet, and the clients that were
+/// refused.
 pub(crate) struct Door<S = TcpStream> {
     alloc: Global,
-    /// Clients may be waiting.
+    /// Whether clients may be waiting.
     is_ready: bool,
-    /// The tick before which none is taken.
+    /// The tick before which no client is accepted.
     paused_until: u64,
-    /// Those that were told that there is no room.
+    /// The clients that were refused for lack of room.
     refusals: Refusals,
-    /// From where connections begin with a header of the PROXY protocol.
+    /// The addresses whose connections begin with a PROXY protocol header.
     balancers: Balancers,
-    /// Those whose header is waited for.
+    /// The connections whose headers aren't read yet.
     arrivals: Arrivals<S>,
 }
 
@@ -57,7 +58,7 @@ impl Door {
 }
 
 impl<S: Stream + Drop> Door<S> {
-    /// Clients may be waiting, and connections of these balancers begin with a header. Fails if memory runs out.
+    /// Returns a door at which clients may be waiting, for these balancers. Fails if memory runs out.
     pub(crate) fn new(alloc: Global, balancers: Balancers) -> Result<Self, AllocError> {
         Ok(Door {
             alloc,
@@ -69,32 +70,32 @@ impl<S: Stream + Drop> Door<S> {
         })
     }
 
-    /// The system tells that clients may be waiting.
+    /// Notes that clients may be waiting, as the system reports it.
     pub(crate) fn note(&mut self) {
         self.is_ready = true;
     }
 
-    /// The system tells what a connection may be ready for whose header is waited for.
+    /// Notes what a connection whose header isn't read yet may be ready for, as the system reports it.
     pub(crate) fn note_arrival(&mut self, number: usize, ready: Readiness) {
         self.arrivals.note(number, ready);
     }
 
-    /// Closes the connections whose headers are waited for.
+    /// Closes the connections whose headers aren't read yet.
     pub(crate) fn clear(&mut self) {
         self.arrivals.clear();
     }
 
-    /// No client is taken for a short time, or until a connection is closed.
+    /// Accepts no client for a while, or until a connection is closed.
     fn pause(&mut self, now: &Now) {
         self.paused_until = now.tick.saturating_add(WANT_PAUSE);
     }
 
-    /// A connection was closed: there may be a descriptor for a client that couldn't be had.
+    /// Accepts clients again after a connection was closed, which may have freed a file descriptor.
     pub(crate) fn resume(&mut self) {
         self.paused_until = 0;
     }
 
-    /// Returns whether clients may be waiting that can be taken at once, or a header may have come.
+    /// Returns whether clients may be accepted at once, or a header may be read.
     pub(crate) fn is_ready(&self, now: &Now) -> bool {
         self.may_accept(now) || self.arrivals.is_ready()
     }
@@ -103,8 +104,8 @@ impl<S: Stream + Drop> Door<S> {
         self.is_ready && self.paused_until <= now.tick
     }
 
-    /// Returns the tick at which clients are taken again, it is told of those that were refused, or a header is waited
-    /// for no longer, or the given one where that is earlier.
+    /// Returns the tick at which clients are accepted again, refusals are logged, or a header is late, or `otherwise`
+    /// if that is earlier.
     pub(crate) fn next_deadline(&self, otherwise: u64) -> u64
         ensures { result ≤ otherwise }
     {
@@ -205,7 +206,7 @@ impl<S: Stream + Drop> Door<S> {
     }
 }
 
-/// Tells those that are waiting by this line why they aren't served, and closes their connections.
+/// Writes this line to each waiting client, to say why it isn't served, and closes its connection.
 pub(crate) fn refuse_all<S: Stream + Drop, L: Listen<Stream = S>>(listener: &mut L, line: &[u8]) {
     for _ in 0..MOST_AT_ONCE {
         match listener.accept() {
@@ -241,7 +242,7 @@ fn turn_away<S: Stream + Drop, D: Disk>(
     }
 }
 
-/// Writes a line to a client and closes its connection. One that doesn't hear it finds the connection closed.
+/// Writes a line to a client and closes its connection. A client that doesn't read it finds the connection closed.
 fn dismiss<S: Stream + Drop>(stream: S, line: &[u8]) {
     let mut stream = stream;
     let _ = stream.try_write(line);

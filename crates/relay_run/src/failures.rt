@@ -9,7 +9,7 @@ pub(crate) struct Failures {
 }
 
 impl Failures {
-    /// No call has failed.
+    /// Returns a count of no failures.
     pub(crate) fn none() -> Self {
         Failures {
             first: 0,
@@ -17,7 +17,7 @@ impl Failures {
         }
     }
 
-    /// Returns the calls that have failed on these files.
+    /// Returns how many calls have failed on these files.
     pub(crate) fn of(disks: &Disks<FileDisk>) -> Self {
         Failures {
             first: disks.first.failures(),
@@ -25,7 +25,7 @@ impl Failures {
         }
     }
 
-    /// Returns the file on which a call has failed since then, if one has.
+    /// Returns the file on which a call has failed since then, if any.
     pub(crate) fn side(&self, disks: &Disks<FileDisk>) -> Option<Side> {
         let now = Failures::of(disks);
         if self.first != now.first {

@@ -1,19 +1,19 @@
-//! What is known of a spool, which is to be there when it is opened again.
+//! What is known of a spool, and must be there when it is opened again.
 ghost use Rattle.std.specs.Prelude.{◌≡◌, ◌↔◌, IsTrue, None, Some};
 ghost use Rattle.relay_run.specs.Reopening.{HasAll, IsEither, IsWhole};
 
 use relay_disk::Disk;
 use relay_loop::Relay;
 
-/// What was known of a spool after the last turn that went well. What a failed call was to add counts as added in the
-/// relay itself, so that isn't asked.
+/// What was known of a spool after the last turn without a fault. A change that a failed call was adding counts as
+/// added in the relay itself, so the relay can't be asked for this.
 #[derive(Clone, Copy, Debug)]
 pub(crate) struct Known {
     /// The number of the next change.
     next_number: u64,
-    /// How many octets it has.
+    /// The size of the spool in octets.
     size: usize,
-    /// How many octets it has once it is compacted, where that may have begun since.
+    /// Its size after a compaction that may have begun since.
     compacted: Option<usize>,
 }
 
@@ -32,7 +32,7 @@ impl Known {
         }
     }
 
-    /// Returns the same, where the spool is to be compacted next, which leaves this many octets.
+    /// Returns the same, given that the spool is about to be compacted to `left` octets.
     pub(crate) fn compacting(self, left: usize) -> Self
         ensures number { result.next_number ≡ self.next_number }
         ensures size { result.size ≡ self.size }
@@ -44,14 +44,14 @@ impl Known {
         }
     }
 
-    /// Returns how many octets the spool has.
+    /// Returns the size of the spool in octets.
     pub(crate) fn size(&self) -> usize
         ensures { result ≡ self.now.size }
     {
         self.size
     }
 
-    /// Returns whether what was opened may be that spool.
+    /// Returns whether the opened spool may be this one.
     pub(crate) fn is_in(&self, found: &Known) -> bool
         ensures { IsTrue result ↔ IsWhole self.now found.now.next_number found.now.size }
     {
@@ -61,14 +61,14 @@ impl Known {
         }
     }
 
-    /// Returns whether what was opened has all that was known.
+    /// Returns whether the opened spool has all that was known.
     fn is_all_in(&self, found: &Known) -> bool
         ensures { IsTrue result ↔ HasAll self.now.next_number self.now.size found.now.next_number found.now.size }
     {
         self.next_number <= found.next_number && self.size <= found.size
     }
 
-    /// Returns whether what was opened is the spool from before a compaction or from after it.
+    /// Returns whether the opened spool is the one before a compaction, or the one after it.
     fn is_either(&self, left: usize, found: &Known) -> bool
         ensures { IsTrue result ↔ IsEither self.now.next_number self.now.size left
             found.now.next_number found.now.size }

@@ -1,5 +1,5 @@
-//! A relay that stays up: one thread that waits for the readiness of its listener and of the connections of clients
-//! and next hops, over one node.
+//! The long-running relay: one thread that waits for its listener and for the connections of clients and next hops to
+//! become ready, over one node.
 #![tactic(auto)]
 
 mod door;

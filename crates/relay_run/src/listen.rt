@@ -1,24 +1,24 @@
-//! What clients come by.
+//! Where clients come from: a listener, or a script of clients.
 use crate::door::Door;
 use mio::net::{TcpListener, TcpStream};
 use mio::{Interest, Registry, Token};
 use std::io::{self, ErrorKind};
 use std::net::{Net, SocketAddr, SocketAddrV4};
 
-/// The outcome of a client that was to be taken.
+/// The result of accepting a client.
 #[derive(Drop)]
 pub(crate) enum Found<S> {
-    /// A client, and its place.
+    /// A client's stream, and its address.
     Client(S, SocketAddrV4),
-    /// It went away again, or has no address of four octets.
+    /// The client went away again, or has no IPv4 address.
     Missed,
-    /// None is waiting.
+    /// No client is waiting.
     Nobody,
-    /// The system has no descriptor, or no memory, left for it.
+    /// The system has no file descriptor, or no memory, left for it.
     Want,
 }
 
-/// What gives the streams of clients, without a wait.
+/// A source of clients, which never waits.
 pub(crate) trait Listen {
     ghost use Rattle.std.specs.declared.net.socket_addr.SocketAddrV4.{SocketAddrV4};
     ghost use Rattle.relay_run.specs.Found.{IsFound};
@@ -26,10 +26,10 @@ pub(crate) trait Listen {
     /// The stream of a client.
     type Stream;
 
-    // the stream is that of a client at this place, as far as that can be known
+    // the stream is that of a client at this address, as far as that can be known
     ghost comes_from: { Self.Stream → SocketAddrV4 → Type 0 };
 
-    /// Takes the next client that waits.
+    /// Accepts the next waiting client.
     fn accept(&mut self) -> Found<Self::Stream>
         ensures { IsFound comes_from result };
 }
@@ -44,7 +44,7 @@ impl Listen for TcpListener {
     }
 }
 
-/// Returns a listener of the system at this place, of which that tells.
+/// Returns a system listener at this address, registered with the poll.
 pub(crate) fn listener_at<N: Net>(
     net: &N,
     registry: &Registry,
@@ -55,11 +55,11 @@ pub(crate) fn listener_at<N: Net>(
     Ok(listener)
 }
 
-/// Returns the next client of a listener of the system.
+/// Accepts the next client of a system listener.
 fn next_client(listener: &TcpListener) -> Found<TcpStream> {
     match listener.accept() {
         Ok((stream, SocketAddr::V4(peer))) => Found::Client(stream, peer),
-        // A listener at four octets has no such client.
+        // An IPv4 listener has no such client.
         Ok((_stream, SocketAddr::V6(_))) => Found::Missed,
         Err(error) => match error.kind() {
             ErrorKind::WouldBlock => Found::Nobody,

@@ -1,4 +1,4 @@
-//! A spool whose device has failed is opened again, on the files that are open and locked already.
+//! Opening a spool again after its device has failed, on the files that are open and locked already.
 ghost use Rattle.std.specs.Prelude.{ℕ, ◌≡◌, IfErr, IfOk, IsErr};
 ghost use Rattle.relay_run.specs.Reopening.{HasFailedToSync, IsWhole, next_pause};
 ghost use Rattle.relay_run.specs.Room.{MayStart};
@@ -20,35 +20,35 @@ use std::io::Write;
 use std::rt::Clock;
 use std::time::Duration;
 
-/// How many seconds a spool is on hold the first time that its device has failed. After each further time it is twice
-/// as long, up to the longest.
+/// The first pause before a spool is opened again, in seconds. It doubles after each further failure, up to
+/// `LONGEST_PAUSE`.
 const FIRST_PAUSE: u64 = 1;
 
-/// The most seconds that a spool is on hold.
+/// The longest pause, in seconds.
 const LONGEST_PAUSE: u64 = 60;
 
-/// The greatest limit that a spool may have.
+/// The greatest limit that a spool may have, in octets.
 const GREATEST_LIMIT: u64 = 549_755_813_888;
 
-/// How many times in a second those are told so that come while the spool isn't open.
+/// How many times per second waiting clients are refused while the spool isn't open.
 const TELLINGS: u64 = 5;
 
-/// How many milliseconds lie between two of these.
+/// How many milliseconds are between two of these times.
 const TELLING_PAUSE: u64 = 200;
 
-/// How long a spool is on hold whose device has failed.
+/// The pauses before a spool is opened again.
 #[derive(Clone, Copy, Debug)]
 pub(crate) struct Pauses {
-    /// How many seconds the next pause has.
+    /// The next pause, in seconds.
     seconds: u64,
-    /// How many octets the spool had when it was opened last.
+    /// The size of the spool when it was opened last, in octets.
     opened_size: usize,
-    /// Which calls had failed then.
+    /// How many calls had failed then.
     failures: Failures,
 }
 
 impl Pauses {
-    /// Returns the device of a spool of this size hasn't failed yet.
+    /// Returns the pauses for a spool of this size, before any failure.
     pub(crate) fn new(size: usize) -> Self {
         Pauses {
             seconds: FIRST_PAUSE,
@@ -57,15 +57,15 @@ impl Pauses {
         }
     }
 
-    /// The device has failed, and the spool has this size. If that is another than when it was opened, there was room
-    /// meanwhile, and the pauses begin anew.
+    /// Notes that the device has failed while the spool had this size. If the size has changed since the spool was
+    /// opened, there was room meanwhile, and the pauses begin again.
     fn note_failure(&mut self, size: usize) {
         if self.opened_size != size {
             self.seconds = FIRST_PAUSE;
         }
     }
 
-    /// Returns how many seconds the next pause has.
+    /// Returns the next pause in seconds, and doubles it.
     fn next(&mut self) -> u64
         ensures pause { result ≡ self.old.seconds }
         ensures longer { self.new.seconds ≡ next_pause self.old.seconds }
@@ -76,7 +76,7 @@ impl Pauses {
     }
 }
 
-/// A spool that isn't open, and the configuration for it.
+/// A spool that isn't open, and its configuration.
 struct Closed {
     config: Config,
     disks: Disks<FileDisk>,
@@ -92,11 +92,11 @@ impl Drop for Closed {
     }
 }
 
-/// The outcome of a spool that was to be opened.
+/// The result of opening a spool.
 enum Opening {
     /// It is open.
     Done(Relay<FileDisk>),
-    /// Its device has failed, or memory was wanting: it is tried again later.
+    /// Its device has failed, or memory ran out: it is tried again later.
     Failed(Closed),
 }
 
@@ -105,12 +105,12 @@ enum Opening {
 pub(crate) enum Why {
     /// Its device has failed.
     Failed,
-    /// There is room again, and it was bounded for lack of that.
+    /// There is room again, after its limit was lowered for lack of room.
     Renewed,
 }
 
-/// Opens the spool of a relay again, which must be what was known of it: where its device has failed, when a test finds
-/// room, and else at once. All connections are dropped. A sync that has failed is a fault.
+/// Opens the spool of a relay again, and checks that it is the known one: if its device has failed, once a test finds
+/// room; else at once. Drops all connections. Fails if a sync has failed.
 pub(crate) fn reopen<C: Clock, E: Write, S: Stream + Drop, L: Listen<Stream = S>>(
     reporter: &mut Reporter<'_, C, E>,
     relay: Relay<FileDisk>,
@@ -131,11 +131,10 @@ pub(crate) fn reopen<C: Clock, E: Write, S: Stream + Drop, L: Listen<Stream = S>
     }
 }
 
-/// Opens the spool of a relay whose device has failed again, after 1 second, 2, 4 and up to 60, as often as it takes
-/// until a test finds room for the outcome of an attempt. Lines of the log tell that it has failed, and that it is open
-/// again. All connections of the relay are dropped, and who comes meanwhile is told so. A sync that has failed is a
-/// fault at once, since octets may be lost then that were written; so is a spool that holds something else than it did,
-/// or less.
+/// Opens the spool of a relay again after its device has failed: after 1 second, 2, 4 and up to 60, as often as it
+/// takes until a test finds room for the outcome of an attempt. Logs the failure, and that the spool is open again.
+/// Drops all connections of the relay, and refuses clients that come meanwhile. Fails at once if a sync has failed,
+/// because written octets may be lost then, and if the spool's content isn't what was known.
 fn open_again<C: Clock, E: Write, S: Stream + Drop, L: Listen<Stream = S>>(
     reporter: &mut Reporter<'_, C, E>,
     relay: Relay<FileDisk>,
@@ -158,8 +157,8 @@ fn open_again<C: Clock, E: Write, S: Stream + Drop, L: Listen<Stream = S>>(
     wait_for_room(reporter, closed, known, listener, room, pauses)
 }
 
-/// Opens the spool of a relay under the limit that the room sets it. All connections are dropped. A sync that has
-/// failed is a fault, and so is a spool that holds something else than it did, or less.
+/// Opens the spool of a relay with the limit that the room allows. Drops all connections. Fails if a sync has failed,
+/// or if the spool's content isn't what was known.
 pub(crate) fn open_bounded(
     alloc: Global,
     relay: Relay<FileDisk>,
@@ -175,7 +174,7 @@ pub(crate) fn open_bounded(
     open_at_once(alloc, closed, known, room)
 }
 
-/// Opens a spool under the limit that the room sets it.
+/// Opens a spool with the limit that the room allows.
 fn open_at_once(
     alloc: Global,
     closed: Closed,
@@ -193,7 +192,7 @@ fn open_at_once(
     }
 }
 
-/// Opens a spool as soon as its device doesn't fail and there is room.
+/// Opens a spool as soon as its device works and there is room.
 fn wait_for_room<C: Clock, E: Write, S: Stream + Drop, L: Listen<Stream = S>>(
     reporter: &mut Reporter<'_, C, E>,
     closed: Closed,
@@ -229,7 +228,7 @@ fn wait_for_room<C: Clock, E: Write, S: Stream + Drop, L: Listen<Stream = S>>(
     Err(Fault::Device)
 }
 
-/// Returns the relay, unless its spool isn't what was known.
+/// Returns the relay, or fails if its spool isn't the known one.
 fn unless_less(
     known: Known,
     relay: Relay<FileDisk>,
@@ -246,7 +245,7 @@ fn unless_less(
     Ok(relay)
 }
 
-/// Lets this many seconds pass, in which those that come are told why they aren't served.
+/// Waits for this many seconds, and refuses clients that come meanwhile.
 fn pause<C: Clock, S: Stream + Drop, L: Listen<Stream = S>>(
     clock: &C,
     seconds: u64,
@@ -259,7 +258,7 @@ fn pause<C: Clock, S: Stream + Drop, L: Listen<Stream = S>>(
     }
 }
 
-/// Returns the reply with which clients are told that there is no room, code 421.
+/// Returns the reply that refuses clients for lack of room, code 421.
 fn refusal(alloc: Global, config: &Config) -> Result<Vec<u8>, AllocError> {
     let mut line = Vec::new(alloc);
     line.extend_from_slice(b"421 ")?;
@@ -268,7 +267,7 @@ fn refusal(alloc: Global, config: &Config) -> Result<Vec<u8>, AllocError> {
     Ok(line)
 }
 
-/// Syncs both files. It fails where a sync of one has failed before.
+/// Syncs both files. Fails if a sync of one has failed before.
 fn sync(disks: &mut Disks<FileDisk>) -> Result<(), Fault>
     ensures failed { HasFailedToSync disks.old → IsErr result }
     ensures fault { IfErr result (λ fault. fault ≡ Fault.Device) }
@@ -288,7 +287,7 @@ impl Closed {
         Closed { config, disks }
     }
 
-    /// Sets it the limit that the room allows.
+    /// Sets the limit that the room allows.
     fn bound(&mut self, room: &Room) -> Result<(), Fault> {
         let (Ok(first), Ok(second)) = (self.disks.first.size(), self.disks.second.size()) else {
             return Err(Fault::Device);
@@ -298,7 +297,7 @@ impl Closed {
         Ok(())
     }
 
-    /// Opens it. What it holds that is no spool of ours is a fault.
+    /// Opens the spool. Fails if its content isn't a spool.
     fn open(self, alloc: Global) -> Result<Opening, Fault> {
         let Closed { config, disks } = self;
         match Node::open_again(alloc, config, disks) {

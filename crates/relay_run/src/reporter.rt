@@ -1,4 +1,4 @@
-//! Lines of the log about a spool that isn't open.
+//! Log lines between two turns.
 use relay_disk::Side;
 use relay_log::{Counters, DeviceFailure, Form, Log};
 use relay_routes::Config;
@@ -7,7 +7,7 @@ use std::alloc::{AllocError, Global};
 use std::io::{self, Write};
 use std::rt::Clock;
 
-/// What writes lines of the log between two turns, with the time at which each is written.
+/// Writes log lines between two turns, each with its time.
 #[derive(Drop)]
 pub(crate) struct Reporter<'a, C: Clock, E: Write> {
     pub(crate) alloc: Global,
@@ -18,8 +18,8 @@ pub(crate) struct Reporter<'a, C: Clock, E: Write> {
 }
 
 impl<'a, C: Clock, E: Write> Reporter<'a, C, E> {
-    /// Tells that the device has failed: by this error, where one was seen, on this file of the spool, where that is
-    /// known, which is tried again after this many seconds.
+    /// Logs that the device has failed: the system's error and the file, if they are known, and in how many seconds the
+    /// spool is opened again.
     pub(crate) fn device_failed(
         &mut self,
         reason: Option<io::Error>,
@@ -27,7 +27,7 @@ impl<'a, C: Clock, E: Write> Reporter<'a, C, E> {
         config: &Config,
         seconds: u64,
     ) {
-        // Without memory for its name the line is written without it.
+        // If there is no memory for the file's name, the line is written without it.
         let file = match file_name(self.alloc, config, side) {
             Ok(file) => file,
             Err(_) => None,
@@ -46,7 +46,7 @@ impl<'a, C: Clock, E: Write> Reporter<'a, C, E> {
         );
     }
 
-    /// Tells that the spool is open again, and that there is room again where it isn't short of it.
+    /// Logs that the spool is open again, and that there is room again unless the relay is still short of it.
     pub(crate) fn opened_again(&mut self, is_short: bool) {
         let moment = clock_moment(self.clock);
         let mut log = Log::stamped(self.alloc, self.errors, self.form, moment, self.counters);

@@ -1,4 +1,4 @@
-//! The file beside the spool that keeps room for outcomes, and what is known of the room on its disk.
+//! The room on the spool's disk: a ballast file beside the spool reserves room for outcomes.
 ghost use Rattle.std.specs.Prelude.{ℕ, ◌≡◌, ◌≤◌, ◌↔◌, IsTrue};
 
 use relay_connections::Now;
@@ -11,26 +11,27 @@ use std::fs::File;
 use std::io;
 use std::rt::Files;
 
-/// How many seconds lie between two tests of the room, while a relay is short of it.
+/// How many seconds are between two tests of the room, while the relay is short of it.
 const TEST_SECONDS: u64 = 5;
 
-/// How many seconds attempts that run must end, once there is room again: then the spool is opened under its limit.
+/// How many seconds running attempts have to end once there is room again; then the spool is opened with its configured
+/// limit.
 const DRAIN_SECONDS: u64 = 5;
 
-/// The room on the disk of a spool. A fault of its file ends nothing: it counts as no ballast, and as no room.
+/// The room on the disk of a spool. A fault of the ballast file doesn't end the relay: it counts as no ballast and no
+/// room.
 pub(crate) struct Room<F = RoomFile> {
     file: F,
-    /// How many octets the ballast has.
+    /// The size of the ballast, in octets.
     size: u32,
-    /// The limit of the spool, as it is configured.
+    /// The configured limit of the spool, in octets.
     configured: u64,
     pub(crate) standing: Standing,
-    /// How many octets the spool had at the last test.
+    /// The size of the spool at the last test, in octets.
     tested_size: usize,
-    /// The tick at which the room is tested next, while the relay is short of it.
+    /// The tick of the next test, while the relay is short of room.
     next_test: u64,
-    /// The tick at which the spool is opened under its configured limit, once there is room again; 2^64 - 1 stands for
-    /// none.
+    /// The tick at which the spool is opened with its configured limit, once there is room again; 2^64 - 1 for none.
     renewal: u64,
 }
 
@@ -53,8 +54,7 @@ impl Room {
     ghost use Rattle.relay_room.specs.Standing.{standing_at_failure};
     ghost use Rattle.relay_run.specs.Room.{MayStart};
 
-    /// Returns the room beside the spool of this configuration, in the file with its name and `.room` after that.
-    /// Nothing was tested yet.
+    /// Opens the ballast file, whose name is that of the spool with `.room` appended. The room isn't tested yet.
     pub(crate) fn open<R: Files<File = File>>(
         alloc: Global,
         files: &R,
@@ -75,9 +75,9 @@ impl Room {
         }
     }
 
-    /// The device has failed: the ballast is given up, and nothing is known of the room. The system's error of a test
-    /// write in the file beside the spool comes back, made before that file gives its octets up: the call that failed
-    /// has told nobody of its own. None if the test write succeeds.
+    /// Gives up the ballast after the device has failed; nothing is known of the room then. Before that makes a test
+    /// write to the ballast file, and returns the system's error if it fails, because the failed call itself didn't
+    /// report one.
     pub(crate) fn fail(&mut self) -> Option<io::Error>
         ensures standing { self.new.standing ≡ standing_at_failure self.old.standing self.old.size }
         ensures held { (size : ℕ) → ¬ MayStart self.new size }
@@ -85,7 +85,7 @@ impl Room {
         self.standing = self.standing.behind_failure(self.size as usize);
         self.renewal = u64::MAX;
         let reason = self.file.reason(self.size as usize);
-        // What it can't give up is no ballast either.
+        // What can't be given up is no ballast either.
         let _ = give_up(&mut self.file);
         reason
     }
@@ -94,8 +94,8 @@ impl Room {
 impl<F: Disk> Room<F> {
     ghost use Rattle.relay_run.specs.Room.{IsTested, MayStart, grown_since, next_look};
 
-    /// Tests the room beside a spool of this many octets, where the relay is short of it. A fault of the file counts as
-    /// no room.
+    /// Tests the room beside a spool of this many octets, if the relay is short of it. A fault of the file counts as no
+    /// room.
     pub(crate) fn test(&mut self, spool_size: usize)
         ensures standing { IsTested self.old self.new }
     {
@@ -111,8 +111,8 @@ impl<F: Disk> Room<F> {
         self.tested_size = spool_size;
     }
 
-    /// Tests the room where that is due: whether the shortage has ended. Then no attempt begins for a while, and the
-    /// spool is to be opened under its configured limit, if it has another.
+    /// Tests the room if that is due, and returns whether the shortage has ended. If so, no attempt begins for a while,
+    /// and the spool is then opened with its configured limit, unless it has that limit already.
     pub(crate) fn look(&mut self, spool_size: usize, limit: u64, now: &Now) -> bool {
         if !self.is_short() || now.tick < self.next_test {
             return false;
@@ -133,31 +133,31 @@ impl<F: Disk> Room<F> {
         self.standing != Standing::Roomy
     }
 
-    /// The spool was opened under the limit that the room sets it.
+    /// Notes that the spool was opened with the limit that the room allows.
     pub(crate) fn opened(&mut self)
         ensures { (size : ℕ) → MayStart self.old size → MayStart self.new size }
     {
         self.renewal = u64::MAX;
     }
 
-    /// Returns whether the spool is to be opened under its configured limit now.
+    /// Returns whether the spool is to be opened with its configured limit now.
     pub(crate) fn is_renewed(&self, now: &Now) -> bool {
         self.renewal <= now.tick
     }
 
-    /// The spool was compacted, for which it took other room.
+    /// Notes that the spool was compacted, which used other room.
     pub(crate) fn note_compacted(&mut self) {
         self.next_test = 0;
     }
 
-    /// Returns whether attempts may begin beside a spool of this many octets.
+    /// Returns whether attempts may begin, with a spool of this many octets.
     pub(crate) fn may_start(&self, spool_size: usize) -> bool
         ensures { IsTrue result ↔ MayStart self.now spool_size }
     {
         self.renewal == u64::MAX && self.standing.may_begin(self.grown(spool_size))
     }
 
-    /// Returns whether this many octets may be written beside a spool of this many.
+    /// Returns whether there is room for this many octets, with a spool of `spool_size`.
     pub(crate) fn has_room_for(&self, octets: usize, spool_size: usize) -> bool {
         match self.standing {
             Standing::Roomy => true,
@@ -167,19 +167,19 @@ impl<F: Disk> Room<F> {
         }
     }
 
-    /// Returns how many octets the spool has more than at the last test.
+    /// Returns by how many octets the spool has grown since the last test.
     fn grown(&self, spool_size: usize) -> usize
         ensures { result ≡ grown_since self.now spool_size }
     {
         spool_size.saturating_sub(self.tested_size)
     }
 
-    /// Returns the limit of the spool whose files have this many octets together.
+    /// Returns the limit for a spool whose files have this many octets in all.
     pub(crate) fn limit(&self, files: u64) -> u64 {
         self.standing.limit(self.configured, files)
     }
 
-    /// Returns the tick at which the room is checked again, or the given one where that is earlier.
+    /// Returns the tick at which the room is looked at again, or `otherwise` if that is earlier.
     pub(crate) fn next_deadline(&self, otherwise: u64) -> u64
         ensures otherwise { result ≤ otherwise }
         ensures look { result ≤ next_look self.now.standing self.now }

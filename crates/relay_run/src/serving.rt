@@ -17,18 +17,19 @@ use std::io::Write;
 use std::net::{Net, TcpListener, TcpStream};
 use std::rt::{Clock, Files};
 
-/// How many events a wait gives at most: one of each connection, also of those whose headers are waited for, one of the
+/// The most events of one wait: one for each connection and each connection whose header isn't read yet, one for the
 /// listener, and those of the page.
 const EVENT_COUNT: usize = 4 * SLOT_COUNT + 1 + StatusPage::TOKENS;
 
-/// Serves clients and relays what they bring, up to 64 sessions and 64 attempts side by side, in one thread. It returns
-/// only with a fault, and a stop at any time is as safe as at any other. Faults are searched for in this order before
-/// it begins: the configuration file, its content, its limits, the spool, the listener, whose address is waited for a
-/// minute where this machine hasn't got it yet, the page's listener. Then a line `ready HOST ADDRESS` goes to `writer`,
-/// and unless it is `quiet` a line for each thing that was done to `errors`, with its time, in the configured form.
+/// Serves clients and relays their mail, in one thread, with up to 64 sessions and 64 attempts at a time. Returns only
+/// with a fault; the process may be stopped at any time. Faults at the start are checked in this order: the
+/// configuration file, its content, its limits, the spool, the listener, the page's listener. If this machine doesn't
+/// have the listener's address yet, waits for it for a minute. Then writes a line `ready HOST ADDRESS` to `writer`,
+/// and, unless `quiet` is set, logs to `errors`, with the time of each line, in the configured format.
 ///
-/// A connection that breaks ends alone. If the device fails, all do, and the spool is opened again when there may be
-/// room; only a sync that failed, and lack of memory or descriptors before the first client, end the relay.
+/// A broken connection ends alone. If the device fails, all connections end, and the spool is opened again when there
+/// may be room. Only a failed sync, or too little memory or too few file descriptors before the first client, end the
+/// relay.
 pub fn run<
     R: Files<File = File> + Clock + Net<Listener = TcpListener, Stream = TcpStream>,
     W: Write,

@@ -24,8 +24,8 @@ use std::alloc::{AllocError, Global};
 use std::io::Write;
 use std::rt::Clock;
 
-/// All connections of a relay, and what is due: over streams of any kind, on any disk, beside any file that keeps room.
-/// What opens the streams, and what tells of their readiness, is lent to each turn.
+/// All connections of a relay, and the due mail: over any streams, any disks and any ballast file. What opens the
+/// streams, and what reports their readiness, is passed to each turn.
 pub(crate) struct Shell<S, D: Disk, F> {
     pub(crate) relay: Relay<D>,
     pub(crate) door: Door<S>,
@@ -38,7 +38,7 @@ pub(crate) struct Shell<S, D: Disk, F> {
     known: Known,
 }
 
-/// That of `run`, over the system's streams and files.
+/// The shell of `run`, over the system's streams and files.
 pub(crate) type SystemShell = Shell<TcpStream, FileDisk, RoomFile>;
 
 // Written out, so that the proof of a caller that drops it stops at this function.
@@ -59,7 +59,7 @@ impl<S: Drop, D: Disk + Drop, F: Drop> Drop for Shell<S, D, F> {
 }
 
 impl<S: Stream + Drop, D: Disk + Drop, F: Disk + Drop> Shell<S, D, F> {
-    /// Makes a relay without a connection, within these limits. Fails if memory runs out.
+    /// Makes a shell without connections, with these limits. Fails if memory runs out.
     pub(crate) fn new(
         alloc: Global,
         relay: Relay<D>,
@@ -85,7 +85,8 @@ impl<S: Stream + Drop, D: Disk + Drop, F: Disk + Drop> Shell<S, D, F> {
         })
     }
 
-    /// A turn has gone well: what the relay knows of its spool now is there when that is opened again.
+    /// Notes what the relay knows of its spool after a turn without a fault; this must be there when the spool is
+    /// opened again.
     pub(crate) fn note_known(&mut self)
         ensures number { self.new.known.next_number ≡ self.old.relay.node.records.queue.next }
         ensures size { self.new.known.size ≡ self.old.relay.node.records.spool.size }
@@ -94,7 +95,7 @@ impl<S: Stream + Drop, D: Disk + Drop, F: Disk + Drop> Shell<S, D, F> {
         self.known = Known::of(&self.relay);
     }
 
-    /// Returns whether the spool is to be opened under its configured limit now.
+    /// Returns whether the spool is to be opened with its configured limit now.
     pub(crate) fn is_renewed(&self, now: &Now) -> bool {
         self.room.is_renewed(now)
     }
@@ -106,8 +107,8 @@ impl<S: Stream + Drop, D: Disk + Drop, F: Disk + Drop> Shell<S, D, F> {
         self.room.may_start(self.relay.node().size())
     }
 
-    /// Does for each connection what can be done at once, one thing each, and begins what is due. While the relay is
-    /// short of room that is tested first, where that is due.
+    /// Does for each connection one thing that can be done at once, and begins due attempts. If the relay is short of
+    /// room and a test is due, tests the room first.
     pub(crate) fn turn<C: Clock, L: Listen<Stream = S>, N: Dial<Stream = S>>(
         &mut self,
         clock: &C,
@@ -140,8 +141,8 @@ impl<S: Stream + Drop, D: Disk + Drop, F: Disk + Drop> Shell<S, D, F> {
         self.begin(clock, dial, registry, now, log)
     }
 
-    /// Compacts the spool where that is due after a turn and worth it, and there is room for it. A fault comes of a
-    /// compaction alone, whose size is known then.
+    /// Compacts the spool after a turn, if that is due and worth it, and there is room for it. A fault means that a
+    /// compaction has failed; its size is known then.
     pub(crate) fn tidy(&mut self, now: &Now, log: &mut Log<'_, Vec<u8>>) -> Result<(), Fault>
         ensures tidies { OnOk result ((self.new.relay ≡ self.old.relay)
             ⊎ IsCompacted D.honest D.words self.old.tidying.was_full self.old.relay self.new.relay) }
@@ -160,7 +161,7 @@ impl<S: Stream + Drop, D: Disk + Drop, F: Disk + Drop> Shell<S, D, F> {
         if !self.tidying.is_due(&self.relay, is_quiet, now) {
             return Ok(());
         }
-        // To ask for this takes a walk over all that is queued.
+        // To compute this takes a walk over the whole queue.
         let node = self.relay.node();
         let left = node.compacted_size();
         if !self.room.has_room_for(left, node.size()) {
@@ -189,7 +190,7 @@ impl<S: Stream + Drop, D: Disk + Drop, F: Disk + Drop> Shell<S, D, F> {
         self.tidying.trim(&mut self.relay)
     }
 
-    /// Makes connections to next hops, and reads of those that reply.
+    /// Makes connections to next hops, and reads from those that have replied.
     fn attend_to_next_hops(
         &mut self,
         registry: &S::Registry,
@@ -203,8 +204,8 @@ impl<S: Stream + Drop, D: Disk + Drop, F: Disk + Drop> Shell<S, D, F> {
         Ok(())
     }
 
-    /// Serves the clients, and lets attempts hear what next hops have replied in the same call, so that accepted mail
-    /// and outcomes share their syncs.
+    /// Serves the clients, and passes the replies of next hops to their attempts in the same call, so that accepted
+    /// mail and outcomes share their syncs.
     fn exchange(
         &mut self,
         registry: &S::Registry,
@@ -230,8 +231,8 @@ impl<S: Stream + Drop, D: Disk + Drop, F: Disk + Drop> Shell<S, D, F> {
         Ok(())
     }
 
-    /// Lets sessions and attempts hear what was read, in one call. Without memory for them replies wait, or one of them
-    /// is lost where nobody else was heard.
+    /// Passes what was read to sessions and attempts, in one call. If there is no memory to gather the replies, they
+    /// wait, or one of their attempts is given up if no client was heard either.
     fn hear(
         &mut self,
         registry: &S::Registry,
@@ -258,7 +259,7 @@ impl<S: Stream + Drop, D: Disk + Drop, F: Disk + Drop> Shell<S, D, F> {
         }
     }
 
-    /// Takes note of whether connections to next hops were closed.
+    /// Notes whether connections to next hops were closed.
     fn note_ends(&mut self, closed: bool) {
         if closed {
             self.tidying.note_shrunk();
@@ -266,7 +267,7 @@ impl<S: Stream + Drop, D: Disk + Drop, F: Disk + Drop> Shell<S, D, F> {
         }
     }
 
-    /// Begins what is due, and nothing while the room for its outcome isn't there.
+    /// Begins due attempts, but none while there is no room for their outcomes.
     fn begin<C: Clock, N: Dial<Stream = S>>(
         &mut self,
         clock: &C,
@@ -292,9 +293,9 @@ impl<S: Stream + Drop, D: Disk + Drop, F: Disk + Drop> Shell<S, D, F> {
 }
 
 impl<S: Stream + Drop> Shell<S, FileDisk, RoomFile> {
-    /// Returns the same relay with its spool opened again: once its device, where that has failed, has room, or else at
-    /// once, under its configured limit. All connections are closed but the listener, at which clients are told so
-    /// meanwhile. A sync that has failed is a fault, and so is a spool that isn't the one from before.
+    /// Returns the same relay with its spool opened again: after a failure once the device has room; else at once, with
+    /// its configured limit. Closes all connections, and refuses clients at the listener meanwhile. Fails if a sync has
+    /// failed, or if the spool isn't the known one.
     pub(crate) fn reopened<C: Clock, E: Write, L: Listen<Stream = S>>(
         mut self,
         reporter: &mut Reporter<'_, C, E>,

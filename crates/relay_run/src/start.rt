@@ -1,4 +1,4 @@
-//! What a relay begins with.
+//! The start of a relay.
 use crate::known::Known;
 use crate::listen::listener_at;
 use crate::reopening::open_bounded;
@@ -20,12 +20,12 @@ use std::net::{Net, SocketAddrV4};
 use std::rt::{Clock, Files};
 use std::time::Duration;
 
-/// How many seconds an address is waited for that this machine hasn't got yet, as while it boots. It is tried once in
-/// each.
+/// How many seconds to wait for an address that this machine doesn't have yet, as during boot. It is tried once per
+/// second.
 const ADDRESS_SECONDS: u64 = 60;
 
-/// Returns the configuration, the limits and the balancers in the file at this path. Faults are searched for in this
-/// order: the file, the configuration, the limits, the balancers.
+/// Returns the configuration, the limits and the balancers in the file at this path. Faults are checked in this order:
+/// the file, the configuration, the limits, the balancers.
 pub(crate) fn settings<F: Files<File = File>>(
     alloc: Global,
     files: &F,
@@ -41,7 +41,7 @@ pub(crate) fn settings<F: Files<File = File>>(
     }
 }
 
-/// Returns the form of the log's lines; none if it is quiet.
+/// Returns the format of the log; `None` if nothing is logged.
 pub(crate) fn log_form(quiet: bool, limits: &Limits) -> Option<Form> {
     if quiet {
         return None;
@@ -52,7 +52,7 @@ pub(crate) fn log_form(quiet: bool, limits: &Limits) -> Option<Form> {
     }
 }
 
-/// Returns an open file, of which copies may be made: the configuration's, since that is there.
+/// Returns an open file that can be duplicated: the configuration file, because it exists.
 pub(crate) fn kept_file<F: Files<File = File>>(files: &F, path: &str) -> Result<File, Fault> {
     match File::open(files, path) {
         Ok(file) => Ok(file),
@@ -68,8 +68,8 @@ fn document(alloc: Global, text: &str) -> Result<toml::Table, Fault> {
     }
 }
 
-/// Returns the relay of the spool that the configuration names, whose files are taken for this process alone, and the
-/// room beside it. If there is little room, its limit is less than what is configured.
+/// Returns the relay of the spool that the configuration names, whose files are locked for this process, and the room
+/// beside it. If there is little room, the spool's limit is below the configured one.
 pub(crate) fn locked_relay<F: Files<File = File>>(
     alloc: Global,
     files: &F,
@@ -89,7 +89,7 @@ pub(crate) fn locked_relay<F: Files<File = File>>(
     Ok((relay, room))
 }
 
-/// Returns the listener at the configured place. A line of the log says that its address is waited for.
+/// Returns the listener at the configured address. Logs a line if it waits for the address.
 pub(crate) fn open_listener<R: Clock + Net, E: Write>(
     alloc: Global,
     rt: &R,
@@ -134,7 +134,7 @@ pub(crate) fn open_page<R: Clock + Net>(
     }
 }
 
-/// Says by a line that clients may come: `ready HOST ADDRESS`.
+/// Writes the line `ready HOST ADDRESS`: clients may connect.
 pub(crate) fn say_ready<W: Write>(
     alloc: Global,
     relay: &Relay<FileDisk>,

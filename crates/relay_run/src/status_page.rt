@@ -1,4 +1,4 @@
-//! The page that shows a relay's state, and its metrics: the listener, the visitors, and what is counted for them.
+//! The page that shows a relay's state, and its metrics: the listener, the visitors, and the counts that it shows.
 ghost use Rattle.std.specs.Prelude.{◌≤◌};
 
 use crate::door::Door;
@@ -18,21 +18,21 @@ use std::alloc::{AllocError, Global};
 use std::io::{self, ErrorKind};
 use std::net::{Ipv4Addr, Net, SocketAddr, SocketAddrV4};
 
-/// The page. A fault of it ends nothing but the visit that it befalls.
+/// The page. A fault of it ends only the visit that it concerns.
 pub(crate) struct StatusPage {
     alloc: Global,
-    /// None if there is no page.
+    /// The listener; `None` if there is no page.
     listener: Option<TcpListener>,
-    /// Visitors may be waiting at it.
+    /// Whether visitors may be waiting.
     is_ready: bool,
     visitors: Visitors,
     survey: Survey,
     history: History,
     /// When the relay began.
     since: Moment,
-    /// The number of the next change when it was checked last.
+    /// The number of the next change when that was read last.
     next_number: u64,
-    /// When it had risen last; none if it hasn't since the relay began.
+    /// When that number had grown last; `None` if it hasn't since the relay began.
     appended: Option<Moment>,
 }
 
@@ -54,13 +54,13 @@ impl Drop for StatusPage {
 }
 
 impl StatusPage {
-    /// The token of its listener; those of its visitors follow.
+    /// The token of the listener; those of the visitors follow.
     pub(crate) const TOKEN: usize = Door::TOKEN + 1;
 
-    /// How many tokens it has.
+    /// How many tokens the page uses.
     pub(crate) const TOKENS: usize = 1 + MOST_VISITORS;
 
-    /// Returns the page at this port of 127.0.0.1, or none. It fails where the port can't be had, or memory runs out.
+    /// Opens the page at this port of 127.0.0.1, or no page. Fails if the port can't be opened, or memory runs out.
     pub(crate) fn open<N: Net>(
         alloc: Global,
         net: &N,
@@ -86,7 +86,7 @@ impl StatusPage {
         })
     }
 
-    /// The system tells what the listener, whose number is 0, or a visitor, from 1 on, may be ready for.
+    /// Notes what the listener (number 0) or a visitor (from 1 on) may be ready for, as the system reports it.
     pub(crate) fn note(&mut self, number: usize, ready: Readiness) {
         if number == 0 {
             self.is_ready = true;
@@ -95,7 +95,7 @@ impl StatusPage {
         }
     }
 
-    /// Takes visitors, serves each once, and makes one response, or a part of what it takes.
+    /// Accepts visitors, serves each once, and makes one response, or counts one part of the queue for it.
     pub(crate) fn turn(
         &mut self,
         registry: &Registry,
@@ -115,7 +115,7 @@ impl StatusPage {
         }
     }
 
-    /// Takes note of what was done since it was checked last.
+    /// Notes what was done since the last call.
     fn note_progress(&mut self, relay: &Relay<FileDisk>, counters: &Counters, now: &Now) {
         let done = Minute {
             accepted: counters.accepted,
@@ -129,7 +129,7 @@ impl StatusPage {
         }
     }
 
-    /// Takes the visitors that are waiting, while there is room for them.
+    /// Accepts waiting visitors, while there is room for them.
     fn admit(&mut self, registry: &Registry, now: &Now) {
         for _ in 0..MOST_VISITORS {
             if !self.is_ready {
@@ -146,7 +146,7 @@ impl StatusPage {
                 }
                 Err(error) => {
                     if error.kind() != ErrorKind::Interrupted {
-                        // One that went away, or couldn't be had, comes again by itself, if at all.
+                        // A visitor that went away, or couldn't be accepted, will come again by itself, if at all.
                         self.is_ready = false;
                     }
                 }
@@ -154,7 +154,7 @@ impl StatusPage {
         }
     }
 
-    /// Answers a visitor, or counts a part of what is queued first.
+    /// Makes the response for a visitor, or counts a part of the queue first.
     fn attend(
         &mut self,
         number: usize,
@@ -179,7 +179,7 @@ impl StatusPage {
         }
     }
 
-    /// Gives a visitor its response, or tells it that there is none now.
+    /// Sets the response of a visitor, or refuses it if there is none.
     fn respond(&mut self, number: usize, asked: Asked, response: Result<Vec<u8>, AllocError>) {
         let response = match response {
             Ok(octets) => Ok(octets),
@@ -188,8 +188,8 @@ impl StatusPage {
         self.visitors.respond(number, response);
     }
 
-    /// Counts a part of what is queued, and returns whether that was the last. Fails if memory runs out, or the device
-    /// has failed.
+    /// Counts a part of the queue, and returns whether that was the last. Fails if memory runs out, or the device has
+    /// failed.
     fn count(&mut self, relay: &Relay<FileDisk>, now: &Now) -> Result<bool, AllocError> {
         let node = relay.node();
         if !self.survey.is_counting() {
@@ -211,7 +211,7 @@ impl StatusPage {
         Ok(false)
     }
 
-    /// Returns the response to what was asked for.
+    /// Returns the response to a request.
     fn response(
         &self,
         asked: Asked,
@@ -247,12 +247,12 @@ impl StatusPage {
             || self.visitors.next_deadline(u64::MAX) <= now.tick
     }
 
-    /// Returns whether visitors may be waiting that can be taken, or one waits for its response.
+    /// Returns whether visitors may be accepted, or one waits for its response.
     fn is_waited_for(&self) -> bool {
         (self.is_ready && self.visitors.free().is_some()) || self.visitors.asked().is_some()
     }
 
-    /// Returns the tick at which the next visitor is sent away, or the given one where that is earlier.
+    /// Returns the tick at which the next visit ends, or `otherwise` if that is earlier.
     pub(crate) fn next_deadline(&self, otherwise: u64) -> u64
         ensures { result ≤ otherwise }
     {
@@ -260,7 +260,7 @@ impl StatusPage {
     }
 }
 
-/// Returns the listener at a port of 127.0.0.1, of which the system tells.
+/// Returns the listener at a port of 127.0.0.1, registered with the poll.
 fn listener_at<N: Net>(net: &N, registry: &Registry, port: u16) -> io::Result<TcpListener> {
     let at = SocketAddrV4::new(Ipv4Addr::LOCALHOST, port);
     let mut listener = TcpListener::bind(net, SocketAddr::V4(at))?;
@@ -268,7 +268,7 @@ fn listener_at<N: Net>(net: &N, registry: &Registry, port: u16) -> io::Result<Tc
     Ok(listener)
 }
 
-/// Returns the stream of a visitor, of which the system tells; none if it doesn't.
+/// Returns the stream of a visitor, registered with the poll; `None` if that fails.
 fn registered(registry: &Registry, stream: TcpStream, number: usize) -> Option<TcpStream> {
     let mut stream = stream;
     let token = Token(StatusPage::TOKEN.saturating_add(1).saturating_add(number));
@@ -279,7 +279,7 @@ fn registered(registry: &Registry, stream: TcpStream, number: usize) -> Option<T
     }
 }
 
-/// Returns the minute of a time, from 1970.
+/// Returns the minute of a time, counted from 1970.
 fn minute_of(moment: Moment) -> u64 {
     moment.seconds() / 60
 }

@@ -1,4 +1,4 @@
-//! What the page shows: the relay's state as a page, as metrics, and as a list of what is queued.
+//! What the page shows: the relay's state as a page, as metrics, and as a list of the queue.
 use relay_disk::FileDisk;
 use relay_log::Counters;
 use relay_loop::Relay;
@@ -9,19 +9,19 @@ use relay_page::{
 use relay_trace::Moment;
 use std::alloc::{AllocError, Global};
 
-/// How many of the recipients that wait longest the page shows.
+/// How many of the recipients with the longest wait the page shows.
 const MOST_OLDEST: usize = 20;
 
-/// How much of what a relay may do at a time it does now.
+/// How busy a relay is.
 #[derive(Clone, Copy, Debug)]
 pub(crate) struct Busy {
-    /// Clients that are connected, of 64.
+    /// How many clients are connected, of at most 64.
     pub(crate) sessions: u64,
-    /// Attempts that run, of 64.
+    /// How many attempts are running, of at most 64.
     pub(crate) attempts: u64,
 }
 
-/// What is known of a relay at a time.
+/// The state of a relay at some time.
 #[derive(Drop)]
 pub(crate) struct State<'a> {
     pub(crate) relay: &'a Relay<FileDisk>,
@@ -31,12 +31,12 @@ pub(crate) struct State<'a> {
     pub(crate) history: &'a History,
     /// When the relay began.
     pub(crate) since: Moment,
-    /// When something was added to the spool last.
+    /// When something was last added to the spool.
     pub(crate) appended: Option<Moment>,
     pub(crate) now: Moment,
 }
 
-/// Returns the text that is asked for, and what it is. Fails if memory runs out.
+/// Returns the requested text, and its media type. Fails if memory runs out.
 pub(crate) fn text_of(
     alloc: Global,
     target: Target,
@@ -76,7 +76,7 @@ fn page_of(alloc: Global, state: &State<'_>) -> Result<Vec<u8>, AllocError> {
     page_text(alloc, &view)
 }
 
-/// Returns the recipients that wait longest: the first of the queue.
+/// Returns the recipients with the longest wait: the first of the queue.
 fn oldest_of<'a>(alloc: Global, state: &State<'a>) -> Result<Vec<Waiting<'a>>, AllocError> {
     let mut all = Vec::new(alloc);
     let marks = state.survey.marks();
@@ -108,7 +108,7 @@ fn waiting_at(relay: &Relay<FileDisk>, number: u64, place: u8) -> Option<Waiting
     })
 }
 
-/// Returns the first recipients of the queue as JSON, and where the list is cut.
+/// Returns the first recipients of the queue as JSON, with a last line if the list is cut.
 fn list_of(alloc: Global, state: &State<'_>) -> Result<Vec<u8>, AllocError> {
     let node = state.relay.node();
     let mut text = Vec::new(alloc);
@@ -127,7 +127,7 @@ fn list_of(alloc: Global, state: &State<'_>) -> Result<Vec<u8>, AllocError> {
     Ok(text)
 }
 
-/// Returns how many replies to clients have refused something.
+/// Returns how many commands and mail data were refused.
 fn rejections(counters: &Counters) -> u64 {
     let mut sum: u64 = 0;
     for (_cause, count) in rejections_by_cause(counters) {
@@ -136,7 +136,7 @@ fn rejections(counters: &Counters) -> u64 {
     sum
 }
 
-/// Returns how many replies to clients have refused something, by the reply's code and its cause.
+/// Returns how many commands and mail data were refused, by reply code and cause.
 fn rejections_by_cause(counters: &Counters) -> [(&'static [u8], u64); 10] {
     let rejected = counters.rejected;
     [
@@ -164,7 +164,7 @@ fn metrics_of(alloc: Global, state: &State<'_>) -> Result<Vec<u8>, AllocError> {
     Ok(text)
 }
 
-/// Adds the outcome of mail.
+/// Adds the metrics of mail.
 fn push_mail(text: &mut Vec<u8>, counters: &Counters) -> Result<(), AllocError> {
     push_count(
         text,
@@ -204,7 +204,7 @@ fn push_mail(text: &mut Vec<u8>, counters: &Counters) -> Result<(), AllocError> 
     )
 }
 
-/// Adds the outcome of connections.
+/// Adds the metrics of connections.
 fn push_connections(text: &mut Vec<u8>, counters: &Counters) -> Result<(), AllocError> {
     push_count(
         text,
@@ -232,7 +232,7 @@ fn push_connections(text: &mut Vec<u8>, counters: &Counters) -> Result<(), Alloc
     )
 }
 
-/// Adds how many clients are connected, and how many attempts run.
+/// Adds how many clients are connected, and how many attempts are running.
 fn push_busy(text: &mut Vec<u8>, busy: Busy) -> Result<(), AllocError> {
     push_gauge(
         text,
@@ -248,7 +248,7 @@ fn push_busy(text: &mut Vec<u8>, busy: Busy) -> Result<(), AllocError> {
     )
 }
 
-/// Adds how many replies to clients have refused something, by cause.
+/// Adds the refusals by cause.
 fn push_rejections(text: &mut Vec<u8>, counters: &Counters) -> Result<(), AllocError> {
     let name = b"relayd_rejections_total";
     let help = b"Replies to clients that refused something, by cause.";
@@ -259,7 +259,7 @@ fn push_rejections(text: &mut Vec<u8>, counters: &Counters) -> Result<(), AllocE
     Ok(())
 }
 
-/// Adds what the spool has, and the outcome of its device.
+/// Adds the metrics of the spool and its device.
 fn push_spool(text: &mut Vec<u8>, state: &State<'_>) -> Result<(), AllocError> {
     let node = state.relay.node();
     push_gauge(

@@ -1,5 +1,5 @@
-//! The spool is compacted where much of it has gone: in a quiet moment, or at once where it is more than half full, or
-//! was full.
+//! Compacts the spool when much of it is free: when the relay is idle, or at once if the spool is more than half full,
+//! or was full.
 ghost use Rattle.std.specs.Prelude.{◌≡◌, ◌≤◌, ◌⊎◌, IfErr, List, MatchResult, None, Ok, OnOk, false, true};
 ghost use Rattle.relay_book.specs.declared.change.Change.{Change};
 ghost use Rattle.relay_records.specs.Records.{Compacts, Halted, Keeps};
@@ -13,37 +13,37 @@ use relay_log::Log;
 use relay_loop::Relay;
 use relay_node::NodeFault;
 
-/// The least milliseconds between two times that the spool is compacted.
+/// The least number of milliseconds between two compactions.
 const PAUSE: u64 = 1_000;
 
-/// While there is something else to do, a spool of which more octets than this would be left isn't compacted, since
-/// others wait for some 3 ms for each MiB of them, unless mail is refused for it.
+/// While the relay is busy, a spool of which more octets than this would be left isn't compacted, because all
+/// connections wait for some 3 ms per MiB of them; unless mail is refused because the spool is full.
 const MOST_LEFT: usize = 32 * 1024 * 1024;
 
-/// How many octets of the spool's other file are dropped in a turn at most, while others wait for some 1.5 ms for each
-/// MiB of them.
+/// The most octets of the spool's other file that are dropped in one turn; connections wait for some 1.5 ms per MiB of
+/// them.
 const MOST_TRIMMED: usize = 4 * 1024 * 1024;
 
-/// How many seconds it isn't told again that the spool is full.
+/// How many seconds pass between two log lines about a full spool.
 const TELLING_SECONDS: u64 = 60;
 
-/// What has happened to the spool since it was last checked.
+/// What has happened to the spool since it was last considered for compaction.
 #[derive(Clone, Copy, Debug)]
 pub(crate) struct Tidying {
-    /// Something has left it.
+    /// Whether something was removed from the queue.
     has_shrunk: bool,
-    /// Mail was refused since it is full.
+    /// Whether mail was refused because the spool is full.
     was_full: bool,
-    /// The other file may have octets to be dropped before the next compaction.
+    /// Whether the other file may have octets to drop before the next compaction.
     has_spare: bool,
-    /// The tick before which it isn't rewritten.
+    /// The tick before which the spool isn't compacted.
     next: u64,
-    /// The tick before which it is not told again that it is full.
+    /// The tick before which a full spool isn't logged again.
     next_telling: u64,
 }
 
 impl Tidying {
-    /// Nothing has happened yet. The other file may be one from before the last compaction.
+    /// Returns the state before any event. The other file may be from before the last compaction.
     pub(crate) fn new() -> Self {
         Tidying {
             has_shrunk: true,
@@ -54,12 +54,12 @@ impl Tidying {
         }
     }
 
-    /// An attempt has ended, or a message was given up.
+    /// Notes that an attempt has ended, or a message was given up.
     pub(crate) fn note_shrunk(&mut self) {
         self.has_shrunk = true;
     }
 
-    /// Mail was refused since the spool is full, which is told once a minute.
+    /// Notes that mail was refused because the spool is full, and logs that once per minute.
     pub(crate) fn note_full(&mut self, now: &Now, log: &mut Log<'_, Vec<u8>>) {
         self.was_full = true;
         if self.next_telling <= now.tick {
@@ -68,27 +68,27 @@ impl Tidying {
         }
     }
 
-    /// Returns whether the spool may have to be checked: it was full, or something has left it, and it wasn't just
-    /// checked.
+    /// Returns whether compaction may be due: the spool was full, or something was removed from the queue, and the
+    /// pause is over.
     pub(crate) fn may_be_due(&self, now: &Now) -> bool {
         self.next <= now.tick && (self.was_full || self.has_shrunk)
     }
 
-    /// Returns whether the spool is to be checked now: it was full, or something has left it, and nothing else is to be
-    /// done or it is more than half full.
+    /// Returns whether compaction is due: the spool was full, or something was removed from the queue, and the relay is
+    /// idle or the spool is more than half full.
     pub(crate) fn is_due<D: Disk>(&self, relay: &Relay<D>, is_quiet: bool, now: &Now) -> bool {
         let node = relay.node();
         self.may_be_due(now)
             && (self.was_full || is_quiet || node.config().spool_limit / 2 < node.size() as u64)
     }
 
-    /// There is no room for that: the spool isn't checked for a short time.
+    /// Postpones compaction for a short time, because there is no room for it.
     pub(crate) fn pause(&mut self, now: &Now) {
         self.next = now.tick.saturating_add(PAUSE);
     }
 
-    /// Returns the tick at which the spool is to be checked, or the given one where that is earlier. While the other
-    /// file has octets to be dropped, nothing is waited for.
+    /// Returns the tick at which compaction may be due, or `otherwise` if that is earlier. While the other file has
+    /// octets to drop, that is at once.
     pub(crate) fn next_deadline(&self, otherwise: u64) -> u64
         ensures { result ≤ otherwise }
     {
@@ -101,9 +101,9 @@ impl Tidying {
         }
     }
 
-    /// Compacts the spool, of which this many octets would be left, where that is worth it and costs others no more
-    /// than they may wait for, and returns whether it did. A spool without a second file, one that holds too much, and
-    /// lack of memory leave it as it is. Then it isn't due again for a second.
+    /// Compacts the spool to `left` octets, if that is worth it and takes no longer than connections may wait, and
+    /// returns whether it did. Leaves the spool unchanged if it has no second file or holds too much, or if memory runs
+    /// out. Compaction isn't due again for a second.
     pub(crate) fn tidy<D: Disk>(
         &mut self,
         relay: &mut Relay<D>,
@@ -139,8 +139,8 @@ impl Tidying {
         Ok(is_compacted)
     }
 
-    /// Drops some octets of the spool's other file, if it may have any: they count for nothing, and the next compaction
-    /// would begin with all of them.
+    /// Drops some octets of the spool's other file, if it may have any. They are of no use, and the next compaction
+    /// would have to drop all of them first.
     pub(crate) fn trim<D: Disk>(&mut self, relay: &mut Relay<D>) -> Result<(), Fault>
         ensures trimmed { OnOk result ((relay.new ≡ relay.old) ⊎ MayBeTrimmed D.honest D.words relay.old relay.new) }
         ensures failed { IfErr result (λ fault. (fault ≡ Fault.Device) × KeepsRest relay.old relay.new) }
@@ -161,7 +161,7 @@ impl Tidying {
     }
 }
 
-/// Compacts the spool of a relay, tells so, and returns whether it did.
+/// Compacts the spool of a relay, logs that, and returns whether it did.
 fn compact<D: Disk>(relay: &mut Relay<D>, log: &mut Log<'_, Vec<u8>>) -> Result<bool, Fault>
     ensures unchanged { result ≡ Ok false → relay.new ≡ relay.old }
     ensures compacted { result ≡ Ok true → Compacts D.honest D.words relay.old.node.records relay.new.node.records }

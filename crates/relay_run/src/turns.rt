@@ -1,4 +1,4 @@
-//! The turns of a relay: each waits for what the system tells, and does at once what can be done then.
+//! The turns of a relay: each waits for readiness, and does what can be done at once.
 ghost use Rattle.std.specs.Prelude.{◌≡◌, ◌≤◌, ◌-◌, ℕ, IfOk};
 ghost use Rattle.relay_connections.specs.Readiness.{IsLeftClient, clients_of};
 ghost use Rattle.relay_next_hops.specs.Lanes.{next_due_of};
@@ -24,8 +24,8 @@ use std::net::Net;
 use std::rt::Clock;
 use std::time::Duration;
 
-/// What a relay has of its system beside files: the clocks, its listener, what opens streams to next hops, what tells
-/// of readiness, and the page.
+/// What a relay uses of the system beside files: the clocks, its listener, what opens streams to next hops, what
+/// reports readiness, and the page.
 pub(crate) struct System<'a, R> {
     pub(crate) clock: &'a R,
     pub(crate) listener: TcpListener,
@@ -49,7 +49,7 @@ impl<R> Drop for System<'_, R> {
     }
 }
 
-/// Serves without an end.
+/// Serves until a fault ends the relay.
 pub(crate) fn serve<R: Clock + Net, E: Write>(
     alloc: Global,
     system: System<'_, R>,
@@ -76,14 +76,14 @@ pub(crate) fn serve<R: Clock + Net, E: Write>(
         );
         shell = behind_turn(alloc, &mut system, shell, end, form, &mut counters, errors)?;
     }
-    // This many turns are never done.
+    // This many turns never pass.
     Err(Fault::Socket)
 }
 
-/// Waits for the system to tell of something, no longer than there is nothing else to be done.
+/// Waits until the system reports readiness, but no longer than until there is something else to do.
 fn wait<R: Clock>(system: &mut System<'_, R>, shell: &mut SystemShell) {
     let wait = next_wait(shell, &system.page, &Now::of(system.clock));
-    // A wait that fails tells of nothing, and the clocks go on.
+    // A wait that fails reports nothing, and time goes on.
     let _ = system
         .poll
         .poll(&mut system.events, Some(Duration::from_millis(wait)));
@@ -97,7 +97,7 @@ fn wait<R: Clock>(system: &mut System<'_, R>, shell: &mut SystemShell) {
     }
 }
 
-/// Returns how many milliseconds may be waited, where the page waits too.
+/// Returns how many milliseconds to wait, with the page's deadlines taken into account.
 fn next_wait(shell: &SystemShell, page: &StatusPage, now: &Now) -> u64
     ensures client { (number : ℕ) → IsLeftClient (clients_of shell.now.clients) shell.now.relay number
         → result ≡ 0 }
@@ -114,7 +114,7 @@ fn next_wait(shell: &SystemShell, page: &StatusPage, now: &Now) -> u64
     wait.min(page.next_deadline(u64::MAX).saturating_sub(now.tick))
 }
 
-/// Returns the relay after a turn that has come to this end. A fault that ends it is logged.
+/// Returns the relay after a turn with this result. Logs a fault that ends the relay.
 fn behind_turn<R: Clock, E: Write>(
     alloc: Global,
     system: &mut System<'_, R>,
@@ -132,8 +132,7 @@ fn behind_turn<R: Clock, E: Write>(
     behind
 }
 
-/// Returns the relay after a turn that has come to this end: where its device has failed, or has room again, its spool
-/// is opened again.
+/// Returns the relay after a turn with this result. Opens its spool again if the device has failed, or has room again.
 fn kept_or_reopened<R: Clock, E: Write>(
     alloc: Global,
     system: &mut System<'_, R>,
@@ -159,8 +158,8 @@ fn kept_or_reopened<R: Clock, E: Write>(
     shell.reopened(&mut reporter, &mut system.listener, why)
 }
 
-/// Takes a turn, whose lines of the log are written then; and what keeps the spool small after it, which may take a
-/// while, and so comes when those lines are out. The page is served last.
+/// Takes a turn, and writes its log lines. Then keeps the spool small, which may take a while, and so comes after those
+/// lines. Serves the page last.
 fn take_turn<R: Clock + Net, E: Write>(
     alloc: Global,
     system: &mut System<'_, R>,
@@ -183,7 +182,7 @@ fn take_turn<R: Clock + Net, E: Write>(
     shell.trim()
 }
 
-/// Serves the page, and nothing else.
+/// Serves the page only.
 fn show<R>(system: &mut System<'_, R>, shell: &SystemShell, counters: &Counters, now: &Now) {
     let busy = Busy {
         sessions: shell.clients.count() as u64,
@@ -194,7 +193,7 @@ fn show<R>(system: &mut System<'_, R>, shell: &SystemShell, counters: &Counters,
         .turn(system.poll.registry(), &shell.relay, busy, counters, now);
 }
 
-/// Serves all connections once, and gathers the lines of the log.
+/// Serves all connections once, and collects the log lines.
 fn serve_all<R: Clock + Net>(
     alloc: Global,
     system: &mut System<'_, R>,
@@ -215,7 +214,7 @@ fn serve_all<R: Clock + Net>(
     )
 }
 
-/// Compacts the spool where that is due, and gathers the lines of the log.
+/// Compacts the spool if that is due, and collects the log lines.
 fn tidy(
     alloc: Global,
     shell: &mut SystemShell,
@@ -228,12 +227,12 @@ fn tidy(
     shell.tidy(now, &mut log)
 }
 
-/// Writes the lines of a turn in one write, if there are any.
+/// Writes the log lines of a turn by one write, if there are any.
 fn hand_out<E: Write>(lines: &mut Vec<u8>, errors: &mut E) {
     if lines.is_empty() {
         return;
     }
-    // Nothing is left to do where they can't be written.
+    // If they can't be written, nothing is left to do.
     let _ = errors.write_all(lines.as_slice());
     let _ = errors.flush();
     lines.clear();

@@ -1,4 +1,4 @@
-//! What a relay waits for, and for how long.
+//! For what a relay waits, and for how long.
 ghost use Rattle.std.specs.Prelude.{◌≡◌, ◌≤◌, ◌-◌, ℕ, true};
 ghost use Rattle.relay_connections.specs.Readiness.{IsLeftClient, clients_of};
 ghost use Rattle.relay_next_hops.specs.Lanes.{next_due_of};
@@ -12,11 +12,11 @@ use relay_connections::{Arrivals, Leaving, Now, Readiness, Stream};
 use relay_disk::Disk;
 use relay_next_hops::NextHops;
 
-/// The most milliseconds that a wait lasts.
+/// The longest wait, in milliseconds.
 const LONGEST_WAIT: u64 = 60_000;
 
 impl<S: Stream + Drop, D: Disk + Drop, F: Disk + Drop> Shell<S, D, F> {
-    /// The system tells what the connection of a token, or the listener, may be ready for.
+    /// Notes what the connection of a token, or the listener, may be ready for, as the system reports it.
     pub(crate) fn note(&mut self, token: usize, ready: Readiness) {
         if token < NextHops::FIRST_TOKEN {
             self.clients.note(token, ready);
@@ -48,9 +48,9 @@ impl<S: Stream + Drop, D: Disk + Drop, F: Disk + Drop> Shell<S, D, F> {
         self.door.is_ready(now) || self.leaving.is_ready()
     }
 
-    /// Returns how many milliseconds may be waited for the system to tell of something, a minute at most: none while a
-    /// connection was left in mid-read, and never past the tick at which the node has told that work may start, or
-    /// while no attempt may begin, past that at which the room is checked.
+    /// Returns how many milliseconds to wait for readiness, at most a minute: 0 while a connection has octets that
+    /// weren't read to the end; and no longer than until the node's next work is due or, while no attempt may begin,
+    /// until the room is looked at again.
     pub(crate) fn wait(&self, now: &Now) -> u64
         ensures client { (number : ℕ) → IsLeftClient (clients_of self.now.clients) self.now.relay number
             → result ≡ 0 }

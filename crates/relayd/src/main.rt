@@ -5,7 +5,7 @@ use relay_program::{command, hold_standard_streams, refuse_streams, refuse_words
 use std::process::ExitCode;
 use std::{env, io};
 
-/// Before any file is opened the standard streams are held.
+/// The standard streams are opened before any file.
 fn main(rt: HostRuntime) -> ExitCode {
     if hold_standard_streams(&rt).is_err() {
         return ExitCode::from(refuse_streams(&mut rt.stderr()));
@@ -25,8 +25,8 @@ fn main(rt: HostRuntime) -> ExitCode {
     ExitCode::from(status)
 }
 
-/// Returns the words that the program is started with, its own name first. Fails if memory runs out, and where a word
-/// isn't UTF-8.
+/// Returns the program's arguments, the first of which is its name. Fails if memory runs out, or if an argument isn't
+/// UTF-8.
 fn given_words(rt: &HostRuntime) -> io::Result<Vec<String>> {
     Ok(env::args(rt)?.collect(rt.alloc())?)
 }
