@@ -79,7 +79,7 @@ pub record IsOneReadable {S : Type 0} (arrivals : List (Option (Box (Arrival S) 
   pub number : ℕ
   pub readable : IsReadable arrivals number
 
--- Below: given what is known of the streams of connections.
+-- The words below are of what is known of the streams of connections.
 module _ {S : Type 0} (remaining contents : S → Option (List ℕ)) where
   -- more octets of a header arrived on a connection, and nothing was written to it
   pub record ReadsOn (old new : Arrival S) : Type 0 where
@@ -169,7 +169,7 @@ module _ {S : Type 0} (remaining contents : S → Option (List ℕ)) where
     pub others : OthersStay old new number
     pub new_is : IsNew stream balancer tick arrival.value
 
-  -- it was taken, or nothing has changed
+  -- it does, or nothing has changed
   abbrev pub Takes : S → SocketAddrV4 → ℕ → List (Option (Box (Arrival S) Global))
       → List (Option (Box (Arrival S) Global)) → Bool → Type 0
   Takes stream balancer tick old new true = IsTaken stream balancer tick old new

@@ -35,7 +35,7 @@ left_of (Lost loss) hop = None
 left_of TurnedAway hop = None
 left_of Void hop = None
 
--- this attempt has begun, at a time, for a message and a next hop
+-- this attempt has begun at a time for a message and a next hop
 pub record StartsFor {D : Type 0} (at message : ℕ) (name : List ℕ) (attempt : Option ℕ) (old new : RelayState D)
     : Type 0 where
   pub started : Started

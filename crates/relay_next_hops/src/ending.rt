@@ -1,4 +1,4 @@
-//! What follows the end of a connection to a next hop.
+//! What is left to be done where the connection to a next hop has ended.
 ghost use Rattle.std.specs.Prelude.{◌≡◌, None, Ok, OnOk, false, true};
 ghost use Rattle.relay_next_hops.specs.Lanes.{KeepsCounts, KeepsPlaces, OnlyLane};
 ghost use Rattle.relay_next_hops.specs.Losses.{EndsLost, IsRecordedOrRefused, Loses, LosesAttempt, LosesNot};
@@ -38,7 +38,7 @@ pub(crate) fn conclude<S: Stream + Drop, D: Disk>(
     )
 }
 
-/// Does what follows after an errand has ended and is no longer counted in its lane.
+/// Does what is left to be done for an errand that counts no more among its lane's.
 fn finish<S: Stream + Drop, D: Disk>(
     registry: &S::Registry,
     relay: &mut Relay<D>,
@@ -102,8 +102,8 @@ fn end_well<S: Stream + Drop>(
     lanes.note_leaving_of(lane, leaving);
 }
 
-/// Records that the attempt of an errand is lost. Puts a next hop on hold that has sent nothing. If it is on hold
-/// already, and the attempt hasn't begun, nothing is recorded.
+/// Records that the attempt of an errand is lost. A next hop that has said nothing is on hold then; and where it is
+/// already, an attempt that hasn't begun is none.
 pub(crate) fn lose<D: Disk>(
     relay: &mut Relay<D>,
     lanes: &mut Lanes,

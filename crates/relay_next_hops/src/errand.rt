@@ -1,4 +1,4 @@
-//! What connections to next hops are for, and how they end.
+//! What the connections to next hops are made for, and what becomes of them.
 ghost use Rattle.std.specs.Prelude.{◌≡◌};
 
 use crate::lane::Task;
@@ -24,7 +24,7 @@ pub(crate) struct Aim {
 }
 
 impl Aim {
-    /// Returns how many seconds ago the message was accepted, if that is known.
+    /// Returns how many seconds ago the message was accepted, where that is known.
     pub(crate) fn age(&self, now: &Now) -> Option<u64> {
         match self.accepted {
             Some(moment) => Some(now.moment.seconds().saturating_sub(moment.seconds())),

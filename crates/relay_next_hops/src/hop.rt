@@ -145,8 +145,8 @@ impl<S: Stream> Hop<S> {
         self.idle_deadline.min(self.answer_deadline)
     }
 
-    /// Does one thing: connects, waits for the greeting, writes, or reads what its attempt may hear then. The next hop
-    /// is shared if there are other connections to it, or were when this one was begun.
+    /// Does one thing more: makes the connection, awaits the greeting, writes what waits, or reads what its attempt may
+    /// hear then. The next hop is shared where other connections to it stand, or stood when this one was begun.
     pub(crate) fn attend<D: Disk>(
         &mut self,
         relay: &mut Relay<D>,

@@ -52,7 +52,7 @@ impl<S: Drop> Drop for Hops<S> {
 }
 
 impl<S: Stream + Drop> Hops<S> {
-    /// Returns an empty table. Fails if memory runs out.
+    /// None. Fails if memory runs out.
     pub(crate) fn new(alloc: Global) -> Result<Self, AllocError>
         ensures { IfOk result (λ hops. AreFree hops.hops) }
     {

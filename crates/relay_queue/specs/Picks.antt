@@ -1,4 +1,4 @@
--- What is listed: the queued recipients that pass the filter, by the times at which their messages were accepted.
+-- What is listed: the recipients that are queued and pass the filter, by when their messages were accepted.
 use Rattle.std.specs.Prelude.{ℕ, Bool, List, [], ◌∷◌, Option, None, Some, if◌then◌else◌}
 use Rattle.std.specs.List.{flat_map}
 use Rattle.relay_routes.specs.Routes.{RouteTable}

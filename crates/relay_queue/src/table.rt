@@ -82,7 +82,7 @@ pub(crate) fn table_text<D: Disk>(
     Ok(screen)
 }
 
-/// Returns the widths that the columns of texts need.
+/// How wide the columns of texts must be.
 fn widths_of<D: Disk>(records: &Records<D>, table: &Table, keys: &[Key]) -> Widths {
     let mut widths = Widths {
         reverse_path: 12,
@@ -220,7 +220,7 @@ pub(crate) fn tries_text(tries: u8) -> &'static [u8]
     }
 }
 
-/// Returns the sums of these recipients; those of one message must be adjacent.
+/// Returns the sums of these recipients, of which those of one message stand together.
 fn totals_of<D: Disk>(records: &Records<D>, keys: &[Key], now: Moment) -> Totals {
     let mut totals = Totals {
         messages: 0,
