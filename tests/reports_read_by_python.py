@@ -18,6 +18,8 @@ HOST = "relay.example"
 # How long a place waits before it is late, and before it fails, in seconds; the last moment that a date shows.
 LATENESS, PATIENCE, LAST_SECOND = 14_400, 432_000, 253_370_764_799
 STATUS_CODE = re.compile(r"5\.(0|[1-9][0-9]{0,2})\.(0|[1-9][0-9]{0,2})(?= |$)")
+RETURNED = "X-Postmaster; returned by the postmaster"
+REMOVED = "  It was removed from the queue by the postmaster."
 ESCAPE = re.compile(rb"\\(r|n|x[0-9A-F]{2})")
 
 
@@ -68,13 +70,14 @@ def plain(text):
 
 
 def action_of(kind, notify, waited):
-    """What is reported of a place that has waited so long: a failure unless NOTIFY leaves it out, what was taken
-    without DSN where NOTIFY has SUCCESS, and what is late and stays where it has DELAY."""
+    """What is reported of a place that has waited so long: a failure, also of what the postmaster returned, unless
+    NOTIFY leaves it out, what was taken without DSN where NOTIFY has SUCCESS, and what is late and stays where it has
+    DELAY."""
     if kind == 2:
         return "relayed" if notify & 2 else None
     if kind == 4 and waited < PATIENCE:
         return "delayed" if waited >= LATENESS and notify & 8 else None
-    return "failed" if kind in (3, 4, 5, 6) and notify in (0, 4, 5, 6, 7, 12, 14) else None
+    return "failed" if kind in (3, 4, 5, 6, 7) and notify in (0, 4, 5, 6, 7, 12, 14) else None
 
 
 def date_of(moment):
@@ -94,7 +97,7 @@ def fields_of(hop, place, kind, refusal, action, until, rich):
     if orcpt:
         kind_of_address, address = orcpt.split(";", 1)
         fields["Original-Recipient"] = f"{kind_of_address}; {plain(address)}"
-    fields["Status"] = {2: "2.0.0", 4: "4.4.7", 5: "5.6.3", 6: "5.1.2"}.get(kind) or status_of(refusal, rich)
+    fields["Status"] = {2: "2.0.0", 4: "4.4.7", 5: "5.6.3", 6: "5.1.2", 7: "5.0.0"}.get(kind) or status_of(refusal, rich)
     if action == "delayed":
         fields["Status"] = "4.0.0"
         if until <= LAST_SECOND:
@@ -103,6 +106,8 @@ def fields_of(hop, place, kind, refusal, action, until, rich):
         fields["Remote-MTA"] = f"dns; {hop}"
     if kind == 3:
         fields["Diagnostic-Code"] = f"smtp; {refusal[0]} {refusal[1]}".rstrip()
+    if kind == 7:
+        fields["Diagnostic-Code"] = RETURNED
     return fields
 
 
@@ -119,7 +124,8 @@ def check_people(lines, told, rich):
         first, *rest = block.split("\n")
         assert first == f"For <{fields['Final-Recipient'][8:]}>:"
         words = fields.get("Diagnostic-Code")
-        assert words is None or f"    {words[6:]}" in rest, "other words of the hop"
+        assert (REMOVED in rest) == (words == RETURNED), "other words of the postmaster"
+        assert words in (None, RETURNED) or f"    {words[6:]}" in rest, "other words of the hop"
         until = fields.get("Will-Retry-Until")
         assert until is None or f"  The relay keeps trying until {until}." in rest, "another end"
 
@@ -168,7 +174,8 @@ def check(row, text, sizes):
     assert len(of_places) == len(told), "other places"
     for found, wanted in zip(of_places, told):
         dated = "Last-Attempt-Date" in found
-        assert dated == (wanted["Status"] != "5.1.2"), "date of an attempt"
+        tried = wanted["Status"] != "5.1.2" and wanted.get("Diagnostic-Code") != RETURNED
+        assert dated == tried, "date of an attempt"
         assert {key: value for key, value in found.items() if key != "Last-Attempt-Date"} == wanted, f"{found.items()}"
     boundary = message.get_boundary().encode()
     header, *pieces = text.split(b"\r\n--" + boundary)
@@ -196,7 +203,7 @@ def main():
         shown, sizes = line.split(" | parts of ")
         check(words, octets_of(shown), [int(size) for size in sizes.split(", ")])
         count += 1
-    assert count >= 38, f"{count} reports"
+    assert count >= 40, f"{count} reports"
     print(f"{count} reports were read")
 
 

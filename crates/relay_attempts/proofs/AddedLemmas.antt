@@ -1,15 +1,18 @@
 -- An outcome with the report that is due of it fits the queue.
-use Rattle.std.proofs.Common.{◌≡◌, ◌↔◌, ◌⊎◌, inl, inr, ℕ, ◌+◌, ◌<◌, ◌≤◌, ◌^◌, false, List, [], length, Some, Option, MatchOption, Result, Ok, Err, IfErr, refl, sym, ap, ◌∙◌, subst, arith}
+use Rattle.std.proofs.Common.{◌≡◌, ◌↔◌, ◌⊎◌, inl, inr, ℕ, ◌+◌, ◌<◌, ◌≤◌, ◌^◌, ◌||◌, Bool, true, false, List, [], ◌∷◌, length, is_some, Some, Option, MatchOption, Result, Ok, Err, IfErr, refl, sym, ap, ◌∙◌, subst, arith}
 use Rattle.relay_trace.specs.declared.moment.TheConstants.{LAST_SECOND}
 use Rattle.relay_envelope.specs.HostName.{IsHostName}
 use Rattle.std.specs.List.{list_any}
 use Rattle.relay_book.specs.declared.version.Version.{Version}
+use Rattle.relay_book.specs.declared.version.Version.TheVariants.{WithDelay}
+use Rattle.relay_book.specs.declared.due_report.DueReport.{DueReport}
 use Rattle.relay_book.specs.declared.change.Outcome.{Outcome}
 use Rattle.relay_book.specs.declared.change.Ruling.{Ruling}
 use Rattle.relay_book.specs.declared.message.Message.{Message}
-use Rattle.relay_book.specs.Queue.{Queue, FitsMessage, message_of, reports_at}
+use Rattle.relay_book.specs.DueReport.{reports_delay}
+use Rattle.relay_book.specs.Queue.{Queue, FitsMessage, due_report_at, message_of, reports_at}
 use Rattle.relay_book.specs.Snapshot.{IsQueue}
-use Rattle.relay_book.proofs.Theorems.{found_is_queued}
+use Rattle.relay_book.proofs.Theorems.{found_is_queued, later_report_alike}
 use Rattle.relay_disk.specs.Device.{DiskWords}
 use Rattle.relay_book.specs.declared.change.Change.{Change}
 use Rattle.relay_book.specs.Record.{encode}
@@ -17,7 +20,7 @@ use Rattle.relay_records.specs.declared.fault.NodeFault.{NodeFault}
 use Rattle.relay_records.specs.declared.fault.NodeFault.TheVariants.{NoMemory, Stopped, Unknown, TooMany, NotDue, Busy, Open, Full, NoSecond}
 use Rattle.relay_records.specs.Records.{Kept, RefusesToAdd}
 use Rattle.relay_routes.specs.declared.report_form.ReportForm.{ReportForm}
-use Rattle.relay_report.specs.Report.{IsDueReport, IsReportedOf, ReportedFrom, Reporter, told_by}
+use Rattle.relay_report.specs.Report.{IsDueReport, IsReportedOf, ReportedFrom, Reporter, is_due, told_by}
 use Rattle.relay_report.proofs.Theorems.{due_report_fits}
 use Rattle.relay_attempts.specs.AddedOutcome.{HasNoRoom, NoNumber, TooLarge, IsReported, MayCome, RefusesOutcome, RulesOn, reported_as}
 
@@ -30,6 +33,15 @@ due_as form host number same_number message hop same_hop rulings same_rulings at
     subst (λ (l : List Ruling). IsDueReport (record { form = form; host = host; number = same_number; message = message; hop = same_hop; rulings = l; at = at }) text) r
     (subst (λ (l : List ℕ). IsDueReport (record { form = form; host = host; number = same_number; message = message; hop = l; rulings = rulings; at = at }) text) h
     (subst (λ (l : ℕ). IsDueReport (record { form = form; host = host; number = l; message = message; hop = hop; rulings = rulings; at = at }) text) n due))
+
+-- outcomes of later versions than the first report alike
+alike_reports : (version : Version) (message : Message) (at : ℕ) (rulings : List Ruling) → reports_delay version ≡ true
+    → list_any (reports_at version message at) rulings ≡ is_due message at rulings
+alike_reports version message at [] later = refl
+alike_reports version message at (ruling ∷ rulings) later =
+    ap (λ (o : Option DueReport). is_some o || list_any (reports_at version message at) rulings)
+    (later_report_alike version later message at ruling)
+    ∙ ap (λ (b : Bool). is_some (due_report_at WithDelay message at ruling) || b) (alike_reports version message at rulings later)
 
 pub is_reported : (reporter : Reporter) (queue : Queue) (outcome : Outcome) (message : Message) (text : List ℕ)
     → queue.next ≤ 2 ^ 62 → IsHostName reporter.host → outcome.at ≤ LAST_SECOND → MayCome queue outcome → IsQueue queue
@@ -60,8 +72,8 @@ is_reported reporter queue outcome message text next is_host moment comes valid 
               rulings = rules.rulings;
               hop = rules.hop;
               report =
-                  subst (λ (v : Version). (text ≡ []) ↔ (list_any (reports_at v message outcome.at) outcome.rulings ≡ false)) (sym comes.version)
-                  fit.0;
+                  subst (λ (b : Bool). (text ≡ []) ↔ (b ≡ false))
+                  (sym (alike_reports outcome.version message outcome.at outcome.rulings comes.version)) fit.0;
             }),
         record {
           message = comes.number;
@@ -70,6 +82,7 @@ is_reported reporter queue outcome message text next is_host moment comes valid 
           some = comes.some;
           within = comes.within;
           rulings = comes.rulings;
+          version = comes.verdicts;
           report = fit.1;
         },
       );

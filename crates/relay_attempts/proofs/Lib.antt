@@ -12,6 +12,7 @@ mod MessageLemmas
 mod StrandedLemmas
 mod AddedLemmas
 mod OutcomeLemmas
+mod WithdrawalLemmas
 mod OpenLemmas
 mod RulingLemmas
 mod ReplyLemmas

@@ -6,13 +6,14 @@ use Rattle.std.proofs.lemmas.Bool.{and_parts, cases_eq, ne_eqb, false≢true}
 use Rattle.relay_disk.specs.Device.{DiskWords}
 use Rattle.relay_slots.specs.Slots.{slot_at}
 use Rattle.relay_routes.specs.Routes.{RouteTable}
+use Rattle.relay_book.specs.declared.version.Version.TheVariants.{WithDelay}
 use Rattle.relay_book.specs.declared.change.Change.TheVariants as change
 use Rattle.relay_book.specs.declared.change.Outcome.{Outcome}
 use Rattle.relay_book.specs.declared.change.Ruling.{Ruling}
 use Rattle.relay_book.specs.declared.message.Message.{Message}
 use Rattle.relay_book.specs.declared.message.Place.{Place}
-use Rattle.relay_book.specs.Queue.{AllNoRoute, AreRulings, Queue, holds_at, is_held, message_after, message_of, reported, ruled, step}
-use Rattle.relay_book.specs.Record.{IsRuling}
+use Rattle.relay_book.specs.Queue.{AllWithoutHop, AreRulings, Queue, holds_at, is_held, message_after, message_of, reported, ruled, step}
+use Rattle.relay_book.specs.Record.{AreOfVersion, IsRuling}
 use Rattle.relay_records.specs.declared.fault.NodeFault.{NodeFault}
 use Rattle.relay_records.specs.declared.fault.NodeFault.TheVariants.{NoMemory, Stopped, Unknown, TooMany, NotDue, Busy, Open, Full, NoSecond}
 use Rattle.relay_records.specs.Records.{Kept}
@@ -45,9 +46,13 @@ unrouted_are_rulings : (places : List Place) (least : ℕ) (numbers : List ℕ) 
 unrouted_are_rulings places least [] held = tt
 unrouted_are_rulings places least (n ∷ numbers) held = (held.0, held.1, unrouted_are_rulings places (n + 1) numbers held.2)
 
-all_no_route : (numbers : List ℕ) → AllNoRoute (unrouted numbers)
-all_no_route [] = tt
-all_no_route (n ∷ numbers) = (refl, all_no_route numbers)
+unrouted_are_of_version : (numbers : List ℕ) → AreOfVersion WithDelay (unrouted numbers)
+unrouted_are_of_version [] = tt
+unrouted_are_of_version (n ∷ numbers) = (refl, unrouted_are_of_version numbers)
+
+all_without_hop : (numbers : List ℕ) → AllWithoutHop (unrouted numbers)
+all_without_hop [] = tt
+all_without_hop (n ∷ numbers) = (refl, all_without_hop numbers)
 
 each_may_be_stored : (places : List Place) (least : ℕ) (numbers : List ℕ) → length places ≤ 100 → AreHeld places least numbers → AllByRecursion IsRuling (unrouted numbers)
 each_may_be_stored places least [] few held = tt
@@ -78,7 +83,7 @@ unroutable_may_come table queue number at message outcome is fits found some few
       message =
           subst (λ (o : Option Message). MatchOption o ⊥ (RulesOn (unroutable table number at message))) (sym found) (record {
             rulings = unrouted_are_rulings message.places 0 (stranded_places table message) (stranded_are_held table message);
-            hop = ((λ _. all_no_route (stranded_places table message)), (λ _. refl));
+            hop = ((λ _. all_without_hop (stranded_places table message)), (λ _. refl));
           });
       hop = tt;
       some = let l = unrouted_length (stranded_places table message) in let s = some_length (stranded_places table message) some in omega (arith, l, s);
@@ -87,6 +92,7 @@ unroutable_may_come table queue number at message outcome is fits found some few
           let s = held_are_few message.places 0 (stranded_places table message) (stranded_are_held table message) in
           omega (arith, l, s, few);
       rulings = each_may_be_stored message.places 0 (stranded_places table message) few (stranded_are_held table message);
+      verdicts = unrouted_are_of_version (stranded_places table message);
     }
 
 -- no ruling of the outcome is for a place of these
@@ -107,7 +113,7 @@ first_is_held : (outcome : Outcome) (message : Message) (least : ℕ) (numbers :
 first_is_held outcome message least [] some held = absurd (some refl)
 first_is_held outcome message least (n ∷ numbers) some held = held_any (message_after outcome message).places n held.1
 
-some_is : {A : Type 0} (x y : A) → Some x ≡ Some y → x ≡ y
+pub some_is : {A : Type 0} (x y : A) → Some x ≡ Some y → x ≡ y
 some_is x y e = cc
 
 module _ (host : List ℕ) (table : RouteTable) (queue : Queue) (outcome : Outcome) where

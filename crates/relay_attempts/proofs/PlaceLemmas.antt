@@ -9,6 +9,7 @@ use Rattle.relay_book.specs.declared.message.Place.{Place}
 use Rattle.relay_book.specs.Queue.{is_due_at, is_held}
 use Rattle.relay_attempts.specs.Hops.{at_most, due_places_in, goes_to, is_due_for, is_stranded, places_where, stranded_places}
 use Rattle.relay_attempts.specs.Runs.{AllGoTo, AreHeld}
+use Rattle.relay_attempts.specs.Withdrawals.{is_held_of, is_named, named_places}
 
 lower : (all : List Place) (less least : ℕ) (numbers : List ℕ) → less ≤ least → AreHeld all least numbers → AreHeld all less numbers
 lower all less least [] below held = tt
@@ -80,3 +81,9 @@ pub stranded_are_held : (table : RouteTable) (message : Message) → AreHeld mes
 stranded_are_held table message =
     held_from (is_stranded table message.accept.envelope.recipients)
     (λ n place is. (and_parts place.held _ is).0) message.places 0 message.places (from_start message.places)
+
+-- the held places that are named are held
+pub named_are_held : (names : List ℕ) (message : Message) → AreHeld message.places 0 (named_places names message)
+named_are_held names message =
+    held_from (is_held_of names)
+    (λ n place is. (and_parts place.held (is_named names n) is).0) message.places 0 message.places (from_start message.places)

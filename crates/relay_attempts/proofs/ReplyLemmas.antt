@@ -1,5 +1,5 @@
 -- The outcome of an attempt fits the queue.
-use Rattle.std.proofs.Common.{◌≡◌, ◌≢◌, ℕ, suc, ◌+◌, ◌<◌, ◌≤◌, ◌^◌, Bool, false, List, [], ◌∷◌, length, Option, Some, MatchOption, refl, sym, ap, ◌∙◌, subst, arith}
+use Rattle.std.proofs.Common.{◌≡◌, ◌≢◌, ℕ, suc, ◌+◌, ◌<◌, ◌≤◌, ◌^◌, Bool, true, false, List, [], ◌∷◌, length, Option, Some, MatchOption, refl, sym, ap, ◌∙◌, subst, arith}
 use Rattle.std.specs.List.{AllByRecursion}
 use Rattle.std.proofs.lemmas.Bool.{false≢true}
 use Rattle.relay_routes.specs.Routes.{RouteTable}
@@ -7,10 +7,12 @@ use Rattle.relay_envelope.specs.HostName.{IsHostName}
 use Rattle.relay_envelope.specs.declared.envelope.Envelope.{Envelope}
 use Rattle.relay_book.specs.declared.change.Outcome.{Outcome}
 use Rattle.relay_book.specs.declared.change.Verdict.{Verdict}
+use Rattle.relay_book.specs.declared.change.Verdict.TheVariants.{Taken, Refused, Later, CantSend, NoRoute, Withdrawn}
+use Rattle.relay_book.specs.declared.version.Version.TheVariants.{WithDelay}
 use Rattle.relay_book.specs.declared.message.Message.{Message}
 use Rattle.relay_book.specs.declared.message.Place.{Place}
-use Rattle.relay_book.specs.Queue.{AllNoRoute, AreRulings, Queue, is_no_route, message_of}
-use Rattle.relay_book.specs.Record.{IsRuling, IsVerdict, MayBeHop}
+use Rattle.relay_book.specs.Queue.{AllWithoutHop, AreRulings, Queue, is_without_hop, message_of}
+use Rattle.relay_book.specs.Record.{AreOfVersion, IsRuling, IsVerdict, MayBeHop, is_of_version}
 use Rattle.relay_attempts.specs.AddedOutcome.{MayCome, RulesOn}
 use Rattle.relay_course.specs.Course.{IsCourse}
 use Rattle.relay_course.proofs.Theorems.{verdict_for_each_place, verdicts_are_of_a_hop, verdicts_may_be_stored}
@@ -46,15 +48,30 @@ may_be_stored places least (n ∷ numbers) (verdict ∷ verdicts) few held store
     )
 
 abbrev AreOfAHop : List Verdict → Type 0
-AreOfAHop verdicts = AllByRecursion (λ verdict. is_no_route verdict ≡ false) verdicts
+AreOfAHop verdicts = AllByRecursion (λ verdict. is_without_hop verdict ≡ false) verdicts
 
--- verdicts of a hop aren't for want of one
-not_no_route : (numbers : List ℕ) (verdicts : List Verdict) → numbers ≢ [] → length verdicts ≡ length numbers
-    → AreOfAHop verdicts → AllNoRoute (rulings_of numbers verdicts) → ⊥
-not_no_route [] verdicts some same hops none = some refl
-not_no_route (n ∷ numbers) [] some same hops none =
+-- verdicts of a hop aren't without one
+not_without_hop : (numbers : List ℕ) (verdicts : List Verdict) → numbers ≢ [] → length verdicts ≡ length numbers
+    → AreOfAHop verdicts → AllWithoutHop (rulings_of numbers verdicts) → ⊥
+not_without_hop [] verdicts some same hops none = some refl
+not_without_hop (n ∷ numbers) [] some same hops none =
     let long : 0 ≡ suc (length numbers) = same in omega (arith, long)
-not_no_route (n ∷ numbers) (verdict ∷ verdicts) some same hops none = false≢true (sym hops.0 ∙ none.0)
+not_without_hop (n ∷ numbers) (verdict ∷ verdicts) some same hops none = false≢true (sym hops.0 ∙ none.0)
+
+not_withdrawn : (verdict : Verdict) → is_without_hop verdict ≡ false → is_of_version WithDelay verdict ≡ true
+not_withdrawn (Taken dsn) hop = refl
+not_withdrawn (Refused code text) hop = refl
+not_withdrawn Later hop = refl
+not_withdrawn CantSend hop = refl
+not_withdrawn NoRoute hop = refl
+not_withdrawn (Withdrawn withdrawal) hop = absurd (false≢true (sym hop))
+
+-- nor are they the postmaster's
+are_of_version : (numbers : List ℕ) (verdicts : List Verdict) → AreOfAHop verdicts → AreOfVersion WithDelay (rulings_of numbers verdicts)
+are_of_version [] verdicts hops = tt
+are_of_version (n ∷ numbers) [] hops = tt
+are_of_version (n ∷ numbers) (verdict ∷ verdicts) hops =
+    (not_withdrawn verdict hops.0, are_of_version numbers verdicts hops.1)
 
 some_length : (numbers : List ℕ) → numbers ≢ [] → 1 ≤ length numbers
 some_length [] some = absurd (some refl)
@@ -84,7 +101,7 @@ ended_may_come host table queue run runs now verdicts outcome is fits name small
             rulings = are_rulings runs.message.places 0 numbers verdicts runs.held;
             hop = (
               (λ none. absurd (name_is_some run.hop name none)),
-              (λ none. absurd (not_no_route numbers verdicts runs.some same hops none)),
+              (λ none. absurd (not_without_hop numbers verdicts runs.some same hops none)),
             );
           });
       hop = name_is_hop run.hop name;
@@ -96,6 +113,7 @@ ended_may_come host table queue run runs now verdicts outcome is fits name small
       rulings =
           may_be_stored runs.message.places 0 numbers verdicts (small runs.message runs.found) runs.held
           (verdicts_may_be_stored host envelope text numbers input broken output verdicts course);
+      verdicts = are_of_version numbers verdicts hops;
     })
   where
     numbers : List ℕ

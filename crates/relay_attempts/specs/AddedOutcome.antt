@@ -1,14 +1,14 @@
 -- An outcome in the list of changes: it is added with the report that is owed, in one change (RFC 3461, section 5.2).
-use Rattle.std.specs.Prelude.{◌≡◌, ◌↔◌, ℕ, ◌+◌, ◌<◌, ◌≤◌, ◌^◌, List, [], length, MatchOption}
+use Rattle.std.specs.Prelude.{◌≡◌, ◌↔◌, ℕ, ◌+◌, ◌<◌, ◌≤◌, ◌^◌, true, List, [], length, MatchOption}
 use Rattle.std.specs.List.{AllByRecursion}
 use Rattle.relay_disk.specs.Device.{DiskWords}
-use Rattle.relay_book.specs.declared.version.Version.TheVariants.{WithDelay}
 use Rattle.relay_book.specs.declared.change.Change.{Change}
 use Rattle.relay_book.specs.declared.change.Change.TheVariants as change
 use Rattle.relay_book.specs.declared.change.Outcome.{Outcome}
 use Rattle.relay_book.specs.declared.message.Message.{Message}
-use Rattle.relay_book.specs.Queue.{Queue, AllNoRoute, AreRulings, FitsQueue, message_of}
-use Rattle.relay_book.specs.Record.{IsRuling, MayBeHop, encode}
+use Rattle.relay_book.specs.DueReport.{reports_delay}
+use Rattle.relay_book.specs.Queue.{Queue, AllWithoutHop, AreRulings, FitsQueue, message_of}
+use Rattle.relay_book.specs.Record.{AreOfVersion, IsRuling, MayBeHop, encode}
 use Rattle.relay_records.specs.Records.{Adds, Cuts, Grows, IsStopped, Kept}
 use Rattle.relay_records.specs.declared.fault.NodeFault.{NodeFault}
 use Rattle.relay_records.specs.declared.fault.NodeFault.TheVariants.{NoMemory, Stopped, Full}
@@ -18,21 +18,22 @@ use Rattle.relay_report.specs.Report.{Reported, ReportedFrom, Reporter}
 abbrev pub reported_as : Outcome → List ℕ → Change
 reported_as outcome report = change.Outcome (record outcome { report = report })
 
--- the verdicts are of held places of the message, which rise, and a hop is named unless no place had one
+-- the verdicts are of held places of the message, which rise, and a hop is named exactly if an attempt was made
 pub record RulesOn (outcome : Outcome) (message : Message) : Type 0 where
   pub rulings : AreRulings message.places 0 outcome.rulings
-  pub hop : (outcome.hop ≡ []) ↔ AllNoRoute outcome.rulings
+  pub hop : (outcome.hop ≡ []) ↔ AllWithoutHop outcome.rulings
 
--- But for its report, the outcome fits the queue, and is of the second version: its message is queued, and what it says
--- of it may be stored.
+-- But for its report, the outcome fits the queue, and is not of the first version: its message is queued, and what it
+-- says of it may be stored.
 pub record MayCome (queue : Queue) (outcome : Outcome) : Type 0 where
-  pub version : outcome.version ≡ WithDelay
+  pub version : reports_delay outcome.version ≡ true
   pub number : outcome.message < 2 ^ 64
   pub message : MatchOption (message_of queue.messages outcome.message) ⊥ (RulesOn outcome)
   pub hop : MayBeHop outcome.hop
   pub some : 1 ≤ length outcome.rulings
   pub within : length outcome.rulings ≤ 100
   pub rulings : AllByRecursion IsRuling outcome.rulings
+  pub verdicts : AreOfVersion outcome.version outcome.rulings
 
 -- the change is the outcome with the report that is owed, and fits the queue
 pub record IsReported (reporter : Reporter) (queue : Queue) (outcome : Outcome) (change : Change) : Type 0 where

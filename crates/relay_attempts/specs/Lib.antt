@@ -5,6 +5,7 @@ pub mod Work
 pub mod Next
 pub mod AddedOutcome
 pub mod Outcomes
+pub mod Withdrawals
 pub mod Attempts
 pub mod Reply
 pub mod Hearing

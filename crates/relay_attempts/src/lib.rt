@@ -14,6 +14,7 @@ mod reply;
 mod runs;
 mod start;
 mod stranded;
+mod withdraw;
 mod work;
 
 pub use attempts::Attempts;

@@ -1,13 +1,13 @@
 -- Where the octets are the record of no change; two changes have two records.
 use Rattle.std.proofs.Common.{◌≡◌, ◌≢◌, ℕ, ◌≤◌, List, [], ◌∷◌, drop, length, refl, sym, ap, ◌∙◌, arith}
 use Rattle.relay_book.specs.declared.version.Version.{Version}
-use Rattle.relay_book.specs.declared.version.Version.TheVariants.{WithoutDelay, WithDelay}
+use Rattle.relay_book.specs.declared.version.Version.TheVariants.{WithoutDelay, WithDelay, WithWithdrawal}
 use Rattle.relay_book.specs.declared.change.Accept.{Accept as AcceptFields}
 use Rattle.relay_book.specs.declared.change.Outcome.{Outcome as OutcomeFields}
 use Rattle.relay_book.specs.declared.change.Change.{Change}
 use Rattle.relay_book.specs.declared.change.Change.TheVariants.{Accept, Outcome}
 use Rattle.relay_book.specs.Record.{EncodingIsOne, IsAccept, IsChange, IsNoRecord, IsOutcome, accept_octets, encode, outcome_kind, outcome_octets, ret_number, written}
-use Rattle.relay_book.specs.Fields.{SpellsNoAccept, SpellsNoOutcome}
+use Rattle.relay_book.specs.Fields.{SpellsNoAccept, SpellsNoneOf}
 use Rattle.relay_book.proofs.CodeLemmas.{first_of}
 use Rattle.relay_book.proofs.AcceptLemmas.{accepts_are_one, spells_accept}
 use Rattle.relay_book.proofs.OutcomeLemmas.{same_as, spells_outcome}
@@ -16,12 +16,18 @@ use Rattle.relay_book.proofs.ValueLemmas.{envid_is_one, ret_is_one}
 pub kinds_are_one : (version other : Version) → outcome_kind version ≡ outcome_kind other → version ≡ other
 kinds_are_one WithoutDelay WithoutDelay e = refl
 kinds_are_one WithDelay WithDelay e = refl
+kinds_are_one WithWithdrawal WithWithdrawal e = refl
 kinds_are_one WithoutDelay WithDelay e = absurd (omega (arith, e))
+kinds_are_one WithoutDelay WithWithdrawal e = absurd (omega (arith, e))
 kinds_are_one WithDelay WithoutDelay e = absurd (omega (arith, e))
+kinds_are_one WithDelay WithWithdrawal e = absurd (omega (arith, e))
+kinds_are_one WithWithdrawal WithoutDelay e = absurd (omega (arith, e))
+kinds_are_one WithWithdrawal WithDelay e = absurd (omega (arith, e))
 
 kind_within : (version : Version) → (1 ≤ outcome_kind version) × (outcome_kind version ≡ 1 → ⊥)
 kind_within WithoutDelay = (omega arith, λ e. omega (arith, e))
 kind_within WithDelay = (omega arith, λ e. omega (arith, e))
+kind_within WithWithdrawal = (omega arith, λ e. omega (arith, e))
 
 kind_above : (change : Change) → 1 ≤ first_of (encode change)
 kind_above (Accept accept) = omega arith
@@ -40,12 +46,13 @@ no_octet text empty = record {
       omega (arith, kind, same, none);
 }
 
-pub no_kind : (text : List ℕ) (kind : ℕ) (fields : List ℕ) → text ≡ kind ∷ fields → kind ≢ 1 → kind ≢ 2 → kind ≢ 4 → IsNoRecord text
-no_kind text kind fields is one two four = record { none = λ change valid e. by change (ap first_of (sym is ∙ e)) }
+pub no_kind : (text : List ℕ) (kind : ℕ) (fields : List ℕ) → text ≡ kind ∷ fields → kind ≢ 1 → kind ≢ 2 → kind ≢ 4 → kind ≢ 6 → IsNoRecord text
+no_kind text kind fields is one two four six = record { none = λ change valid e. by change (ap first_of (sym is ∙ e)) }
   where
     of_version : (version : Version) → kind ≡ outcome_kind version → ⊥
     of_version WithoutDelay same = two same
     of_version WithDelay same = four same
+    of_version WithWithdrawal same = six same
 
     by : (change : Change) → kind ≡ first_of (encode change) → ⊥
     by (Accept accept) same = one same
@@ -62,12 +69,13 @@ no_accept text fields is out = record { none = λ change valid e. by change vali
     by (Outcome outcome) valid e =
         other_kind 1 fields (outcome_octets outcome) (outcome_kind outcome.version) e (λ same. (kind_within outcome.version).1 (sym same))
 
-pub no_outcome : (version : Version) (text fields : List ℕ) → text ≡ outcome_kind version ∷ fields → SpellsNoOutcome fields → IsNoRecord text
+pub no_outcome : (version : Version) (text fields : List ℕ) → text ≡ outcome_kind version ∷ fields → SpellsNoneOf version fields → IsNoRecord text
 no_outcome version text fields is out = record { none = λ change valid e. by change valid (sym is ∙ e) }
   where
     by : (change : Change) → IsChange change → outcome_kind version ∷ fields ≡ encode change → ⊥
     by (Accept accept) valid e = other_kind (outcome_kind version) fields (accept_octets accept) 1 e (kind_within version).1
-    by (Outcome outcome) valid e = out.none outcome valid (ap (drop 1) e)
+    by (Outcome outcome) valid e =
+        out.none outcome valid (kinds_are_one outcome.version version (sym (ap first_of e))) (ap (drop 1) e)
 
 accept_is_one : (accept other : AcceptFields) → IsAccept accept → IsAccept other → accept_octets accept ≡ accept_octets other → accept ≡ other
 accept_is_one accept other valid also e =

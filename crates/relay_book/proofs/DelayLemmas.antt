@@ -9,7 +9,7 @@ use Rattle.relay_book.specs.declared.due_report.DueReport.TheVariants.{OfDelay}
 use Rattle.relay_book.specs.declared.change.Accept.{Accept as AcceptFields}
 use Rattle.relay_book.specs.declared.change.Ruling.{Ruling}
 use Rattle.relay_book.specs.declared.change.Verdict.{Verdict}
-use Rattle.relay_book.specs.declared.change.Verdict.TheVariants.{Taken, Refused, Later, CantSend, NoRoute}
+use Rattle.relay_book.specs.declared.change.Verdict.TheVariants.{Taken, Refused, Later, CantSend, NoRoute, Withdrawn}
 use Rattle.relay_book.specs.declared.message.Place.{Place}
 use Rattle.relay_book.specs.declared.fate.Fate.TheVariants.{Waits, Late, Failed}
 use Rattle.relay_book.specs.DelayLaw.{is_delay}
@@ -99,6 +99,7 @@ marked_later version accept at n old (Taken dsn) held = absurd (false≢true hel
 marked_later version accept at n old (Refused code text) held = absurd (false≢true held)
 marked_later version accept at n old CantSend held = absurd (false≢true held)
 marked_later version accept at n old NoRoute held = absurd (false≢true held)
+marked_later version accept at n old (Withdrawn withdrawal) held = absurd (false≢true held)
 marked_later version accept at n old Later held =
     put_off version accept at n old (nat_le (accept.at + patience) at) (nat_le (accept.at + lateness) at)
     (slice_get accept.envelope.recipients n) held

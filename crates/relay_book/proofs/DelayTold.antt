@@ -10,7 +10,7 @@ use Rattle.relay_book.specs.declared.due_report.DueReport.{DueReport}
 use Rattle.relay_book.specs.declared.due_report.DueReport.TheVariants.{OfDelay}
 use Rattle.relay_book.specs.declared.change.Ruling.{Ruling}
 use Rattle.relay_book.specs.declared.change.Verdict.{Verdict}
-use Rattle.relay_book.specs.declared.change.Verdict.TheVariants.{Taken, Refused, Later, CantSend, NoRoute}
+use Rattle.relay_book.specs.declared.change.Verdict.TheVariants.{Taken, Refused, Later, CantSend, NoRoute, Withdrawn}
 use Rattle.relay_book.specs.declared.message.Message.{Message}
 use Rattle.relay_book.specs.declared.message.Place.{Place}
 use Rattle.relay_book.specs.declared.fate.Fate.{Fate}
@@ -137,6 +137,7 @@ module _ (version : Version) (message : Message) (at : ℕ) where
   told_by_verdict n Later = told_later n
   told_by_verdict n CantSend = refl
   told_by_verdict n NoRoute = refl
+  told_by_verdict n (Withdrawn withdrawal) = refl
 
   or_false : (b : Bool) → (b || false) ≡ b
   or_false true = refl

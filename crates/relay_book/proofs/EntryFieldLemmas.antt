@@ -7,7 +7,7 @@ use Rattle.relay_trace.specs.declared.moment.TheConstants.{LAST_SECOND}
 use Rattle.relay_envelope.specs.declared.envelope.Envelope.{Envelope}
 use Rattle.relay_envelope.specs.declared.envelope.Recipient.{Recipient}
 use Rattle.relay_envelope.specs.Envelope.{IsRecipient}
-use Rattle.relay_book.specs.declared.version.Version.{Version}
+use Rattle.relay_book.specs.declared.version.SnapshotVersion.{SnapshotVersion}
 use Rattle.relay_book.specs.declared.message.Place.{Place}
 use Rattle.relay_book.specs.declared.message.Message.{Message}
 use Rattle.relay_book.specs.Fields.{HasMailFields, HasNoCounted, HasNoFields, HasNone, IsMail, IsNoMail, SpellsFields}
@@ -29,7 +29,7 @@ message_from number at envelope recipients stored places = record {
   places = places;
 }
 
-module _ (version : Version) where
+module _ (version : SnapshotVersion) where
   -- what stands after a message's moment
   abbrev behind_moment : ℕ × Message → List ℕ → List ℕ
   behind_moment entry rest =

@@ -1,8 +1,8 @@
 -- A first body is a snapshot or the record of a first change, and never both.
 use Rattle.std.proofs.Common.{◌≡◌, ◌⊎◌, ◌==◌, ◌||◌, inl, inr, ℕ, Bool, true, false, List, [], ◌∷◌, Result, Ok, Err, OnOk, sym, ap, ◌∙◌, subst, arith}
 use Rattle.std.proofs.lemmas.Bool.{cases_Bool, eqb-true, false≢true}
-use Rattle.relay_book.specs.declared.version.Version.{Version}
-use Rattle.relay_book.specs.declared.version.Version.TheVariants.{WithoutDelay, WithDelay}
+use Rattle.relay_book.specs.declared.version.SnapshotVersion.{SnapshotVersion}
+use Rattle.relay_book.specs.declared.version.SnapshotVersion.TheVariants.{WithoutDelay, WithDelay}
 use Rattle.relay_book.specs.declared.change.Change.{Change}
 use Rattle.relay_book.specs.Record.{IsChange, IsNoRecord, encode}
 use Rattle.relay_book.specs.Queue.{Queue, FitsQueue, empty_queue, step}
@@ -16,7 +16,7 @@ use Rattle.relay_book.proofs.QueueLemmas.{step_is_queue}
 use Rattle.relay_book.proofs.StandLemmas.{fits_is_change, other_kinds, first_is_queue}
 use Rattle.relay_book.proofs.PieceLemmas.{kind_in_all}
 
-kind_is_of_snapshot : (octets : List ℕ) (version : Version) → first_of octets ≡ snapshot_kind version → is_of_snapshot octets ≡ true
+kind_is_of_snapshot : (octets : List ℕ) (version : SnapshotVersion) → first_of octets ≡ snapshot_kind version → is_of_snapshot octets ≡ true
 kind_is_of_snapshot [] WithoutDelay e = absurd (omega (arith, e))
 kind_is_of_snapshot [] WithDelay e = absurd (omega (arith, e))
 kind_is_of_snapshot (octet ∷ octets) WithoutDelay e = ap (λ n. n == 3 || n == 5) e
@@ -25,11 +25,11 @@ kind_is_of_snapshot (octet ∷ octets) WithDelay e = ap (λ n. n == 3 || n == 5)
 snapshot_is_of_snapshot : (octets : List ℕ) (queue : Queue) → IsSnapshotOf octets queue → is_of_snapshot octets ≡ true
 snapshot_is_of_snapshot octets queue is = kind_is_of_snapshot octets is.0 (kind_of is.0 octets queue is.1)
 
-of_version : (octets : List ℕ) → is_of_snapshot octets ≡ true → (version : Version) × (snapshot_kind version ≡ first_of octets)
+of_version : (octets : List ℕ) → is_of_snapshot octets ≡ true → (version : SnapshotVersion) × (snapshot_kind version ≡ first_of octets)
 of_version [] of = absurd (false≢true of)
 of_version (octet ∷ octets) of = by (cases_Bool (octet == 3))
   where
-    by : ((octet == 3) ≡ true) ⊎ ((octet == 3) ≡ false) → (version : Version) × (snapshot_kind version ≡ octet)
+    by : ((octet == 3) ≡ true) ⊎ ((octet == 3) ≡ false) → (version : SnapshotVersion) × (snapshot_kind version ≡ octet)
     by (inl first) = (WithoutDelay, sym (eqb-true octet 3 first))
     by (inr other) = (WithDelay, sym (eqb-true octet 5 (sym (ap (λ (b : Bool). b || octet == 5) other) ∙ of)))
 

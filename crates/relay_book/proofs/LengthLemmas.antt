@@ -7,7 +7,8 @@ use Rattle.relay_book.specs.declared.change.Accept.{Accept as AcceptFields}
 use Rattle.relay_book.specs.declared.change.Outcome.{Outcome as OutcomeFields}
 use Rattle.relay_book.specs.declared.change.Ruling.{Ruling}
 use Rattle.relay_book.specs.declared.change.Verdict.{Verdict}
-use Rattle.relay_book.specs.declared.change.Verdict.TheVariants.{Taken, Refused, Later, CantSend, NoRoute}
+use Rattle.relay_book.specs.declared.change.Withdrawal.TheVariants.{Return, Discard}
+use Rattle.relay_book.specs.declared.change.Verdict.TheVariants.{Taken, Refused, Later, CantSend, NoRoute, Withdrawn}
 use Rattle.relay_book.specs.declared.change.Change.TheVariants.{Accept, Outcome}
 use Rattle.relay_book.specs.Record.{IsAccept, IsOutcome, IsRuling, IsVerdict, accept_octets, counted, notify_number, octets_2, octets_4, octets_8, outcome_octets, recipient_octets, ret_number, ruling_octets, sized_2, sized_4, verdict_octets, written}
 use Rattle.relay_book.specs.StandsFor.{RecordIsShort}
@@ -73,6 +74,8 @@ verdict_short (Refused code text) valid = let fits = valid.text_fits in omega (a
 verdict_short Later valid = omega arith
 verdict_short CantSend valid = omega arith
 verdict_short NoRoute valid = omega arith
+verdict_short (Withdrawn Return) valid = omega arith
+verdict_short (Withdrawn Discard) valid = omega arith
 
 ruling_short : (ruling : Ruling) → IsRuling ruling → length (ruling_octets ruling) ≤ 205
 ruling_short ruling valid = let verdict = verdict_short ruling.verdict valid.verdict in omega (arith, verdict)

@@ -41,6 +41,7 @@ mod FirstLemmas
 mod StandLemmas
 mod MarkRowLemmas
 mod LeavingLemmas
+mod VersionLemmas
 mod LengthLemmas
 mod DueLemmas
 mod MomentLemmas

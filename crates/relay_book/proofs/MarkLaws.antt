@@ -8,8 +8,8 @@ use Rattle.relay_book.specs.declared.message.Place.{Place}
 use Rattle.relay_book.specs.declared.message.Message.{Message}
 use Rattle.relay_book.specs.Queue.{Queue, FitsFrom, Fitting, empty_queue, step, queue_of, held_of, holds_at, message_of}
 use Rattle.relay_book.specs.declared.fate.Way.{Way}
-use Rattle.relay_book.specs.declared.fate.Way.TheVariants.{ByTransfer, ByEnd}
-use Rattle.relay_book.specs.Marks.{change_at, made_by, Added, LeavesAt, Left, Held, Transferred, Ended, FoldHolds, FoldKnows, ExactlyOne, IsOneOf, First, Second, Third, OneMoreHolds, Leaving, IsNew}
+use Rattle.relay_book.specs.declared.fate.Way.TheVariants.{ByTransfer, ByEnd, ByWithdrawal}
+use Rattle.relay_book.specs.Marks.{change_at, made_by, Added, LeavesAt, Left, Held, Transferred, Ended, Withdrawn, FoldHolds, FoldKnows, ExactlyOne, IsOneOf, First, Second, Third, Fourth, OneMoreHolds, Leaving, IsNew}
 use Rattle.relay_book.specs.HeldLaw.{FoldFinds, holds_place}
 use Rattle.relay_book.proofs.PlaceLemmas.{none_some}
 use Rattle.relay_book.proofs.EntryLemmas.{holds, mark_held, held_mark}
@@ -68,6 +68,16 @@ held_added changes queue number place knows held = by (message_of queue.messages
         let places = knows.places number message is in
         (message.accept, knows.accept number message is, omega (arith, within, places))
 
+-- what is held has left in no way
+held_stays : (changes : List Change) (number place : ℕ) → Held changes number place → (way : Way) → Left changes number place way → ⊥
+held_stays changes number place held ByTransfer left = held.1 left
+held_stays changes number place held ByEnd left = held.2 left
+held_stays changes number place held (ByWithdrawal withdrawal) left = held.3 (withdrawal, left)
+
+-- what was added and has left in no way is held
+stays_held : (changes : List Change) (number place : ℕ) → Added changes number place → ((way : Way) → Left changes number place way → ⊥) → Held changes number place
+stays_held changes number place added none = (added, none ByTransfer, none ByEnd, λ left. none (ByWithdrawal left.0) left.1)
+
 pub fold_holds : FoldHolds
 fold_holds changes fitting number place = (there, back)
   where
@@ -76,35 +86,31 @@ fold_holds changes fitting number place = (there, back)
 
     there : Contains (held_of (queue_of changes)) (number, place) → Held changes number place
     there h =
-        let held = (held_mark 0 (queue_of changes).next (queue_of changes).messages number place stands.knows.rise h).0 in (
-          held_added changes (queue_of changes) number place stands.knows held,
-          (λ left. stands.tells.held number place ByTransfer held left),
-          (λ left. stands.tells.held number place ByEnd held left),
-        )
-
-    gone : Held changes number place → (way : Way) → Left changes number place way → ⊥
-    gone held ByTransfer left = held.1 left
-    gone held ByEnd left = held.2 left
+        let held = (held_mark 0 (queue_of changes).next (queue_of changes).messages number place stands.knows.rise h).0 in
+        stays_held changes number place (held_added changes (queue_of changes) number place stands.knows held)
+        (λ way left. stands.tells.held number place way held left)
 
     back : Held changes number place → Contains (held_of (queue_of changes)) (number, place)
     back held = by (cases_Bool (holds (queue_of changes).messages number place))
       where
         by : (holds (queue_of changes).messages number place ≡ true) ⊎ (holds (queue_of changes).messages number place ≡ false) → Contains (held_of (queue_of changes)) (number, place)
         by (inl here) = mark_held (queue_of changes).messages number place here
-        by (inr out) = let left = stands.tells.left number place held.0 out in absurd (gone held left.0 left.1)
+        by (inr out) = let left = stands.tells.left number place held.0 out in absurd (held_stays changes number place held left.0 left.1)
 
 pub fold_knows : FoldKnows
 fold_knows changes fitting number message is =
     let stands = stand changes fitting in
     record { number_is = stands.knows.number number message is; accept_is = stands.knows.accept number message is; places = stands.knows.places number message is }
 
-is_transfer : Way → Bool
-is_transfer ByTransfer = true
-is_transfer ByEnd = false
+abbrev way_tag : Way → ℕ
+way_tag ByTransfer = 0
+way_tag ByEnd = 1
+way_tag (ByWithdrawal withdrawal) = 2
 
-two_ways : ByTransfer ≡ ByEnd → ⊥
-unfolding is_transfer
-two_ways e = false≢true (sym (ap is_transfer e))
+-- a place is held, or left in one of the three ways
+abbrev IsInOneWay : List Change → ℕ → ℕ → Type 0
+IsInOneWay changes number place =
+    IsOneOf (Held changes number place) (Transferred changes number place) (Ended changes number place) (Withdrawn changes number place)
 
 pub exactly_one : ExactlyOne
 exactly_one changes fitting number place added = by (cases_Bool (holds (queue_of changes).messages number place))
@@ -112,16 +118,27 @@ exactly_one changes fitting number place added = by (cases_Bool (holds (queue_of
     stands : Stands changes (queue_of changes)
     stands = stand changes fitting
 
-    of_way : (way : Way) → Left changes number place way → IsOneOf (Held changes number place) (Transferred changes number place) (Ended changes number place)
-    of_way ByTransfer left = Second (λ held. held.1 left) left (λ other. two_ways (stands.tells.one number place ByTransfer ByEnd left other))
-    of_way ByEnd left = Third (λ held. held.2 left) (λ other. two_ways (stands.tells.one number place ByTransfer ByEnd other left)) left
+    not_held : (way : Way) → Left changes number place way → Held changes number place → ⊥
+    not_held way left held = held_stays changes number place held way left
 
-    by : (holds (queue_of changes).messages number place ≡ true) ⊎ (holds (queue_of changes).messages number place ≡ false)
-        → IsOneOf (Held changes number place) (Transferred changes number place) (Ended changes number place)
+    apart : (way other : Way) → Left changes number place way → (way_tag way ≡ way_tag other → ⊥) → Left changes number place other → ⊥
+    apart way other left off also = off (ap way_tag (stands.tells.one number place way other left also))
+
+    of_way : (way : Way) → Left changes number place way → IsInOneWay changes number place
+    of_way ByTransfer left =
+        Second (not_held ByTransfer left) left (apart ByTransfer ByEnd left (λ e. omega (arith, e)))
+        (λ other. apart ByTransfer (ByWithdrawal other.0) left (λ e. omega (arith, e)) other.1)
+    of_way ByEnd left =
+        Third (not_held ByEnd left) (apart ByEnd ByTransfer left (λ e. omega (arith, e))) left
+        (λ other. apart ByEnd (ByWithdrawal other.0) left (λ e. omega (arith, e)) other.1)
+    of_way (ByWithdrawal withdrawal) left =
+        Fourth (not_held (ByWithdrawal withdrawal) left) (apart (ByWithdrawal withdrawal) ByTransfer left (λ e. omega (arith, e)))
+        (apart (ByWithdrawal withdrawal) ByEnd left (λ e. omega (arith, e))) (withdrawal, left)
+
+    by : (holds (queue_of changes).messages number place ≡ true) ⊎ (holds (queue_of changes).messages number place ≡ false) → IsInOneWay changes number place
     by (inl held) =
-        let not_transferred = λ (left : Transferred changes number place). stands.tells.held number place ByTransfer held left in
-        let not_ended = λ (left : Ended changes number place). stands.tells.held number place ByEnd held left in
-        First (added, not_transferred, not_ended) not_transferred not_ended
+        let stays = stays_held changes number place added (λ way left. stands.tells.held number place way held left) in
+        First stays stays.1 stays.2 stays.3
     by (inr out) = let left = stands.tells.left number place added out in of_way left.0 left.1
 
 pub fits_before : (queue : Queue) (changes : List Change) (change : Change) → FitsFrom queue (changes ++ change ∷ []) → FitsFrom queue changes
@@ -143,27 +160,20 @@ one_more_holds changes change fitting number place = (there, back_again)
     there : Held (joined changes change) number place → (Held changes number place × (Leaving changes change number place → ⊥)) ⊎ IsNew changes change number place
     there held = by (cases_eq number (last changes))
       where
-        gone : (way : Way) → Left (joined changes change) number place way → ⊥
-        gone ByTransfer left = held.1 left
-        gone ByEnd left = held.2 left
-
         by : (number ≡ last changes) ⊎ (number ≡ last changes → ⊥) → (Held changes number place × (Leaving changes change number place → ⊥)) ⊎ IsNew changes change number place
         by (inl same) = inr (same, held.0)
         by (inr off) = inl (
-          (added_was changes change number place back off held.0, (λ left. held.1 (still ByTransfer left)), (λ left. held.2 (still ByEnd left))),
-          (λ leaving. gone leaving.0 (last changes, leaving.1)),
+          stays_held changes number place (added_was changes change number place back off held.0)
+              (λ way left. held_stays (joined changes change) number place held way (still way left)),
+          (λ leaving. held_stays (joined changes change) number place held leaving.0 (last changes, leaving.1)),
         )
 
     not_left : Held changes number place → (Leaving changes change number place → ⊥) → (way : Way) → Left (joined changes change) number place way → ⊥
     not_left held stays way left = by (cases_eq left.0 (last changes))
       where
-        gone : (way : Way) → Left changes number place way → ⊥
-        gone ByTransfer left = held.1 left
-        gone ByEnd left = held.2 left
-
         by : (left.0 ≡ last changes) ⊎ (left.0 ≡ last changes → ⊥) → ⊥
         by (inl same) = stays (way, subst (λ at. LeavesAt (joined changes change) at number place way) same left.1)
-        by (inr off) = gone way (left.0, leaves_was changes change left.0 number place way back off left.1)
+        by (inr off) = held_stays changes number place held way (left.0, leaves_was changes change left.0 number place way back off left.1)
 
     new_stays : number ≡ last changes → (way : Way) → Left (joined changes change) number place way → ⊥
     new_stays same way left =
@@ -173,12 +183,10 @@ one_more_holds changes change fitting number place = (there, back_again)
         omega (arith, same, later, within, parts)
 
     back_again : (Held changes number place × (Leaving changes change number place → ⊥)) ⊎ IsNew changes change number place → Held (joined changes change) number place
-    back_again (inl old) = (
-      added_other changes change number place back (added_before changes number place old.0.0) old.0.0,
-      not_left old.0 old.1 ByTransfer,
-      not_left old.0 old.1 ByEnd,
-    )
-    back_again (inr new) = (new.1, new_stays new.0 ByTransfer, new_stays new.0 ByEnd)
+    back_again (inl old) =
+        stays_held (joined changes change) number place
+        (added_other changes change number place back (added_before changes number place old.0.0) old.0.0) (not_left old.0 old.1)
+    back_again (inr new) = stays_held (joined changes change) number place new.1 (new_stays new.0)
 
 pub fold_finds : FoldFinds
 fold_finds changes fitting number place = (there, back)

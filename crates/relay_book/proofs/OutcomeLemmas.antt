@@ -4,8 +4,8 @@ use Rattle.relay_trace.specs.declared.moment.TheConstants.{LAST_SECOND}
 use Rattle.relay_book.specs.declared.version.Version.{Version}
 use Rattle.relay_book.specs.declared.change.Outcome.{Outcome as OutcomeFields}
 use Rattle.relay_book.specs.declared.change.Ruling.{Ruling}
-use Rattle.relay_book.specs.Record.{IsOutcome, IsRuling, MayBeHop, counted, octets_2, octets_4, octets_8, outcome_octets, ruling_octets, sized_2, sized_4}
-use Rattle.relay_book.specs.Fields.{AreSome, HasNoCounted, HasNoHead, HasNoSized, IsNoSized, SpellsHead, SpellsNoOutcome, SpellsOutcome}
+use Rattle.relay_book.specs.Record.{AreOfVersion, IsOutcome, IsRuling, MayBeHop, counted, octets_2, octets_4, octets_8, outcome_octets, ruling_octets, sized_2, sized_4}
+use Rattle.relay_book.specs.Fields.{AreSome, HasNoCounted, HasNoHead, HasNoSized, IsNoSized, SpellsHead, SpellsNoOutcome, SpellsNoneOf, SpellsOutcome}
 use Rattle.relay_book.proofs.CodeLemmas.{code_2, code_4, code_8, code_sized}
 use Rattle.relay_book.proofs.FitLemmas.{hop_fits}
 use Rattle.relay_book.proofs.AcceptLemmas.{long_8}
@@ -130,38 +130,50 @@ same_as text message at hop rulings report outcome spelled valid e =
     let fifth = code_sized octets_4 (2 ^ 32) code_4 report outcome.report [] [] spelled.report_fits (omega (arith, limit)) (append-nil (sized_4 report) ∙ fourth.1 ∙ sym (append-nil (sized_4 outcome.report))) in
     record { message_is = first.0; at_is = first.1; hop_is = first.2; rulings_are = fourth.0; report_is = fifth.0 }
 
+-- what is no outcome is none of a version
+pub none_of : (version : Version) (text : List ℕ) → SpellsNoOutcome text → SpellsNoneOf version text
+none_of version text out = record { none = λ outcome valid version_is e. out.none outcome valid e }
+
 -- where a field is not as it may be
-pub bad_moment : (text : List ℕ) (message at : ℕ) (hop : List ℕ) (rulings : List Ruling) (report : List ℕ) → SpellsOutcome text message at hop rulings report → LAST_SECOND < at → SpellsNoOutcome text
-bad_moment text message at hop rulings report spelled late = record {
-  none = λ outcome valid e.
+pub bad_moment : (version : Version) (text : List ℕ) (message at : ℕ) (hop : List ℕ) (rulings : List Ruling) (report : List ℕ) → SpellsOutcome text message at hop rulings report → LAST_SECOND < at → SpellsNoneOf version text
+bad_moment version text message at hop rulings report spelled late = record {
+  none = λ outcome valid version_is e.
       let same = (same_as text message at hop rulings report outcome spelled valid e).at_is in
       let moment = valid.moment in
       omega (arith, same, moment, late);
 }
 
-pub bad_hop : (text : List ℕ) (message at : ℕ) (hop : List ℕ) (rulings : List Ruling) (report : List ℕ) → SpellsOutcome text message at hop rulings report → (MayBeHop hop → ⊥) → SpellsNoOutcome text
-bad_hop text message at hop rulings report spelled out = record {
-  none = λ outcome valid e. out (subst MayBeHop (sym (same_as text message at hop rulings report outcome spelled valid e).hop_is) valid.hop);
+pub bad_hop : (version : Version) (text : List ℕ) (message at : ℕ) (hop : List ℕ) (rulings : List Ruling) (report : List ℕ) → SpellsOutcome text message at hop rulings report → (MayBeHop hop → ⊥) → SpellsNoneOf version text
+bad_hop version text message at hop rulings report spelled out = record {
+  none = λ outcome valid version_is e. out (subst MayBeHop (sym (same_as text message at hop rulings report outcome spelled valid e).hop_is) valid.hop);
 }
 
-pub bad_report : (text : List ℕ) (message at : ℕ) (hop : List ℕ) (rulings : List Ruling) (report : List ℕ) → SpellsOutcome text message at hop rulings report → 2 ^ 26 < length report → SpellsNoOutcome text
-bad_report text message at hop rulings report spelled long = record {
-  none = λ outcome valid e.
+pub bad_report : (version : Version) (text : List ℕ) (message at : ℕ) (hop : List ℕ) (rulings : List Ruling) (report : List ℕ) → SpellsOutcome text message at hop rulings report → 2 ^ 26 < length report → SpellsNoneOf version text
+bad_report version text message at hop rulings report spelled long = record {
+  none = λ outcome valid version_is e.
       let same = ap length (same_as text message at hop rulings report outcome spelled valid e).report_is in
       let limit = valid.report in
       omega (arith, same, limit, long);
 }
 
+pub bad_verdicts : (version : Version) (text : List ℕ) (message at : ℕ) (hop : List ℕ) (rulings : List Ruling) (report : List ℕ) → SpellsOutcome text message at hop rulings report → (AreOfVersion version rulings → ⊥) → SpellsNoneOf version text
+bad_verdicts version text message at hop rulings report spelled out = record {
+  none = λ outcome valid version_is e.
+      out (subst (λ (v : Version). AreOfVersion v rulings) version_is
+      (subst (AreOfVersion outcome.version) (sym (same_as text message at hop rulings report outcome spelled valid e).rulings_are) valid.version));
+}
+
 pub is_outcome : (version : Version) (text : List ℕ) (message at : ℕ) (hop : List ℕ) (rulings : List Ruling) (report : List ℕ) → SpellsOutcome text message at hop rulings report
-    → at ≤ LAST_SECOND → MayBeHop hop → length report ≤ 2 ^ 26
+    → at ≤ LAST_SECOND → MayBeHop hop → length report ≤ 2 ^ 26 → AreOfVersion version rulings
     → IsOutcome (record { version = version; message = message; at = at; hop = hop; rulings = rulings; report = report })
-is_outcome version text message at hop rulings report spelled moment may short = record {
+is_outcome version text message at hop rulings report spelled moment may short verdicts = record {
   message = spelled.message_fits;
   moment = moment;
   hop = may;
   some = spelled.are_rulings.some;
   within = spelled.are_rulings.within;
   rulings = spelled.are_rulings.valid;
+  version = verdicts;
   report = short;
 }
 
@@ -171,22 +183,23 @@ outcome_is version text message at hop rulings report spelled = spelled.text_is
 
 -- the outcome that was made of the fields
 pub outcome_found : (version : Version) (text : List ℕ) (message at : ℕ) (hop : List ℕ) (rulings : List Ruling) (report : List ℕ) (moment : ℕ) (copy : List ℕ) (all : List Ruling) (other : List ℕ)
-    → SpellsOutcome text message at hop rulings report → moment ≡ at → moment ≤ LAST_SECOND → MayBeHop hop → length report ≤ 2 ^ 26 → copy ≡ hop → all ≡ rulings → other ≡ report
+    → SpellsOutcome text message at hop rulings report → moment ≡ at → moment ≤ LAST_SECOND → MayBeHop hop → length report ≤ 2 ^ 26 → AreOfVersion version rulings → copy ≡ hop → all ≡ rulings → other ≡ report
     → IsOutcome (record { version = version; message = message; at = moment; hop = copy; rulings = all; report = other })
     × (text ≡ outcome_octets (record { version = version; message = message; at = moment; hop = copy; rulings = all; report = other }))
-outcome_found version text message at hop rulings report moment copy all other spelled moment_is late may short copy_is all_are other_is =
+outcome_found version text message at hop rulings report moment copy all other spelled moment_is late may short verdicts copy_is all_are other_is =
     let given : OutcomeFields = record { version = version; message = message; at = at; hop = hop; rulings = rulings; report = report } in
     let made : given ≡ record { version = version; message = message; at = moment; hop = copy; rulings = all; report = other } =
     (λ i. record { version = version; message = message; at = sym moment_is i; hop = sym copy_is i; rulings = sym all_are i; report = sym other_is i }) in (
-      subst IsOutcome made (is_outcome version text message at hop rulings report spelled (omega (arith, moment_is, late)) may short),
+      subst IsOutcome made (is_outcome version text message at hop rulings report spelled (omega (arith, moment_is, late)) may short verdicts),
       subst (λ (o : OutcomeFields). text ≡ outcome_octets o) made (outcome_is version text message at hop rulings report spelled),
     )
 
-pub may_be_stored : (outcome : OutcomeFields) → outcome.message < 2 ^ 64 → outcome.at ≤ LAST_SECOND → MayBeHop outcome.hop → AreSome IsRuling outcome.rulings → length outcome.report ≤ 2 ^ 26 → IsOutcome outcome
-may_be_stored outcome message moment hop some report = record { message = message; moment = moment; hop = hop; some = some.some; within = some.within; rulings = some.valid; report = report }
+pub may_be_stored : (outcome : OutcomeFields) → outcome.message < 2 ^ 64 → outcome.at ≤ LAST_SECOND → MayBeHop outcome.hop → AreSome IsRuling outcome.rulings → AreOfVersion outcome.version outcome.rulings → length outcome.report ≤ 2 ^ 26 → IsOutcome outcome
+may_be_stored outcome message moment hop some version report =
+    record { message = message; moment = moment; hop = hop; some = some.some; within = some.within; rulings = some.valid; version = version; report = report }
 
 -- the head of an outcome, or octets without one
 pub ruleset outcome_heads = (no_message, no_moment, no_hop, head_is)
 
 -- fields that are judged: no outcome, or one
-pub ruleset judged_outcomes = (bad_moment, bad_hop, bad_report, is_outcome, outcome_is)
+pub ruleset judged_outcomes = (bad_moment, bad_hop, bad_report, bad_verdicts, is_outcome, outcome_is)

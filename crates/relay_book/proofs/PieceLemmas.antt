@@ -3,7 +3,7 @@ use Rattle.std.proofs.Common.{◌≡◌, ◌⊎◌, inl, inr, ℕ, suc, ◌-◌,
 use Rattle.std.proofs.lemmas.Bool.{cases_lt}
 use Rattle.std.proofs.lemmas.List.{drop_at, take-append-le, take_at}
 use Rattle.relay_pieces.specs.Pieces.{InPieces, text_of}
-use Rattle.relay_book.specs.declared.version.Version.{Version}
+use Rattle.relay_book.specs.declared.version.SnapshotVersion.{SnapshotVersion}
 use Rattle.relay_book.specs.Fields.{HasNone}
 use Rattle.relay_book.specs.Record.{octets_4, octets_8}
 use Rattle.relay_book.specs.Snapshot.{snapshot_kind}
@@ -42,14 +42,14 @@ pub none_in_all : {A : Type 0} (Valid : A → Type 0) (octets_of : A → List �
 none_in_all Valid octets_of text pieces out none same = subst (HasNone Valid octets_of) (sym (text_is_front pieces none) ∙ same) out
 
 -- what stands before the messages of a snapshot
-head : Version → ℕ → ℕ → List ℕ
+head : SnapshotVersion → ℕ → ℕ → List ℕ
 head version next count = snapshot_kind version ∷ (octets_8 next ++ octets_4 count)
 
 length_4 : (n : ℕ) → length (octets_4 n) ≡ 4
 unfolding octets_4
 length_4 n = refl
 
-head_long : (version : Version) (next count : ℕ) → length (head version next count) ≡ 13
+head_long : (version : SnapshotVersion) (next count : ℕ) → length (head version next count) ≡ 13
 unfolding head
 head_long version next count =
     let all : length (snapshot_kind version ∷ (octets_8 next ++ octets_4 count)) ≡ suc (length (octets_8 next ++ octets_4 count)) = refl in
@@ -58,16 +58,16 @@ head_long version next count =
     let four = length_4 count in
     omega (arith, all, parts, eight, four)
 
-head_and_rest : (version : Version) (next count : ℕ) (rest : List ℕ) → snapshot_kind version ∷ (octets_8 next ++ (octets_4 count ++ rest)) ≡ head version next count ++ rest
+head_and_rest : (version : SnapshotVersion) (next count : ℕ) (rest : List ℕ) → snapshot_kind version ∷ (octets_8 next ++ (octets_4 count ++ rest)) ≡ head version next count ++ rest
 unfolding head
 head_and_rest version next count rest = λ i. snapshot_kind version ∷ sym (append_assoc (octets_8 next) (octets_4 count) rest) i
 
-pub head_behind : (version : Version) (front : List ℕ) (next count : ℕ) (rest : List ℕ) → SpellsSnapshot version front next count rest → length rest ≤ length front
+pub head_behind : (version : SnapshotVersion) (front : List ℕ) (next count : ℕ) (rest : List ℕ) → SpellsSnapshot version front next count rest → length rest ≤ length front
 head_behind version front next count rest spelled =
     behind_first front (head version next count) rest (spelled.octets_are ∙ head_and_rest version next count rest)
 
 -- the head that stands at the front of what is held is that of the text
-pub head_in_all : (version : Version) (text : List ℕ) (old new : InPieces) (next count : ℕ) (rest : List ℕ) → SpellsSnapshot version old.front next count rest → text_of old ≡ text
+pub head_in_all : (version : SnapshotVersion) (text : List ℕ) (old new : InPieces) (next count : ℕ) (rest : List ℕ) → SpellsSnapshot version old.front next count rest → text_of old ≡ text
     → new.front ≡ drop (length old.front - length rest) old.front → new.behind ≡ old.behind → SpellsSnapshot version text next count (text_of new)
 head_in_all version text old new next count rest spelled same left stays = record {
   octets_are = sym same ∙ first_behind old new (head version next count) rest (spelled.octets_are ∙ head_and_rest version next count rest) left stays

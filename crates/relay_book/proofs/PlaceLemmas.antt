@@ -9,7 +9,7 @@ use Rattle.relay_book.specs.declared.change.Ruling.{Ruling}
 use Rattle.relay_book.specs.declared.change.Verdict.{Verdict}
 use Rattle.relay_book.specs.declared.message.Place.{Place}
 use Rattle.relay_book.specs.declared.fate.Fate.{Fate}
-use Rattle.relay_book.specs.declared.fate.Fate.TheVariants.{Waits, Late, Failed, Relayed}
+use Rattle.relay_book.specs.declared.fate.Fate.TheVariants.{Waits, Late, Failed, Relayed, Removed}
 use Rattle.relay_book.specs.declared.fate.Way.{Way}
 use Rattle.relay_book.specs.declared.due_report.DueReport.{DueReport}
 use Rattle.relay_book.specs.DueReport.{due_for, fate_of, way_of}
@@ -73,6 +73,7 @@ held_after at place Waits due = refl
 held_after at place Late due = refl
 held_after at place Failed due = refl
 held_after at place (Relayed dsn) due = refl
+held_after at place (Removed withdrawal) due = refl
 
 after_here : (version : Version) (accept : AcceptFields) (at : ℕ) (places : List Place) (ruling : Ruling) → holds_at places ruling.place ≡ true
     → holds_at (places_after version accept at places ruling) ruling.place ≡ stays (way_of (fate_of accept.at at ruling.verdict))

@@ -4,8 +4,8 @@ use Rattle.std.specs.List.{flat_map, zip}
 use Rattle.std.proofs.lemmas.Slice.Zip.{length-zip}
 use Rattle.relay_envelope.specs.declared.envelope.Recipient.{Recipient}
 use Rattle.relay_envelope.specs.Envelope.{IsRecipient}
-use Rattle.relay_book.specs.declared.version.Version.{Version}
-use Rattle.relay_book.specs.declared.version.Version.TheVariants.{WithoutDelay, WithDelay}
+use Rattle.relay_book.specs.declared.version.SnapshotVersion.{SnapshotVersion}
+use Rattle.relay_book.specs.declared.version.SnapshotVersion.TheVariants.{WithoutDelay, WithDelay}
 use Rattle.relay_book.specs.declared.message.Place.{Place}
 use Rattle.relay_book.specs.Fields.{AreSoMany, HasNone, HasNoRow}
 use Rattle.relay_book.specs.Record.{counted, octets_8, recipient_octets, worth}
@@ -60,13 +60,13 @@ none_said text empty = record {
 }
 
 -- a version says one number of a delay
-pub delay_is_one : (version : Version) (delayed other : ℕ) (x y : List ℕ) → CountsAs version delayed → CountsAs version other
+pub delay_is_one : (version : SnapshotVersion) (delayed other : ℕ) (x y : List ℕ) → CountsAs version delayed → CountsAs version other
     → delay_octets version delayed ++ x ≡ delay_octets version other ++ y → (delayed ≡ other) × (x ≡ y)
 delay_is_one WithoutDelay delayed other x y counts also e = (counts ∙ sym also, e)
 delay_is_one WithDelay delayed other x y counts also e = same_head delayed other x y e
 
 -- what may be said counts as it is
-pub said_counts : (version : Version) (delayed : Bool) → MaySay version delayed → CountsAs version (worth delayed 1)
+pub said_counts : (version : SnapshotVersion) (delayed : Bool) → MaySay version delayed → CountsAs version (worth delayed 1)
 said_counts WithoutDelay delayed may = ap (λ (b : Bool). worth b 1) may
 said_counts WithDelay delayed may = tt
 
@@ -74,11 +74,11 @@ worth_is_none : (delayed : Bool) → worth delayed 1 ≡ 0 → delayed ≡ false
 worth_is_none false is = refl
 worth_is_none true is = absurd (omega (arith, is))
 
-pub counted_may : (version : Version) (delayed : Bool) (number : ℕ) → CountsAs version number → number ≡ worth delayed 1 → MaySay version delayed
+pub counted_may : (version : SnapshotVersion) (delayed : Bool) (number : ℕ) → CountsAs version number → number ≡ worth delayed 1 → MaySay version delayed
 counted_may WithoutDelay delayed number counts is = worth_is_none delayed (sym is ∙ counts)
 counted_may WithDelay delayed number counts is = tt
 
-module _ (version : Version) where
+module _ (version : SnapshotVersion) where
   -- where a field of a place is missing
   pub no_octet : (text : List ℕ) → length text ≡ 0 → HasNoPlaceFields version text
   no_octet text empty = record {
@@ -169,7 +169,7 @@ module _ (version : Version) where
   is_place_by text held laters delayed due rest place one is has =
       record { is = is; may = counted_may version place.delayed delayed one.counts has.delayed_is }
 
-module _ (version : Version) where
+module _ (version : SnapshotVersion) where
   -- a recipient and its place
   pub no_recipient : (text : List ℕ) → HasNone IsRecipient recipient_octets text → HasNone (IsPlacedBy version) (placed_octets version) text
   no_recipient text out = record {
@@ -200,7 +200,7 @@ zip_last (first ∷ recipients) [] recipient place many = absurd (omega (arith, 
 zip_last (first ∷ recipients) (other ∷ places) recipient place many =
     ap (λ (l : List (Recipient × Place)). (first, other) ∷ l) (zip_last recipients places recipient place (omega (arith, many)))
 
-module _ (version : Version) where
+module _ (version : SnapshotVersion) where
   pub no_row_read : (text : List ℕ) → ReadsRow version 0 text [] [] text
   no_row_read text = record { as_many = refl; are = record { so_many = refl; valid = tt }; text_is = refl }
 

@@ -12,7 +12,7 @@ use Rattle.relay_book.specs.declared.change.Ruling.{Ruling}
 use Rattle.relay_book.specs.declared.change.Change.{Change}
 use Rattle.relay_book.specs.declared.change.Change.TheVariants.{Accept, Outcome}
 use Rattle.relay_book.specs.declared.fate.Fate.{Fate}
-use Rattle.relay_book.specs.declared.fate.Fate.TheVariants.{Waits, Late, Failed, Relayed}
+use Rattle.relay_book.specs.declared.fate.Fate.TheVariants.{Waits, Late, Failed, Relayed, Removed}
 use Rattle.relay_book.specs.declared.due_report.DueReport.{DueReport}
 use Rattle.relay_book.specs.declared.message.Message.{Message}
 use Rattle.relay_book.specs.declared.message.Place.{Place}
@@ -47,6 +47,7 @@ after_is_place at place Waits due moment = waiting_is_place at place due moment
 after_is_place at place Late due moment = waiting_is_place at place due moment
 after_is_place at place Failed due moment = left_is_place
 after_is_place at place (Relayed dsn) due moment = left_is_place
+after_is_place at place (Removed withdrawal) due moment = left_is_place
 
 all_set : (places : List Place) (n : ℕ) (place : Place) → AllByRecursion IsPlace places → IsPlace place → AllByRecursion IsPlace (slice_set places n place)
 all_set [] n place all is = tt

@@ -3,7 +3,8 @@ use Rattle.std.proofs.Common.{◌≡◌, ℕ, suc, ◌+◌, ◌<◌, ◌≤◌, 
 use Rattle.std.specs.List.{AllPass}
 use Rattle.std.specs.Int.{is_in_range}
 use Rattle.relay_book.specs.declared.change.Verdict.{Verdict}
-use Rattle.relay_book.specs.declared.change.Verdict.TheVariants.{Taken, Refused, Later, CantSend, NoRoute}
+use Rattle.relay_book.specs.declared.change.Withdrawal.TheVariants.{Return, Discard}
+use Rattle.relay_book.specs.declared.change.Verdict.TheVariants.{Taken, Refused, Later, CantSend, NoRoute, Withdrawn}
 use Rattle.relay_book.specs.Record.{IsRefusal, IsRuling, IsVerdict, octets_2, ruling_octets, verdict_octets}
 use Rattle.relay_book.specs.Fields.{HasNoRefusal, HasNone, refusal_octets}
 use Rattle.relay_book.proofs.CodeLemmas.{first_of, code_2, fronts, short_of_2}
@@ -73,8 +74,8 @@ none_bad text code len field rest is small len_is out = record {
       out (subst (AllPass (is_in_range 32 126)) (sym parts.0) valid.printable);
 }
 
--- verdicts by their numbers, from 1 to 6
-tag_within : (verdict : Verdict) → (1 ≤ tag verdict) × (tag verdict ≤ 6)
+-- verdicts by their numbers, from 1 to 8
+tag_within : (verdict : Verdict) → (1 ≤ tag verdict) × (tag verdict ≤ 8)
 unfolding tag
 tag_within (Taken true) = (omega arith, omega arith)
 tag_within (Taken false) = (omega arith, omega arith)
@@ -82,6 +83,8 @@ tag_within (Refused code text) = (omega arith, omega arith)
 tag_within Later = (omega arith, omega arith)
 tag_within CantSend = (omega arith, omega arith)
 tag_within NoRoute = (omega arith, omega arith)
+tag_within (Withdrawn Return) = (omega arith, omega arith)
+tag_within (Withdrawn Discard) = (omega arith, omega arith)
 
 pub no_tag : (text : List ℕ) → length text ≡ 0 → HasNone IsVerdict verdict_octets text
 no_tag text empty = record {
@@ -97,7 +100,7 @@ no_tag text empty = record {
     head_of_empty [] empty = refl
     head_of_empty (octet ∷ octets) empty = omega (arith, empty)
 
-pub other_tag : (text : List ℕ) (number : ℕ) (rest : List ℕ) → text ≡ number ∷ rest → (1 ≤ number → number ≤ 6 → ⊥) → HasNone IsVerdict verdict_octets text
+pub other_tag : (text : List ℕ) (number : ℕ) (rest : List ℕ) → text ≡ number ∷ rest → (1 ≤ number → number ≤ 8 → ⊥) → HasNone IsVerdict verdict_octets text
 other_tag text number rest is out = record {
   none = λ verdict more valid e.
       let within = tag_within verdict in
@@ -118,6 +121,8 @@ no_refusal text rest is out = record { none = λ verdict more valid e. by verdic
     by Later more valid e = other 4 rest more e (λ same. omega (arith, same))
     by CantSend more valid e = other 5 rest more e (λ same. omega (arith, same))
     by NoRoute more valid e = other 6 rest more e (λ same. omega (arith, same))
+    by (Withdrawn Return) more valid e = other 7 rest more e (λ same. omega (arith, same))
+    by (Withdrawn Discard) more valid e = other 8 rest more e (λ same. omega (arith, same))
 
 -- places
 pub no_place : (text : List ℕ) → length text ≡ 0 → HasNone IsRuling ruling_octets text

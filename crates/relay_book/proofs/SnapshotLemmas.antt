@@ -4,8 +4,8 @@ use Rattle.std.specs.List.{AllByRecursion, flat_map, zip}
 use Rattle.std.proofs.lemmas.Slice.Zip.{length-zip, firsts-zip, seconds-zip}
 use Rattle.relay_envelope.specs.declared.envelope.Recipient.{Recipient}
 use Rattle.relay_envelope.specs.Envelope.{IsRecipient}
-use Rattle.relay_book.specs.declared.version.Version.{Version}
-use Rattle.relay_book.specs.declared.version.Version.TheVariants.{WithoutDelay, WithDelay}
+use Rattle.relay_book.specs.declared.version.SnapshotVersion.{SnapshotVersion}
+use Rattle.relay_book.specs.declared.version.SnapshotVersion.TheVariants.{WithoutDelay, WithDelay}
 use Rattle.relay_book.specs.declared.message.Place.{Place}
 use Rattle.relay_book.specs.declared.message.Message.{Message}
 use Rattle.relay_book.specs.Fields.{AreSome}
@@ -26,14 +26,14 @@ held_is_one true false e = absurd (omega (arith, e))
 held_is_one false true e = absurd (omega (arith, e))
 
 -- what one version says of a delay is one
-pub code_delay : (version : Version) (delayed other : Bool) (x y : List ℕ) → MaySay version delayed → MaySay version other
+pub code_delay : (version : SnapshotVersion) (delayed other : Bool) (x y : List ℕ) → MaySay version delayed → MaySay version other
     → delay_octets version (worth delayed 1) ++ x ≡ delay_octets version (worth other 1) ++ y → (delayed ≡ other) × (x ≡ y)
 code_delay WithoutDelay delayed other x y may also e = (may ∙ sym also, e)
 code_delay WithDelay delayed other x y may also e =
     let same = same_head (worth delayed 1) (worth other 1) x y e in
     (held_is_one delayed other same.0, same.1)
 
-pub code_place : (version : Version) → IsCode (IsPlaceBy version) (place_octets version)
+pub code_place : (version : SnapshotVersion) → IsCode (IsPlaceBy version) (place_octets version)
 code_place version a b x y ha hb e =
     let said = delay_octets version (worth a.delayed 1) in
     let other = delay_octets version (worth b.delayed 1) in
@@ -45,7 +45,7 @@ code_place version a b x y ha hb e =
     let held = held_is_one a.held b.held first.0 in
     ((λ i. record { held = held i; laters = second.0 i; delayed = third.0 i; due = fourth.0 i }), fourth.1)
 
-module _ (version : Version) where
+module _ (version : SnapshotVersion) where
   pub code_placed : IsCode (IsPlacedBy version) (placed_octets version)
   code_placed a b x y ha hb e =
       let first = code_recipient a.0 b.0 (place_octets version a.1 ++ x) (place_octets version b.1 ++ y) ha.recipient hb.recipient
@@ -196,7 +196,7 @@ module _ (version : Version) where
 pub next_fits : (queue : Queue) → IsQueue queue → queue.next < 2 ^ 64
 next_fits queue is = let next = is.next in omega (arith, next)
 
-one_by_version : (version : Version) (octets : List ℕ) (queue other : Queue) → IsSnapshotBy version octets queue → IsSnapshotBy version octets other
+one_by_version : (version : SnapshotVersion) (octets : List ℕ) (queue other : Queue) → IsSnapshotBy version octets queue → IsSnapshotBy version octets other
     → queue ≡ other
 unfolding snapshot_by
 one_by_version version octets queue other is also =
@@ -208,7 +208,7 @@ one_by_version version octets queue other is also =
     (λ i. record { next = next.0 i; messages = messages.0 i })
 
 -- the first octet of a snapshot tells its version
-pub kind_of : (version : Version) (octets : List ℕ) (queue : Queue) → IsSnapshotBy version octets queue → first_of octets ≡ snapshot_kind version
+pub kind_of : (version : SnapshotVersion) (octets : List ℕ) (queue : Queue) → IsSnapshotBy version octets queue → first_of octets ≡ snapshot_kind version
 unfolding snapshot_by
 kind_of version octets queue is = ap first_of is.octets_are
 

@@ -2,8 +2,8 @@
 use Rattle.std.proofs.Common.{◌≡◌, ℕ, ◌+◌, ◌-◌, ◌*◌, ◌<◌, ◌≤◌, ◌^◌, min, List, [], ◌∷◌, ◌++◌, drop, length, slice_get, Option, None, Some, refl, sym, ap, ◌∙◌, arith, length-append}
 use Rattle.std.specs.List.{AllByRecursion, flat_map, zip}
 use Rattle.relay_envelope.specs.declared.envelope.Recipient.{Recipient}
-use Rattle.relay_book.specs.declared.version.Version.{Version}
-use Rattle.relay_book.specs.declared.version.Version.TheVariants.{WithDelay}
+use Rattle.relay_book.specs.declared.version.SnapshotVersion.{SnapshotVersion}
+use Rattle.relay_book.specs.declared.version.SnapshotVersion.TheVariants.{WithDelay}
 use Rattle.relay_book.specs.declared.message.Message.{Message}
 use Rattle.relay_book.specs.declared.message.Place.{Place}
 use Rattle.relay_book.specs.Book.{if_there, live}
@@ -32,7 +32,7 @@ unfolding octets_4
 sized_4_long text = omega arith
 
 -- a message takes some octets: its numbers and the lengths of its texts
-pub entry_long : (version : Version) (entry : ℕ × Message) → 26 ≤ length (entry_octets version entry)
+pub entry_long : (version : SnapshotVersion) (entry : ℕ × Message) → 26 ≤ length (entry_octets version entry)
 unfolding entry_octets
 entry_long version entry =
     let accept = entry.1.accept in
@@ -45,7 +45,7 @@ entry_long version entry =
     let number = behind_8 entry.0 _ 18 moment in
     omega (arith, number)
 
-pub rows_long : (version : Version) (entries : List (ℕ × Message)) → 26 * length entries ≤ length (flat_map (entry_octets version) entries)
+pub rows_long : (version : SnapshotVersion) (entries : List (ℕ × Message)) → 26 * length entries ≤ length (flat_map (entry_octets version) entries)
 rows_long version [] = omega arith
 rows_long version (entry ∷ entries) =
     let one = entry_long version entry in

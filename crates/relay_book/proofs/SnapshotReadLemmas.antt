@@ -1,8 +1,8 @@
 -- A snapshot is read back: its head, and its messages one after another.
 use Rattle.std.proofs.Common.{◌≡◌, ◌≢◌, ℕ, suc, ◌+◌, ◌-◌, ◌/◌, ◌<◌, ◌≤◌, ◌^◌, List, [], ◌∷◌, ◌++◌, length, min, refl, sym, subst, ap, ◌∙◌, arith, append_assoc, append-nil, add-one, length-append}
 use Rattle.std.specs.List.{AllByRecursion, flat_map}
-use Rattle.relay_book.specs.declared.version.Version.{Version}
-use Rattle.relay_book.specs.declared.version.Version.TheVariants.{WithoutDelay, WithDelay}
+use Rattle.relay_book.specs.declared.version.SnapshotVersion.{SnapshotVersion}
+use Rattle.relay_book.specs.declared.version.SnapshotVersion.TheVariants.{WithoutDelay, WithDelay}
 use Rattle.relay_book.specs.declared.message.Message.{Message}
 use Rattle.relay_book.specs.Book.{Rise}
 use Rattle.relay_book.specs.Fields.{AreSoMany, HasNone}
@@ -26,7 +26,7 @@ no_kind octets empty = record {
       omega (arith, long, empty);
 }
 
-pub other_kind : (octets : List ℕ) (kind : ℕ) (rest : List ℕ) → octets ≡ kind ∷ rest → ((version : Version) → kind ≢ snapshot_kind version)
+pub other_kind : (octets : List ℕ) (kind : ℕ) (rest : List ℕ) → octets ≡ kind ∷ rest → ((version : SnapshotVersion) → kind ≢ snapshot_kind version)
     → SpellsNoSnapshot octets
 other_kind octets kind rest is other = record {
   none = λ version next count behind spelled.
@@ -43,7 +43,7 @@ no_counts octets kind rest is out = record {
       });
 }
 
-pub head_is : (version : Version) (octets rest : List ℕ) (kind next count : ℕ) (behind : List ℕ) → octets ≡ kind ∷ rest → kind ≡ snapshot_kind version
+pub head_is : (version : SnapshotVersion) (octets rest : List ℕ) (kind next count : ℕ) (behind : List ℕ) → octets ≡ kind ∷ rest → kind ≡ snapshot_kind version
     → SpellsCounts rest next count behind → SpellsSnapshot version octets next count behind
 head_is version octets rest kind next count behind is kind_is spelled = record {
   octets_are = is ∙ (λ i. kind_is i ∷ spelled.text_is i);
@@ -52,7 +52,7 @@ head_is version octets rest kind next count behind is kind_is spelled = record {
 }
 
 -- a first octet of no version
-pub no_version : (kind : ℕ) → (kind ≡ 3 → ⊥) → (kind ≡ 5 → ⊥) → (version : Version) → kind ≢ snapshot_kind version
+pub no_version : (kind : ℕ) → (kind ≡ 3 → ⊥) → (kind ≡ 5 → ⊥) → (version : SnapshotVersion) → kind ≢ snapshot_kind version
 no_version kind first second WithoutDelay is = first is
 no_version kind first second WithDelay is = second is
 
@@ -77,11 +77,11 @@ counts_are text next more count rest is small then less = record {
   count_fits = less;
 }
 
-pub may_be : (version : Version) (octets : List ℕ) (next count : ℕ) (rest : List ℕ) → SpellsSnapshot version octets next count rest → MayBeSnapshot octets
+pub may_be : (version : SnapshotVersion) (octets : List ℕ) (next count : ℕ) (rest : List ℕ) → SpellsSnapshot version octets next count rest → MayBeSnapshot octets
 may_be version octets next count rest spelled = record { version = version; next = next; count = count; rest = rest; begins = spelled }
 
 -- a snapshot spells its head
-spells_snapshot : (version : Version) (octets : List ℕ) (queue : Queue) → IsSnapshotBy version octets queue
+spells_snapshot : (version : SnapshotVersion) (octets : List ℕ) (queue : Queue) → IsSnapshotBy version octets queue
     → SpellsSnapshot version octets queue.next (length queue.messages) (flat_map (entry_octets version) queue.messages)
 unfolding snapshot_by
 spells_snapshot version octets queue is = record { octets_are = is.octets_are; next_fits = next_fits queue is.valid; count_fits = is.few }
@@ -91,7 +91,7 @@ record AreSameHeads (next other count count2 : ℕ) (rest rest2 : List ℕ) : Ty
   count_is : count ≡ count2
   rest_is : rest ≡ rest2
 
-same_by_version : (version : Version) (octets : List ℕ) (next count : ℕ) (rest : List ℕ) (queue : Queue) → SpellsSnapshot version octets next count rest
+same_by_version : (version : SnapshotVersion) (octets : List ℕ) (next count : ℕ) (rest : List ℕ) (queue : Queue) → SpellsSnapshot version octets next count rest
     → IsSnapshotBy version octets queue → AreSameHeads next queue.next count (length queue.messages) rest (flat_map (entry_octets version) queue.messages)
 same_by_version version octets next count rest queue spelled is =
     let other = spells_snapshot version octets queue is in
@@ -100,23 +100,23 @@ same_by_version version octets next count rest queue spelled is =
     let third = code_4 count (length queue.messages) rest (flat_map (entry_octets version) queue.messages) spelled.count_fits other.count_fits second.1 in
     record { next_is = second.0; count_is = third.0; rest_is = third.1 }
 
-kinds_are_one : (version other : Version) → snapshot_kind version ≡ snapshot_kind other → other ≡ version
+kinds_are_one : (version other : SnapshotVersion) → snapshot_kind version ≡ snapshot_kind other → other ≡ version
 kinds_are_one WithoutDelay WithoutDelay e = refl
 kinds_are_one WithDelay WithDelay e = refl
 kinds_are_one WithoutDelay WithDelay e = absurd (omega (arith, e))
 kinds_are_one WithDelay WithoutDelay e = absurd (omega (arith, e))
 
 -- what begins as a snapshot of a version is one of that version, if it is one
-by_version : (version : Version) (octets : List ℕ) (next count : ℕ) (rest : List ℕ) (queue : Queue) → SpellsSnapshot version octets next count rest
+by_version : (version : SnapshotVersion) (octets : List ℕ) (next count : ℕ) (rest : List ℕ) (queue : Queue) → SpellsSnapshot version octets next count rest
     → IsSnapshotOf octets queue → IsSnapshotBy version octets queue
 by_version version octets next count rest queue spelled is =
     let kind = kind_of is.0 octets queue is.1 in
-    subst (λ (v : Version). IsSnapshotBy v octets queue) (kinds_are_one version is.0 (ap first_of (sym spelled.octets_are) ∙ kind)) is.1
+    subst (λ (v : SnapshotVersion). IsSnapshotBy v octets queue) (kinds_are_one version is.0 (ap first_of (sym spelled.octets_are) ∙ kind)) is.1
 
 pub bad_head : (octets : List ℕ) → SpellsNoSnapshot octets → IsNoSnapshot octets
 bad_head octets out = record { none = λ queue is. out.none is.0 _ _ _ (spells_snapshot is.0 octets queue is.1) }
 
-pub bad_next : (version : Version) (octets : List ℕ) (next count : ℕ) (rest : List ℕ) → SpellsSnapshot version octets next count rest
+pub bad_next : (version : SnapshotVersion) (octets : List ℕ) (next count : ℕ) (rest : List ℕ) → SpellsSnapshot version octets next count rest
     → (1 ≤ next → next ≤ last_number + 1 → ⊥) → IsNoSnapshot octets
 bad_next version octets next count rest spelled out = record {
   none = λ queue any.
@@ -127,7 +127,7 @@ bad_next version octets next count rest spelled out = record {
       out (omega (arith, same, least)) (omega (arith, same, most));
 }
 
-pub bad_entries : (version : Version) (octets : List ℕ) (next count : ℕ) (rest : List ℕ) → SpellsSnapshot version octets next count rest
+pub bad_entries : (version : SnapshotVersion) (octets : List ℕ) (next count : ℕ) (rest : List ℕ) → SpellsSnapshot version octets next count rest
     → HasNoEntries version count next rest → IsNoSnapshot octets
 bad_entries version octets next count rest spelled out = record {
   none = λ queue any.
@@ -141,11 +141,11 @@ bad_entries version octets next count rest spelled out = record {
 }
 
 -- messages that may be stored by a version may be stored
-pub are_queued : (version : Version) (messages : List (ℕ × Message)) → AllByRecursion (IsQueuedBy version) messages → AllByRecursion IsQueued messages
+pub are_queued : (version : SnapshotVersion) (messages : List (ℕ × Message)) → AllByRecursion (IsQueuedBy version) messages → AllByRecursion IsQueued messages
 are_queued version [] all = tt
 are_queued version (entry ∷ messages) all = (all.0.is, are_queued version messages all.1)
 
-pub is_snapshot : (version : Version) (octets : List ℕ) (next count : ℕ) (rest : List ℕ) (queue : Queue) → SpellsSnapshot version octets next count rest
+pub is_snapshot : (version : SnapshotVersion) (octets : List ℕ) (next count : ℕ) (rest : List ℕ) (queue : Queue) → SpellsSnapshot version octets next count rest
     → next ≤ last_number + 1 → queue.next ≡ next → AreEntries version count next rest queue.messages → IsSnapshotOf octets queue
 unfolding snapshot_by
 is_snapshot version octets next count rest queue spelled few is entries =
@@ -165,7 +165,7 @@ is_snapshot version octets next count rest queue spelled few is entries =
       },
     )
 
-module _ (version : Version) where
+module _ (version : SnapshotVersion) where
   -- the messages, one after another
   pub none_read : (next : ℕ) (text : List ℕ) → 1 ≤ next → ReadsEntries version 0 next text empty_queue text
   none_read next text some = record {

@@ -1,7 +1,7 @@
 -- A snapshot is written, one entry of a map after another.
 use Rattle.std.proofs.Common.{◌≡◌, ℕ, ◌+◌, ◌≤◌, List, [], ◌∷◌, ◌++◌, drop, length, slice_get, Option, None, Some, refl, sym, subst, ap, ◌∙◌, arith, append_assoc, append-nil, add-one, length-append}
 use Rattle.std.specs.List.{AllByRecursion, flat_map}
-use Rattle.relay_book.specs.declared.version.Version.TheVariants.{WithDelay}
+use Rattle.relay_book.specs.declared.version.SnapshotVersion.TheVariants.{WithDelay}
 use Rattle.relay_book.specs.declared.message.Message.{Message}
 use Rattle.relay_book.specs.Book.{if_there, live}
 use Rattle.relay_book.specs.Record.{octets_4, octets_8}

@@ -3,7 +3,9 @@ use Rattle.std.proofs.Common.{◌≡◌, ℕ, List, [], ◌∷◌, ◌++◌, map
 use Rattle.std.specs.List.{AllByRecursion}
 use Rattle.std.proofs.lemmas.List.Sums.{fold-append}
 use Rattle.relay_book.specs.declared.version.Version.{Version}
-use Rattle.relay_book.specs.declared.version.Version.TheVariants.{WithoutDelay, WithDelay}
+use Rattle.relay_book.specs.declared.version.Version.TheVariants as version
+use Rattle.relay_book.specs.declared.version.SnapshotVersion.{SnapshotVersion}
+use Rattle.relay_book.specs.declared.version.SnapshotVersion.TheVariants.{WithoutDelay, WithDelay}
 use Rattle.relay_book.specs.declared.message.Place.{Place}
 use Rattle.relay_book.specs.declared.message.Message.{Message}
 use Rattle.relay_book.specs.declared.change.Change.{Change}
@@ -58,20 +60,22 @@ rest_leaves_one queue (body ∷ bodies) left other one two =
     let same = body_leaves_one queue body one.0 two.0 one.1 two.1 in
     rest_leaves_one two.0 bodies left other (subst (λ (q : Queue). ReadsQueue q bodies left) same one.2) two.2
 
-of_version : (version other : Version) → snapshot_kind version ≡ outcome_kind other → ⊥
-of_version WithoutDelay WithoutDelay e = omega (arith, e)
-of_version WithoutDelay WithDelay e = omega (arith, e)
-of_version WithDelay WithoutDelay e = omega (arith, e)
-of_version WithDelay WithDelay e = omega (arith, e)
+of_version : (of : SnapshotVersion) (other : Version) → snapshot_kind of ≡ outcome_kind other → ⊥
+of_version WithoutDelay version.WithoutDelay e = omega (arith, e)
+of_version WithoutDelay version.WithDelay e = omega (arith, e)
+of_version WithoutDelay version.WithWithdrawal e = omega (arith, e)
+of_version WithDelay version.WithoutDelay e = omega (arith, e)
+of_version WithDelay version.WithDelay e = omega (arith, e)
+of_version WithDelay version.WithWithdrawal e = omega (arith, e)
 
-of_accept : (version : Version) → snapshot_kind version ≡ 1 → ⊥
+of_accept : (of : SnapshotVersion) → snapshot_kind of ≡ 1 → ⊥
 of_accept WithoutDelay e = omega (arith, e)
 of_accept WithDelay e = omega (arith, e)
 
 -- no snapshot begins as a record
-pub other_kinds : (version : Version) (change : Change) → snapshot_kind version ≡ first_of (encode change) → ⊥
-other_kinds version (Accept accept) e = of_accept version e
-other_kinds version (Outcome outcome) e = of_version version outcome.version e
+pub other_kinds : (of : SnapshotVersion) (change : Change) → snapshot_kind of ≡ first_of (encode change) → ⊥
+other_kinds of (Accept accept) e = of_accept of e
+other_kinds of (Outcome outcome) e = of_version of outcome.version e
 
 -- no snapshot is the record of a change
 pub not_both : (body : List ℕ) (queue left : Queue) → IsSnapshotOf body queue → ReadsBody empty_queue body left → ⊥

@@ -15,6 +15,7 @@ pub use Rattle.relay_book.proofs.StoredLemmas.{message_stays, queued_may_be_stor
 -- reported delays
 pub use Rattle.relay_book.proofs.DelayLaws.{fold_delays}
 pub use Rattle.relay_book.proofs.DelayTold.{delay_is_told}
+pub use Rattle.relay_book.proofs.VersionLemmas.{later_report_alike}
 -- due moments
 pub use Rattle.relay_book.proofs.TimeLaws.{fold_due}
 pub use Rattle.relay_book.proofs.DueListLaws.{queue_lists_due, queue_tells_due}

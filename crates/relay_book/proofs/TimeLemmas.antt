@@ -8,7 +8,7 @@ use Rattle.relay_book.specs.declared.due_report.DueReport.{DueReport}
 use Rattle.relay_book.specs.declared.change.Accept.{Accept as AcceptFields}
 use Rattle.relay_book.specs.declared.change.Ruling.{Ruling}
 use Rattle.relay_book.specs.declared.change.Verdict.{Verdict}
-use Rattle.relay_book.specs.declared.change.Verdict.TheVariants.{Taken, Refused, Later, CantSend, NoRoute}
+use Rattle.relay_book.specs.declared.change.Verdict.TheVariants.{Taken, Refused, Later, CantSend, NoRoute, Withdrawn}
 use Rattle.relay_book.specs.declared.message.Place.{Place}
 use Rattle.relay_book.specs.declared.fate.Fate.TheVariants.{Waits, Late, Failed}
 use Rattle.relay_book.specs.DueReport.{due_for, fate_of, lateness, patience}
@@ -54,6 +54,7 @@ timed_later since at laters place (Taken dsn) due timed held = absurd (false≢t
 timed_later since at laters place (Refused code text) due timed held = absurd (false≢true held)
 timed_later since at laters place CantSend due timed held = absurd (false≢true held)
 timed_later since at laters place NoRoute due timed held = absurd (false≢true held)
+timed_later since at laters place (Withdrawn withdrawal) due timed held = absurd (false≢true held)
 timed_later since at laters place Later due timed held = by (nat_le (since + patience) at) (nat_le (since + lateness) at) held
   where
     by : (past late : Bool) → (place_after at place (if past then Failed else (if late then Late else Waits)) due).held ≡ true

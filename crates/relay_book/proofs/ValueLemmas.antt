@@ -8,7 +8,8 @@ use Rattle.relay_envelope.specs.declared.parameters.Notify.TheVariants.{Never, O
 use Rattle.relay_envelope.specs.Parameters.{is_envid, is_orcpt, is_address_type}
 use Rattle.relay_envelope.specs.Envelope.{IsRecipient, may_be_envid, may_be_notify, may_be_orcpt, outcomes_of}
 use Rattle.relay_book.specs.declared.change.Verdict.{Verdict}
-use Rattle.relay_book.specs.declared.change.Verdict.TheVariants.{Taken, Refused, Later, CantSend, NoRoute}
+use Rattle.relay_book.specs.declared.change.Withdrawal.TheVariants.{Return, Discard}
+use Rattle.relay_book.specs.declared.change.Verdict.TheVariants.{Taken, Refused, Later, CantSend, NoRoute, Withdrawn}
 use Rattle.relay_book.specs.Record.{IsRefusal, IsRuling, IsVerdict, notify_number, octets_2, recipient_octets, ret_number, ruling_octets, verdict_octets, written}
 use Rattle.relay_book.specs.Fields.{refusal_octets}
 use Rattle.relay_book.proofs.CodeLemmas.{first_of, IsCode, code_2, fronts}
@@ -99,10 +100,13 @@ tag (Refused code text) = 3
 tag Later = 4
 tag CantSend = 5
 tag NoRoute = 6
+tag (Withdrawn Return) = 7
+tag (Withdrawn Discard) = 8
 
 from_tag : ℕ → Verdict
 from_tag n =
-    if n == 1 then Taken true else (if n == 2 then Taken false else (if n == 4 then Later else (if n == 5 then CantSend else NoRoute)))
+    if n == 1 then Taken true else (if n == 2 then Taken false else (if n == 4 then Later else (if n == 5 then CantSend
+    else (if n == 7 then Withdrawn Return else (if n == 8 then Withdrawn Discard else NoRoute)))))
 
 is_refusal : Verdict → Bool
 is_refusal (Taken dsn) = false
@@ -110,6 +114,7 @@ is_refusal (Refused code text) = true
 is_refusal Later = false
 is_refusal CantSend = false
 is_refusal NoRoute = false
+is_refusal (Withdrawn withdrawal) = false
 
 by_tag : (verdict : Verdict) → is_refusal verdict ≡ (tag verdict == 3)
 unfolding is_refusal tag
@@ -119,6 +124,8 @@ by_tag (Refused code text) = refl
 by_tag Later = refl
 by_tag CantSend = refl
 by_tag NoRoute = refl
+by_tag (Withdrawn Return) = refl
+by_tag (Withdrawn Discard) = refl
 
 plain_again : (verdict : Verdict) → is_refusal verdict ≡ false → from_tag (tag verdict) ≡ verdict
 unfolding is_refusal tag from_tag
@@ -128,6 +135,8 @@ plain_again (Refused code text) plain = absurd (false≢true (sym plain))
 plain_again Later plain = refl
 plain_again CantSend plain = refl
 plain_again NoRoute plain = refl
+plain_again (Withdrawn Return) plain = refl
+plain_again (Withdrawn Discard) plain = refl
 
 plain_text : (verdict : Verdict) (rest : List ℕ) → is_refusal verdict ≡ false → verdict_octets verdict ++ rest ≡ tag verdict ∷ rest
 unfolding is_refusal tag
@@ -137,6 +146,8 @@ plain_text (Refused code text) rest plain = absurd (false≢true (sym plain))
 plain_text Later rest plain = refl
 plain_text CantSend rest plain = refl
 plain_text NoRoute rest plain = refl
+plain_text (Withdrawn Return) rest plain = refl
+plain_text (Withdrawn Discard) rest plain = refl
 
 pub tag_first : (verdict : Verdict) (rest : List ℕ) → first_of (verdict_octets verdict ++ rest) ≡ tag verdict
 unfolding tag
@@ -146,6 +157,8 @@ tag_first (Refused code text) rest = refl
 tag_first Later rest = refl
 tag_first CantSend rest = refl
 tag_first NoRoute rest = refl
+tag_first (Withdrawn Return) rest = refl
+tag_first (Withdrawn Discard) rest = refl
 
 -- a refusal's fields are one
 pub refusal_is_one : (code other : ℕ) (text field x y : List ℕ) → IsRefusal code text → IsRefusal other field → refusal_octets code text ++ x ≡ refusal_octets other field ++ y
@@ -170,10 +183,12 @@ refusals_are_one (Taken dsn) w x y hv hw r s e = absurd (false≢true r)
 refusals_are_one Later w x y hv hw r s e = absurd (false≢true r)
 refusals_are_one CantSend w x y hv hw r s e = absurd (false≢true r)
 refusals_are_one NoRoute w x y hv hw r s e = absurd (false≢true r)
+refusals_are_one (Withdrawn withdrawal) w x y hv hw r s e = absurd (false≢true r)
 refusals_are_one (Refused code text) (Taken dsn) x y hv hw r s e = absurd (false≢true s)
 refusals_are_one (Refused code text) Later x y hv hw r s e = absurd (false≢true s)
 refusals_are_one (Refused code text) CantSend x y hv hw r s e = absurd (false≢true s)
 refusals_are_one (Refused code text) NoRoute x y hv hw r s e = absurd (false≢true s)
+refusals_are_one (Refused code text) (Withdrawn withdrawal) x y hv hw r s e = absurd (false≢true s)
 
 pub code_verdict : IsCode IsVerdict verdict_octets
 code_verdict one two x y valid also e = by (is_refusal one) refl

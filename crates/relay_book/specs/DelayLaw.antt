@@ -3,8 +3,10 @@ use Rattle.std.specs.Prelude.{◌≡◌, ℕ, ◌+◌, ◌==◌, nat_le, Bool, t
 use Rattle.std.specs.List.{list_any}
 use Rattle.std.specs.Option.{option_map_or}
 use Rattle.relay_book.specs.declared.version.Version.{Version}
+use Rattle.relay_book.specs.declared.version.Version.TheVariants.{WithDelay}
 use Rattle.relay_book.specs.declared.change.Accept.{Accept as AcceptFields}
 use Rattle.relay_book.specs.declared.change.Outcome.{Outcome as OutcomeFields}
+use Rattle.relay_book.specs.declared.change.Ruling.{Ruling}
 use Rattle.relay_book.specs.declared.change.Change.{Change}
 use Rattle.relay_book.specs.declared.change.Change.TheVariants.{Accept, Outcome}
 use Rattle.relay_book.specs.declared.message.Place.{Place}
@@ -14,7 +16,7 @@ use Rattle.relay_book.specs.declared.fate.PlaceStep.{PlaceStep}
 use Rattle.relay_book.specs.declared.fate.PlaceStep.TheVariants as made
 use Rattle.relay_book.specs.DueReport.{lateness, patience, reports_delay, wants_delay}
 use Rattle.relay_book.specs.Marks.{place_steps}
-use Rattle.relay_book.specs.Queue.{FitsQueue, Fitting, message_of, queue_of}
+use Rattle.relay_book.specs.Queue.{FitsQueue, Fitting, due_report_at, message_of, queue_of}
 use Rattle.relay_book.specs.Record.{is_null}
 
 -- the sender of a message asked to be told of a delay of this place, and can be told
@@ -62,3 +64,9 @@ DelayIsTold =
     && (not (nat_le (message.accept.at + patience) outcome.at)
     && (is_delay outcome.version message.accept outcome.at place
     && not (list_any (delays_with message.accept outcome.message place) changes))))
+
+-- Outcomes of later versions than the first report alike.
+abbrev pub LaterReportAlike : Type 0
+LaterReportAlike =
+    (version : Version) → reports_delay version ≡ true → (message : Message) (at : ℕ) (ruling : Ruling)
+    → due_report_at version message at ruling ≡ due_report_at WithDelay message at ruling

@@ -6,15 +6,17 @@ use Rattle.relay_envelope.specs.declared.parameters.Notify.{Notify}
 use Rattle.relay_envelope.specs.declared.parameters.Notify.TheVariants.{Never, On}
 use Rattle.relay_book.specs.Record.{is_null}
 use Rattle.relay_book.specs.declared.version.Version.{Version}
-use Rattle.relay_book.specs.declared.version.Version.TheVariants.{WithoutDelay, WithDelay}
+use Rattle.relay_book.specs.declared.version.Version.TheVariants.{WithoutDelay, WithDelay, WithWithdrawal}
 use Rattle.relay_book.specs.declared.change.Accept.{Accept as AcceptFields}
 use Rattle.relay_book.specs.declared.change.Ruling.{Ruling}
 use Rattle.relay_book.specs.declared.change.Verdict.{Verdict}
-use Rattle.relay_book.specs.declared.change.Verdict.TheVariants.{Taken, Refused, Later, CantSend, NoRoute}
+use Rattle.relay_book.specs.declared.change.Verdict.TheVariants.{Taken, Refused, Later, CantSend, NoRoute, Withdrawn}
+use Rattle.relay_book.specs.declared.change.Withdrawal.{Withdrawal}
+use Rattle.relay_book.specs.declared.change.Withdrawal.TheVariants.{Return, Discard}
 use Rattle.relay_book.specs.declared.fate.Fate.{Fate}
-use Rattle.relay_book.specs.declared.fate.Fate.TheVariants.{Waits, Late, Failed, Relayed}
+use Rattle.relay_book.specs.declared.fate.Fate.TheVariants.{Waits, Late, Failed, Relayed, Removed}
 use Rattle.relay_book.specs.declared.fate.Way.{Way}
-use Rattle.relay_book.specs.declared.fate.Way.TheVariants.{ByTransfer, ByEnd}
+use Rattle.relay_book.specs.declared.fate.Way.TheVariants.{ByTransfer, ByEnd, ByWithdrawal}
 use Rattle.relay_book.specs.declared.due_report.DueReport.{DueReport}
 use Rattle.relay_book.specs.declared.due_report.DueReport.TheVariants.{OfFailure, OfRelay, OfDelay}
 use Rattle.relay_book.specs.declared.message.Place.{Place}
@@ -39,6 +41,7 @@ fate_of accepted at (Refused code text) = Failed
 fate_of accepted at Later = fate_of_later accepted at
 fate_of accepted at CantSend = Failed
 fate_of accepted at NoRoute = Failed
+fate_of accepted at (Withdrawn withdrawal) = Removed withdrawal
 
 -- how a place leaves, if it does
 abbrev pub way_of : Fate → Option Way
@@ -46,6 +49,7 @@ way_of Waits = None
 way_of Late = None
 way_of Failed = Some ByEnd
 way_of (Relayed dsn) = Some ByTransfer
+way_of (Removed withdrawal) = Some (ByWithdrawal withdrawal)
 
 -- a failure is reported where NOTIFY wasn't given, or names it
 abbrev pub wants_failure : Option Notify → Bool
@@ -69,19 +73,26 @@ wants_delay (Some (On outcomes)) = outcomes.delay
 abbrev pub reports_delay : Version → Bool
 reports_delay WithoutDelay = false
 reports_delay WithDelay = true
+reports_delay WithWithdrawal = true
 
 -- of a delay, once: of a place that wasn't reported as delayed before
 abbrev pub report_of_delay : Version → Option Notify → Place → Option DueReport
 report_of_delay version notify place =
     if reports_delay version && wants_delay notify && not place.delayed then Some OfDelay else None
 
--- of a delay, of a failure, and of a success at a hop that makes no reports itself
+-- profile: of a place that the postmaster has ended: as of a failure where it is returned, none if it is discarded
+abbrev pub report_of_withdrawal : Withdrawal → Option Notify → Option DueReport
+report_of_withdrawal Return notify = if wants_failure notify then Some OfFailure else None
+report_of_withdrawal Discard notify = None
+
+-- of a delay, of a failure, of a success at a hop that makes no reports itself, and of what the postmaster has ended
 abbrev pub report_of_fate : Version → Option Notify → Place → Fate → Option DueReport
 report_of_fate version notify place Waits = None
 report_of_fate version notify place Late = report_of_delay version notify place
 report_of_fate version notify place Failed = if wants_failure notify then Some OfFailure else None
 report_of_fate version notify place (Relayed true) = None
 report_of_fate version notify place (Relayed false) = if wants_success notify then Some OfRelay else None
+report_of_fate version notify place (Removed withdrawal) = report_of_withdrawal withdrawal notify
 
 -- which report is due: none to the null reverse path
 abbrev pub due_report_of : Version → List ℕ → Option Notify → Place → Fate → Option DueReport

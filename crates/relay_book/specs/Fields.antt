@@ -144,6 +144,11 @@ pub record SpellsOutcome (text : List ℕ) (message at : ℕ) (hop : List ℕ) (
 pub record SpellsNoOutcome (text : List ℕ) : Type 0 where
   pub none : (outcome : OutcomeFields) → IsOutcome outcome → text ≢ outcome_octets outcome
 
+-- the text is no outcome of the version
+pub record SpellsNoneOf (version : Version) (text : List ℕ) : Type 0 where
+  pub none : (outcome : OutcomeFields) → IsOutcome outcome → outcome.version ≡ version
+      → text ≢ outcome_octets outcome
+
 -- a count of 1 to 100, and what follows it
 pub record HasCount (text : List ℕ) : Type 0 where
   pub count : ℕ

@@ -10,8 +10,9 @@ use Rattle.relay_book.specs.declared.change.Ruling.{Ruling}
 use Rattle.relay_book.specs.declared.change.Verdict.{Verdict}
 use Rattle.relay_book.specs.declared.change.Change.{Change}
 use Rattle.relay_book.specs.declared.change.Change.TheVariants.{Accept, Outcome}
+use Rattle.relay_book.specs.declared.change.Withdrawal.{Withdrawal}
 use Rattle.relay_book.specs.declared.fate.Way.{Way}
-use Rattle.relay_book.specs.declared.fate.Way.TheVariants.{ByTransfer, ByEnd}
+use Rattle.relay_book.specs.declared.fate.Way.TheVariants.{ByTransfer, ByEnd, ByWithdrawal}
 use Rattle.relay_book.specs.declared.fate.PlaceStep.{PlaceStep}
 use Rattle.relay_book.specs.declared.fate.PlaceStep.TheVariants as made
 use Rattle.relay_book.specs.declared.version.Version.{Version}
@@ -138,9 +139,14 @@ Transferred changes number place = Left changes number place ByTransfer
 abbrev pub Ended : List Change → ℕ → ℕ → Type 0
 Ended changes number place = Left changes number place ByEnd
 
+-- the postmaster has ended the place: it was returned, or discarded
+abbrev pub Withdrawn : List Change → ℕ → ℕ → Type 0
+Withdrawn changes number place = (withdrawal : Withdrawal) × Left changes number place (ByWithdrawal withdrawal)
+
 abbrev pub Held : List Change → ℕ → ℕ → Type 0
 Held changes number place =
     Added changes number place × (Transferred changes number place → ⊥) × (Ended changes number place → ⊥)
+    × (Withdrawn changes number place → ⊥)
 
 -- The fold holds what is held.
 abbrev pub FoldHolds : Type 0
@@ -148,17 +154,19 @@ FoldHolds =
     (changes : List Change) → Fitting changes → (number place : ℕ)
     → Contains (held_of (queue_of changes)) (number, place) ↔ Held changes number place
 
--- exactly one of three
-pub data IsOneOf (a b c : Type 0) : Type 0 where
-  First : a → (b → ⊥) → (c → ⊥) → IsOneOf a b c
-  Second : (a → ⊥) → b → (c → ⊥) → IsOneOf a b c
-  Third : (a → ⊥) → (b → ⊥) → c → IsOneOf a b c
+-- exactly one of four
+pub data IsOneOf (a b c d : Type 0) : Type 0 where
+  First : a → (b → ⊥) → (c → ⊥) → (d → ⊥) → IsOneOf a b c d
+  Second : (a → ⊥) → b → (c → ⊥) → (d → ⊥) → IsOneOf a b c d
+  Third : (a → ⊥) → (b → ⊥) → c → (d → ⊥) → IsOneOf a b c d
+  Fourth : (a → ⊥) → (b → ⊥) → (c → ⊥) → d → IsOneOf a b c d
 
--- Each added place is held, transferred or ended, and only one of these.
+-- Each added place is held, transferred, ended or withdrawn, and only one of these.
 abbrev pub ExactlyOne : Type 0
 ExactlyOne =
     (changes : List Change) → Fitting changes → (number place : ℕ) → Added changes number place
     → IsOneOf (Held changes number place) (Transferred changes number place) (Ended changes number place)
+    (Withdrawn changes number place)
 
 -- the place leaves by the last change
 abbrev pub Leaving : List Change → Change → ℕ → ℕ → Type 0

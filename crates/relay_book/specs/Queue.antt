@@ -11,13 +11,13 @@ use Rattle.relay_book.specs.declared.change.Accept.{Accept as AcceptFields}
 use Rattle.relay_book.specs.declared.change.Outcome.{Outcome as OutcomeFields}
 use Rattle.relay_book.specs.declared.change.Ruling.{Ruling}
 use Rattle.relay_book.specs.declared.change.Verdict.{Verdict}
-use Rattle.relay_book.specs.declared.change.Verdict.TheVariants.{Taken, Refused, Later, CantSend, NoRoute}
+use Rattle.relay_book.specs.declared.change.Verdict.TheVariants.{Taken, Refused, Later, CantSend, NoRoute, Withdrawn}
 use Rattle.relay_book.specs.declared.change.Change.{Change}
 use Rattle.relay_book.specs.declared.change.Change.TheVariants.{Accept, Outcome}
 use Rattle.relay_book.specs.declared.message.Place.{Place}
 use Rattle.relay_book.specs.declared.message.Message.{Message}
 use Rattle.relay_book.specs.declared.fate.Fate.{Fate}
-use Rattle.relay_book.specs.declared.fate.Fate.TheVariants.{Waits, Late, Failed, Relayed}
+use Rattle.relay_book.specs.declared.fate.Fate.TheVariants.{Waits, Late, Failed, Relayed, Removed}
 use Rattle.relay_book.specs.declared.due_report.DueReport.{DueReport}
 use Rattle.relay_book.specs.declared.due_report.DueReport.TheVariants.{OfFailure, OfRelay, OfDelay}
 use Rattle.relay_book.specs.DueReport.{fate_of, due_for}
@@ -57,6 +57,7 @@ place_after at place Waits due = waiting_place at place due
 place_after at place Late due = waiting_place at place due
 place_after at place Failed due = left_place
 place_after at place (Relayed dsn) due = left_place
+place_after at place (Removed withdrawal) due = left_place
 
 -- the same, of a message
 abbrev pub place_ruled : Version → AcceptFields → ℕ → Place → Ruling → Place
@@ -168,21 +169,23 @@ due_report_at version message at ruling =
 abbrev pub reports_at : Version → Message → ℕ → Ruling → Bool
 reports_at version message at ruling = is_some (due_report_at version message at ruling)
 
-abbrev pub is_no_route : Verdict → Bool
-is_no_route (Taken dsn) = false
-is_no_route (Refused code text) = false
-is_no_route Later = false
-is_no_route CantSend = false
-is_no_route NoRoute = true
+-- a verdict without an attempt: the place has no hop, or the postmaster has ended it
+abbrev pub is_without_hop : Verdict → Bool
+is_without_hop (Taken dsn) = false
+is_without_hop (Refused code text) = false
+is_without_hop Later = false
+is_without_hop CantSend = false
+is_without_hop NoRoute = true
+is_without_hop (Withdrawn withdrawal) = true
 
--- no place of these had a hop
-abbrev pub AllNoRoute : List Ruling → Type 0
-AllNoRoute rulings = AllByRecursion (λ ruling. is_no_route ruling.verdict ≡ true) rulings
+-- no attempt was made for these
+abbrev pub AllWithoutHop : List Ruling → Type 0
+AllWithoutHop rulings = AllByRecursion (λ ruling. is_without_hop ruling.verdict ≡ true) rulings
 
--- an outcome fits a message: a hop's name is empty exactly if no place had a hop, a report exactly if none is due
+-- an outcome fits a message: a hop's name is empty exactly if no attempt was made, a report exactly if none is due
 pub record FitsMessage (message : Message) (outcome : OutcomeFields) : Type 0 where
   pub rulings : AreRulings message.places 0 outcome.rulings
-  pub hop : (outcome.hop ≡ []) ↔ AllNoRoute outcome.rulings
+  pub hop : (outcome.hop ≡ []) ↔ AllWithoutHop outcome.rulings
   pub report : (outcome.report ≡ [])
       ↔ (list_any (reports_at outcome.version message outcome.at) outcome.rulings ≡ false)
 

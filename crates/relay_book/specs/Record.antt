@@ -1,6 +1,6 @@
 -- Records: the one encoding of a change, and what a change may hold. Numbers are big endian.
 use Rattle.std.specs.Prelude.{◌≡◌, ◌≢◌, ℕ, ◌+◌, ◌≤◌, ◌<◌, ◌^◌, Bool, true, false, List, [], ◌∷◌, ◌++◌, length, codes}
-use Rattle.std.specs.Prelude.{Option, Some, None, if◌then◌else◌}
+use Rattle.std.specs.Prelude.{Option, Some, None, if◌then◌else◌, not}
 use Rattle.std.specs.List.{flat_map, AllByRecursion, AllPass}
 use Rattle.std.specs.Str.{bytes_eq}
 use Rattle.std.specs.Int.{w16, w32, w64, to_be_bytes, is_in_range}
@@ -13,12 +13,13 @@ use Rattle.relay_envelope.specs.declared.parameters.Ret.TheVariants.{Full, Hdrs}
 use Rattle.relay_envelope.specs.declared.parameters.Notify.{Notify}
 use Rattle.relay_envelope.specs.declared.parameters.Notify.TheVariants.{Never, On}
 use Rattle.relay_book.specs.declared.version.Version.{Version}
-use Rattle.relay_book.specs.declared.version.Version.TheVariants.{WithoutDelay, WithDelay}
+use Rattle.relay_book.specs.declared.version.Version.TheVariants.{WithoutDelay, WithDelay, WithWithdrawal}
 use Rattle.relay_book.specs.declared.change.Accept.{Accept as AcceptFields}
 use Rattle.relay_book.specs.declared.change.Outcome.{Outcome as OutcomeFields}
 use Rattle.relay_book.specs.declared.change.Ruling.{Ruling}
 use Rattle.relay_book.specs.declared.change.Verdict.{Verdict}
-use Rattle.relay_book.specs.declared.change.Verdict.TheVariants.{Taken, Refused, Later, CantSend, NoRoute}
+use Rattle.relay_book.specs.declared.change.Verdict.TheVariants.{Taken, Refused, Later, CantSend, NoRoute, Withdrawn}
+use Rattle.relay_book.specs.declared.change.Withdrawal.TheVariants.{Return, Discard}
 use Rattle.relay_book.specs.declared.change.Change.{Change}
 use Rattle.relay_book.specs.declared.change.Change.TheVariants.{Accept, Outcome}
 
@@ -87,6 +88,8 @@ verdict_octets (Refused code text) = 3 ∷ (octets_2 code ++ (length text ∷ te
 verdict_octets Later = 4 ∷ []
 verdict_octets CantSend = 5 ∷ []
 verdict_octets NoRoute = 6 ∷ []
+verdict_octets (Withdrawn Return) = 7 ∷ []
+verdict_octets (Withdrawn Discard) = 8 ∷ []
 
 abbrev pub ruling_octets : Ruling → List ℕ
 ruling_octets ruling = ruling.place ∷ verdict_octets ruling.verdict
@@ -102,6 +105,7 @@ outcome_octets outcome =
 abbrev pub outcome_kind : Version → ℕ
 outcome_kind WithoutDelay = 2
 outcome_kind WithDelay = 4
+outcome_kind WithWithdrawal = 6
 
 -- the one encoding of a change
 abbrev pub encode : Change → List ℕ
@@ -147,6 +151,25 @@ IsVerdict (Refused code text) = IsRefusal code text
 IsVerdict Later = Unit {0}
 IsVerdict CantSend = Unit {0}
 IsVerdict NoRoute = Unit {0}
+IsVerdict (Withdrawn withdrawal) = Unit {0}
+
+-- the postmaster's verdict
+abbrev pub is_withdrawn : Verdict → Bool
+is_withdrawn (Taken dsn) = false
+is_withdrawn (Refused code text) = false
+is_withdrawn Later = false
+is_withdrawn CantSend = false
+is_withdrawn NoRoute = false
+is_withdrawn (Withdrawn withdrawal) = true
+
+-- profile: outcomes of the third version have the postmaster's verdicts alone, and others none of these
+abbrev pub is_of_version : Version → Verdict → Bool
+is_of_version WithoutDelay verdict = not (is_withdrawn verdict)
+is_of_version WithDelay verdict = not (is_withdrawn verdict)
+is_of_version WithWithdrawal verdict = is_withdrawn verdict
+
+abbrev pub AreOfVersion : Version → List Ruling → Type 0
+AreOfVersion version rulings = AllByRecursion (λ ruling. is_of_version version ruling.verdict ≡ true) rulings
 
 -- a place is a number of one octet
 pub record IsRuling (ruling : Ruling) : Type 0 where
@@ -166,6 +189,7 @@ pub record IsOutcome (outcome : OutcomeFields) : Type 0 where
   pub some : 1 ≤ length outcome.rulings
   pub within : length outcome.rulings ≤ 100
   pub rulings : AllByRecursion IsRuling outcome.rulings
+  pub version : AreOfVersion outcome.version outcome.rulings
   pub report : length outcome.report ≤ report_limit
 
 -- a change that may be stored, by its fields alone

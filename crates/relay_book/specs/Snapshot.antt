@@ -4,8 +4,8 @@
 use Rattle.std.specs.Prelude.{◌≡◌, ℕ, ◌+◌, ◌≤◌, ◌<◌, ◌^◌, Bool, true, false, List, [], ◌∷◌, ◌++◌, length}
 use Rattle.std.specs.List.{AllByRecursion, flat_map, list_any, zip}
 use Rattle.relay_envelope.specs.declared.envelope.Recipient.{Recipient}
-use Rattle.relay_book.specs.declared.version.Version.{Version}
-use Rattle.relay_book.specs.declared.version.Version.TheVariants.{WithoutDelay, WithDelay}
+use Rattle.relay_book.specs.declared.version.SnapshotVersion.{SnapshotVersion}
+use Rattle.relay_book.specs.declared.version.SnapshotVersion.TheVariants.{WithoutDelay, WithDelay}
 use Rattle.relay_book.specs.declared.message.Place.{Place}
 use Rattle.relay_book.specs.declared.message.Message.{Message}
 use Rattle.relay_book.specs.Book.{Rise}
@@ -14,21 +14,21 @@ use Rattle.relay_book.specs.Record.{IsAccept, counted, octets_4, octets_8, recip
 use Rattle.relay_book.specs.Record.{sized_4, worth, written}
 
 -- whether a place was reported as delayed, in one octet; the first version says nothing
-abbrev pub delay_octets : Version → ℕ → List ℕ
+abbrev pub delay_octets : SnapshotVersion → ℕ → List ℕ
 delay_octets WithoutDelay delayed = []
 delay_octets WithDelay delayed = delayed ∷ []
 
 -- a place: whether it is held, its Later verdicts, whether it was reported as delayed, and when it is due
-abbrev pub place_octets : Version → Place → List ℕ
+abbrev pub place_octets : SnapshotVersion → Place → List ℕ
 place_octets version place =
     worth place.held 1 ∷ place.laters ∷ (delay_octets version (worth place.delayed 1) ++ octets_8 place.due)
 
 -- a recipient, followed by its place
-abbrev pub placed_octets : Version → Recipient × Place → List ℕ
+abbrev pub placed_octets : SnapshotVersion → Recipient × Place → List ℕ
 placed_octets version placed = recipient_octets placed.0 ++ place_octets version placed.1
 
 -- a message: its number, and the fields of its accept, each recipient followed by its place
-unfoldable pub entry_octets : Version → ℕ × Message → List ℕ
+unfoldable pub entry_octets : SnapshotVersion → ℕ × Message → List ℕ
 entry_octets version entry =
     octets_8 entry.0
     ++ (octets_8 entry.1.accept.at
@@ -39,12 +39,12 @@ entry_octets version entry =
     ++ sized_4 entry.1.accept.stored_text)))))
 
 -- the first octet of a snapshot, by its version
-abbrev pub snapshot_kind : Version → ℕ
+abbrev pub snapshot_kind : SnapshotVersion → ℕ
 snapshot_kind WithoutDelay = 3
 snapshot_kind WithDelay = 5
 
 -- the encoding of a queue by a version: the next number, and the messages after their count
-unfoldable pub snapshot_by : Version → Queue → List ℕ
+unfoldable pub snapshot_by : SnapshotVersion → Queue → List ℕ
 snapshot_by version queue =
     snapshot_kind version
     ∷ (octets_8 queue.next ++ (octets_4 (length queue.messages) ++ flat_map (entry_octets version) queue.messages))
@@ -60,12 +60,12 @@ pub record IsPlace (place : Place) : Type 0 where
   pub left : place.held ≡ false → (place.laters ≡ 0) × (place.delayed ≡ false) × (place.due ≡ 0)
 
 -- a version says this of a place: the first doesn't know that one was reported as delayed
-abbrev pub MaySay : Version → Bool → Type 0
+abbrev pub MaySay : SnapshotVersion → Bool → Type 0
 MaySay WithoutDelay delayed = delayed ≡ false
 MaySay WithDelay delayed = Unit {0}
 
 -- a place that may be stored by a version
-pub record IsPlaceBy (version : Version) (place : Place) : Type 0 where
+pub record IsPlaceBy (version : SnapshotVersion) (place : Place) : Type 0 where
   pub is : IsPlace place
   pub may : MaySay version place.delayed
 
@@ -79,7 +79,7 @@ pub record IsQueued (entry : ℕ × Message) : Type 0 where
   pub some : list_any is_held entry.1.places ≡ true
 
 -- a message that may be stored by a version
-pub record IsQueuedBy (version : Version) (entry : ℕ × Message) : Type 0 where
+pub record IsQueuedBy (version : SnapshotVersion) (entry : ℕ × Message) : Type 0 where
   pub is : IsQueued entry
   pub places : AllByRecursion (IsPlaceBy version) entry.1.places
 
@@ -90,7 +90,7 @@ pub record IsQueue (queue : Queue) : Type 0 where
   pub messages : AllByRecursion IsQueued queue.messages
 
 -- the octets are the snapshot of a queue by a version, of which the count of messages fits four octets
-pub record IsSnapshotBy (version : Version) (octets : List ℕ) (queue : Queue) : Type 0 where
+pub record IsSnapshotBy (version : SnapshotVersion) (octets : List ℕ) (queue : Queue) : Type 0 where
   pub valid : IsQueue queue
   pub messages : AllByRecursion (IsQueuedBy version) queue.messages
   pub few : length queue.messages < 2 ^ 32
@@ -98,7 +98,7 @@ pub record IsSnapshotBy (version : Version) (octets : List ℕ) (queue : Queue) 
 
 -- the octets are the snapshot of a queue
 abbrev pub IsSnapshotOf : List ℕ → Queue → Type 0
-IsSnapshotOf octets queue = (version : Version) × IsSnapshotBy version octets queue
+IsSnapshotOf octets queue = (version : SnapshotVersion) × IsSnapshotBy version octets queue
 
 -- they are the snapshot of no queue
 pub record IsNoSnapshot (octets : List ℕ) : Type 0 where

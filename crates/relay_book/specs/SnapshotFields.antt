@@ -5,8 +5,8 @@ use Rattle.std.specs.List.{flat_map, zip}
 use Rattle.relay_envelope.specs.declared.envelope.Recipient.{Recipient}
 use Rattle.relay_envelope.specs.Envelope.{IsRecipient}
 use Rattle.relay_pieces.specs.Pieces.{InPieces}
-use Rattle.relay_book.specs.declared.version.Version.{Version}
-use Rattle.relay_book.specs.declared.version.Version.TheVariants.{WithoutDelay, WithDelay}
+use Rattle.relay_book.specs.declared.version.SnapshotVersion.{SnapshotVersion}
+use Rattle.relay_book.specs.declared.version.SnapshotVersion.TheVariants.{WithoutDelay, WithDelay}
 use Rattle.relay_book.specs.declared.message.Place.{Place}
 use Rattle.relay_book.specs.declared.message.Message.{Message}
 use Rattle.relay_book.specs.Book.{Rise}
@@ -21,28 +21,28 @@ pub record HasNoLong (text : List ℕ) : Type 0 where
   pub none : (field rest : List ℕ) → length field < 2 ^ 32 → text ≢ sized_4 field ++ rest
 
 -- where the first version says nothing, the octet counts as 0
-abbrev pub CountsAs : Version → ℕ → Type 0
+abbrev pub CountsAs : SnapshotVersion → ℕ → Type 0
 CountsAs WithoutDelay delayed = delayed ≡ 0
 CountsAs WithDelay delayed = Unit {0}
 
 -- whether a place was reported as delayed begins the text
-pub record SpellsDelay (version : Version) (text : List ℕ) (delayed : ℕ) (rest : List ℕ) : Type 0 where
+pub record SpellsDelay (version : SnapshotVersion) (text : List ℕ) (delayed : ℕ) (rest : List ℕ) : Type 0 where
   pub text_is : text ≡ delay_octets version delayed ++ rest
   pub counts : CountsAs version delayed
 
 -- it doesn't
-pub record HasNoDelay (version : Version) (text : List ℕ) : Type 0 where
+pub record HasNoDelay (version : SnapshotVersion) (text : List ℕ) : Type 0 where
   pub none : (delayed : ℕ) (rest : List ℕ) → SpellsDelay version text delayed rest → ⊥
 
 -- the fields of a place begin the text
-pub record SpellsPlace (version : Version) (text : List ℕ) (held laters delayed due : ℕ) (rest : List ℕ)
+pub record SpellsPlace (version : SnapshotVersion) (text : List ℕ) (held laters delayed due : ℕ) (rest : List ℕ)
     : Type 0 where
   pub text_is : text ≡ held ∷ (laters ∷ (delay_octets version delayed ++ (octets_8 due ++ rest)))
   pub counts : CountsAs version delayed
   pub due_fits : due < 2 ^ 64
 
 -- none do
-pub record HasNoPlaceFields (version : Version) (text : List ℕ) : Type 0 where
+pub record HasNoPlaceFields (version : SnapshotVersion) (text : List ℕ) : Type 0 where
   pub none : (held laters delayed due : ℕ) (rest : List ℕ) → SpellsPlace version text held laters delayed due rest
       → ⊥
 
@@ -57,19 +57,19 @@ pub record IsNoPlace (held laters delayed due : ℕ) : Type 0 where
   pub none : (place : Place) → IsPlace place → HasPlaceFields place held laters delayed due → ⊥
 
 -- a recipient and a place that may be stored by a version
-pub record IsPlacedBy (version : Version) (placed : Recipient × Place) : Type 0 where
+pub record IsPlacedBy (version : SnapshotVersion) (placed : Recipient × Place) : Type 0 where
   pub recipient : IsRecipient placed.0
   pub place : IsPlaceBy version placed.1
 
 -- this many recipients and their places are read from the text, up to the rest
-pub record ReadsRow (version : Version) (count : ℕ) (text : List ℕ) (recipients : List Recipient)
+pub record ReadsRow (version : SnapshotVersion) (count : ℕ) (text : List ℕ) (recipients : List Recipient)
     (places : List Place) (rest : List ℕ) : Type 0 where
   pub as_many : length places ≡ length recipients
   pub are : AreSoMany (IsPlacedBy version) count (zip recipients places)
   pub text_is : text ≡ flat_map (placed_octets version) (zip recipients places) ++ rest
 
 -- 1 to 100 recipients and their places are read from the text after their count, up to the rest
-pub record ReadsPlaced (version : Version) (text : List ℕ) (recipients : List Recipient) (places : List Place)
+pub record ReadsPlaced (version : SnapshotVersion) (text : List ℕ) (recipients : List Recipient) (places : List Place)
     (rest : List ℕ)
     : Type 0 where
   pub as_many : length places ≡ length recipients
@@ -77,7 +77,7 @@ pub record ReadsPlaced (version : Version) (text : List ℕ) (recipients : List 
   pub text_is : text ≡ counted (placed_octets version) (zip recipients places) ++ rest
 
 -- the fields of a message begin the text
-pub record SpellsEntry (version : Version) (text : List ℕ) (number at : ℕ) (path : List ℕ) (ret : ℕ)
+pub record SpellsEntry (version : SnapshotVersion) (text : List ℕ) (number at : ℕ) (path : List ℕ) (ret : ℕ)
     (envid : List ℕ) (recipients : List Recipient) (places : List Place) (stored rest : List ℕ) : Type 0 where
   pub text_is : text
       ≡ octets_8 number
@@ -98,7 +98,7 @@ abbrev pub numbered : Message → ℕ × Message
 numbered message = (message.number, message)
 
 -- a message that may be stored by a version, of a number from a least one to below the next
-pub record IsQueuedIn (version : Version) (least next : ℕ) (entry : ℕ × Message) : Type 0 where
+pub record IsQueuedIn (version : SnapshotVersion) (least next : ℕ) (entry : ℕ × Message) : Type 0 where
   pub queued : IsQueuedBy version entry
   pub low : least ≤ entry.0
   pub high : entry.0 < next
@@ -109,7 +109,7 @@ next_behind least [] = least
 next_behind least (entry ∷ entries) = next_behind (suc entry.0) entries
 
 -- this many messages are read from the text into a queue, up to the rest
-pub record ReadsEntries (version : Version) (count next : ℕ) (text : List ℕ) (queue : Queue) (rest : List ℕ)
+pub record ReadsEntries (version : SnapshotVersion) (count next : ℕ) (text : List ℕ) (queue : Queue) (rest : List ℕ)
     : Type 0 where
   pub are : AreSoMany (IsQueuedBy version) count queue.messages
   pub rise : Rise 1 queue.next queue.messages
@@ -118,14 +118,14 @@ pub record ReadsEntries (version : Version) (count next : ℕ) (text : List ℕ)
   pub text_is : text ≡ flat_map (entry_octets version) queue.messages ++ rest
 
 -- the text is this many messages of a queue with this next number
-pub record AreEntries (version : Version) (count next : ℕ) (text : List ℕ) (messages : List (ℕ × Message))
+pub record AreEntries (version : SnapshotVersion) (count next : ℕ) (text : List ℕ) (messages : List (ℕ × Message))
     : Type 0 where
   pub are : AreSoMany (IsQueuedBy version) count messages
   pub rise : Rise 1 next messages
   pub text_is : text ≡ flat_map (entry_octets version) messages
 
 -- it is no such messages
-pub record HasNoEntries (version : Version) (count next : ℕ) (text : List ℕ) : Type 0 where
+pub record HasNoEntries (version : SnapshotVersion) (count next : ℕ) (text : List ℕ) : Type 0 where
   pub none : (messages : List (ℕ × Message)) → AreEntries version count next text messages → ⊥
 
 -- the first octet is that of a snapshot, of either version
@@ -144,14 +144,15 @@ pub record SpellsNoCounts (text : List ℕ) : Type 0 where
   pub none : (next count : ℕ) (rest : List ℕ) → SpellsCounts text next count rest → ⊥
 
 -- the octet of a snapshot of a version, the next number, and the count of messages begin the octets
-pub record SpellsSnapshot (version : Version) (octets : List ℕ) (next count : ℕ) (rest : List ℕ) : Type 0 where
+pub record SpellsSnapshot (version : SnapshotVersion) (octets : List ℕ) (next count : ℕ) (rest : List ℕ) : Type 0 where
   pub octets_are : octets ≡ snapshot_kind version ∷ (octets_8 next ++ (octets_4 count ++ rest))
   pub next_fits : next < 2 ^ 64
   pub count_fits : count < 2 ^ 32
 
 -- they don't
 pub record SpellsNoSnapshot (octets : List ℕ) : Type 0 where
-  pub none : (version : Version) (next count : ℕ) (rest : List ℕ) → SpellsSnapshot version octets next count rest
+  pub none : (version : SnapshotVersion) (next count : ℕ) (rest : List ℕ)
+      → SpellsSnapshot version octets next count rest
       → ⊥
 
 -- what is before the messages can be read at once, if the text has so much, and else the whole text
@@ -160,7 +161,7 @@ HoldsHead octets = length octets.front < 13 → octets.left ≡ 0
 
 -- the octets that are read before any memory is wanted begin as those of a snapshot
 pub record MayBeSnapshot (octets : List ℕ) : Type 0 where
-  pub version : Version
+  pub version : SnapshotVersion
   pub next : ℕ
   pub count : ℕ
   pub rest : List ℕ

@@ -1,7 +1,7 @@
 -- What the bodies of a spool stand for: the snapshot of a queue, if the first is one, and the encodings of changes,
 -- each of which fits what those before it leave. They stand for each list of changes that leaves the same queue: the
 -- same next number, and the same messages with held places, their stored texts, held places, which of these were
--- reported as delayed, Later verdicts up to four, and due times. Snapshots and outcomes of both versions may stand in
+-- reported as delayed, Later verdicts up to four, and due times. Snapshots and outcomes of all versions may stand in
 -- one spool.
 use Rattle.std.specs.Prelude.{◌≡◌, ◌⊎◌, ◌↔◌, ℕ, ◌<◌, ◌^◌, List, [], ◌∷◌, ◌++◌, length, map, Some}
 use Rattle.relay_book.specs.declared.change.Change.{Change}

@@ -29,7 +29,16 @@ impl Drop for Accept {
     }
 }
 
-/// The verdict of an attempt on a place.
+/// How the postmaster ends a place.
+#[derive(Clone, Copy, Debug)]
+pub enum Withdrawal {
+    /// As failed: the report that is owed of a failure is made.
+    Return,
+    /// Without a report.
+    Discard,
+}
+
+/// What is said of a place: by an attempt, if it has a hop, or by the postmaster.
 #[derive(Debug, Drop)]
 pub enum Verdict {
     /// The next hop accepted it.
@@ -50,6 +59,8 @@ pub enum Verdict {
     CantSend,
     /// There is no hop for it.
     NoRoute,
+    /// The postmaster has ended it.
+    Withdrawn(Withdrawal),
 }
 
 /// A place and its verdict.
@@ -61,7 +72,7 @@ pub struct Ruling {
     pub verdict: Verdict,
 }
 
-/// The verdicts of an attempt, by rising places.
+/// The verdicts of an outcome, by rising places.
 #[derive(Debug, Drop)]
 pub struct Rulings {
     items: Vec<Ruling>,
@@ -110,7 +121,8 @@ impl Rulings {
     }
 }
 
-/// How an attempt ended.
+/// How an attempt ended, or what was said of places without one: that they have no hop, or that the postmaster has
+/// ended them.
 #[derive(Debug)]
 pub struct Outcome {
     /// The version by which it is written, and which decides what report is owed.
@@ -119,7 +131,7 @@ pub struct Outcome {
     pub message: u64,
     /// When it ended.
     pub at: Moment,
-    /// The name of the hop; empty exactly if no place had one.
+    /// The name of the hop; empty exactly if no attempt was made.
     pub hop: Octets,
     /// The verdicts, at least one.
     pub rulings: Rulings,
@@ -146,6 +158,6 @@ impl Drop for Outcome {
 pub enum Change {
     /// A message was accepted.
     Accept(Accept),
-    /// An attempt ended.
+    /// An attempt ended, or places ended without one.
     Outcome(Outcome),
 }

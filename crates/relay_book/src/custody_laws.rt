@@ -1,5 +1,5 @@
 //! Laws of the custody of each recipient, by the list of changes.
-ghost use Rattle.relay_book.specs.DelayLaw.{DelayIsTold, FoldDelays};
+ghost use Rattle.relay_book.specs.DelayLaw.{DelayIsTold, FoldDelays, LaterReportAlike};
 ghost use Rattle.relay_book.specs.DueLaw.{FoldDue, QueueListsDue, QueueTellsDue};
 ghost use Rattle.relay_book.specs.HeldLaw.{FoldFinds, QueuedIsHeld};
 ghost use Rattle.relay_book.specs.Marks.{ExactlyOne, FoldHolds, FoldKnows, LeavingIsListed, MessageStays, OneMoreHolds};
@@ -15,7 +15,7 @@ pub fn fold_finds()
     ensures { FoldFinds }
 {}
 
-/// Each added place is exactly one of held, transferred and ended.
+/// Each added place is exactly one of held, transferred, ended and withdrawn.
 pub fn exactly_one()
     ensures { ExactlyOne }
 {}
@@ -90,4 +90,9 @@ pub fn fold_delays()
 /// fails, its sender had asked to be told, and no change before has put it off so.
 pub fn delay_is_told()
     ensures { DelayIsTold }
+{}
+
+/// Outcomes of later versions than the first report alike.
+pub fn later_report_alike()
+    ensures { LaterReportAlike }
 {}

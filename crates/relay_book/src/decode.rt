@@ -6,7 +6,7 @@ ghost use Rattle.relay_book.specs.Record.{IsAccept, IsChange, IsNoRecord, IsOutc
 ghost use Rattle.relay_book.specs.Record.{outcome_kind, outcome_octets, sized_4, text_limit};
 ghost use Rattle.relay_book.specs.Fields.{BeginsAccept, BeginsRecord, BeginsWithHop, BeginsWithMail, HasNoHead};
 ghost use Rattle.relay_book.specs.Fields.{IsNoSized, MayBeRecord, SpellsHead, SpellsAccept, SpellsNoAccept};
-ghost use Rattle.relay_book.specs.Fields.{SpellsNoOutcome, SpellsOutcome};
+ghost use Rattle.relay_book.specs.Fields.{SpellsNoOutcome, SpellsNoneOf, SpellsOutcome};
 
 mod entry;
 mod mail;
@@ -18,6 +18,7 @@ mod tail;
 use crate::change::{Accept, Change, Outcome, Rulings};
 use crate::fault::BookFault;
 use crate::field::{read_4, read_8, read_sized_2};
+use crate::judge::are_of_version;
 use crate::limits::{REPORT_LIMIT, may_be_hop, text_limit};
 use crate::version::Version;
 pub(crate) use entry::next_entry;
@@ -51,6 +52,7 @@ pub fn decode_change(alloc: Global, text: &[u8]) -> Result<Change, BookFault>
         }
         2 => decode_outcome(alloc, Version::WithoutDelay, fields),
         4 => decode_outcome(alloc, Version::WithDelay, fields),
+        6 => decode_outcome(alloc, Version::WithWithdrawal, fields),
         _ => Err(BookFault::BadRecord),
     }
 }
@@ -59,7 +61,7 @@ pub fn decode_change(alloc: Global, text: &[u8]) -> Result<Change, BookFault>
 fn decode_outcome(alloc: Global, version: Version, fields: &[u8]) -> Result<Change, BookFault>
     ensures change { IfOk result (λ change.
         IsChange change × (outcome_kind version ∷ fields.now ≡ encode change)) }
-    ensures bad { IsErrOf result BookFault.BadRecord → SpellsNoOutcome fields.now }
+    ensures bad { IsErrOf result BookFault.BadRecord → SpellsNoneOf version fields.now }
     ensures memory { IsErrOf result BookFault.NoMemory → BeginsWithHop fields.now }
 {
     let outcome = read_outcome(alloc, version, fields)?;
@@ -210,19 +212,22 @@ fn split_outcome(alloc: Global, text: &[u8]) -> Result<OutcomeFields<'_>, BookFa
     }
 }
 
-/// Returns the outcome of a version that the text spells.
+/// Returns the outcome of a version that the text spells: verdicts of another version are none.
 #[tactic(auto, using(crate::proofs::OutcomeLemmas::judged_outcomes, crate::proofs::BeginLemmas::spelled_with_hop))]
 fn read_outcome(alloc: Global, version: Version, text: &[u8]) -> Result<Outcome, BookFault>
     ensures outcome { IfOk result (λ outcome. IsOutcome outcome × (text.now ≡ outcome_octets outcome)) }
     ensures version { IfOk result (λ outcome. outcome.version ≡ version) }
-    ensures bad { IsErrOf result BookFault.BadRecord → SpellsNoOutcome text.now }
+    ensures bad { IsErrOf result BookFault.BadRecord → SpellsNoneOf version text.now }
     ensures memory { IsErrOf result BookFault.NoMemory → BeginsWithHop text.now }
 {
     let (message, at, hop, rulings, report) = split_outcome(alloc, text)?;
     let Ok(at) = Moment::new(at) else {
         return Err(BookFault::BadRecord);
     };
-    if !may_be_hop(hop) || report.len() > REPORT_LIMIT {
+    if !may_be_hop(hop)
+        || report.len() > REPORT_LIMIT
+        || !are_of_version(version, rulings.as_slice())
+    {
         return Err(BookFault::BadRecord);
     }
     Ok(Outcome {

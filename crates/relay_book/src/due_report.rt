@@ -1,8 +1,9 @@
 ghost use Rattle.std.specs.Prelude.{◌≡◌};
-ghost use Rattle.relay_book.specs.DueReport.{due_for, due_report_of, report_of_delay, report_of_fate, reports_delay};
-ghost use Rattle.relay_book.specs.DueReport.{wants_delay, wants_failure, wants_success};
+ghost use Rattle.relay_book.specs.DueReport.{due_for, due_report_of, report_of_delay, report_of_fate};
+ghost use Rattle.relay_book.specs.DueReport.{report_of_withdrawal, reports_delay, wants_delay, wants_failure};
+ghost use Rattle.relay_book.specs.DueReport.{wants_success};
 
-use crate::change::{Accept, Verdict};
+use crate::change::{Accept, Verdict, Withdrawal};
 use crate::fate::{Fate, fate_of};
 use crate::message::Place;
 use crate::version::Version;
@@ -80,6 +81,18 @@ fn report_of_fate(
         Fate::Failed => wants_failure(notify).then_some(DueReport::OfFailure),
         Fate::Relayed(true) => None,
         Fate::Relayed(false) => wants_success(notify).then_some(DueReport::OfRelay),
+        Fate::Removed(withdrawal) => report_of_withdrawal(withdrawal, notify),
+    }
+}
+
+/// Returns the report of a place that the postmaster has ended: as of a failure where it returns the place, and none if
+/// it discards it.
+fn report_of_withdrawal(withdrawal: Withdrawal, notify: Option<Notify>) -> Option<DueReport>
+    ensures { result ≡ report_of_withdrawal withdrawal notify }
+{
+    match withdrawal {
+        Withdrawal::Return => wants_failure(notify).then_some(DueReport::OfFailure),
+        Withdrawal::Discard => None,
     }
 }
 
@@ -98,6 +111,7 @@ fn reports_delay(version: Version) -> bool
     match version {
         Version::WithoutDelay => false,
         Version::WithDelay => true,
+        Version::WithWithdrawal => true,
     }
 }
 

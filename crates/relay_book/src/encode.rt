@@ -5,10 +5,10 @@ ghost use Rattle.relay_envelope.specs.Envelope.{IsEnvelope, IsRecipient};
 ghost use Rattle.relay_book.specs.Record.{IsAccept, IsChange, IsOutcome, IsRuling, IsVerdict, accept_octets, counted};
 ghost use Rattle.relay_book.specs.Record.{encode, notify_number, octets_8, outcome_kind, outcome_octets, written};
 ghost use Rattle.relay_book.specs.Record.{recipient_octets, ret_number, ruling_octets, sized_2, verdict_octets};
-ghost use Rattle.relay_book.specs.declared.version.Version.TheVariants.{WithDelay};
+ghost use Rattle.relay_book.specs.declared.version.SnapshotVersion.TheVariants.{WithDelay};
 ghost use Rattle.relay_book.specs.Snapshot.{IsQueued, entry_octets, place_octets, placed_octets};
 
-use crate::change::{Accept, Change, Outcome, Ruling, Verdict};
+use crate::change::{Accept, Change, Outcome, Ruling, Verdict, Withdrawal};
 use crate::field::{push_1, push_2, push_8, push_sized_2, push_sized_4};
 use crate::message::{Message, Place};
 use crate::version::Version;
@@ -122,6 +122,7 @@ fn outcome_kind(version: Version) -> u8
     match version {
         Version::WithoutDelay => 2,
         Version::WithDelay => 4,
+        Version::WithWithdrawal => 6,
     }
 }
 
@@ -176,6 +177,8 @@ fn push_verdict(out: &mut Vec<u8>, verdict: &Verdict) -> Result<(), AllocError>
         Verdict::Later => push_1(out, 4),
         Verdict::CantSend => push_1(out, 5),
         Verdict::NoRoute => push_1(out, 6),
+        Verdict::Withdrawn(Withdrawal::Return) => push_1(out, 7),
+        Verdict::Withdrawn(Withdrawal::Discard) => push_1(out, 8),
     }
 }
 

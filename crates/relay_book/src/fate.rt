@@ -1,7 +1,7 @@
 ghost use Rattle.std.specs.Prelude.{◌≡◌};
 ghost use Rattle.relay_book.specs.DueReport.{fate_of, fate_of_later, way_of};
 
-use crate::change::Verdict;
+use crate::change::{Verdict, Withdrawal};
 use crate::limits::{LATENESS, PATIENCE};
 use relay_trace::Moment;
 
@@ -16,6 +16,8 @@ pub enum Fate {
     Failed,
     /// The hop took it, which offered DSN or not.
     Relayed(bool),
+    /// The postmaster has ended it.
+    Removed(Withdrawal),
 }
 
 /// How a place left the queue.
@@ -25,6 +27,8 @@ pub enum Way {
     ByTransfer,
     /// It failed.
     ByEnd,
+    /// The postmaster has ended it.
+    ByWithdrawal(Withdrawal),
 }
 
 /// What a change makes of a place, as it is told of.
@@ -46,6 +50,7 @@ pub fn fate_of(accepted: Moment, at: Moment, verdict: &Verdict) -> Fate
         Verdict::Later => fate_of_later(accepted, at),
         Verdict::CantSend => Fate::Failed,
         Verdict::NoRoute => Fate::Failed,
+        Verdict::Withdrawn(withdrawal) => Fate::Removed(*withdrawal),
     }
 }
 
@@ -72,6 +77,7 @@ impl Fate {
             Fate::Late => None,
             Fate::Failed => Some(Way::ByEnd),
             Fate::Relayed(_) => Some(Way::ByTransfer),
+            Fate::Removed(withdrawal) => Some(Way::ByWithdrawal(withdrawal)),
         }
     }
 }

@@ -1,9 +1,11 @@
 //! Whether a change may be stored, and whether it fits a message.
 ghost use Rattle.std.specs.Prelude.{◌≡◌, ◌↔◌, ◌<◌, ◌^◌, [], false, IsTrue};
 ghost use Rattle.std.specs.List.{AllByRecursion, list_any};
-ghost use Rattle.relay_book.specs.Record.{IsAccept, IsOutcome, IsRefusal, IsRuling, IsVerdict};
+ghost use Rattle.relay_book.specs.Record.{AreOfVersion, IsAccept, IsOutcome, IsRefusal, IsRuling, IsVerdict};
+ghost use Rattle.relay_book.specs.Record.{is_of_version, is_withdrawn};
 ghost use Rattle.relay_book.specs.Fields.{AreSome};
-ghost use Rattle.relay_book.specs.Queue.{AllNoRoute, AreRulings, FitsMessage, holds_at, is_no_route, reports_at};
+ghost use Rattle.relay_book.specs.Queue.{AllWithoutHop, AreRulings, FitsMessage, holds_at, is_without_hop};
+ghost use Rattle.relay_book.specs.Queue.{reports_at};
 
 use crate::change::{Accept, Outcome, Ruling, Verdict};
 use crate::limits::{
@@ -42,6 +44,9 @@ fn is_outcome_for(_message: u64, outcome: &Outcome) -> bool
         return false;
     }
     if !are_some(outcome.rulings.as_slice()) {
+        return false;
+    }
+    if !are_of_version(outcome.version, outcome.rulings.as_slice()) {
         return false;
     }
     outcome.report.len() <= REPORT_LIMIT
@@ -84,6 +89,7 @@ fn is_verdict(verdict: &Verdict) -> bool
         Verdict::Later => true,
         Verdict::CantSend => true,
         Verdict::NoRoute => true,
+        Verdict::Withdrawn(_) => true,
     }
 }
 
@@ -93,8 +99,36 @@ fn is_refusal(code: u16, text: &[u8]) -> bool
     is_reply_code(code) && text.len() <= REFUSAL_LIMIT && is_printable(text)
 }
 
-/// Returns whether an outcome fits its message: it rules on held places, which rise, names a hop unless no place had
-/// one, and has a report exactly if one is due.
+/// Returns whether the verdicts are those of a version: the postmaster's in the third, and in no other.
+pub(crate) fn are_of_version(version: Version, rulings: &[Ruling]) -> bool
+    ensures { IsTrue result ↔ AreOfVersion version rulings.now }
+{
+    match rulings {
+        [] => true,
+        [first, rest @ ..] => {
+            is_of_version(version, &first.verdict) && are_of_version(version, rest)
+        }
+    }
+}
+
+fn is_of_version(version: Version, verdict: &Verdict) -> bool
+    ensures { result ≡ is_of_version version verdict.now }
+{
+    match version {
+        Version::WithoutDelay => !is_withdrawn(verdict),
+        Version::WithDelay => !is_withdrawn(verdict),
+        Version::WithWithdrawal => is_withdrawn(verdict),
+    }
+}
+
+fn is_withdrawn(verdict: &Verdict) -> bool
+    ensures { result ≡ is_withdrawn verdict.now }
+{
+    matches!(verdict, Verdict::Withdrawn(_))
+}
+
+/// Returns whether an outcome fits its message: it rules on held places, which rise, names a hop exactly if an attempt
+/// was made, and has a report exactly if one is due.
 pub(crate) fn fits_message(message: &Message, outcome: &Outcome) -> bool
     ensures { IsTrue result ↔ FitsMessage message.now outcome.now }
 {
@@ -126,28 +160,28 @@ fn holds_at(places: &[Place], index: usize) -> bool
     }
 }
 
-/// Returns whether a hop is named exactly if a place had one.
+/// Returns whether a hop is named exactly if an attempt was made.
 fn hop_fits(outcome: &Outcome) -> bool
-    ensures { IsTrue result ↔ ((outcome.now.hop ≡ []) ↔ AllNoRoute outcome.now.rulings) }
+    ensures { IsTrue result ↔ ((outcome.now.hop ≡ []) ↔ AllWithoutHop outcome.now.rulings) }
 {
     let unnamed = outcome.hop.is_empty();
-    let no_route = all_no_route(outcome.rulings.as_slice());
-    unnamed == no_route
+    let without_hop = all_without_hop(outcome.rulings.as_slice());
+    unnamed == without_hop
 }
 
-fn all_no_route(rulings: &[Ruling]) -> bool
-    ensures { IsTrue result ↔ AllNoRoute rulings.now }
+fn all_without_hop(rulings: &[Ruling]) -> bool
+    ensures { IsTrue result ↔ AllWithoutHop rulings.now }
 {
     match rulings {
         [] => true,
-        [first, rest @ ..] => is_no_route(&first.verdict) && all_no_route(rest),
+        [first, rest @ ..] => is_without_hop(&first.verdict) && all_without_hop(rest),
     }
 }
 
-fn is_no_route(verdict: &Verdict) -> bool
-    ensures { result ≡ is_no_route verdict.now }
+fn is_without_hop(verdict: &Verdict) -> bool
+    ensures { result ≡ is_without_hop verdict.now }
 {
-    matches!(verdict, Verdict::NoRoute)
+    matches!(verdict, Verdict::NoRoute | Verdict::Withdrawn(_))
 }
 
 /// Returns whether there is a report exactly if one is due.

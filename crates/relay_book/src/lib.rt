@@ -21,7 +21,7 @@ mod retry;
 mod version;
 
 pub use book::Book;
-pub use change::{Accept, Change, Outcome, Ruling, Rulings, Verdict};
+pub use change::{Accept, Change, Outcome, Ruling, Rulings, Verdict, Withdrawal};
 pub use decode::{decode_change, decode_record};
 pub use due_report::DueReport;
 pub use encode::encode_change;

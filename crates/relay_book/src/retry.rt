@@ -32,6 +32,7 @@ pub(crate) fn place_after(at: Moment, place: Place, fate: Fate, due: Option<DueR
         Fate::Late => waiting_place(at, place, due),
         Fate::Failed => LEFT_PLACE,
         Fate::Relayed(_) => LEFT_PLACE,
+        Fate::Removed(_) => LEFT_PLACE,
     }
 }
 

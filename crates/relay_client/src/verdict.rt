@@ -59,6 +59,7 @@ pub(crate) fn copy_of(alloc: Global, verdict: &Verdict) -> Result<Verdict, Alloc
         Verdict::Later => Ok(Verdict::Later),
         Verdict::CantSend => Ok(Verdict::CantSend),
         Verdict::NoRoute => Ok(Verdict::NoRoute),
+        Verdict::Withdrawn(withdrawal) => Ok(Verdict::Withdrawn(*withdrawal)),
     }
 }
 

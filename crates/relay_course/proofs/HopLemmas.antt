@@ -1,11 +1,11 @@
--- The verdicts of a course are a hop's: none says that there was no hop.
+-- The verdicts of a course are a hop's: none says that there was no hop, or is the postmaster's.
 use Rattle.std.proofs.Common.{◌≡◌, ◌⊎◌, inl, inr, ℕ, Bool, true, false, ◌==◌, List, [], ◌∷◌, Option, Some, None, refl, sym, subst, if◌then◌else◌}
 use Rattle.std.specs.Prelude.{unwrap_or}
 use Rattle.std.specs.List.{AllByRecursion}
 use Rattle.relay_lines.specs.Reply.{Reply}
 use Rattle.relay_book.specs.declared.change.Verdict.{Verdict}
 use Rattle.relay_book.specs.declared.change.Verdict.TheVariants.{Later}
-use Rattle.relay_book.specs.Queue.{is_no_route}
+use Rattle.relay_book.specs.Queue.{is_without_hop}
 use Rattle.relay_course.specs.declared.reply_kind.ReplyKind.{ReplyKind}
 use Rattle.relay_course.specs.declared.reply_kind.ReplyKind.TheVariants.{Completion, Intermediate, Transient, Permanent}
 use Rattle.relay_course.specs.VerdictTable.{all_later, content_verdict_by, kind_of, rcpt_verdict_by, refusal, verdicts_of}
@@ -16,10 +16,10 @@ use Rattle.relay_course.proofs.EndLemmas.{concluded}
 use Rattle.relay_course.proofs.OrderLemmas.{EndedBefore, EndedByContent, ended-over}
 
 abbrev pub IsOfAHop : Verdict → Type 0
-IsOfAHop verdict = is_no_route verdict ≡ false
+IsOfAHop verdict = is_without_hop verdict ≡ false
 
 abbrev pub AreOfAHop : List Verdict → Type 0
-AreOfAHop verdicts = AllByRecursion (λ verdict. is_no_route verdict ≡ false) verdicts
+AreOfAHop verdicts = AllByRecursion (λ verdict. is_without_hop verdict ≡ false) verdicts
 
 rcpt-of-a-hop : (kind : ReplyKind) (reply : Reply) (last : Verdict) → IsOfAHop last
     → IsOfAHop (unwrap_or (rcpt_verdict_by kind reply) last)

@@ -14,7 +14,7 @@ use Rattle.relay_envelope.specs.declared.envelope.Recipient.{Recipient}
 use Rattle.relay_envelope.specs.Envelope.{IsEnvelope, mail_text, rcpt_text}
 use Rattle.relay_book.specs.declared.change.Verdict.{Verdict}
 use Rattle.relay_book.specs.declared.change.Verdict.TheVariants.{Taken}
-use Rattle.relay_book.specs.Queue.{is_no_route}
+use Rattle.relay_book.specs.Queue.{is_without_hop}
 use Rattle.relay_book.specs.Record.{IsVerdict}
 use Rattle.relay_course.specs.declared.awaited.Awaited.{Awaited}
 use Rattle.relay_course.specs.declared.awaited.Awaited.TheVariants as awaited
@@ -197,13 +197,13 @@ VerdictsMayBeStored =
     → IsCourse host envelope text places input told output (Some verdicts)
     → AllByRecursion IsVerdict verdicts
 
--- No verdict of a course says that there was no hop.
+-- No verdict of a course says that there was no hop, or is the postmaster's.
 abbrev pub VerdictsAreOfAHop : Type 0
 VerdictsAreOfAHop =
     (host : List ℕ) (envelope : Envelope) (text places input : List ℕ) (told : Bool) (output : List ℕ)
     (verdicts : List Verdict)
     → IsCourse host envelope text places input told output (Some verdicts)
-    → AllByRecursion (λ verdict. is_no_route verdict ≡ false) verdicts
+    → AllByRecursion (λ verdict. is_without_hop verdict ≡ false) verdicts
 
 -- A course that goes on may be lost: then each place may be tried again, and nothing more is written.
 abbrev pub CourseMayBeLost : Type 0

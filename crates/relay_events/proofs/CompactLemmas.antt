@@ -4,6 +4,7 @@ use Rattle.std.specs.Prelude.{slice_get, slice_set}
 use Rattle.std.proofs.lemmas.List.{length-set}
 use Rattle.relay_disk.specs.Device.{DiskWords}
 use Rattle.relay_records.specs.declared.fault.NodeFault.{NodeFault}
+use Rattle.relay_world.specs.GivingUp.{NoHop}
 use Rattle.relay_world.specs.Crashes.{CrashesCompacting, let_go}
 use Rattle.relay_world.specs.CrashRuns.{RestingCrashHappens}
 use Rattle.relay_world.specs.Once.{GoesOn, RunsKeepAll}
@@ -27,7 +28,7 @@ use Rattle.relay_events.proofs.GiveUpLemmas.{called_same}
 use Rattle.relay_events.proofs.HungLemmas.{hung_lines, hung_running}
 use Rattle.relay_events.proofs.PlaceLemmas.{value_put}
 use Rattle.relay_events.proofs.ReopenLemmas.{held_put}
-use Rattle.relay_events.proofs.RunLemmas.{one_happened, still_bound}
+use Rattle.relay_events.proofs.RunLemmas.{one_happened, run_happened, still_bound}
 use Rattle.relay_events.proofs.StepLemmas.{told_already}
 
 module _ {D : Type 0} (honest : Type 0) (words : DiskWords D) (old called : World D) (node : ℕ) where
@@ -97,7 +98,7 @@ module _ {D : Type 0} (honest : Type 0) (words : DiskWords D) (old called : Worl
   module _ (why : NodeFault) (calls : IsCalledToCompact honest words old called node (compacted.Refused why)) where
     pub unwritten_same : called ≡ old
     unwritten_same =
-        called_same honest words old called node 0 calls.was calls.now calls.was_at calls.rewrites.1 calls.new_is
+        called_same honest words NoHop old called node 0 calls.was calls.now calls.was_at calls.rewrites.1 calls.new_is
 
     pub unwritten_steps : unless_up old node None ≡ None → IsToldOfBreaks old
         → Steps honest words old (Compact node) called (Err (fault_of why))
@@ -149,7 +150,7 @@ module _ {D : Type 0} (honest : Type 0) (words : DiskWords D) (old called : Worl
     }
 
     pub halted_happened : RestingCrashHappens honest words → HasHappened honest words old down
-    halted_happened happens = (2, (happens old down node 0).2 halted_crash)
+    halted_happened happens = run_happened honest words [] 2 old down ((happens old down NoHop node 0).2 halted_crash)
 
     pub halted_bound : honest → RunsKeepAll honest words → RestingCrashHappens honest words → AreBound honest words old
         → AreBound honest words down

@@ -24,7 +24,7 @@ use Rattle.relay_events.specs.Told.{running_of}
 use Rattle.relay_events.proofs.CutShortLemmas.{cut_short as was_cut, goes_down, held_more, stopped_same}
 use Rattle.relay_events.proofs.HearLemmas.{its_node, waits_there}
 use Rattle.relay_events.proofs.HungLemmas.{hung_lines, hung_running}
-use Rattle.relay_events.proofs.RunLemmas.{both_happened, opened_happened, still_bound}
+use Rattle.relay_events.proofs.RunLemmas.{both_happened, opened_happened, run_happened, still_bound}
 
 module _ {D : Type 0} (honest : Type 0) (words : DiskWords D) (old called : World D) (number node count : ℕ)
     (waits : WaitsAt old number node) (calls : IsCalledToHear honest words old called number count Stopped) where
@@ -76,7 +76,7 @@ module _ {D : Type 0} (honest : Type 0) (words : DiskWords D) (old called : Worl
 
     pub crash_happened : CrashingHappens honest words → (lists : List (List Change)) → IsBound honest words old lists
         → HasHappened honest words old down
-    crash_happened happens lists bound = (2, (happens old down lists number count bound).0 crash_heard)
+    crash_happened happens lists bound = run_happened honest words [] 2 old down ((happens old down lists number count bound).0 crash_heard)
 
     crash_room : (free : ℕ) → HasRoomFor old 1 free → HasRoom down free
     crash_room free room =

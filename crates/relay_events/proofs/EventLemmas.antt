@@ -8,6 +8,7 @@ use Rattle.relay_attempts.specs.declared.reply.Replied.{Replied}
 use Rattle.relay_node.specs.declared.node.Connected.{Connected}
 use Rattle.relay_node.specs.declared.receive.Received.{Received}
 use Rattle.relay_node.specs.Node.{NodeState}
+use Rattle.relay_world.specs.GivingUp.{Reason}
 use Rattle.relay_world.specs.declared.attempt.Fate.{Fate}
 use Rattle.relay_world.specs.declared.attempt.Fate.TheVariants.{Replied as RepliedBy}
 use Rattle.relay_world.specs.declared.line.Line.TheVariants.{Accepted}
@@ -174,13 +175,13 @@ module _ {D : Type 0} (honest : Type 0) (words : DiskWords D) (old new : World D
   }
 
   -- places without a hop were given up
-  pub given_up : (node message change : ℕ) (host next : Host D) (recorded : Recorded) → slice_get old.hosts node ≡ Some host
-      → GivesUp honest words old.clock host next message change recorded → IsPut old.hosts new.hosts node next
+  pub given_up : (reason : Reason) (node message change : ℕ) (host next : Host D) (recorded : Recorded) → slice_get old.hosts node ≡ Some host
+      → GivesUp honest words reason old.clock host next message change recorded → IsPut old.hosts new.hosts node next
       → new.ledger ≡ old.ledger ++ left_lines node message 0 (report_told change recorded.report) recorded.left.items
       → (new.links ≡ old.links) × (new.attempts ≡ old.attempts) × (new.clock ≡ old.clock)
       × (length new.hosts ≡ length old.hosts)
-      → HasGivenUp honest words old new node message change
-  given_up node message change host next recorded host_at gives put ledger rest = record {
+      → HasGivenUp honest words old new reason node message change
+  given_up reason node message change host next recorded host_at gives put ledger rest = record {
     host = host;
     host_at = host_at;
     before = gives.before;

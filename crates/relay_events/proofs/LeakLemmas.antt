@@ -2,10 +2,14 @@
 -- attempt.
 use Rattle.std.proofs.Common.{◌≡◌, ◌⊎◌, inl, inr, ℕ, zero, suc, List, [], None, Some, Result, Ok, Err, refl, sym, subst, ◌∙◌}
 use Rattle.relay_disk.specs.Device.{DiskWords}
+use Rattle.relay_book.specs.declared.change.Withdrawal.{Withdrawal}
+use Rattle.relay_events.specs.declared.event.Event.TheVariants.{Withdraw}
+use Rattle.relay_events.specs.Step.{CrashesInWithdrawing, RefusesToWithdraw, Withdraws, WithdrawsPlace}
+use Rattle.relay_world.specs.GivingUp.{NoHop, Postmaster, Reason, Withdrawing, asked_by}
 use Rattle.relay_world.specs.CrashRuns.{CrashingHappens, RestingCrashHappens}
 use Rattle.relay_world.specs.Crashes.{CrashesAtRest, CrashesCompacting, CrashesGivingUp, CrashesHearing, CrashesLosing, CrashesReading}
 use Rattle.relay_world.specs.Leaks.{NothingLeaks}
-use Rattle.relay_world.specs.Once.{Happen, Happens, BreaksOff, Drops as DropsOff, Ends as EndsOff, GivesUp, GoesOn, Hears as HearsOf, IsNotOpened, Loses as LosesOf, Opens, Reads as ReadsOf, Reopens, RunsKeepAll, Starts, Ticks, Writes}
+use Rattle.relay_world.specs.Once.{Happen, Happens, BreaksOff, Drops as DropsOff, Ends as EndsOff, GivesUp, GoesOn, Hears as HearsOf, IsNotOpened, Loses as LosesOf, Opens, Reads as ReadsOf, Reopens, RunsKeepAll, Starts, Ticks, Writes, asked_at}
 use Rattle.relay_world.specs.Steps.{Breaks, DropsAttempt, EndsSession, HasHeard, HasLost, HasOpened, HasRead, HasStarted}
 use Rattle.relay_world.specs.Stops.{StaysUp}
 use Rattle.relay_world.specs.World.{World}
@@ -14,12 +18,12 @@ use Rattle.relay_events.specs.declared.event.Event.{Event}
 use Rattle.relay_events.specs.declared.event.Event.TheVariants.{Connect, Send, Carry, Break, Tick, Give, Compact, Stop}
 use Rattle.relay_events.specs.declared.fault.PairFault.{PairFault}
 use Rattle.relay_events.specs.declared.seen.Seen.{Seen}
-use Rattle.relay_events.specs.Happened.{HasHappened}
+use Rattle.relay_events.specs.Happened.{HasHappened, HasHappenedAsking}
 use Rattle.relay_events.specs.Relays.{AreBound}
 use Rattle.relay_events.specs.Step.{Acts, BreaksUnstarted, Carries, CompactsSpool, CrashesInCompacting, CrashesInGivingUp, CrashesInHearing, CrashesInLosing, CrashesInReading, Did, Does, Ends, Gives, GivesUpPlaces, Hears, HearsUnanswered, Loses, OpensFromOutside, OpensLink, Reads, ReadsUnwritten, RefusesLink, RefusesToCompact, RefusesToGiveUp, RefusesToHear, RefusesToOpen, RefusesToRead, RefusesToStart, Rewrites, StartsAtNode, StartsOutside, Steps, StopsNow}
 use Rattle.relay_events.specs.Told.{AreTold, CrashesTold, IsOpened, Tell, TellsOne}
 use Rattle.relay_events.specs.Told.{Crashes as CrashesOne, Drops as DropsOne, Ends as EndsOne, Loses as LosesOne}
-use Rattle.relay_events.proofs.RunLemmas.{one_happened, still_bound}
+use Rattle.relay_events.proofs.RunLemmas.{one_happened, run_happened, still_bound, still_bound_asking}
 
 module _ {D : Type 0} (honest : Type 0) (words : DiskWords D) (is_honest : honest) (keeps : RunsKeepAll honest words)
     (crashes : CrashingHappens honest words) (rests : RestingCrashHappens honest words) where
@@ -31,13 +35,15 @@ module _ {D : Type 0} (honest : Type 0) (words : DiskWords D) (is_honest : hones
   -- by one event, and by a run of events
   one_on : (old new : World D) → AreSound old → Happens honest words old new → NothingLeaks new → AreSound new
   one_on old new was happens leaks = record {
-    bound = still_bound honest words is_honest keeps old new was.bound (one_happened honest words old new happens);
+    bound = still_bound_asking honest words is_honest keeps (asked_at honest words old new happens) old new was.bound
+        (one_happened honest words old new happens);
     leaks = leaks;
   }
 
-  run_on : (old new : World D) → AreSound old → HasHappened honest words old new → NothingLeaks new → AreSound new
-  run_on old new was happened leaks =
-      record { bound = still_bound honest words is_honest keeps old new was.bound happened; leaks = leaks }
+  run_on : (asked : List Withdrawing) (old new : World D) → AreSound old → HasHappenedAsking honest words asked old new
+      → NothingLeaks new → AreSound new
+  run_on asked old new was happened leaks =
+      record { bound = still_bound_asking honest words is_honest keeps asked old new was.bound happened; leaks = leaks }
 
   same_on : (old new : World D) → new ≡ old → AreSound old → AreSound new
   same_on old new same was = subst (λ w. AreSound w) (sym same) was
@@ -92,34 +98,36 @@ module _ {D : Type 0} (honest : Type 0) (words : DiskWords D) (is_honest : hones
   crash_heard_on : (old new : World D) (number count : ℕ) → CrashesHearing honest words old new number count → AreSound old
       → AreSound new
   crash_heard_on old new number count crash was =
-      run_on old new was (2, (crashes old new was.bound.lists number count was.bound.bound).0 crash)
+      run_on [] old new was (run_happened honest words [] 2 old new ((crashes old new was.bound.lists number count was.bound.bound).0 crash))
       (down_leaks old new crash.of.end.node crash.of.host crash.disk _ crash.down was.leaks)
 
   crash_read_on : (old new : World D) (number count : ℕ) → CrashesReading honest words old new number count → AreSound old
       → AreSound new
   crash_read_on old new number count crash was =
-      run_on old new was (2, (crashes old new was.bound.lists number count was.bound.bound).1 crash)
+      run_on [] old new was (run_happened honest words [] 2 old new ((crashes old new was.bound.lists number count was.bound.bound).1 crash))
       (down_leaks old new crash.of.attempt.node crash.of.host crash.crash.disk _ crash.crash.down was.leaks)
 
   crash_lost_on : (old new : World D) (number : ℕ) → CrashesLosing honest words old new number → AreSound old → AreSound new
   crash_lost_on old new number crash was =
-      run_on old new was (2, (crashes old new was.bound.lists number 0 was.bound.bound).2 crash)
+      run_on [] old new was (run_happened honest words [] 2 old new ((crashes old new was.bound.lists number 0 was.bound.bound).2 crash))
       (down_leaks old new crash.of.attempt.node crash.of.host crash.crash.disk _ crash.crash.down was.leaks)
 
   crash_rest_on : (old new : World D) (node : ℕ) → CrashesAtRest honest words old new node → AreSound old → AreSound new
   crash_rest_on old new node crash was =
-      run_on old new was (2, (rests old new node 0).0 crash)
+      run_on [] old new was (run_happened honest words [] 2 old new ((rests old new NoHop node 0).0 crash))
       (down_leaks old new node crash.host crash.disk None crash.down was.leaks)
 
-  crash_given_on : (old new : World D) (node message : ℕ) → CrashesGivingUp honest words old new node message → AreSound old
+  crash_given_on : (old new : World D) (reason : Reason) (node message : ℕ)
+      → CrashesGivingUp honest words old new reason node message → AreSound old
       → AreSound new
-  crash_given_on old new node message crash was =
-      run_on old new was (2, (rests old new node message).1 crash)
+  crash_given_on old new reason node message crash was =
+      run_on (asked_by reason node message) old new was
+      (run_happened honest words (asked_by reason node message) 2 old new ((rests old new reason node message).1 crash))
       (down_leaks old new node crash.host crash.disk _ crash.down was.leaks)
 
   crash_compact_on : (old new : World D) (node : ℕ) → CrashesCompacting honest words old new node → AreSound old → AreSound new
   crash_compact_on old new node crash was =
-      run_on old new was (2, (rests old new node 0).2 crash)
+      run_on [] old new was (run_happened honest words [] 2 old new ((rests old new NoHop node 0).2 crash))
       (down_leaks old new node crash.host crash.disk None crash.down was.leaks)
 
   crash_told_on : (old new : World D) (number node : ℕ) → CrashesTold honest words old new number node → AreSound old
@@ -184,11 +192,22 @@ module _ {D : Type 0} (honest : Type 0) (words : DiskWords D) (is_honest : hones
   given_on old node new _ (BreaksUnstarted message hop first free to peer leads opened link breaks) was =
       broken_on opened new (suc _) breaks (linked_on old opened to peer link was)
   given_on old node new _ (GivesUpPlaces message change first gives) was =
-      one_on old new was (GivesUp node message change gives)
-      (given_leaks honest words old new node message change gives was.leaks)
+      one_on old new was (GivesUp NoHop node message change gives)
+      (given_leaks honest words old new NoHop node message change gives was.leaks)
   given_on old node new _ (RefusesToGiveUp message first why is_why same) was = same_on old new same was
   given_on old node new _ (CrashesInGivingUp message first down crash opened) was =
-      opened_on down new node opened (crash_given_on old down node message crash was)
+      opened_on down new node opened (crash_given_on old down NoHop node message crash was)
+
+  withdrawn_on : (old : World D) (node message place : ℕ) (withdrawal : Withdrawal) (new : World D) (did : Did)
+      → Withdraws honest words old node message place withdrawal new did → AreSound old → AreSound new
+  withdrawn_on old node message place withdrawal new _ (WithdrawsPlace change gives) was =
+      one_on old new was (GivesUp (Postmaster withdrawal (place ∷ [])) node message change gives)
+      (given_leaks honest words old new (Postmaster withdrawal (place ∷ [])) node message change gives was.leaks)
+  withdrawn_on old node message place withdrawal new _ (RefusesToWithdraw host at why refuses same) was =
+      same_on old new same was
+  withdrawn_on old node message place withdrawal new _ (CrashesInWithdrawing down crash opened) was =
+      opened_on down new node opened
+      (crash_given_on old down (Postmaster withdrawal (place ∷ [])) node message crash was)
 
   rewritten_on : (old : World D) (node : ℕ) (new : World D) (did : Did) → Rewrites honest words old node new did
       → AreSound old → AreSound new
@@ -214,6 +233,8 @@ module _ {D : Type 0} (honest : Type 0) (words : DiskWords D) (is_honest : hones
   acted_on old (Tick now) new did acts was = one_on old new was (Ticks now acts.0) (ticked_leaks old new now acts.0 was.leaks)
   acted_on old (Give node) new did acts was = given_on old node new did acts was
   acted_on old (Compact node) new did acts was = rewritten_on old node new did acts was
+  acted_on old (Withdraw node message place withdrawal) new did acts was =
+      withdrawn_on old node message place withdrawal new did acts was
   acted_on old (Stop node zero pick) new did acts was = stopped_on old new node acts.0 was
   acted_on old (Stop node (suc calls) pick) new did acts was = stayed_on old new node acts.0.armed.stays was
 

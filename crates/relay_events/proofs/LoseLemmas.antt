@@ -34,7 +34,7 @@ use Rattle.relay_events.specs.Told.{CrashesTold, ends_of, running_of}
 use Rattle.relay_events.proofs.ClientEndLemmas.{crash_fewer, crash_room, crash_running, ended_is, its, over, was_is}
 use Rattle.relay_events.proofs.CutShortLemmas.{cut_short as was_cut, goes_down, note_there, stopped_same}
 use Rattle.relay_events.proofs.LossLemmas.{attempt_of, few_left, few_recorded, has_lost, lines_room, over_fewer, over_room, over_running, same_before}
-use Rattle.relay_events.proofs.RunLemmas.{both_happened, one_happened, opened_happened, still_bound}
+use Rattle.relay_events.proofs.RunLemmas.{both_happened, one_happened, opened_happened, run_happened, still_bound}
 use Rattle.relay_report.specs.Report.{reporter_of}
 
 module _ {D : Type 0} (honest : Type 0) (words : DiskWords D) (old called : World D) (number : ℕ) (end : ClientEnd)
@@ -143,7 +143,7 @@ module _ {D : Type 0} (honest : Type 0) (words : DiskWords D) (old called : Worl
 
       crash_happened : CrashingHappens honest words → (lists : List (List Change)) → IsBound honest words old lists
           → HasHappened honest words old down
-      crash_happened happens lists bound = (2, (happens old down lists number 0 bound).2 crashes_losing.0)
+      crash_happened happens lists bound = run_happened honest words [] 2 old down ((happens old down lists number 0 bound).2 crashes_losing.0)
 
       few_noted : length crashes.noted.left.items ≤ length it.places.items
       few_noted =

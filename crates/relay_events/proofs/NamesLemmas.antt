@@ -15,7 +15,7 @@ use Rattle.relay_world.specs.Groups.{AcceptsInto, AttemptDropped, HasHeardAll, H
 use Rattle.relay_world.specs.Stops.{Decides, DropsAtStop}
 use Rattle.relay_records.specs.Records.{Kept}
 use Rattle.relay_records.specs.Staged.{Row, no_row}
-use Rattle.relay_world.specs.World.{Down, FromClient, FromNoHop, Host, Origin, Undecided, Up, World}
+use Rattle.relay_world.specs.World.{Down, FromClient, FromGivingUp, Host, Origin, Undecided, Up, World}
 use Rattle.relay_events.specs.Relays.{HaveOwnNames}
 
 module _ {D : Type 0} where
@@ -188,7 +188,7 @@ module _ {D : Type 0} where
     event_names (Starts number message hop starts) =
         names_put old.hosts new.hosts starts.attempt.node starts.host (record starts.host { state = Up starts.after })
         starts.host_at starts.hosts refl
-    event_names (GivesUp node message change gives) =
+    event_names (GivesUp reason node message change gives) =
         names_put old.hosts new.hosts node gives.host
         (record gives.host {
           state = Up (without_note gives.after);
@@ -203,9 +203,9 @@ module _ {D : Type 0} where
         stops.of.host_at stops.hosts refl
     event_names (StopsInReading number count stops) = dropped_at number stops.of stops.stopped _ stops.drops
     event_names (StopsInLosing number stops) = dropped_at number stops.of stops.stopped _ stops.drops
-    event_names (StopsInGivingUp node message stops) =
+    event_names (StopsInGivingUp reason node message stops) =
         names_put old.hosts new.hosts node stops.host
-        (record stops.host { state = Down stops.disk (Some (record { note = stops.noted; origin = FromNoHop message })) })
+        (record stops.host { state = Down stops.disk (Some (record { note = stops.noted; origin = FromGivingUp message })) })
         stops.host_at stops.hosts refl
     event_names (IsNotOpened node stays) =
         names_put old.hosts new.hosts node stays.host (record stays.host { state = Down stays.again stays.undecided })

@@ -43,7 +43,7 @@ use Rattle.relay_events.proofs.ClientEndLemmas.{crash_room, crash_running, its, 
 use Rattle.relay_events.proofs.CutShortLemmas.{cut_short as was_cut, goes_down, note_there, stopped_same}
 use Rattle.relay_events.proofs.LossLemmas.{attempt_of, few_left, lines_room, same_before}
 use Rattle.relay_events.proofs.ReadLemmas.{answered_carries, answered_happened, carried_world, few_replied, read_room, read_running, used_within}
-use Rattle.relay_events.proofs.RunLemmas.{both_happened, opened_happened, still_bound}
+use Rattle.relay_events.proofs.RunLemmas.{both_happened, opened_happened, run_happened, still_bound}
 use Rattle.relay_report.specs.Report.{reporter_of}
 
 module _ {D : Type 0} (honest : Type 0) (words : DiskWords D) (old called : World D) (number count : ℕ) (end : ClientEnd)
@@ -213,7 +213,7 @@ module _ {D : Type 0} (honest : Type 0) (words : DiskWords D) (old called : Worl
 
       crash_happened : CrashingHappens honest words → (lists : List (List Change)) → IsBound honest words old lists
           → HasHappened honest words old down
-      crash_happened happens lists bound = (2, (happens old down lists number count bound).1 crashes_reading)
+      crash_happened happens lists bound = run_happened honest words [] 2 old down ((happens old down lists number count bound).1 crashes_reading)
 
       few_noted : length crashes.noted.left.items ≤ length halted.places.items
       few_noted =

@@ -22,7 +22,7 @@ use Rattle.relay_world.specs.Steps.{IsPut}
 use Rattle.relay_world.specs.Stops.{Decides, DownIsNotRefused, Finds, HasNotFound}
 use Rattle.relay_world.specs.World.{Down, Host, Undecided as WorldUndecided, Up, World}
 use Rattle.relay_hosts.specs.declared.host.Origin.{Origin}
-use Rattle.relay_hosts.specs.declared.host.Origin.TheVariants.{FromClient, FromReplies, FromLoss, FromNoHop}
+use Rattle.relay_hosts.specs.declared.host.Origin.TheVariants.{FromClient, FromReplies, FromLoss, FromGivingUp}
 use Rattle.relay_hosts.specs.declared.host.Undecided.{Undecided}
 use Rattle.relay_hosts.specs.Crash.{Decided, OpensOrNot, without_octets}
 use Rattle.relay_hosts.specs.Links.{is_running}
@@ -220,7 +220,7 @@ may_found world node host changes change note (FromLoss number place message) ca
   attempt_at = came.attempt_at;
   over = ap is_running came.dropped;
 }
-may_found world node host changes change note (FromNoHop message) came = tt
+may_found world node host changes change note (FromGivingUp message) came = tt
 
 -- the lines of a change don't tell of its record
 same_lines : (node : ℕ) (note : Noted) (origin : Origin)
@@ -228,7 +228,7 @@ same_lines : (node : ℕ) (note : Noted) (origin : Origin)
 same_lines node note (FromClient number) = refl
 same_lines node note (FromReplies number place message) = refl
 same_lines node note (FromLoss number place message) = refl
-same_lines node note (FromNoHop message) = refl
+same_lines node note (FromGivingUp message) = refl
 
 finds_before : {D : Type 0} (old new : World D) (hosts : List (Host D)) (note : Noted) (origin : Origin)
     → Finds (record old { hosts = hosts }) new (record note { octets = [] }) (origin_in origin)
@@ -251,7 +251,7 @@ finds_before old new hosts note (FromLoss number place message) finds = record {
   attempt_at = finds.attempt_at;
   attempts = finds.attempts;
 }
-finds_before old new hosts note (FromNoHop message) finds = finds
+finds_before old new hosts note (FromGivingUp message) finds = finds
 
 -- how many lines a change that is found has
 abbrev pub found_lines : ℕ → Undecided → ℕ

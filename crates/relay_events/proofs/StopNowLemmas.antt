@@ -6,6 +6,7 @@ use Rattle.std.proofs.lemmas.Bool.{false≢true}
 use Rattle.std.proofs.lemmas.List.{length-set}
 use Rattle.std.proofs.lemmas.Option.{none-some}
 use Rattle.relay_disk.specs.Device.{DiskWords}
+use Rattle.relay_world.specs.GivingUp.{NoHop}
 use Rattle.relay_world.specs.Crashes.{CrashesAtRest, let_go}
 use Rattle.relay_world.specs.CrashRuns.{RestingCrashHappens}
 use Rattle.relay_world.specs.Once.{GoesOn, IsNotOpened, RunsKeepAll}
@@ -30,7 +31,7 @@ use Rattle.relay_events.specs.Told.{IsToldOfBreaks, running_of}
 use Rattle.relay_events.proofs.HungLemmas.{hung_lines, hung_running}
 use Rattle.relay_events.proofs.PlaceLemmas.{value_put}
 use Rattle.relay_events.proofs.ReopenLemmas.{held_put}
-use Rattle.relay_events.proofs.RunLemmas.{one_happened, still_bound}
+use Rattle.relay_events.proofs.RunLemmas.{one_happened, run_happened, still_bound}
 use Rattle.relay_events.proofs.StepLemmas.{told_already}
 
 module _ {D : Type 0} (honest : Type 0) (words : DiskWords D) where
@@ -84,7 +85,7 @@ module _ {D : Type 0} (honest : Type 0) (words : DiskWords D) where
 
     pub taken_happened : RestingCrashHappens honest words → HasHappened honest words old new
     taken_happened happens = elim taken_stops [
-      | inl rest ↦ (2, (happens old new node 0).0 rest)
+      | inl rest ↦ run_happened honest words [] 2 old new ((happens old new NoHop node 0).0 rest)
       | inr again ↦ one_happened honest words old new (IsNotOpened node again)
     ]
 

@@ -11,6 +11,7 @@ use Rattle.relay_world.specs.Crashes.{is_tried_for, serves_for}
 use Rattle.relay_world.specs.World.{Down, HostState, Host, Up, World}
 use Rattle.relay_events.specs.declared.event.Event.{Event}
 use Rattle.relay_events.specs.declared.event.Event.TheVariants.{Connect, Send, Carry, Break, Tick, Give, Compact, Stop}
+use Rattle.relay_events.specs.declared.event.Event.TheVariants.{Withdraw}
 use Rattle.relay_events.specs.declared.fault.PairFault.{PairFault}
 use Rattle.relay_events.specs.declared.fault.PairFault.TheVariants as fault
 use Rattle.relay_hosts.specs.Links.{client_idles, has_outside, server_idles, whole_link}
@@ -74,4 +75,5 @@ module _ {D : Type 0} (world : World D) where
   first_fault (Tick now) = None
   first_fault (Give node) = give_fault (slice_get world.hosts node)
   first_fault (Compact node) = unless_up node None
+  first_fault (Withdraw node message place withdrawal) = unless_up node None
   first_fault (Stop node calls pick) = stop_fault node calls

@@ -11,6 +11,7 @@ use Rattle.relay_records.specs.declared.fault.NodeFault.TheVariants as node_faul
 use Rattle.relay_world.specs.declared.attempt.Attempt.{Attempt}
 use Rattle.relay_world.specs.declared.link.Link.{Link}
 use Rattle.relay_world.specs.Steps.{IsPutAt, started_attempt}
+use Rattle.relay_world.specs.GivingUp.{Reason, NoHop}
 use Rattle.relay_world.specs.World.{Host, World, link_at}
 use Rattle.relay_events.specs.declared.relays.Relays.{Relays}
 use Rattle.relay_hosts.specs.declared.work.GivenUp.{GivenUp}
@@ -84,18 +85,23 @@ HasBegunThere honest words old new node message hop number (Ok place) =
 HasBegunThere {D} honest words old new node message hop number (Err why) =
     (new ≡ old) × ((host : Host D) × (slice_get old.hosts node ≡ Some host) × IsWhyNotBegun host why)
 
--- A node was called to give up the places of a message that have no hop, as its first work. Nothing else has changed
--- yet.
-pub record IsCalledToGiveUp {D : Type 0} (honest : Type 0) (words : DiskWords D) (old new : World D)
+-- A node was called to give up places of a message, for a reason. Nothing else has changed yet.
+pub record IsCalledToGiveUp {D : Type 0} (honest : Type 0) (words : DiskWords D) (reason : Reason) (old new : World D)
     (node message : ℕ) (given : GivenUp) : Type 0
   where
     pub was : Host D
     pub was_at : slice_get old.hosts node ≡ Some was
     pub has : HasChanges honest words was
     pub now : Host D
-    pub gives : GivesUpOrNot honest words old.clock was now message given
-    pub first : GivesUpUnlessFull honest words old.clock was message given
+    pub gives : GivesUpOrNot honest words reason old.clock was now message given
     pub new_is : new ≡ record old { hosts = slice_set old.hosts node now }
+
+-- a node was called so for the places that have no hop, as its first work
+pub record IsCalledByWork {D : Type 0} (honest : Type 0) (words : DiskWords D) (old new : World D)
+    (node message : ℕ) (given : GivenUp) : Type 0
+  where
+    pub called : IsCalledToGiveUp honest words NoHop old new node message given
+    pub first : GivesUpUnlessFull honest words old.clock called.was message given
 
 -- the most places of an attempt, or of an outcome
 abbrev pub most_places : ℕ

@@ -3,6 +3,7 @@ use Rattle.std.specs.Prelude.{◌≡◌, ℕ, ◌-◌, List, Some, slice_get, ve
 use Rattle.relay_disk.specs.Device.{DiskWords}
 use Rattle.relay_book.specs.declared.change.Change.{Change}
 use Rattle.relay_world.specs.Bound.{IsBound}
+use Rattle.relay_world.specs.GivingUp.{Withdrawing}
 use Rattle.relay_world.specs.HopLinks.{AreLinkedToHops}
 use Rattle.relay_world.specs.Lines.{HasSources}
 use Rattle.relay_world.specs.Once.{IsTriedOnce}
@@ -30,12 +31,13 @@ HaveOwnNames {D} hosts =
     (one other : ℕ) (host others : Host D) → slice_get hosts one ≡ Some host → slice_get hosts other ≡ Some others
     → host.config.host ≡ others.config.host → one ≡ other
 
--- The invariant holds for some lists of changes, each place is tried once at a time, attempts have the right links,
--- ledger lines have their sources, and no two nodes have the same name.
+-- The relays are bound by lists of changes, try each place once at a time, have withdrawn what the postmaster has asked
+-- for, and have the links that they are meant to have, lines with their sources, and names of their own.
 pub record AreBound {D : Type 0} (honest : Type 0) (words : DiskWords D) (world : World D) : Type 0 where
   pub lists : List (List Change)
   pub bound : IsBound honest words world lists
-  pub once : IsTriedOnce world lists
+  pub asked : List Withdrawing
+  pub once : IsTriedOnce world lists asked
   pub linked : AreLinkedToHops world
   pub sources : HasSources world lists
   pub named : HaveOwnNames world.hosts

@@ -13,7 +13,7 @@ use Rattle.relay_world.specs.Stops.{Finds, IsLeftBy}
 use Rattle.relay_world.specs.World as world
 use Rattle.relay_world.specs.World.{Down, Host, Up, World, link_at}
 use Rattle.relay_hosts.specs.declared.host.Origin.{Origin}
-use Rattle.relay_hosts.specs.declared.host.Origin.TheVariants.{FromClient, FromReplies, FromLoss, FromNoHop}
+use Rattle.relay_hosts.specs.declared.host.Origin.TheVariants.{FromClient, FromReplies, FromLoss, FromGivingUp}
 use Rattle.relay_hosts.specs.declared.host.Undecided.{Undecided}
 use Rattle.relay_hosts.specs.Crash.{IsCutShort, OpensOrNot}
 use Rattle.relay_hosts.specs.Host.{holds_up, origin_in}
@@ -96,7 +96,7 @@ abbrev pub MayBeFound : List Link → List Attempt → ℕ → Origin → Type 0
 MayBeFound links attempts used (FromClient number) = HasMoreUp links number used
 MayBeFound links attempts used (FromReplies number place message) = HasMoreDown links attempts number place used
 MayBeFound links attempts used (FromLoss number place message) = HasMoreDown links attempts number place used
-MayBeFound links attempts used (FromNoHop message) = Unit {0}
+MayBeFound links attempts used (FromGivingUp message) = Unit {0}
 
 -- Lines were added to the ledger, and links and attempts have changed so. No more is running, or may come, than before.
 pub record FindsBy {D : Type 0} (old new : World D) (lines : List Line) (found : Type 0) : Type 0 where

@@ -10,6 +10,7 @@ use Rattle.relay_world.specs.declared.attempt.Attempt.{Attempt}
 use Rattle.relay_world.specs.declared.link.Link.{Link}
 use Rattle.relay_world.specs.Crashes.{CrashesAtRest, CrashesCompacting, CrashesGivingUp, CrashesHearing, CrashesReading}
 use Rattle.relay_world.specs.Crashes.{serves_for}
+use Rattle.relay_world.specs.GivingUp.{NoHop, Postmaster}
 use Rattle.relay_world.specs.Steps.{AttemptOf, waiting_down, waiting_up}
 use Rattle.relay_world.specs.Steps.{Breaks, DropsAttempt, EndsSession, HasGivenUp, HasHeard, HasLost, HasOpened}
 use Rattle.relay_world.specs.Steps.{HasRead, HasStarted, HasTicked, HasWritten}
@@ -17,6 +18,8 @@ use Rattle.relay_world.specs.Stops.{HasArmed, HasCompacted, StopsAgain}
 use Rattle.relay_world.specs.World.{Host, World}
 use Rattle.relay_events.specs.declared.event.Event.{Event}
 use Rattle.relay_events.specs.declared.event.Event.TheVariants.{Connect, Send, Carry, Break, Tick, Give, Compact, Stop}
+use Rattle.relay_events.specs.declared.event.Event.TheVariants.{Withdraw}
+use Rattle.relay_book.specs.declared.change.Withdrawal.{Withdrawal}
 use Rattle.relay_events.specs.declared.fault.PairFault.{PairFault}
 use Rattle.relay_events.specs.declared.fault.PairFault.TheVariants as fault
 use Rattle.relay_events.specs.declared.seen.Seen.{Seen}
@@ -29,7 +32,7 @@ use Rattle.relay_events.specs.FirstFault.{first_fault}
 use Rattle.relay_hosts.specs.Links.{waits_down, waits_up}
 use Rattle.relay_events.specs.Give.{IsFirstWork, IsWhyNotBegun, IsWhyNotGivenUp, LeadsOn}
 use Rattle.relay_events.specs.Told.{AreTold, CrashesTold, IsOpened}
-use Rattle.relay_hosts.specs.Work.{RefusesSession, attempts_in}
+use Rattle.relay_hosts.specs.Work.{RefusesGivingUp, RefusesSession, attempts_in}
 use Rattle.relay_attempts.specs.declared.work.Work.TheVariants.{NoRoute, Try}
 
 abbrev pub outside_address : List ℕ
@@ -164,13 +167,28 @@ module _ {D : Type 0} (honest : Type 0) (words : DiskWords D) where
         → (opened : World D) → HasOpened old opened to peer → Breaks opened new (suc (length old.links))
         → Gives old node new (Refuses fault.NoMemory)
     GivesUpPlaces : (message change : ℕ) → IsFirstWork old node (NoRoute message)
-        → HasGivenUp honest words old new node message change → Gives old node new (Shows (seen.NoRoute message change))
+        → HasGivenUp honest words old new NoHop node message change
+        → Gives old node new (Shows (seen.NoRoute message change))
     RefusesToGiveUp : (message : ℕ) → (first : IsFirstWork old node (NoRoute message)) → (why : NodeFault)
         → IsWhyNotGivenUp honest words old.clock first.host message why → new ≡ old
         → Gives old node new (Refuses (fault_of why))
     CrashesInGivingUp : (message : ℕ) → IsFirstWork old node (NoRoute message) → (down : World D)
-        → CrashesGivingUp honest words old down node message → IsOpened honest words down new node
+        → CrashesGivingUp honest words old down NoHop node message → IsOpened honest words down new node
         → Gives old node new (Stops node)
+
+  -- The postmaster withdraws a place: the node ends it, in a change of its own; or it refuses to, for the first cause
+  -- in the order of the faults, or stops in that call.
+  pub data Withdraws (old : World D) (node message place : ℕ) (withdrawal : Withdrawal) (new : World D) : Did → Type 0
+    where
+      WithdrawsPlace : (change : ℕ)
+          → HasGivenUp honest words old new (Postmaster withdrawal (place ∷ [])) node message change
+          → Withdraws old node message place withdrawal new (Shows (seen.Withdrawn change))
+      RefusesToWithdraw : (host : Host D) → slice_get old.hosts node ≡ Some host → (why : NodeFault)
+          → RefusesGivingUp honest words (Postmaster withdrawal (place ∷ [])) old.clock host host message why
+          → new ≡ old → Withdraws old node message place withdrawal new (Refuses (fault_of why))
+      CrashesInWithdrawing : (down : World D)
+          → CrashesGivingUp honest words old down (Postmaster withdrawal (place ∷ [])) node message
+          → IsOpened honest words down new node → Withdraws old node message place withdrawal new (Stops node)
 
   -- A node compacts its spool, whose new size is the result; or the node refuses to, or stops in that call.
   pub data Rewrites (old : World D) (node : ℕ) (new : World D) : Did → Type 0 where
@@ -190,6 +208,7 @@ module _ {D : Type 0} (honest : Type 0) (words : DiskWords D) where
   Acts old (Tick now) middle did = HasTicked old middle now × (did ≡ Shows seen.Set)
   Acts old (Give node) middle did = Gives old node middle did
   Acts old (Compact node) middle did = Rewrites old node middle did
+  Acts old (Withdraw node message place withdrawal) middle did = Withdraws old node message place withdrawal middle did
   Acts old (Stop node zero pick) middle did = StopsNow old middle node × (did ≡ Stops node)
   Acts old (Stop node (suc calls) pick) middle did = SetsStop old middle node calls × (did ≡ Shows seen.Armed)
 
@@ -202,6 +221,7 @@ module _ {D : Type 0} (honest : Type 0) (words : DiskWords D) where
   LooksForWork (Tick now) = ⊥
   LooksForWork (Give node) = Unit {0}
   LooksForWork (Compact node) = ⊥
+  LooksForWork (Withdraw node message place withdrawal) = ⊥
   LooksForWork (Stop node calls pick) = ⊥
 
   -- events that may fail for lack of memory before a node is called: all but setting the clock, and setting a device
@@ -214,6 +234,7 @@ module _ {D : Type 0} (honest : Type 0) (words : DiskWords D) where
   TakesMemory (Tick now) = ⊥
   TakesMemory (Give node) = Unit {0}
   TakesMemory (Compact node) = Unit {0}
+  TakesMemory (Withdraw node message place withdrawal) = Unit {0}
   TakesMemory (Stop node zero pick) = Unit {0}
   TakesMemory (Stop node (suc calls) pick) = ⊥
 

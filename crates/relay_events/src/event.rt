@@ -1,4 +1,5 @@
 //! The events of a run.
+use relay_book::Withdrawal;
 use relay_octets::Octets;
 use relay_trace::Moment;
 
@@ -26,6 +27,17 @@ pub enum Event {
     Give(usize),
     /// The node at this index compacts its spool.
     Compact(usize),
+    /// The postmaster withdraws a place of a node's message.
+    Withdraw {
+        /// The node, by its place among the nodes, from 0.
+        node: usize,
+        /// The number of the message.
+        message: u64,
+        /// The place, from 0.
+        place: u8,
+        /// Whether it is returned or discarded.
+        withdrawal: Withdrawal,
+    },
     /// A node stops, now or at a later call of its disks.
     Stop {
         /// The index of the node.

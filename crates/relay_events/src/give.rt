@@ -5,7 +5,7 @@ ghost use Rattle.relay_attempts.specs.declared.work.Work.TheVariants.{NoRoute, T
 ghost use Rattle.relay_world.specs.World.{Host as HostOf};
 ghost use Rattle.relay_events.specs.BreakOff.{BreaksBehind, IsLink};
 ghost use Rattle.relay_events.specs.FirstFault.{unless_up};
-ghost use Rattle.relay_events.specs.Give.{HasBegunOrNot, HasBegunThere, HasRoomForWork, IsCalledToGiveUp, IsFirstWork};
+ghost use Rattle.relay_events.specs.Give.{HasBegunOrNot, HasBegunThere, HasRoomForWork, IsCalledByWork, IsFirstWork};
 ghost use Rattle.relay_events.specs.Give.{IsListOfStops};
 ghost use Rattle.relay_hosts.specs.Named.{IsFirstNamed, NoneIsNamed};
 ghost use Rattle.relay_events.specs.Happened.{HasHappened};
@@ -97,7 +97,7 @@ impl<D: Reboot + Drop> Relays<D> {
             GivenUp::Refused(fault) => Err(fault_of(fault)),
             GivenUp::NoRoom => Err(PairFault::NoMemory),
             GivenUp::Stopped => {
-                self.restart(node, Origin::FromNoHop(message));
+                self.restart(node, Origin::FromGivingUp(message));
                 self.finish(Act::Stops(node), stopped)
             }
         }
@@ -199,7 +199,7 @@ impl<D: Disk> Relays<D> {
     fn call_to_give_up(&mut self, node: usize, message: u64) -> GivenUp
         requires bound { AreBound D.honest D.words (world_of self.old) }
         requires first { IsFirstWork (world_of self.old) node (NoRoute message) }
-        ensures called { IsCalledToGiveUp D.honest D.words (world_of self.old) (world_of self.new) node message
+        ensures called { IsCalledByWork D.honest D.words (world_of self.old) (world_of self.new) node message
             result }
         ensures ledger { self.new.ledger ≡ self.old.ledger }
     {

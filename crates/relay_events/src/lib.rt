@@ -23,6 +23,7 @@ mod send;
 mod step;
 mod stop;
 mod tell;
+mod withdraw;
 
 pub use event::Event;
 pub use fault::PairFault;

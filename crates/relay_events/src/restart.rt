@@ -2,7 +2,7 @@
 ghost use Rattle.std.specs.Prelude.{◌≡◌, ◌+◌, ◌≤◌, false, length, vec_capacity, vec_len};
 ghost use Rattle.relay_world.specs.Ledger.{left_lines, lines_by, report_told};
 ghost use Rattle.relay_world.specs.Stops.{FindsAccept, FindsOutcome};
-ghost use Rattle.relay_world.specs.World.{FromClient, FromNoHop};
+ghost use Rattle.relay_world.specs.World.{FromClient, FromGivingUp};
 ghost use Rattle.relay_hosts.specs.Links.{is_running};
 ghost use Rattle.relay_hosts.specs.Host.{origin_in};
 ghost use Rattle.relay_events.specs.Relays.{AreBound, free_lines, world_of};
@@ -100,7 +100,7 @@ impl<D: Disk> Relays<D> {
                 let fate = Fate::Lost(note.number);
                 self.find_outcome(node, message, number, place, fate, note);
             }
-            Origin::FromNoHop(message) => {
+            Origin::FromGivingUp(message) => {
                 let report = report_told(note.number, note.report);
                 push_left(
                     &mut self.ledger,

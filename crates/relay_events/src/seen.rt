@@ -28,6 +28,8 @@ pub enum Seen {
     Started(usize),
     /// A node has given up places of this message, by the change of this number.
     NoRoute(u64, u64),
+    /// A node has withdrawn a place, in the change of this number.
+    Withdrawn(u64),
     /// The node at this index has compacted its spool, to this size in octets.
     Compacted(usize, usize),
     /// A device fault is set for a node.

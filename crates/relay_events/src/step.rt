@@ -1,5 +1,5 @@
 //! One event of a run.
-ghost use Rattle.relay_events.specs.Happened.{HasHappened};
+ghost use Rattle.relay_events.specs.Happened.{HasHappened, HasHappenedFor};
 ghost use Rattle.relay_events.specs.Relays.{AreInOrder, world_of};
 ghost use Rattle.relay_events.specs.Step.{Steps};
 ghost use Rattle.relay_events.specs.declared.event.Event.TheVariants.{Tick};
@@ -21,7 +21,8 @@ impl<D: Reboot + Drop> Relays<D> {
         requires honest { D.Disk.honest }
         requires order { AreInOrder D.Disk.honest D.Disk.words self.old }
         ensures steps { Steps D.Disk.honest D.Disk.words (world_of self.old) event.now (world_of self.new) result }
-        ensures happened { HasHappened D.Disk.honest D.Disk.words (world_of self.old) (world_of self.new) }
+        ensures happened { HasHappenedFor D.Disk.honest D.Disk.words event.now (world_of self.old)
+            (world_of self.new) }
         ensures order { AreInOrder D.Disk.honest D.Disk.words self.new }
     {
         match event {
@@ -30,6 +31,12 @@ impl<D: Reboot + Drop> Relays<D> {
             Event::Tick(now) => self.tick(*now),
             Event::Give(node) => self.give(*node),
             Event::Compact(node) => self.compact(*node),
+            Event::Withdraw {
+                node,
+                message,
+                place,
+                withdrawal,
+            } => self.withdraw(*node, *message, *place, *withdrawal),
             Event::Break(link) => self.break_link(*link),
             Event::Send(link, octets) => self.send(*link, octets.as_slice()),
             Event::Stop { node, calls, pick } => self.stop(*node, *calls, *pick),

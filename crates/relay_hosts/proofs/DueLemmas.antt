@@ -32,6 +32,7 @@ use Rattle.relay_attempts.specs.Runs.{is_running}
 use Rattle.relay_attempts.specs.Work.{message_works, tries, works_of}
 use Rattle.relay_node.specs.declared.node.Connected.{Connected}
 use Rattle.relay_node.specs.Node.{NodeState}
+use Rattle.relay_world.specs.GivingUp.{NoHop}
 use Rattle.relay_world.specs.World.{HostState, Host, Up}
 use Rattle.relay_hosts.specs.declared.work.Begun.{Begun}
 use Rattle.relay_hosts.specs.declared.work.Begun.TheVariants as begun
@@ -341,7 +342,7 @@ module _ {D : Type 0} (honest : Type 0) (words : DiskWords D) (now message : ℕ
   begins_unless_full hop begun.NoRoom has same first = tt
 
   pub gives_up_unless_full : (result : GivenUp) → HasChanges honest words old
-      → GivesUpOrNot honest words now old new message result
+      → GivesUpOrNot honest words NoHop now old new message result
       → slice_get (works_in now old.state) 0 ≡ Some (NoRoute message)
       → GivesUpUnlessFull honest words now old message result
   gives_up_unless_full (given.Done change recorded) has gives first = tt

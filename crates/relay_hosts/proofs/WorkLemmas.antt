@@ -13,11 +13,14 @@ use Rattle.relay_records.specs.Records.{Keeps, Kept}
 use Rattle.relay_attempts.specs.declared.runs.Run.{Run}
 use Rattle.relay_attempts.specs.declared.work.Work.{Work}
 use Rattle.relay_attempts.specs.Attempts.{RefusesToStart}
-use Rattle.relay_attempts.specs.Outcomes.{CutsUnroutable, RefusesToGiveUp}
+use Rattle.relay_attempts.specs.Outcomes.{AddsUnroutable, CutsUnroutable, RefusesToGiveUp}
+use Rattle.relay_attempts.specs.Withdrawals.{AddsWithdrawal, CutsWithdrawal, RefusesToWithdraw}
+use Rattle.relay_book.specs.declared.change.Withdrawal.{Withdrawal}
 use Rattle.relay_attempts.specs.Work.{works_of}
 use Rattle.relay_node.specs.declared.seat.Seat.{Seat}
 use Rattle.relay_node.specs.declared.node.Connected.{Connected}
 use Rattle.relay_node.specs.Node.{Connects, RefusesToConnect, NodeState}
+use Rattle.relay_world.specs.GivingUp.{AddsGivenUp, CutsGivenUp, NoHop, Postmaster}
 use Rattle.relay_world.specs.World.{Host}
 use Rattle.relay_hosts.specs.Call.{is_stop}
 use Rattle.relay_hosts.specs.Host.{OwesWithin, host_of, notes_of}
@@ -73,6 +76,44 @@ given_up_same words reporter table message now old new (Open cause) ok refuses =
 given_up_same words reporter table message now old new Full ok refuses = refuses.1
 given_up_same words reporter table message now old new NoSecond ok refuses = absurd refuses
 
+-- so does one to withdraw
+pub withdrawn_same : {D : Type 0} (words : DiskWords D) (reporter : Reporter) (runs : List (Option Run)) (message now : ℕ)
+    (withdrawal : Withdrawal) (names : List ℕ) (old new : Kept D) (fault : NodeFault) → is_stop fault ≡ false
+    → RefusesToWithdraw words reporter runs message now withdrawal names old new fault → new ≡ old
+withdrawn_same words reporter runs message now withdrawal names old new NoMemory ok refuses = refuses.3
+withdrawn_same words reporter runs message now withdrawal names old new Stopped ok refuses = absurd (true≢false ok)
+withdrawn_same words reporter runs message now withdrawal names old new Unknown ok refuses = refuses.2
+withdrawn_same words reporter runs message now withdrawal names old new TooMany ok refuses = absurd refuses
+withdrawn_same words reporter runs message now withdrawal names old new NotDue ok refuses = absurd refuses
+withdrawn_same words reporter runs message now withdrawal names old new Busy ok refuses = refuses.3
+withdrawn_same words reporter runs message now withdrawal names old new (Open cause) ok refuses = absurd refuses
+withdrawn_same words reporter runs message now withdrawal names old new Full ok refuses = refuses.2
+withdrawn_same words reporter runs message now withdrawal names old new NoSecond ok refuses = absurd refuses
+
+-- places without a hop, and places that are withdrawn, are given up
+module _ {D : Type 0} (honest : Type 0) (words : DiskWords D) (reporter : Reporter) (table : RouteTable) (number at : ℕ)
+    (changes : List Change) (old new : Kept D) where
+  pub unroutable_given : (added : ℕ) → AddsUnroutable honest words reporter table number at changes old new added
+      → AddsGivenUp honest words reporter table NoHop number at changes old new added
+  unroutable_given added adds =
+      record { message = adds.message; found = adds.found; named = tt; adds = adds.adds; calls = adds.calls }
+
+  pub unroutable_cut : CutsUnroutable honest words reporter table number at changes old new
+      → CutsGivenUp honest words reporter table NoHop number at changes old new
+  unroutable_cut cuts = record { message = cuts.message; found = cuts.found; named = tt; cuts = cuts.cuts }
+
+  pub withdrawal_given : (withdrawal : Withdrawal) (names : List ℕ) (added : ℕ)
+      → AddsWithdrawal honest words reporter number at withdrawal names changes old new added
+      → AddsGivenUp honest words reporter table (Postmaster withdrawal names) number at changes old new added
+  withdrawal_given withdrawal names added adds =
+      record { message = adds.message; found = adds.found; named = adds.named; adds = adds.adds; calls = adds.calls }
+
+  pub withdrawal_cut : (withdrawal : Withdrawal) (names : List ℕ)
+      → CutsWithdrawal honest words reporter number at withdrawal names changes old new
+      → CutsGivenUp honest words reporter table (Postmaster withdrawal names) number at changes old new
+  withdrawal_cut withdrawal names cuts =
+      record { message = cuts.message; found = cuts.found; named = cuts.named; cuts = cuts.cuts }
+
 module _ {D : Type 0} (honest : Type 0) (words : DiskWords D) (before after : NodeState D) (old new : List (List ℕ))
     (message now : ℕ) where
   -- a node that refused to begin an attempt
@@ -89,7 +130,7 @@ module _ {D : Type 0} (honest : Type 0) (words : DiskWords D) (before after : No
   -- a node that refused to give up the places of a message
   pub refuses_giving_up : (fault : NodeFault) → after ≡ before → new ≡ old
       → RefusesToGiveUp words (reporter_of before.config) before.config.routes message now before.records after.records fault
-      → RefusesGivingUp honest words now (host_of before old) (host_of after new) message fault
+      → RefusesGivingUp honest words NoHop now (host_of before old) (host_of after new) message fault
   refuses_giving_up fault node records refused = record {
     before = before;
     up = refl;
@@ -104,15 +145,17 @@ module _ {D : Type 0} (honest : Type 0) (words : DiskWords D) (before after : No
       → RefusesToGiveUp words (reporter_of before.config) before.config.routes message now before.records after.records Stopped
       → ((changes : List Change) → Keeps honest words before.records changes
       → CutsUnroutable honest words (reporter_of before.config) before.config.routes message now changes before.records after.records)
-      → StopsGivingUp honest words now (host_of before old) (host_of after new) message
+      → StopsGivingUp honest words NoHop now (host_of before old) (host_of after new) message
   stops_giving_up knows same config refused cuts =
       let cut = cuts knows.changes knows.keeps in
-      subst (λ (l : List (List ℕ)). StopsGivingUp honest words now (host_of before old) (host_of after l) message) (sym same)
+      subst (λ (l : List (List ℕ)). StopsGivingUp honest words NoHop now (host_of before old) (host_of after l) message) (sym same)
       (record {
         before = before;
         after = after;
         runs = runs_on before after old config;
-        cuts = cuts;
+        cuts = λ changes keeps.
+            unroutable_cut honest words (reporter_of before.config) before.config.routes message now changes before.records after.records
+            (cuts changes keeps);
         failed = elim refused [
           | inl was ↦ absurd (true≢false (sym knows.keeps.live ∙ was.0))
           | inr failed ↦ failed
@@ -120,6 +163,48 @@ module _ {D : Type 0} (honest : Type 0) (words : DiskWords D) (before after : No
         noted = cut.cuts.cuts.noted.note;
         note_is = cut.cuts.cuts.noted.is;
       })
+
+  -- the same of places that are withdrawn
+  module _ (withdrawal : Withdrawal) (names : List ℕ) where
+    pub refuses_withdrawing : (fault : NodeFault) → after ≡ before → new ≡ old
+        → RefusesToWithdraw words (reporter_of before.config) before.attempts message now withdrawal names before.records after.records
+        fault
+        → RefusesGivingUp honest words (Postmaster withdrawal names) now (host_of before old) (host_of after new) message fault
+    refuses_withdrawing fault node records refused = record {
+      before = before;
+      up = refl;
+      refused = subst
+          (λ (n : NodeState D). RefusesToWithdraw words (reporter_of before.config) before.attempts message now withdrawal names
+          before.records n.records fault)
+          node refused;
+      new_is = same_host before after old new node records;
+    }
+
+    pub stops_withdrawing : KnowsChanges honest words before → new ≡ old → after.config ≡ before.config
+        → RefusesToWithdraw words (reporter_of before.config) before.attempts message now withdrawal names before.records after.records
+        Stopped
+        → ((changes : List Change) → Keeps honest words before.records changes
+        → CutsWithdrawal honest words (reporter_of before.config) message now withdrawal names changes before.records after.records)
+        → StopsGivingUp honest words (Postmaster withdrawal names) now (host_of before old) (host_of after new) message
+    stops_withdrawing knows same config refused cuts =
+        let cut = cuts knows.changes knows.keeps in
+        subst
+        (λ (l : List (List ℕ)). StopsGivingUp honest words (Postmaster withdrawal names) now (host_of before old)
+        (host_of after l) message) (sym same)
+        (record {
+          before = before;
+          after = after;
+          runs = runs_on before after old config;
+          cuts = λ changes keeps.
+              withdrawal_cut honest words (reporter_of before.config) before.config.routes message now changes before.records
+              after.records withdrawal names (cuts changes keeps);
+          failed = elim refused [
+            | inl was ↦ absurd (true≢false (sym knows.keeps.live ∙ was.0))
+            | inr failed ↦ failed
+          ];
+          noted = cut.cuts.cuts.noted.note;
+          note_is = cut.cuts.cuts.noted.is;
+        })
 
 -- a node that opened a session for a client, or refused it
 module _ {D : Type 0} (before after : NodeState D) (records : List (List ℕ)) (peer : List ℕ) where

@@ -6,14 +6,14 @@ use Rattle.relay_world.specs.World as world
 use Rattle.relay_hosts.specs.declared.host.HostState.{HostState}
 use Rattle.relay_hosts.specs.declared.host.HostState.TheVariants.{Up, Down}
 use Rattle.relay_hosts.specs.declared.host.Origin.{Origin}
-use Rattle.relay_hosts.specs.declared.host.Origin.TheVariants.{FromClient, FromReplies, FromLoss, FromNoHop}
+use Rattle.relay_hosts.specs.declared.host.Origin.TheVariants.{FromClient, FromReplies, FromLoss, FromGivingUp}
 use Rattle.relay_hosts.specs.declared.host.Undecided.{Undecided}
 
 abbrev pub origin_in : Origin → world.Origin
 origin_in (FromClient link) = world.FromClient link
 origin_in (FromReplies link place message) = world.FromReplies link place message
 origin_in (FromLoss link place message) = world.FromLoss link place message
-origin_in (FromNoHop message) = world.FromNoHop message
+origin_in (FromGivingUp message) = world.FromGivingUp message
 
 abbrev pub undecided_in : Undecided → world.Undecided
 undecided_in undecided = record { note = undecided.note; origin = origin_in undecided.origin }

@@ -1,4 +1,5 @@
--- What one host begins by itself: sessions, attempts, and giving up places without a hop.
+-- What one host begins of itself: sessions, attempts, and the end of places without an attempt, since they have no hop
+-- or since the postmaster withdraws them.
 use Rattle.std.specs.Prelude.{◌≡◌, ◌⊎◌, ◌↔◌, ℕ, List, [], Option, Some, Result, Ok, Err}
 use Rattle.relay_disk.specs.Device.{DiskWords}
 use Rattle.relay_slots.specs.Slots.{IsFull}
@@ -12,11 +13,13 @@ use Rattle.relay_attempts.specs.declared.runs.Run.{Run}
 use Rattle.relay_attempts.specs.declared.start.Started.{Started}
 use Rattle.relay_attempts.specs.declared.work.Work.{Work}
 use Rattle.relay_attempts.specs.Attempts.{RefusesToStart}
-use Rattle.relay_attempts.specs.Outcomes.{AddsUnroutable, CutsUnroutable, HasNoRoomFor, RefusesToGiveUp}
+use Rattle.relay_attempts.specs.Outcomes.{HasNoRoomFor, RefusesToGiveUp}
+use Rattle.relay_attempts.specs.Withdrawals.{RefusesToWithdraw}
 use Rattle.relay_attempts.specs.Work.{works_of}
 use Rattle.relay_node.specs.declared.node.Connected.{Connected}
 use Rattle.relay_node.specs.Attempts.{Begins}
 use Rattle.relay_node.specs.Node.{Connects, NodeState}
+use Rattle.relay_world.specs.GivingUp.{AddsGivenUp, CutsGivenUp, NoHop, Postmaster, Reason}
 use Rattle.relay_world.specs.World.{Down, HostState, Host, Up}
 use Rattle.relay_hosts.specs.declared.recorded.Recorded.{Recorded}
 use Rattle.relay_hosts.specs.declared.work.Begun.{Begun}
@@ -118,46 +121,54 @@ module _ {D : Type 0} (honest : Type 0) (words : DiskWords D) where
   BeginsOrNot now old new message hop (begun.Refused fault) = RefusesAttempt now old new message hop fault
   BeginsOrNot now old new message hop begun.NoRoom = new ≡ old
 
-  -- A host has given up the places of a message that have no hop, by the change of this number.
-  pub record GivesUp (now : ℕ) (old new : Host D) (message change : ℕ) (recorded : Recorded) : Type 0 where
+  -- why a node doesn't give up places: the first cause in the order of the faults
+  abbrev pub RefusesFor : Reason → ℕ → NodeState D → ℕ → NodeFault → Type 0
+  RefusesFor NoHop now node message fault =
+      RefusesToGiveUp words (reporter_of node.config) node.config.routes message now node.records node.records fault
+  RefusesFor (Postmaster withdrawal names) now node message fault =
+      RefusesToWithdraw words (reporter_of node.config) node.attempts message now withdrawal names node.records
+      node.records fault
+
+  -- A host has given up places of a message without an attempt, by the change of this number.
+  pub record GivesUp (reason : Reason) (now : ℕ) (old new : Host D) (message change : ℕ) (recorded : Recorded)
+      : Type 0 where
     pub before : NodeState D
     pub up : old.state ≡ Up before
     pub after : NodeState D
     pub gives_up : (changes : List Change) → Keeps honest words before.records changes
-        → AddsUnroutable honest words (reporter_of before.config) before.config.routes message now changes
-        before.records
-        after.records change
+        → AddsGivenUp honest words (reporter_of before.config) before.config.routes reason message now changes
+        before.records after.records change
     pub config : after.config ≡ before.config
     pub seats : after.seats ≡ before.seats
     pub attempts : after.attempts ≡ before.attempts
     pub notes : NotesOne old new after recorded
 
   -- The host's node stopped in that call because its device failed, and has a note of the outcome.
-  pub record StopsGivingUp (now : ℕ) (old new : Host D) (message : ℕ) : Type 0 where
+  pub record StopsGivingUp (reason : Reason) (now : ℕ) (old new : Host D) (message : ℕ) : Type 0 where
     pub before : NodeState D
     pub after : NodeState D
     pub runs : Runs old new before after
     pub cuts : (changes : List Change) → Keeps honest words before.records changes
-        → CutsUnroutable honest words (reporter_of before.config) before.config.routes message now changes
-        before.records
-        after.records
+        → CutsGivenUp honest words (reporter_of before.config) before.config.routes reason message now changes
+        before.records after.records
     pub failed : IsStopped words before.records after.records
     pub noted : Noted
     pub note_is : after.records.noted ≡ Some noted
 
   -- A host has refused to give them up, for the first cause in the order of the faults. The host is unchanged.
-  pub record RefusesGivingUp (now : ℕ) (old new : Host D) (message : ℕ) (fault : NodeFault) : Type 0 where
-    pub before : NodeState D
-    pub up : old.state ≡ Up before
-    pub refused : RefusesToGiveUp words (reporter_of before.config) before.config.routes message now before.records
-        before.records fault
-    pub new_is : new ≡ old
+  pub record RefusesGivingUp (reason : Reason) (now : ℕ) (old new : Host D) (message : ℕ) (fault : NodeFault) : Type 0
+    where
+      pub before : NodeState D
+      pub up : old.state ≡ Up before
+      pub refused : RefusesFor reason now before message fault
+      pub new_is : new ≡ old
 
-  abbrev pub GivesUpOrNot : ℕ → Host D → Host D → ℕ → GivenUp → Type 0
-  GivesUpOrNot now old new message (given.Done change recorded) = GivesUp now old new message change recorded
-  GivesUpOrNot now old new message (given.Refused fault) = RefusesGivingUp now old new message fault
-  GivesUpOrNot now old new message given.Stopped = StopsGivingUp now old new message
-  GivesUpOrNot now old new message given.NoRoom = new ≡ old
+  abbrev pub GivesUpOrNot : Reason → ℕ → Host D → Host D → ℕ → GivenUp → Type 0
+  GivesUpOrNot reason now old new message (given.Done change recorded) =
+      GivesUp reason now old new message change recorded
+  GivesUpOrNot reason now old new message (given.Refused fault) = RefusesGivingUp reason now old new message fault
+  GivesUpOrNot reason now old new message given.Stopped = StopsGivingUp reason now old new message
+  GivesUpOrNot reason now old new message given.NoRoom = new ≡ old
 
   -- there is no room for the outcome that gives up the places of a message
   abbrev pub LacksRoom : ℕ → HostState D → ℕ → Type 0

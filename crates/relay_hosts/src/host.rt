@@ -34,8 +34,8 @@ pub enum Origin {
     FromReplies(usize, usize, u64),
     /// The loss of the link of this number, of the attempt at this index, for this message.
     FromLoss(usize, usize, u64),
-    /// Places of this message that had no hop.
-    FromNoHop(u64),
+    /// Places of this message that its node gave up without an attempt.
+    FromGivingUp(u64),
 }
 
 /// The change that a stop left undecided.

@@ -72,7 +72,7 @@ impl Undecided {
             Origin::FromClient(_) => 1,
             Origin::FromReplies(_, _, _) => self.note.left.len(),
             Origin::FromLoss(_, _, _) => self.note.left.len(),
-            Origin::FromNoHop(_) => self.note.left.len(),
+            Origin::FromGivingUp(_) => self.note.left.len(),
         }
     }
 }

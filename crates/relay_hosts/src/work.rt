@@ -1,6 +1,8 @@
-//! What a node begins by itself: sessions, attempts, and giving up places without a hop.
+//! What a node begins of itself: sessions, attempts, and the end of places without an attempt, since they have no hop
+//! or since the postmaster withdraws them.
 ghost use Rattle.std.specs.Prelude.{◌≡◌, ◌↔◌, IfErr, IfOk, IsTrue, slice_get, vec_capacity, vec_len};
 ghost use Rattle.relay_slots.specs.Slots.{IsFull};
+ghost use Rattle.relay_world.specs.GivingUp.{NoHop, Postmaster};
 ghost use Rattle.relay_hosts.specs.Host.{OwesWithin, host_of, notes_of};
 ghost use Rattle.relay_hosts.specs.Work.{BeginsOrNot, BeginsUnlessFull, GivesUpOrNot, GivesUpUnlessFull, HasChanges};
 ghost use Rattle.relay_hosts.specs.Work.{KnowsChanges, OpensOrRefuses, attempts_in, works_in};
@@ -9,6 +11,7 @@ use crate::calls::{is_stop, take_note};
 use crate::host::{Host, HostState};
 use crate::recorded::Recorded;
 use relay_attempts::{Started, Work};
+use relay_book::Withdrawal;
 use relay_disk::Disk;
 use relay_node::{Connected, Node, NodeFault};
 use relay_octets::Octets;
@@ -26,7 +29,7 @@ pub enum Begun {
     NoRoom,
 }
 
-/// The result of having a node give up places without a hop.
+/// What became of places that a node was to give up without an attempt.
 pub enum GivenUp {
     /// The node gave them up, by the change of this number.
     Done(u64, Recorded),
@@ -78,7 +81,7 @@ fn give_up_at<D: Disk>(
 ) -> GivenUp
     requires changes { KnowsChanges D.honest D.words node.old }
     requires room { OwesWithin (notes_of node.old) (vec_len records.old) (vec_capacity records.old) owed.old }
-    ensures given { GivesUpOrNot D.honest D.words now (host_of node.old records.old.items)
+    ensures given { GivesUpOrNot D.honest D.words NoHop now (host_of node.old records.old.items)
         (host_of node.new records.new.items) message result }
     ensures room { OwesWithin (notes_of node.new) (vec_len records.new) (vec_capacity records.new) owed.new }
 {
@@ -89,6 +92,42 @@ fn give_up_at<D: Disk>(
         return GivenUp::NoRoom;
     };
     let number = match node.give_up_unroutable(message, now) {
+        Ok(number) => number,
+        Err(fault) => {
+            if is_stop(fault) {
+                *owed = more;
+                return GivenUp::Stopped;
+            }
+            return GivenUp::Refused(fault);
+        }
+    };
+    let recorded = take_note(node, records);
+    GivenUp::Done(number, recorded)
+}
+
+/// A node withdraws places of a message, as the postmaster asks.
+fn withdraw_at<D: Disk>(
+    node: &mut Node<D>,
+    records: &mut Vec<Octets>,
+    owed: &mut usize,
+    message: u64,
+    places: &[u8],
+    withdrawal: Withdrawal,
+    now: Moment,
+) -> GivenUp
+    requires changes { KnowsChanges D.honest D.words node.old }
+    requires room { OwesWithin (notes_of node.old) (vec_len records.old) (vec_capacity records.old) owed.old }
+    ensures given { GivesUpOrNot D.honest D.words (Postmaster withdrawal places.now) now
+        (host_of node.old records.old.items) (host_of node.new records.new.items) message result }
+    ensures room { OwesWithin (notes_of node.new) (vec_len records.new) (vec_capacity records.new) owed.new }
+{
+    let Some(more) = owed.checked_add(1) else {
+        return GivenUp::NoRoom;
+    };
+    let Ok(()) = records.reserve(more) else {
+        return GivenUp::NoRoom;
+    };
+    let number = match node.withdraw(message, places, withdrawal, now) {
         Ok(number) => number,
         Err(fault) => {
             if is_stop(fault) {
@@ -159,7 +198,7 @@ impl<D: Disk> Host<D> {
     /// Gives up the places of a message that have no hop, in one call.
     pub fn give_up(&mut self, message: u64, now: Moment) -> GivenUp
         requires { HasChanges D.honest D.words self.old }
-        ensures given { GivesUpOrNot D.honest D.words now self.old self.new message result }
+        ensures given { GivesUpOrNot D.honest D.words NoHop now self.old self.new message result }
         ensures first { slice_get (works_in now self.old.state) 0 ≡ Some (Work.NoRoute message)
             → GivesUpUnlessFull D.honest D.words now self.old message result }
     {
@@ -167,5 +206,31 @@ impl<D: Disk> Host<D> {
             unreachable!()
         };
         give_up_at(node, &mut self.records, &mut self.owed, message, now)
+    }
+
+    /// The node withdraws places of a message by one call, as the postmaster asks.
+    pub fn withdraw(
+        &mut self,
+        message: u64,
+        places: &[u8],
+        withdrawal: Withdrawal,
+        now: Moment,
+    ) -> GivenUp
+        requires { HasChanges D.honest D.words self.old }
+        ensures { GivesUpOrNot D.honest D.words (Postmaster withdrawal places.now) now self.old self.new message
+            result }
+    {
+        let HostState::Up(node) = &mut self.state else {
+            unreachable!()
+        };
+        withdraw_at(
+            node,
+            &mut self.records,
+            &mut self.owed,
+            message,
+            places,
+            withdrawal,
+            now,
+        )
     }
 }

@@ -4,7 +4,7 @@ use crate::head::Head;
 use crate::hop_link::Loss;
 use crate::talk::Talk;
 use relay_backlog::LogLine;
-use relay_book::{Change, Outcome, PlaceStep, Ruling, Verdict, Way, decode_change};
+use relay_book::{Change, Outcome, PlaceStep, Ruling, Verdict, Way, Withdrawal, decode_change};
 use relay_node::Noted;
 use std::alloc::Global;
 use std::io::{self, Write};
@@ -36,6 +36,8 @@ enum Status {
     Failed,
     Expired,
     NoRoute,
+    Returned,
+    Discarded,
 }
 
 impl Status {
@@ -46,6 +48,8 @@ impl Status {
             Verdict::Taken { .. } => Status::Sent,
             Verdict::Refused { .. } | Verdict::CantSend => Status::Failed,
             Verdict::NoRoute => Status::NoRoute,
+            Verdict::Withdrawn(Withdrawal::Return) => Status::Returned,
+            Verdict::Withdrawn(Withdrawal::Discard) => Status::Discarded,
             Verdict::Later => match step {
                 Some(PlaceStep::Left(_)) => Status::Expired,
                 Some(PlaceStep::Delayed) => Status::Delayed,
@@ -63,6 +67,8 @@ impl Status {
             Status::Failed => b"failed",
             Status::Expired => b"expired",
             Status::NoRoute => b"no-route",
+            Status::Returned => b"returned",
+            Status::Discarded => b"discarded",
         }
     }
 
@@ -71,7 +77,9 @@ impl Status {
         let count = match self {
             Status::Sent => &mut counters.sent,
             Status::Deferred | Status::Delayed => &mut counters.deferred,
-            Status::Failed | Status::NoRoute => &mut counters.failed,
+            Status::Failed | Status::NoRoute | Status::Returned | Status::Discarded => {
+                &mut counters.failed
+            }
             Status::Expired => &mut counters.expired,
         };
         add(count, 1);
@@ -143,6 +151,7 @@ pub(crate) fn recipient_line(
         Verdict::Later => add_reason(head, &mut line, attempt, talk, rulings.len(), index)?,
         Verdict::CantSend => line.octets(b"reason", b"CHUNKING not offered")?,
         Verdict::NoRoute => line.octets(b"reason", b"no route")?,
+        Verdict::Withdrawn(_) => line.octets(b"reason", b"by the postmaster")?,
     }
     Ok(Some(line))
 }
@@ -230,6 +239,8 @@ fn report_kind(noted: &Noted) -> &'static [u8] {
     for (_place, step) in noted.left.as_slice() {
         match step {
             PlaceStep::Left(Way::ByEnd) => return b"failed",
+            PlaceStep::Left(Way::ByWithdrawal(Withdrawal::Return)) => return b"failed",
+            PlaceStep::Left(Way::ByWithdrawal(Withdrawal::Discard)) => {}
             PlaceStep::Delayed => kind = b"delayed",
             PlaceStep::Left(Way::ByTransfer) => {}
         }

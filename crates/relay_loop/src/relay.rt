@@ -1,6 +1,7 @@
 ghost use Rattle.std.specs.Prelude.{◌≡◌, List, None, Err, IfErr, IfOk, MatchResult, OnOk, false, true};
 ghost use Rattle.relay_report.specs.Report.{reporter_of};
 ghost use Rattle.relay_attempts.specs.Outcomes.{AddsUnroutable, CutsUnroutable, EndsUnroutable, RefusesToGiveUp};
+ghost use Rattle.relay_attempts.specs.Withdrawals.{AddsWithdrawal, CutsWithdrawal, EndsWithdrawal, RefusesToWithdraw};
 ghost use Rattle.relay_book.specs.declared.change.Change.{Change};
 ghost use Rattle.relay_book.specs.StandsFor.{StandsFor};
 ghost use Rattle.relay_node.specs.Compaction.{RefusesToCompact};
@@ -11,6 +12,7 @@ ghost use Rattle.relay_spool.specs.Spool.{AtEachMoment};
 ghost use Rattle.relay_spool.specs.Trim.{IsTrimmed};
 
 use crate::outboxes::Outboxes;
+use relay_book::Withdrawal;
 use relay_disk::Disk;
 use relay_node::Node;
 use relay_records::{NodeFault, Noted};
@@ -175,5 +177,33 @@ impl<D: Disk> Relay<D> {
             → (result ≡ Err NodeFault.Stopped) × (self.new.node ≡ self.old.node) }
     {
         self.node.give_up_unroutable(message, now)
+    }
+
+    /// As [`Node::withdraw`]. All connections stay.
+    pub fn withdraw(
+        &mut self,
+        message: u64,
+        places: &[u8],
+        withdrawal: Withdrawal,
+        now: Moment,
+    ) -> Result<u64, NodeFault>
+        ensures withdraws { (changes : List Change) → Keeps D.honest D.words self.old.node.records changes
+            → IfOk result (AddsWithdrawal D.honest D.words (reporter_of self.old.node.config) message now withdrawal
+            places.now changes self.old.node.records self.new.node.records) }
+        ensures cut { (changes : List Change) → Keeps D.honest D.words self.old.node.records changes
+            → result ≡ Err NodeFault.Stopped
+            → CutsWithdrawal D.honest D.words (reporter_of self.old.node.config) message now withdrawal places.now
+            changes self.old.node.records self.new.node.records }
+        ensures ends { IfOk result (EndsWithdrawal D.words (reporter_of self.old.node.config) self.old.node.attempts
+            message now withdrawal places.now self.old.node.records self.new.node.records) }
+        ensures rest { (self.new.node.config ≡ self.old.node.config) × (self.new.node.seats ≡ self.old.node.seats)
+            × (self.new.node.attempts ≡ self.old.node.attempts) }
+        ensures connections { (self.new.clients ≡ self.old.clients) × (self.new.hops ≡ self.old.hops) }
+        ensures refused { IfErr result (RefusesToWithdraw D.words (reporter_of self.old.node.config)
+            self.old.node.attempts message now withdrawal places.now self.old.node.records self.new.node.records) }
+        ensures stopped { self.old.node.records.spool.live ≡ false
+            → (result ≡ Err NodeFault.Stopped) × (self.new.node ≡ self.old.node) }
+    {
+        self.node.withdraw(message, places, withdrawal, now)
     }
 }

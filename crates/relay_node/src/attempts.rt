@@ -3,6 +3,7 @@ ghost use Rattle.std.specs.Prelude.{◌≡◌, ◌<◌, ◌↔◌, ◌⊎◌, �
 ghost use Rattle.relay_report.specs.Report.{reporter_of};
 ghost use Rattle.relay_attempts.specs.Attempts.{RefusesToStart, RefusesToStartAtMost, Serves, Starts, StartsAtMost};
 ghost use Rattle.relay_attempts.specs.Outcomes.{AddsUnroutable, CutsUnroutable, EndsUnroutable, RefusesToGiveUp};
+ghost use Rattle.relay_attempts.specs.Withdrawals.{AddsWithdrawal, CutsWithdrawal, EndsWithdrawal, RefusesToWithdraw};
 ghost use Rattle.relay_attempts.specs.Next.{IsNextDue};
 ghost use Rattle.relay_attempts.specs.Work.{works_of};
 ghost use Rattle.relay_book.specs.declared.change.Change.{Change};
@@ -16,6 +17,7 @@ ghost use Rattle.relay_slots.specs.Slots.{IsFull};
 use crate::node::Node;
 use crate::receive::Received;
 use relay_attempts::{Attempts, Started, Work};
+use relay_book::Withdrawal;
 use relay_disk::Disk;
 use relay_records::{NodeFault, Records};
 use relay_routes::{Config, HostName};
@@ -149,6 +151,50 @@ impl<D: Disk> Node<D> {
         }
         self.attempts
             .give_up_unroutable(self.alloc, &self.config, &mut self.records, message, now)
+    }
+}
+
+impl<D: Disk> Node<D> {
+    /// Ends places of a message as the postmaster asks: as failed, with the report that is owed, or without a report;
+    /// all in one change, whose number is the answer. The places may be named in any order, and more than once. The
+    /// first fault in this order is answered: `Stopped`; `Unknown` where no such message has a held place, no place is
+    /// named, or one that isn't held; `Busy` where a running attempt tries one of them; then `NoMemory` and `Full`, for
+    /// lack of memory or of room. Nothing is changed then.
+    pub fn withdraw(
+        &mut self,
+        message: u64,
+        places: &[u8],
+        withdrawal: Withdrawal,
+        now: Moment,
+    ) -> Result<u64, NodeFault>
+        ensures withdraws { (changes : List Change) → Keeps D.honest D.words self.old.records changes
+            → IfOk result (AddsWithdrawal D.honest D.words (reporter_of self.old.config) message now withdrawal
+            places.now changes self.old.records self.new.records) }
+        ensures cut { (changes : List Change) → Keeps D.honest D.words self.old.records changes
+            → result ≡ Err NodeFault.Stopped
+            → CutsWithdrawal D.honest D.words (reporter_of self.old.config) message now withdrawal places.now changes
+            self.old.records self.new.records }
+        ensures ends { IfOk result (EndsWithdrawal D.words (reporter_of self.old.config) self.old.attempts message now
+            withdrawal places.now self.old.records self.new.records) }
+        ensures rest { (self.new.config ≡ self.old.config) × (self.new.seats ≡ self.old.seats)
+            × (self.new.attempts ≡ self.old.attempts) }
+        ensures refused { IfErr result (RefusesToWithdraw D.words (reporter_of self.old.config) self.old.attempts
+            message now withdrawal places.now self.old.records self.new.records) }
+        ensures stopped { self.old.records.spool.live ≡ false
+            → (result ≡ Err NodeFault.Stopped) × (self.new ≡ self.old) }
+    {
+        if !self.records.is_live() {
+            return Err(NodeFault::Stopped);
+        }
+        self.attempts.withdraw(
+            self.alloc,
+            &self.config,
+            &mut self.records,
+            message,
+            places,
+            withdrawal,
+            now,
+        )
     }
 }
 

@@ -4,7 +4,7 @@ use crate::calls::{
 };
 use crate::scene::Scene;
 use crate::words::Words;
-use relay_book::{PlaceStep, Way};
+use relay_book::{PlaceStep, Way, Withdrawal};
 use relay_node::{Connected, Noted, Started, Work};
 use relay_routes::HostName;
 
@@ -178,11 +178,13 @@ impl Scene {
     }
 }
 
-/// Returns what became of a place: the next hop has it, it failed, or it is late.
+/// Returns what became of a place: the next hop has it, it failed, the postmaster has ended it, or it is late.
 fn word_of(step: &PlaceStep) -> &'static str {
     match step {
         PlaceStep::Left(Way::ByTransfer) => "there",
         PlaceStep::Left(Way::ByEnd) => "failed",
+        PlaceStep::Left(Way::ByWithdrawal(Withdrawal::Return)) => "returned",
+        PlaceStep::Left(Way::ByWithdrawal(Withdrawal::Discard)) => "discarded",
         PlaceStep::Delayed => "delayed",
     }
 }

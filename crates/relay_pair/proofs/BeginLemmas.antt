@@ -249,6 +249,7 @@ module _ {D : Type 0} (honest : Type 0) (words : DiskWords D) where
       named = begun_are_named apart;
       lists = no_lists hosts;
       bound = begun_is_bound;
+      asked = [];
       once = once (begun_with hosts) (no_lists hosts) (no_changes hosts) all_up refl refl;
       linked = linked (begun_with hosts) refl;
       sources = tt;

@@ -25,6 +25,7 @@ use Rattle.relay_world.specs.declared.link.Link.{Link}
 use Rattle.relay_world.specs.Bound.{IsBound, IsTried, StandsAt}
 use Rattle.relay_world.specs.Children.{IsAttempt, children_of}
 use Rattle.relay_world.specs.Copies.{Copies, CopiesBy, CopiesByAll, HasFewCopies, IsDecidedBy, is_lost_reply, lost_replies_of}
+use Rattle.relay_world.specs.GivingUp.{Withdrawing}
 use Rattle.relay_world.specs.Once.{IsTriedOnce}
 use Rattle.relay_world.specs.World.{World, link_at}
 use Rattle.relay_world.proofs.Theorems.{decided_by}
@@ -78,7 +79,7 @@ there_found place (tried ∷ places) (reply ∷ replies) has =
     (eq-eqb tried place) (there_found place places replies) has
 
 module _ {D : Type 0} (honest : Type 0) (words : DiskWords D) (world : World D) (lists : List (List Change))
-    (bound : IsBound honest words world lists) (once : IsTriedOnce world lists) (node message place : ℕ) where
+    (bound : IsBound honest words world lists) {asked : List Withdrawing} (once : IsTriedOnce world lists asked) (node message place : ℕ) where
   -- An attempt of a bound world, with its link.
   module _ (at : ℕ) (attempt : Attempt) (is_there : slice_get world.attempts at ≡ Some attempt) (link : Link)
       (its_link : link_at world.links attempt.link ≡ Some link) where
@@ -165,7 +166,8 @@ pub record Counts {D : Type 0} (honest : Type 0) (words : DiskWords D) (world : 
     (left : List Attempt) (count : ℕ) : Type 0 where
   pub lists : List (List Change)
   pub bound : IsBound honest words world lists
-  pub once : IsTriedOnce world lists
+  pub asked : List Withdrawing
+  pub once : IsTriedOnce world lists asked
   pub total : ℕ
   pub copies : Copies world lists node message place total
   pub few : total ≤ 1 + lost_replies_of node message place world.attempts
@@ -283,11 +285,13 @@ module _ {D : Type 0} (honest : Type 0) (words : DiskWords D) (world : World D) 
   abbrev CountsLeft : List Attempt → ℕ → Type 0
   CountsLeft left count = Counts honest words world node message place left count
 
-  pub counts_begin : (lists : List (List Change)) → IsBound honest words world lists → IsTriedOnce world lists
+  pub counts_begin : (lists : List (List Change)) (asked : List Withdrawing) → IsBound honest words world lists
+      → IsTriedOnce world lists asked
       → HasFewCopies world lists node message place → CountsLeft world.attempts 0
-  counts_begin lists bound once has = record {
+  counts_begin lists asked bound once has = record {
     lists = lists;
     bound = bound;
+    asked = asked;
     once = once;
     total = has.count;
     copies = has.copies;

@@ -12,6 +12,7 @@ use Rattle.relay_course.specs.VerdictTable.{is_accepted, kind_of}
 use Rattle.relay_world.specs.declared.attempt.Attempt.{Attempt}
 use Rattle.relay_world.specs.Bound.{IsBound}
 use Rattle.relay_world.specs.Copies.{Copies, CopiesBy, lost_replies_of}
+use Rattle.relay_world.specs.GivingUp.{Withdrawing}
 use Rattle.relay_world.specs.Once.{IsTriedOnce}
 use Rattle.relay_world.specs.World.{World}
 
@@ -51,8 +52,8 @@ accepts_place place (tried ∷ places) (reply ∷ replies) =
 abbrev pub CountsBy
     : {D : Type 0} → Type 0 → DiskWords D → World D → ℕ → ℕ → ℕ → Attempt → ℕ → Type 0
 CountsBy honest words world node message place attempt count =
-    (lists : List (List Change)) → IsBound honest words world lists → IsTriedOnce world lists
-    → CopiesBy world lists node message place attempt count
+    (lists : List (List Change)) (asked : List Withdrawing) → IsBound honest words world lists
+    → IsTriedOnce world lists asked → CopiesBy world lists node message place attempt count
 
 -- This many copies of a node's message hold a place, by the nodes' lists of changes, which is at most one more than the
 -- lost replies.

@@ -5,10 +5,10 @@ ghost use Rattle.relay_events.specs.Begin.{begun_with};
 ghost use Rattle.relay_pair.specs.Copied.{CountsCopies};
 ghost use Rattle.relay_pair.specs.Marks.{marks_from};
 ghost use Rattle.relay_pair.specs.Network.{AreNetwork, HaveOneHost, IsNoNetwork};
-ghost use Rattle.relay_events.specs.Happened.{HasHappened};
+ghost use Rattle.relay_events.specs.Happened.{HasHappenedFor};
 ghost use Rattle.relay_events.specs.Relays.{AreBound};
 ghost use Rattle.relay_events.specs.Step.{Steps};
-ghost use Rattle.relay_pair.specs.Promise.{KeepsItsPromise};
+ghost use Rattle.relay_pair.specs.Promise.{RunKeepsItsPromise};
 ghost use Rattle.relay_pair.specs.Run.{StepsEach};
 ghost use Rattle.relay_routes.specs.declared.config.Config.{Config as Configuration};
 ghost use Rattle.relay_world.specs.Copies.{lost_replies_of};
@@ -213,7 +213,7 @@ impl<D: Reboot + Drop> Pair<D> {
     pub fn step(&mut self, event: &Event) -> Result<Seen, PairFault>
         requires { D.Disk.honest }
         ensures steps { Steps D.Disk.honest D.Disk.words self.old event.now self.new result }
-        ensures happened { HasHappened D.Disk.honest D.Disk.words self.old self.new }
+        ensures happened { HasHappenedFor D.Disk.honest D.Disk.words event.now self.old self.new }
         ensures leaks { NothingLeaks self.new }
     {
         runs_keep_all::<D>();
@@ -223,12 +223,11 @@ impl<D: Reboot + Drop> Pair<D> {
     }
 
     /// Does events, one after another, and goes on after one that is refused. Whatever they are, the promise for mail
-    /// is kept.
+    /// is kept, and a place is withdrawn only if an event asks for it.
     pub fn run(&mut self, events: &[Event])
         requires { D.Disk.honest }
         ensures steps { StepsEach D.Disk.honest D.Disk.words self.old events.now self.new }
-        ensures happened { HasHappened D.Disk.honest D.Disk.words self.old self.new }
-        ensures promise { KeepsItsPromise D.Disk.honest D.Disk.words self.old self.new }
+        ensures promise { RunKeepsItsPromise D.Disk.honest D.Disk.words events.now self.old self.new }
         ensures leaks { NothingLeaks self.new }
     {
         promise_is_kept::<D>();

@@ -1,5 +1,5 @@
 //! The lines of a ledger, as a play prints them.
-use relay_book::{PlaceStep, Way};
+use relay_book::{PlaceStep, Way, Withdrawal};
 use relay_world::Line;
 use std::alloc::AllocError;
 
@@ -39,11 +39,13 @@ fn push_line(text: &mut String, line: Line) -> Result<(), AllocError> {
     }
 }
 
-/// Returns what became of a place: its next hop has it, it failed, or it is late.
+/// Returns what became of a place: its next hop has it, it failed, the postmaster has ended it, or it is late.
 fn word_of(step: PlaceStep) -> &'static str {
     match step {
         PlaceStep::Left(Way::ByTransfer) => "transfer",
         PlaceStep::Left(Way::ByEnd) => "end",
+        PlaceStep::Left(Way::ByWithdrawal(Withdrawal::Return)) => "return",
+        PlaceStep::Left(Way::ByWithdrawal(Withdrawal::Discard)) => "discard",
         PlaceStep::Delayed => "delay",
     }
 }

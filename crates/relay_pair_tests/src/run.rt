@@ -1,8 +1,9 @@
 //! A run of events.
 use crate::ledger::push_ledger;
+use relay_book::Withdrawal;
 use relay_disk::MemoryDisk;
 use relay_pair::{Event, Pair};
-use relay_script::{Event as Said, ScriptLine, script_line};
+use relay_script::{Event as Said, NodeIndex, ScriptLine, script_line};
 use std::alloc::{AllocError, Global};
 use std::fs;
 use std::test::Fail;
@@ -67,5 +68,25 @@ fn event_of(said: Said) -> Event {
             calls,
             pick,
         },
+        Said::Return {
+            node,
+            number,
+            place,
+        } => withdrawn(node, number, place, Withdrawal::Return),
+        Said::Discard {
+            node,
+            number,
+            place,
+        } => withdrawn(node, number, place, Withdrawal::Discard),
+    }
+}
+
+/// Returns the postmaster withdraws a place.
+fn withdrawn(node: NodeIndex, number: u64, place: u64, withdrawal: Withdrawal) -> Event {
+    Event::Withdraw {
+        node: node.index(),
+        message: number,
+        place: place.min(255) as u8,
+        withdrawal,
     }
 }

@@ -3,21 +3,26 @@ use Rattle.std.proofs.Common.{◌≡◌, ◌<◌, ◌+◌, ◌==◌, ℕ, zero, 
 use Rattle.std.proofs.lemmas.Bool.{eqb-true, false_from_ne_true}
 use Rattle.std.proofs.lemmas.List.{take_all}
 use Rattle.std.proofs.Math.Numerals.{add-one}
-use Rattle.std.specs.List.{onto_first, slice_split}
+use Rattle.std.specs.List.{AllByRecursion, Contains, onto_first, slice_split}
+use Rattle.std.proofs.lemmas.List.Elements.{Contains-append_left, Contains-append_right, Contains-push}
 use Rattle.std.proofs.lemmas.List.Splits.{slice_split-cons_no, slice_split-cons_yes}
 use Rattle.std.specs.Io.KnownBytes.{Consumes, Keeps}
 use Rattle.std.proofs.KnownBytes.{Consumes-kept, Consumes-nil, Consumes-trans}
 use Rattle.memchr.specs.Find.{IsFirstByte, is_byte}
 use Rattle.relay_disk.specs.Device.{DiskWords}
 use Rattle.relay_disk.specs.declared.memory.MemoryDisk.{MemoryDisk}
+use Rattle.relay_world.specs.GivingUp.{Withdrawing}
 use Rattle.relay_world.specs.World.{World}
+use Rattle.relay_events.specs.Happened.{Asking, HasHappenedFor, Unasked, asked_for}
 use Rattle.relay_play.specs.declared.state.PlayState.{PlayState}
 use Rattle.relay_world.specs.Promise.{PromiseIsKept}
+use Rattle.relay_script.specs.declared.event.Event.{Event as Said}
 use Rattle.relay_script.specs.declared.event.ScriptLine.{ScriptLine}
 use Rattle.relay_script.specs.declared.event.ScriptLine.TheVariants.{Skipped, Nodes, Event as Happens, Ledger, Marks, Copies, Lost}
 use Rattle.relay_pair.specs.Promise.{KeepsItsPromise}
 use Rattle.relay_pair.proofs.Theorems.{promise_on}
-use Rattle.relay_play.specs.Script.{Does, HasNoLineFeed, HasNotBegun, HasPlayed, IsPlayed, IsRead, IsReadTo, PlaysAll, PlaysBlock, PlaysEach, PlaysLine, StartsAs, is_line_feed}
+use Rattle.relay_script.specs.Line.{Spells}
+use Rattle.relay_play.specs.Script.{Does, HasNoLineFeed, HasNotBegun, HasPlayed, IsAskedIn, IsPlayed, IsRead, IsReadTo, PlaysAll, PlaysBlock, PlaysEach, PlaysLine, StartsAs, event_in, is_line_feed}
 
 -- the front of octets, where no LF stands in it
 no_line_feed_in : (octets : List ℕ) (count : ℕ)
@@ -75,6 +80,23 @@ is_one_line (octet ∷ line) none =
 -- a read that gave nothing
 pub kept_is_read : (old new : Option (List ℕ)) → Keeps old new → Consumes old new []
 kept_is_read old new kept = Consumes-kept old old new [] (Consumes-nil old) kept
+
+-- what stands in a list, and in its front and its rest
+head_in : {A : Type 0} (x : A) (xs : List A) → Contains (x ∷ xs) x
+head_in x xs = Contains-append_left (x ∷ []) xs x (Contains-push [] x)
+
+tail_in : {A : Type 0} (x y : A) (xs : List A) → Contains xs y → Contains (x ∷ xs) y
+tail_in x y xs h = Contains-append_right (x ∷ []) xs y h
+
+each_in : (P : Withdrawing → Type 0) (xs : List Withdrawing) → ((one : Withdrawing) → Contains xs one → P one)
+    → AllByRecursion P xs
+each_in P [] holds = tt
+each_in P (x ∷ xs) holds = (holds x (head_in x xs), each_in P xs (λ one h. holds one (tail_in x one xs h)))
+
+both_all : (P : Withdrawing → Type 0) (xs ys : List Withdrawing) → AllByRecursion P xs → AllByRecursion P ys
+    → AllByRecursion P (xs ++ ys)
+both_all P [] ys all rest = rest
+both_all P (x ∷ xs) ys all rest = (all.0, both_all P xs ys all.1 rest)
 
 module _ (honest : Type 0) (words : DiskWords MemoryDisk) where
   -- lines after others
@@ -222,40 +244,67 @@ module _ (honest : Type 0) (words : DiskWords MemoryDisk) where
         subst (λ f. PlaysAll honest words first f last) (append_assoc front so_far.0 more.0) more.2,
       )
 
-  -- Of relays that began so, the promise is kept by what has happened since.
-  pub record IsPromised (first : PlayState) (now : World MemoryDisk) : Type 0 where
+  -- Of relays that began so, the promise is kept by what has happened since, and what the postmaster asked for is said
+  -- by lines of the script.
+  pub record IsPromised (script : List ℕ) (first : PlayState) (now : World MemoryDisk) : Type 0 where
     pub start : World MemoryDisk
     pub starts : StartsAs honest words first start
-    pub promise : KeepsItsPromise honest words start now
+    pub asked : List Withdrawing
+    pub by_lines : AllByRecursion (IsAskedIn honest words script) asked
+    pub promise : KeepsItsPromise honest words asked start now
 
-  module _ (is_honest : honest) (keeps : PromiseIsKept honest words) (first : PlayState) where
-    same_promised : (old now new : PlayState) → new ≡ now → now.pair ≡ old.pair → IsPromised first old.pair
-        → IsPromised first new.pair
+  module _ (is_honest : honest) (keeps : PromiseIsKept honest words) (script : List ℕ) (first : PlayState) where
+    same_promised : (old now new : PlayState) → new ≡ now → now.pair ≡ old.pair → IsPromised script first old.pair
+        → IsPromised script first new.pair
     same_promised old now new same pair was =
-        subst (λ (w : World MemoryDisk). IsPromised first w) (sym (ap (λ (p : PlayState). p.pair) same ∙ pair)) was
+        subst (λ (w : World MemoryDisk). IsPromised script first w) (sym (ap (λ (p : PlayState). p.pair) same ∙ pair)) was
 
-    line_promised : (line : ScriptLine) (old new : PlayState) → Does honest words line old new → IsPromised first old.pair
-        → IsPromised first new.pair
-    line_promised Skipped old new does was = same_promised old old new does refl was
-    line_promised (Nodes count) old new does was =
-        record { start = new.pair; starts = inr (count, does.1); promise = does.2 }
-    line_promised (Happens event) old new does was = record {
+    event_promised : (text : List ℕ) (event : Said) → Contains (slice_split is_line_feed script) text
+        → Spells text (Happens event) → (old new : World MemoryDisk) → HasHappenedFor honest words (event_in event) old new
+        → IsPromised script first old → IsPromised script first new
+    event_promised text event there spells old new (Unasked more) was = record {
       start = was.start;
       starts = was.starts;
-      promise = promise_on honest words is_honest keeps was.start old.pair new.pair was.promise does.1;
+      asked = was.asked;
+      by_lines = was.by_lines;
+      promise = promise_on honest words is_honest keeps was.asked [] was.start old new was.promise more;
     }
-    line_promised Ledger old new does was = same_promised old (record old { has_begun = true }) new does refl was
-    line_promised Marks old new does was = same_promised old (record old { has_begun = true }) new does refl was
-    line_promised (Copies node number place) old new does was =
+    event_promised text event there spells old new (Asking more) was = record {
+      start = was.start;
+      starts = was.starts;
+      asked = asked_for (event_in event) ++ was.asked;
+      by_lines = both_all (IsAskedIn honest words script) (asked_for (event_in event)) was.asked
+          (each_in (IsAskedIn honest words script) (asked_for (event_in event))
+          (λ one asks. record { text = text; line = there; event = event; says = spells; asks = asks })) was.by_lines;
+      promise = promise_on honest words is_honest keeps was.asked (asked_for (event_in event)) was.start old new
+          was.promise more;
+    }
+
+    line_promised : (text : List ℕ) (line : ScriptLine) → Contains (slice_split is_line_feed script) text → Spells text line
+        → (old new : PlayState) → Does honest words line old new → IsPromised script first old.pair
+        → IsPromised script first new.pair
+    line_promised text Skipped there spells old new does was = same_promised old old new does refl was
+    line_promised text (Nodes count) there spells old new does was =
+        record { start = new.pair; starts = inr (count, does.1); asked = []; by_lines = tt; promise = does.2 }
+    line_promised text (Happens event) there spells old new does was =
+        event_promised text event there spells old.pair new.pair does.1 was
+    line_promised text Ledger there spells old new does was =
         same_promised old (record old { has_begun = true }) new does refl was
-    line_promised (Lost node number place) old new does was =
+    line_promised text Marks there spells old new does was =
+        same_promised old (record old { has_begun = true }) new does refl was
+    line_promised text (Copies node number place) there spells old new does was =
+        same_promised old (record old { has_begun = true }) new does refl was
+    line_promised text (Lost node number place) there spells old new does was =
         same_promised old (record old { has_begun = true }) new does refl was
 
-    lines_promised : (texts : List (List ℕ)) (old new : PlayState) → PlaysEach honest words texts old new
-        → IsPromised first old.pair → IsPromised first new.pair
-    lines_promised [] old new same was = same_promised old old new same refl was
-    lines_promised (text ∷ texts) old new plays was =
-        lines_promised texts plays.0 new plays.2 (line_promised plays.1.line old plays.0 plays.1.does was)
+    lines_promised : (texts : List (List ℕ))
+        → ((text : List ℕ) → Contains texts text → Contains (slice_split is_line_feed script) text)
+        → (old new : PlayState) → PlaysEach honest words texts old new → IsPromised script first old.pair
+        → IsPromised script first new.pair
+    lines_promised [] there old new same was = same_promised old old new same refl was
+    lines_promised (text ∷ texts) there old new plays was =
+        lines_promised texts (λ other has. there other (tail_in text other texts has)) plays.0 new plays.2
+        (line_promised text plays.1.line (there text (head_in text texts)) plays.1.spells old plays.0 plays.1.does was)
 
   -- a whole script, from relays to which nothing has happened
   pub whole_played : honest → PromiseIsKept honest words → (old new : Option (List ℕ)) (first last : PlayState)
@@ -268,9 +317,9 @@ module _ (honest : Type 0) (words : DiskWords MemoryDisk) where
       let all =
       plays first [] (subst (λ b. HasPlayed honest words first [] b first) (sym none) (nothing_played first)) in
       let read = all.1 in
-      let promised : IsPromised first last.pair =
-      lines_promised is_honest keeps first (slice_split is_line_feed read.0) first last read.2
-      (record { start = first.pair; starts = inl refl; promise = begins.promise }) in (
+      let promised : IsPromised read.0 first last.pair =
+      lines_promised is_honest keeps read.0 first (slice_split is_line_feed read.0) (λ text has. has) first last read.2
+      (record { start = first.pair; starts = inl refl; asked = []; by_lines = tt; promise = begins.promise }) in (
         all.0,
         (
           read.0,
@@ -283,7 +332,10 @@ module _ (honest : Type 0) (words : DiskWords MemoryDisk) where
             world_is = its;
             start = promised.start;
             starts = promised.starts;
-            promise = subst (λ (w : World MemoryDisk). KeepsItsPromise honest words promised.start w) (sym its) promised.promise;
+            asked = promised.asked;
+            by_lines = promised.by_lines;
+            promise = subst (λ (w : World MemoryDisk). KeepsItsPromise honest words promised.asked promised.start w) (sym its)
+                promised.promise;
           },
         ),
       )

@@ -1,7 +1,7 @@
 -- A script of a play: its lines, and their effect on relays.
 use Rattle.std.specs.Prelude.{◌≡◌, ◌⊎◌, ◌<◌, ◌==◌, ℕ, Bool, true, false, List, [], ◌∷◌, ◌++◌, Option, None, Some}
-use Rattle.std.specs.Prelude.{Result, ⊤}
-use Rattle.std.specs.List.{slice_split}
+use Rattle.std.specs.Prelude.{Result, ⊤, min}
+use Rattle.std.specs.List.{AllByRecursion, Contains, slice_split}
 use Rattle.std.specs.Io.KnownBytes.{Consumes, IsAtEnd}
 use Rattle.relay_disk.specs.Device.{DiskWords}
 use Rattle.relay_disk.specs.declared.memory.MemoryDisk.{MemoryDisk}
@@ -14,9 +14,12 @@ use Rattle.relay_script.specs.declared.event.ScriptLine.TheVariants.{Copies, Los
 use Rattle.relay_script.specs.Line.{Spells}
 use Rattle.relay_events.specs.declared.event.Event.{Event}
 use Rattle.relay_events.specs.declared.event.Event.TheVariants.{Connect, Send, Carry, Break, Tick, Give, Compact, Stop}
+use Rattle.relay_events.specs.declared.event.Event.TheVariants.{Withdraw}
+use Rattle.relay_book.specs.declared.change.Withdrawal.TheVariants.{Return, Discard}
 use Rattle.relay_events.specs.declared.fault.PairFault.{PairFault}
 use Rattle.relay_events.specs.declared.seen.Seen.{Seen}
-use Rattle.relay_events.specs.Happened.{HasHappened}
+use Rattle.relay_world.specs.GivingUp.{Withdrawing}
+use Rattle.relay_events.specs.Happened.{HasHappenedFor, asked_for}
 use Rattle.relay_events.specs.Step.{Steps}
 use Rattle.relay_pair.specs.Begin.{HasBegunAsMany, HasBegunAsTwo}
 use Rattle.relay_pair.specs.Promise.{KeepsItsPromise}
@@ -31,7 +34,7 @@ abbrev pub HasNoLineFeed : List ℕ → Type 0
 HasNoLineFeed [] = ⊤
 HasNoLineFeed (octet ∷ octets) = (is_line_feed octet ≡ false) × HasNoLineFeed octets
 
--- the event that a line of a script stands for
+-- the event that a line of a script stands for; a place past 255 is none, as 255 is
 abbrev pub event_in : Said → Event
 event_in (said.Connect node) = Connect node
 event_in (said.Send link text) = Send link text
@@ -41,6 +44,8 @@ event_in (said.Tick moment) = Tick moment
 event_in (said.Give node) = Give node
 event_in (said.Compact node) = Compact node
 event_in (said.Stop node calls pick) = Stop node calls pick
+event_in (said.Return node number place) = Withdraw node number (min place 255) Return
+event_in (said.Discard node number place) = Withdraw node number (min place 255) Discard
 
 -- the node that an event names, if it names one
 abbrev pub named_by : Said → Option ℕ
@@ -52,6 +57,8 @@ named_by (said.Tick moment) = None
 named_by (said.Give node) = Some node
 named_by (said.Compact node) = Some node
 named_by (said.Stop node calls pick) = Some node
+named_by (said.Return node number place) = Some node
+named_by (said.Discard node number place) = Some node
 
 -- the node that a line names, if it names one
 abbrev pub named_in : ScriptLine → Option ℕ
@@ -80,7 +87,7 @@ module _ (honest : Type 0) (words : DiskWords MemoryDisk) where
   -- two relays before any event and any line, which keep the promise
   pub record HasNotBegun (play : PlayState) : Type 0 where
     pub two : HasBegunAsTwo honest words play.pair
-    pub promise : KeepsItsPromise honest words play.pair play.pair
+    pub promise : KeepsItsPromise honest words [] play.pair play.pair
     pub nodes : play.nodes ≡ 2
     pub said : play.has_begun ≡ false
 
@@ -90,11 +97,12 @@ module _ (honest : Type 0) (words : DiskWords MemoryDisk) where
   Does Skipped old new = new ≡ old
   Does (Nodes count) old new =
       (old.has_begun ≡ false) × HasBegunAsMany honest words count new.pair
-      × KeepsItsPromise honest words new.pair new.pair
+      × KeepsItsPromise honest words [] new.pair new.pair
       × (new ≡ record old { pair = new.pair; nodes = count; has_begun = true })
   Does (Happens event) old new =
       ((answer : Result Seen PairFault) × Steps honest words old.pair (event_in event) new.pair answer)
-      × HasHappened honest words old.pair new.pair × (new ≡ record old { pair = new.pair; has_begun = true })
+      × HasHappenedFor honest words (event_in event) old.pair new.pair
+      × (new ≡ record old { pair = new.pair; has_begun = true })
   Does Ledger old new = new ≡ record old { has_begun = true }
   Does Marks old new = new ≡ record old { has_begun = true }
   Does (Copies node number place) old new = new ≡ record old { has_begun = true }
@@ -120,6 +128,14 @@ module _ (honest : Type 0) (words : DiskWords MemoryDisk) where
   abbrev pub StartsAs : PlayState → World MemoryDisk → Type 0
   StartsAs first start = (start ≡ first.pair) ⊎ ((count : ℕ) × HasBegunAsMany honest words count start)
 
+  -- One of the lines of a script asks for this withdrawal.
+  pub record IsAskedIn (script : List ℕ) (one : Withdrawing) : Type 0 where
+    pub text : List ℕ
+    pub line : Contains (slice_split is_line_feed script) text
+    pub event : Said
+    pub says : Spells text (Happens event)
+    pub asks : Contains (asked_for (event_in event)) one
+
   -- These are the relays at the end of a script. By all events since the start they keep the promise for mail.
   pub record IsPlayed (script : List ℕ) (world : World MemoryDisk) : Type 0 where
     pub first : PlayState
@@ -129,7 +145,9 @@ module _ (honest : Type 0) (words : DiskWords MemoryDisk) where
     pub world_is : world ≡ last.pair
     pub start : World MemoryDisk
     pub starts : StartsAs first start
-    pub promise : KeepsItsPromise honest words start world
+    pub asked : List Withdrawing
+    pub by_lines : AllByRecursion (IsAskedIn script) asked
+    pub promise : KeepsItsPromise honest words asked start world
 
   -- The state within a script: the complete lines were played, and the octets after them belong to one line.
   pub record HasPlayed (first : PlayState) (front begun : List ℕ) (now : PlayState) : Type 0 where

@@ -1,13 +1,14 @@
 //! An event of a script, and its result.
-ghost use Rattle.std.specs.Prelude.{◌≡◌, Result};
-ghost use Rattle.relay_events.specs.Happened.{HasHappened};
+ghost use Rattle.std.specs.Prelude.{◌≡◌, Result, min};
+ghost use Rattle.relay_events.specs.Happened.{HasHappenedFor};
 ghost use Rattle.relay_events.specs.Step.{Steps};
 ghost use Rattle.relay_play.specs.Script.{event_in};
 
 use crate::print::{print_refused, print_seen};
+use relay_book::Withdrawal;
 use relay_disk::{Disk, MemoryDisk};
 use relay_pair::{Event, Pair, PairFault, Seen};
-use relay_script::Event as Said;
+use relay_script::{Event as Said, NodeIndex};
 use std::io;
 
 /// Does an event, and adds a line with its result or its fault, or a line for each node that has stopped. Fails if
@@ -15,7 +16,8 @@ use std::io;
 pub(crate) fn happen(pair: &mut Pair<MemoryDisk>, said: Said, out: &mut Vec<u8>) -> io::Result<()>
     ensures steps { (answer : Result Seen PairFault) × Steps ⟦<MemoryDisk as Disk>⟧.honest
         ⟦<MemoryDisk as Disk>⟧.words pair.old (event_in said) pair.new answer }
-    ensures happened { HasHappened ⟦<MemoryDisk as Disk>⟧.honest ⟦<MemoryDisk as Disk>⟧.words pair.old pair.new }
+    ensures happened { HasHappenedFor ⟦<MemoryDisk as Disk>⟧.honest ⟦<MemoryDisk as Disk>⟧.words (event_in said)
+        pair.old pair.new }
 {
     let event = event_of(said);
     match pair.step(&event) {
@@ -45,5 +47,27 @@ fn event_of(said: Said) -> Event
             calls,
             pick,
         },
+        Said::Return {
+            node,
+            number,
+            place,
+        } => withdraw(node, number, place, Withdrawal::Return),
+        Said::Discard {
+            node,
+            number,
+            place,
+        } => withdraw(node, number, place, Withdrawal::Discard),
+    }
+}
+
+/// Returns the postmaster withdraws a place. No message has a 256th place, so those past it are named as it is.
+fn withdraw(node: NodeIndex, number: u64, place: u64, withdrawal: Withdrawal) -> Event
+    ensures { result ≡ Event.Withdraw node number (min place 255) withdrawal }
+{
+    Event::Withdraw {
+        node: node.index(),
+        message: number,
+        place: place.min(255) as u8,
+        withdrawal,
     }
 }

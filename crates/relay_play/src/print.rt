@@ -1,4 +1,5 @@
 //! The lines for the results of events.
+use relay_book::Withdrawal;
 use relay_disk::Disk;
 use relay_node::NodeFault;
 use relay_pair::{Event, Pair, PairFault, Seen};
@@ -40,6 +41,25 @@ pub(crate) fn print_seen<D: Disk>(
         (Seen::Started(place), _) => print_started(pair, *place, out),
         (Seen::NoRoute(number, change), Event::Give(node)) => {
             writeln!(out, "noroute {} {number} change {change}", letter(*node))
+        }
+        (
+            Seen::Withdrawn(change),
+            Event::Withdraw {
+                node,
+                message,
+                place,
+                withdrawal,
+            },
+        ) => {
+            let word = match withdrawal {
+                Withdrawal::Return => "return",
+                Withdrawal::Discard => "discard",
+            };
+            writeln!(
+                out,
+                "{word} {} {message} {place} change {change}",
+                letter(*node)
+            )
         }
         (Seen::Compacted(node, size), _) => writeln!(out, "compact {} size {size}", letter(*node)),
         (Seen::Armed, Event::Stop { node, .. }) => writeln!(out, "armed {}", letter(*node)),

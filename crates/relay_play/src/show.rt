@@ -1,6 +1,6 @@
 //! The lines that a script asks for: the ledger, held places, copies, and lost replies.
 use crate::print::letter;
-use relay_book::{PlaceStep, Way};
+use relay_book::{PlaceStep, Way, Withdrawal};
 use relay_disk::Disk;
 use relay_pair::Pair;
 use relay_script::NodeIndex;
@@ -47,6 +47,30 @@ fn show_line(line: &Line, out: &mut Vec<u8>) -> io::Result<()> {
         } => writeln!(
             out,
             "end {} {number} {place} failed link {link} report {report}",
+            letter(node)
+        ),
+        Line::Became {
+            step: PlaceStep::Left(Way::ByWithdrawal(Withdrawal::Return)),
+            node,
+            number,
+            place,
+            link,
+            report,
+        } => writeln!(
+            out,
+            "return {} {number} {place} link {link} report {report}",
+            letter(node)
+        ),
+        Line::Became {
+            step: PlaceStep::Left(Way::ByWithdrawal(Withdrawal::Discard)),
+            node,
+            number,
+            place,
+            link,
+            report,
+        } => writeln!(
+            out,
+            "discard {} {number} {place} link {link} report {report}",
             letter(node)
         ),
         Line::Became {

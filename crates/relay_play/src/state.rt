@@ -127,9 +127,10 @@ impl PlayState {
 }
 
 /// Returns the same relays. A run without events shows that they keep their promise from the start.
+#[tactic(auto, using(relay_pair::proofs::Theorems::none_asked))]
 fn not_begun(mut pair: Pair<MemoryDisk>) -> Pair<MemoryDisk>
     ensures same { result ≡ pair }
-    ensures promise { KeepsItsPromise ⟦<MemoryDisk as Disk>⟧.honest ⟦<MemoryDisk as Disk>⟧.words result result }
+    ensures promise { KeepsItsPromise ⟦<MemoryDisk as Disk>⟧.honest ⟦<MemoryDisk as Disk>⟧.words [] result result }
 {
     pair.run(&[]);
     pair
@@ -173,6 +174,8 @@ fn node_of_event(event: &Event) -> Option<NodeIndex>
         Event::Give { node } => Some(*node),
         Event::Compact { node } => Some(*node),
         Event::Stop { node, .. } => Some(*node),
+        Event::Return { node, .. } => Some(*node),
+        Event::Discard { node, .. } => Some(*node),
         Event::Send { .. } | Event::Break { .. } | Event::Tick { .. } => None,
     }
 }

@@ -16,7 +16,8 @@ use Rattle.relay_routes.specs.declared.report_form.ReportForm.{ReportForm}
 use Rattle.relay_routes.specs.declared.report_form.ReportForm.TheVariants.{Plain, Rich}
 use Rattle.relay_book.specs.declared.change.Ruling.{Ruling}
 use Rattle.relay_book.specs.declared.change.Verdict.{Verdict}
-use Rattle.relay_book.specs.declared.change.Verdict.TheVariants.{Taken, Refused, Later, CantSend, NoRoute}
+use Rattle.relay_book.specs.declared.change.Verdict.TheVariants.{Taken, Refused, Later, CantSend, NoRoute, Withdrawn}
+use Rattle.relay_book.specs.declared.change.Withdrawal.TheVariants.{Return, Discard}
 use Rattle.relay_book.specs.declared.due_report.DueReport.{DueReport}
 use Rattle.relay_book.specs.declared.due_report.DueReport.TheVariants.{OfFailure, OfRelay, OfDelay}
 use Rattle.relay_book.specs.DueReport.{patience}
@@ -81,6 +82,7 @@ left_none form (Refused code text) plain = refused_none form code text plain
 left_none form Later plain = no_crlf_by_test (codes "4.4.7") refl
 left_none form CantSend plain = no_crlf_by_test (codes "5.6.3") refl
 left_none form NoRoute plain = no_crlf_by_test (codes "5.1.2") refl
+left_none form (Withdrawn withdrawal) plain = no_crlf_by_test (codes "5.0.0") refl
 
 status_none : (form : ReportForm) (due : DueReport) (verdict : Verdict) → IsPlainVerdict verdict → HasNoCrlf (status_of form due verdict)
 status_none form OfFailure verdict plain = left_none form verdict plain
@@ -96,6 +98,7 @@ remote_lines hop (Refused code text) none few = mta_line hop none few
 remote_lines hop Later none few = no_lines
 remote_lines hop CantSend none few = no_lines
 remote_lines hop NoRoute none few = no_lines
+remote_lines hop (Withdrawn withdrawal) none few = no_lines
 
 diagnostic_lines : (verdict : Verdict) → IsVerdict verdict → IsPlainVerdict verdict → HasShortLines (diagnostic_code verdict)
 diagnostic_lines (Taken dsn) valid plain = no_lines
@@ -105,6 +108,10 @@ diagnostic_lines (Refused code text) valid plain =
 diagnostic_lines Later valid plain = no_lines
 diagnostic_lines CantSend valid plain = no_lines
 diagnostic_lines NoRoute valid plain = no_lines
+diagnostic_lines (Withdrawn Return) valid plain =
+    typed_field (codes "Diagnostic-Code") (codes "X-Postmaster") (codes "returned by the postmaster") refl refl
+    (no_crlf_by_test (codes "X-Postmaster") refl) (no_crlf_by_test (codes "returned by the postmaster") refl) (omega arith)
+diagnostic_lines (Withdrawn Discard) valid plain = no_lines
 
 last_line : (date : List ℕ) → IsShortDate date → HasShortLines (field (codes "Last-Attempt-Date") date)
 last_line date is = field_line (codes "Last-Attempt-Date") date refl refl is.plain (omega (arith, is.size))
@@ -115,6 +122,7 @@ last_lines date (Refused code text) is = last_line date is
 last_lines date Later is = last_line date is
 last_lines date CantSend is = last_line date is
 last_lines date NoRoute is = no_lines
+last_lines date (Withdrawn withdrawal) is = no_lines
 
 retry_lines : (until : Option (List ℕ)) → IsShortDay until → HasShortLines (retry_until until)
 retry_lines None is = no_lines

@@ -13,7 +13,7 @@ use Rattle.relay_envelope.specs.declared.envelope.Recipient.{Recipient}
 use Rattle.relay_envelope.proofs.Theorems.{host_name_is_host_word, host_word_has_no_crlf, mail_is_command_line, rcpt_is_command_line}
 use Rattle.relay_book.specs.declared.change.Ruling.{Ruling}
 use Rattle.relay_book.specs.declared.change.Verdict.{Verdict}
-use Rattle.relay_book.specs.declared.change.Verdict.TheVariants.{Taken, Refused, Later, CantSend, NoRoute}
+use Rattle.relay_book.specs.declared.change.Verdict.TheVariants.{Taken, Refused, Later, CantSend, NoRoute, Withdrawn}
 use Rattle.relay_book.specs.Record.{IsRuling, IsVerdict, MayBeHop}
 use Rattle.relay_report.specs.StatusFields.{octets_or, plain_of}
 use Rattle.relay_report.specs.Lines.{HasPlainEnvid, HasPlainOrcpt, IsPlainRecipient, IsPlainRuling, IsPlainVerdict, ToldBreaksNoLine}
@@ -74,6 +74,7 @@ plain_verdict (Refused code text) valid = no_cr_is_no_crlf (is_in_range 32 126) 
 plain_verdict Later valid = tt
 plain_verdict CantSend valid = tt
 plain_verdict NoRoute valid = tt
+plain_verdict (Withdrawn withdrawal) valid = tt
 
 plain_rulings : (rulings : List Ruling) → AllByRecursion IsRuling rulings → AllByRecursion IsPlainRuling rulings
 plain_rulings [] each = tt

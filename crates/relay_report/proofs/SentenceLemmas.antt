@@ -5,7 +5,7 @@ use Rattle.relay_octets.proofs.Theorems.{no_crlf_by_test}
 use Rattle.relay_envelope.specs.Envelope.{IsRecipient}
 use Rattle.relay_envelope.specs.declared.envelope.Recipient.{Recipient}
 use Rattle.relay_book.specs.declared.change.Verdict.{Verdict}
-use Rattle.relay_book.specs.declared.change.Verdict.TheVariants.{Taken, Refused, Later, CantSend, NoRoute}
+use Rattle.relay_book.specs.declared.change.Verdict.TheVariants.{Taken, Refused, Later, CantSend, NoRoute, Withdrawn}
 use Rattle.relay_book.specs.declared.due_report.DueReport.{DueReport}
 use Rattle.relay_book.specs.declared.due_report.DueReport.TheVariants.{OfFailure, OfRelay, OfDelay}
 use Rattle.relay_book.specs.Record.{IsVerdict}
@@ -44,6 +44,7 @@ left_short hop (Refused code text) few valid = refusal_short hop code text few (
 left_short hop Later few valid = omega (arith, few, length-sentence (codes "  It could not be delivered in time. The last attempt was made at ") hop (codes "."))
 left_short hop CantSend few valid = omega (arith, few, length-sentence (codes "  It could not be delivered: its last line has no end, which ") hop (codes " does not take."))
 left_short hop NoRoute few valid = omega arith
+left_short hop (Withdrawn withdrawal) few valid = omega arith
 
 event_short : (hop : List ℕ) (due : DueReport) (verdict : Verdict) → length hop ≤ 255 → IsVerdict verdict → length (event_lines hop due verdict) ≤ 508
 event_short hop OfFailure verdict few valid = left_short hop verdict few valid
@@ -142,6 +143,8 @@ left_is_lines hop CantSend free few valid plain =
     sentence_line (codes "  It could not be delivered: its last line has no end, which ") hop (codes " does not take.") refl refl free refl refl (omega (arith, few))
 left_is_lines hop NoRoute free few valid plain =
     one_line (codes "  It could not be delivered: this relay has no route for it.") (no_crlf_by_test (codes "  It could not be delivered: this relay has no route for it.") refl) (omega arith)
+left_is_lines hop (Withdrawn withdrawal) free few valid plain =
+    one_line (codes "  It was removed from the queue by the postmaster.") (no_crlf_by_test (codes "  It was removed from the queue by the postmaster.") refl) (omega arith)
 
 event_is_lines : (hop : List ℕ) (due : DueReport) (verdict : Verdict) → HasNoCrlf hop → length hop ≤ 255 → IsVerdict verdict → IsPlainVerdict verdict
     → HasShortLines (event_lines hop due verdict)

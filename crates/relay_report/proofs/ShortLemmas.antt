@@ -17,7 +17,8 @@ use Rattle.relay_routes.specs.declared.report_form.ReportForm.{ReportForm}
 use Rattle.relay_routes.specs.declared.report_form.ReportForm.TheVariants.{Plain, Rich}
 use Rattle.relay_book.specs.declared.change.Ruling.{Ruling}
 use Rattle.relay_book.specs.declared.change.Verdict.{Verdict}
-use Rattle.relay_book.specs.declared.change.Verdict.TheVariants.{Taken, Refused, Later, CantSend, NoRoute}
+use Rattle.relay_book.specs.declared.change.Verdict.TheVariants.{Taken, Refused, Later, CantSend, NoRoute, Withdrawn}
+use Rattle.relay_book.specs.declared.change.Withdrawal.TheVariants.{Return, Discard}
 use Rattle.relay_book.specs.declared.due_report.DueReport.{DueReport}
 use Rattle.relay_book.specs.declared.due_report.DueReport.TheVariants.{OfFailure, OfRelay, OfDelay}
 use Rattle.relay_book.specs.Record.{IsRuling, IsVerdict, MayBeHop}
@@ -136,6 +137,7 @@ left_short form (Refused code text) valid = refused_short form code text valid.t
 left_short form Later valid = omega arith
 left_short form CantSend valid = omega arith
 left_short form NoRoute valid = omega arith
+left_short form (Withdrawn withdrawal) valid = omega arith
 
 pub status_short : (form : ReportForm) (due : DueReport) (verdict : Verdict) → IsVerdict verdict → length (status_of form due verdict) ≤ 200
 status_short form OfFailure verdict valid = left_short form verdict valid
@@ -151,6 +153,7 @@ remote_short hop (Refused code text) few = mta_line_short hop few
 remote_short hop Later few = omega arith
 remote_short hop CantSend few = omega arith
 remote_short hop NoRoute few = omega arith
+remote_short hop (Withdrawn withdrawal) few = omega arith
 
 code_short : (code : ℕ) → code < 2 ^ 16 → length (decimal code) ≤ 5
 code_short code fits = length-decimal-le 5 code (omega arith) (omega (arith, fits)) (omega (arith, fits))
@@ -173,6 +176,11 @@ diagnostic_short (Refused code text) valid =
 diagnostic_short Later valid = omega arith
 diagnostic_short CantSend valid = omega arith
 diagnostic_short NoRoute valid = omega arith
+diagnostic_short (Withdrawn Return) valid =
+    let line = length-field (codes "Diagnostic-Code") (typed (codes "X-Postmaster") (codes "returned by the postmaster")) in
+    let kind = length-typed (codes "X-Postmaster") (codes "returned by the postmaster") in
+    omega (arith, line, kind)
+diagnostic_short (Withdrawn Discard) valid = omega arith
 
 last_line_short : (date : List ℕ) → length date ≡ 31 → length (field (codes "Last-Attempt-Date") date) ≤ 60
 last_line_short date day = let line = length-field (codes "Last-Attempt-Date") date in omega (arith, line, day)
@@ -183,6 +191,7 @@ last_short date (Refused code text) day = last_line_short date day
 last_short date Later day = last_line_short date day
 last_short date CantSend day = last_line_short date day
 last_short date NoRoute day = omega arith
+last_short date (Withdrawn withdrawal) day = omega arith
 
 -- until when a place is tried
 abbrev pub IsDay : Option (List ℕ) → Type 0

@@ -7,7 +7,7 @@ use Rattle.relay_envelope.specs.Parameters.{address_of, address_type_of}
 use Rattle.relay_envelope.specs.declared.envelope.Recipient.{Recipient}
 use Rattle.relay_book.specs.declared.change.Ruling.{Ruling}
 use Rattle.relay_book.specs.declared.change.Verdict.{Verdict}
-use Rattle.relay_book.specs.declared.change.Verdict.TheVariants.{Taken, Refused, Later, CantSend, NoRoute}
+use Rattle.relay_book.specs.declared.change.Verdict.TheVariants.{Taken, Refused, Later, CantSend, NoRoute, Withdrawn}
 use Rattle.relay_report.specs.StatusFields.{plain_of}
 use Rattle.relay_report.specs.Multipart.{Told, first_part, second_part}
 use Rattle.relay_report.specs.Report.{IsReport}
@@ -46,6 +46,7 @@ IsPlainVerdict (Refused code text) = HasNoCrlf text
 IsPlainVerdict Later = Unit {0}
 IsPlainVerdict CantSend = Unit {0}
 IsPlainVerdict NoRoute = Unit {0}
+IsPlainVerdict (Withdrawn withdrawal) = Unit {0}
 
 -- nor what was said of a place
 abbrev pub IsPlainRuling : Ruling → Type 0

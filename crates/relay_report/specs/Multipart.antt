@@ -30,7 +30,7 @@ pub record Told : Type 0 where
   pub rulings : List Ruling
   pub at : ℕ
 
--- which report is due of a place by its verdict at a time, as a node judges that writes the second version
+-- which report is due of a place by its verdict at a time, as a node judges that writes no outcome of the first version
 abbrev pub due_at : Message → ℕ → Ruling → Option DueReport
 due_at message at ruling = due_report_at WithDelay message at ruling
 

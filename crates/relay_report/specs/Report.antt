@@ -6,7 +6,7 @@ use Rattle.relay_trace.specs.declared.moment.TheConstants.{LAST_SECOND}
 use Rattle.relay_routes.specs.declared.config.Config.{Config}
 use Rattle.relay_routes.specs.declared.report_form.ReportForm.{ReportForm}
 use Rattle.relay_book.specs.declared.version.Version.TheVariants.{WithDelay}
-use Rattle.relay_book.specs.DueReport.{patience}
+use Rattle.relay_book.specs.DueReport.{patience, reports_delay}
 use Rattle.relay_book.specs.declared.change.Ruling.{Ruling}
 use Rattle.relay_book.specs.declared.change.Outcome.{Outcome as OutcomeFields}
 use Rattle.relay_book.specs.declared.change.Change.{Change}
@@ -81,12 +81,12 @@ told_by reporter number outcome message = record {
   at = outcome.at;
 }
 
--- an outcome of the second version is reported of the message that it is for
+-- an outcome, not of the first version, is reported of the message that it is for
 pub record IsReportedOf (reporter : Reporter) (number : ℕ) (outcome : OutcomeFields) (message : Message) : Type 0 where
-  pub version : outcome.version ≡ WithDelay
+  pub version : reports_delay outcome.version ≡ true
   pub report : IsDueReport (told_by reporter number outcome message) outcome.report
 
--- A change after a queue: an outcome of it is of the second version, and has the report that is owed, from this
+-- A change after a queue: an outcome of it is not of the first version, and has the report that is owed, from this
 -- reporter, under the number of the change, and none if none is due.
 abbrev pub ReportedFrom : Reporter → Queue → Change → Type 0
 ReportedFrom reporter queue (Accept accept) = Unit {0}

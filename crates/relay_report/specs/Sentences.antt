@@ -5,7 +5,7 @@ use Rattle.std.specs.Option.{option_map_or}
 use Rattle.relay_octets.specs.Line.{crlf}
 use Rattle.relay_envelope.specs.declared.envelope.Recipient.{Recipient}
 use Rattle.relay_book.specs.declared.change.Verdict.{Verdict}
-use Rattle.relay_book.specs.declared.change.Verdict.TheVariants.{Taken, Refused, Later, CantSend, NoRoute}
+use Rattle.relay_book.specs.declared.change.Verdict.TheVariants.{Taken, Refused, Later, CantSend, NoRoute, Withdrawn}
 use Rattle.relay_book.specs.declared.due_report.DueReport.{DueReport}
 use Rattle.relay_book.specs.declared.due_report.DueReport.TheVariants.{OfFailure, OfRelay, OfDelay}
 use Rattle.relay_report.specs.StatusFields.{reply_words}
@@ -39,6 +39,7 @@ left_lines hop Later =
 left_lines hop CantSend =
     sentence (codes "  It could not be delivered: its last line has no end, which ") hop (codes " does not take.")
 left_lines hop NoRoute = codes "  It could not be delivered: this relay has no route for it." ++ crlf
+left_lines hop (Withdrawn withdrawal) = codes "  It was removed from the queue by the postmaster." ++ crlf
 
 -- what happened: the same, and that of a place that is late and stays
 abbrev pub event_lines : List ℕ → DueReport → Verdict → List ℕ

@@ -7,7 +7,8 @@ use Rattle.relay_envelope.specs.declared.envelope.Recipient.{Recipient}
 use Rattle.relay_routes.specs.declared.report_form.ReportForm.{ReportForm}
 use Rattle.relay_routes.specs.declared.report_form.ReportForm.TheVariants.{Plain, Rich}
 use Rattle.relay_book.specs.declared.change.Verdict.{Verdict}
-use Rattle.relay_book.specs.declared.change.Verdict.TheVariants.{Taken, Refused, Later, CantSend, NoRoute}
+use Rattle.relay_book.specs.declared.change.Verdict.TheVariants.{Taken, Refused, Later, CantSend, NoRoute, Withdrawn}
+use Rattle.relay_book.specs.declared.change.Withdrawal.TheVariants.{Return, Discard}
 use Rattle.relay_book.specs.declared.due_report.DueReport.{DueReport}
 use Rattle.relay_book.specs.declared.due_report.DueReport.TheVariants.{OfFailure, OfRelay, OfDelay}
 use Rattle.relay_report.specs.StatusCode.{refusal_status}
@@ -77,6 +78,7 @@ status_of_left form (Refused code text) = status_of_refused form code text
 status_of_left form Later = codes "4.4.7"
 status_of_left form CantSend = codes "5.6.3"
 status_of_left form NoRoute = codes "5.1.2"
+status_of_left form (Withdrawn withdrawal) = codes "5.0.0"
 
 -- status-code: the same, and that of a place that is late and stays
 abbrev pub status_of : ReportForm → DueReport → Verdict → List ℕ
@@ -91,6 +93,7 @@ remote_mta hop (Refused code text) = field (codes "Remote-MTA") (typed (codes "d
 remote_mta hop Later = []
 remote_mta hop CantSend = []
 remote_mta hop NoRoute = []
+remote_mta hop (Withdrawn withdrawal) = []
 
 -- a reply's code, and a space and its text if there is one
 abbrev pub reply_words : ℕ → List ℕ → List ℕ
@@ -101,21 +104,29 @@ reply_words code (octet ∷ octets) = decimal code ++ codes " " ++ (octet ∷ oc
 abbrev pub diagnostic_of : ℕ → List ℕ → List ℕ
 diagnostic_of code text = field (codes "Diagnostic-Code") (typed (codes "smtp") (reply_words code text))
 
--- diagnostic-code-field (section 2.3.6): what the hop answered
+-- profile: a diagnostic of a type of its own for what the postmaster has returned
+abbrev pub returned_diagnostic : List ℕ
+returned_diagnostic =
+    field (codes "Diagnostic-Code") (typed (codes "X-Postmaster") (codes "returned by the postmaster"))
+
+-- diagnostic-code-field (section 2.3.6): what the hop answered, or that the postmaster has returned the place
 abbrev pub diagnostic_code : Verdict → List ℕ
 diagnostic_code (Taken dsn) = []
 diagnostic_code (Refused code text) = diagnostic_of code text
 diagnostic_code Later = []
 diagnostic_code CantSend = []
 diagnostic_code NoRoute = []
+diagnostic_code (Withdrawn Return) = returned_diagnostic
+diagnostic_code (Withdrawn Discard) = []
 
--- last-attempt-date-field (section 2.3.7): without a hop there was no attempt
+-- last-attempt-date-field (section 2.3.7): without a hop there was no attempt, nor where the postmaster ended the place
 abbrev pub last_attempt_date : List ℕ → Verdict → List ℕ
 last_attempt_date date (Taken dsn) = field (codes "Last-Attempt-Date") date
 last_attempt_date date (Refused code text) = field (codes "Last-Attempt-Date") date
 last_attempt_date date Later = field (codes "Last-Attempt-Date") date
 last_attempt_date date CantSend = field (codes "Last-Attempt-Date") date
 last_attempt_date date NoRoute = []
+last_attempt_date date (Withdrawn withdrawal) = []
 
 -- will-retry-until-field (section 2.3.9): of a date that can be written
 abbrev pub retry_until : Option (List ℕ) → List ℕ

@@ -10,8 +10,8 @@ use relay_book::{DueReport, Message, Ruling, Verdict, Version};
 use relay_envelope::Recipient;
 use relay_trace::Moment;
 
-/// Returns which report is due of a place of a message by a verdict at a time (RFC 3461, section 5.2), by an outcome of
-/// the second version, as a node writes it: none of a place that the message doesn't have. Allocates nothing.
+/// Returns which report is due of a place of a message by a verdict at a time (RFC 3461, section 5.2), by an outcome as
+/// a node writes it: none of a place that the message doesn't have. Allocates nothing.
 pub fn due_report(message: &Message, place: u8, verdict: &Verdict, now: Moment) -> Option<DueReport>
     ensures { result ≡ due_at message.now now (record { place = place; verdict = verdict.now }) }
 {

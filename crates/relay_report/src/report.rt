@@ -34,7 +34,7 @@ pub struct Report<'a> {
     pub number: u64,
     /// The message that is reported.
     pub message: &'a Message,
-    /// The name of the hop; empty where no place had one.
+    /// The name of the hop; empty where no attempt was made.
     pub hop: &'a [u8],
     /// The verdicts of the places.
     pub rulings: &'a [Ruling],

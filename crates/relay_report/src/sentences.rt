@@ -98,6 +98,9 @@ fn push_left(out: &mut Vec<u8>, hop: &[u8], verdict: &Verdict) -> Result<(), All
         Verdict::NoRoute => out.extend_from_slice(
             b"  It could not be delivered: this relay has no route for it.\r\n",
         ),
+        Verdict::Withdrawn(_) => {
+            out.extend_from_slice(b"  It was removed from the queue by the postmaster.\r\n")
+        }
     }
 }
 

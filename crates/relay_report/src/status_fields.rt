@@ -4,13 +4,13 @@ ghost use Rattle.std.specs.Option.{option_copied};
 ghost use Rattle.relay_report.specs.StatusFields.{action_of, address_in, attempt_fields, diagnostic_code};
 ghost use Rattle.relay_report.specs.StatusFields.{diagnostic_of, last_attempt_date, message_fields};
 ghost use Rattle.relay_report.specs.StatusFields.{original_envelope_id, original_recipient, recipient_fields};
-ghost use Rattle.relay_report.specs.StatusFields.{remote_mta, reply_words, retry_until, status_of, status_of_left};
-ghost use Rattle.relay_report.specs.StatusFields.{status_of_refused, will_retry_until};
+ghost use Rattle.relay_report.specs.StatusFields.{remote_mta, reply_words, retry_until, returned_diagnostic};
+ghost use Rattle.relay_report.specs.StatusFields.{status_of, status_of_left, status_of_refused, will_retry_until};
 
 use crate::field::{begin_typed_field, plain_of, push_field, push_typed_field};
 use crate::status_code::refusal_status;
 use itoa::Buffer;
-use relay_book::{DueReport, Verdict};
+use relay_book::{DueReport, Verdict, Withdrawal};
 use relay_envelope::{Orcpt, Recipient, Xtext};
 use relay_routes::ReportForm;
 use std::alloc::{AllocError, Global};
@@ -165,6 +165,7 @@ fn status_of_left(form: ReportForm, verdict: &Verdict) -> &[u8]
         Verdict::Later => b"4.4.7",
         Verdict::CantSend => b"5.6.3",
         Verdict::NoRoute => b"5.1.2",
+        Verdict::Withdrawn(_) => b"5.0.0",
     }
 }
 
@@ -187,6 +188,7 @@ fn push_remote_mta(out: &mut Vec<u8>, hop: &[u8], verdict: &Verdict) -> Result<(
         Verdict::Later => Ok(()),
         Verdict::CantSend => Ok(()),
         Verdict::NoRoute => Ok(()),
+        Verdict::Withdrawn(_) => Ok(()),
     }
 }
 
@@ -199,7 +201,21 @@ fn push_diagnostic_code(out: &mut Vec<u8>, verdict: &Verdict) -> Result<(), Allo
         Verdict::Later => Ok(()),
         Verdict::CantSend => Ok(()),
         Verdict::NoRoute => Ok(()),
+        Verdict::Withdrawn(Withdrawal::Return) => push_returned(out),
+        Verdict::Withdrawn(Withdrawal::Discard) => Ok(()),
     }
+}
+
+/// Adds that the postmaster has returned a place.
+fn push_returned(out: &mut Vec<u8>) -> Result<(), AllocError>
+    ensures { OnOk result (out.new.items ≡ out.old.items ++ returned_diagnostic) }
+{
+    push_typed_field(
+        out,
+        b"Diagnostic-Code",
+        b"X-Postmaster",
+        b"returned by the postmaster",
+    )
 }
 
 fn push_diagnostic_of(out: &mut Vec<u8>, code: u16, text: &[u8]) -> Result<(), AllocError>
@@ -237,6 +253,7 @@ fn push_last_attempt_date(
         Verdict::Later => push_field(out, b"Last-Attempt-Date", date),
         Verdict::CantSend => push_field(out, b"Last-Attempt-Date", date),
         Verdict::NoRoute => Ok(()),
+        Verdict::Withdrawn(_) => Ok(()),
     }
 }
 

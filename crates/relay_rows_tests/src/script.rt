@@ -80,6 +80,16 @@ fn tell_event(answer: &mut Answer, event: &Event) {
             answer.count(", calls ", *calls);
             answer.count(", pick ", *pick);
         }
+        Event::Return {
+            node,
+            number,
+            place,
+        } => tell_place(answer, "return node ", *node, *number, *place),
+        Event::Discard {
+            node,
+            number,
+            place,
+        } => tell_place(answer, "discard node ", *node, *number, *place),
     }
 }
 

@@ -6,7 +6,7 @@ use Rattle.std.specs.List.{join_with_byte}
 use Rattle.relay_script.specs.Line.{Operand, IsOperand, SpellsWords, Spells, IsSkipped, TextTellsLine}
 use Rattle.relay_script.specs.Line.Operand.{Node, Number, Count, Time, Text}
 use Rattle.relay_script.specs.Reading.{kind_of, SpellsOperands}
-use Rattle.relay_script.specs.declared.event.Event.TheVariants.{Connect, Send, Carry, Break, Tick, Give, Compact, Stop}
+use Rattle.relay_script.specs.declared.event.Event.TheVariants.{Connect, Send, Carry, Break, Tick, Give, Compact, Stop, Return, Discard}
 use Rattle.relay_script.specs.declared.event.ScriptLine.{ScriptLine}
 use Rattle.relay_script.specs.declared.event.ScriptLine.TheVariants.{Skipped, Nodes, Event as Happens, Ledger, Marks, Copies, Lost}
 use Rattle.relay_script.proofs.TextLemmas.{text_tells_octets}
@@ -26,6 +26,8 @@ keyword_of (Happens (Tick moment)) = codes "tick"
 keyword_of (Happens (Give node)) = codes "give"
 keyword_of (Happens (Compact node)) = codes "compact"
 keyword_of (Happens (Stop node calls pick)) = codes "stop"
+keyword_of (Happens (Return node number place)) = codes "return"
+keyword_of (Happens (Discard node number place)) = codes "discard"
 keyword_of Ledger = codes "ledger"
 keyword_of Marks = codes "marks"
 keyword_of (Copies node number place) = codes "copies"
@@ -43,6 +45,8 @@ operands_of (Happens (Tick moment)) = Time moment ∷ []
 operands_of (Happens (Give node)) = Node node ∷ []
 operands_of (Happens (Compact node)) = Node node ∷ []
 operands_of (Happens (Stop node calls pick)) = Node node ∷ Number calls ∷ Number pick ∷ []
+operands_of (Happens (Return node number place)) = Node node ∷ Number number ∷ Number place ∷ []
+operands_of (Happens (Discard node number place)) = Node node ∷ Number number ∷ Number place ∷ []
 operands_of Ledger = []
 operands_of Marks = []
 operands_of (Copies node number place) = Node node ∷ Number number ∷ Number place ∷ []
@@ -64,6 +68,8 @@ form_of text (Happens (Tick moment)) is = Worded (omega arith) is
 form_of text (Happens (Give node)) is = Worded (omega arith) is
 form_of text (Happens (Compact node)) is = Worded (omega arith) is
 form_of text (Happens (Stop node calls pick)) is = Worded (omega arith) is
+form_of text (Happens (Return node number place)) is = Worded (omega arith) is
+form_of text (Happens (Discard node number place)) is = Worded (omega arith) is
 form_of text Ledger is = Worded (omega arith) is
 form_of text Marks is = Worded (omega arith) is
 form_of text (Copies node number place) is = Worded (omega arith) is
@@ -108,6 +114,8 @@ line_of front operands =
     else if front == front_of (codes "give") then Happens (Give (number_in operands))
     else if front == front_of (codes "compact") then Happens (Compact (number_in operands))
     else if front == front_of (codes "stop") then Happens (Stop (number_in operands) (number_in next) (number_in last))
+    else if front == front_of (codes "return") then Happens (Return (number_in operands) (number_in next) (number_in last))
+    else if front == front_of (codes "discard") then Happens (Discard (number_in operands) (number_in next) (number_in last))
     else if front == front_of (codes "ledger") then Ledger
     else if front == front_of (codes "marks") then Marks
     else if front == front_of (codes "copies") then Copies (number_in operands) (number_in next) (number_in last)
@@ -126,6 +134,8 @@ line_is (Happens (Tick moment)) = refl
 line_is (Happens (Give node)) = refl
 line_is (Happens (Compact node)) = refl
 line_is (Happens (Stop node calls pick)) = refl
+line_is (Happens (Return node number place)) = refl
+line_is (Happens (Discard node number place)) = refl
 line_is Ledger = refl
 line_is Marks = refl
 line_is (Copies node number place) = refl
@@ -144,6 +154,8 @@ keyword_is (Happens (Tick moment)) = refl
 keyword_is (Happens (Give node)) = refl
 keyword_is (Happens (Compact node)) = refl
 keyword_is (Happens (Stop node calls pick)) = refl
+keyword_is (Happens (Return node number place)) = refl
+keyword_is (Happens (Discard node number place)) = refl
 keyword_is Ledger = refl
 keyword_is Marks = refl
 keyword_is (Copies node number place) = refl
@@ -162,6 +174,8 @@ kinds_are (Happens (Tick moment)) = refl
 kinds_are (Happens (Give node)) = refl
 kinds_are (Happens (Compact node)) = refl
 kinds_are (Happens (Stop node calls pick)) = refl
+kinds_are (Happens (Return node number place)) = refl
+kinds_are (Happens (Discard node number place)) = refl
 kinds_are Ledger = refl
 kinds_are Marks = refl
 kinds_are (Copies node number place) = refl
@@ -180,6 +194,8 @@ front_append (Happens (Tick moment)) some tail = refl
 front_append (Happens (Give node)) some tail = refl
 front_append (Happens (Compact node)) some tail = refl
 front_append (Happens (Stop node calls pick)) some tail = refl
+front_append (Happens (Return node number place)) some tail = refl
+front_append (Happens (Discard node number place)) some tail = refl
 front_append Ledger some tail = refl
 front_append Marks some tail = refl
 front_append (Copies node number place) some tail = refl
@@ -202,6 +218,8 @@ line_has_words (Happens (Tick moment)) = refl
 line_has_words (Happens (Give node)) = refl
 line_has_words (Happens (Compact node)) = refl
 line_has_words (Happens (Stop node calls pick)) = refl
+line_has_words (Happens (Return node number place)) = refl
+line_has_words (Happens (Discard node number place)) = refl
 line_has_words Ledger = refl
 line_has_words Marks = refl
 line_has_words (Copies node number place) = refl

@@ -5,6 +5,7 @@ use Rattle.relay_script.specs.Text.{SpellsOctets}
 use Rattle.relay_script.specs.Word.{IsMoment, IsNode, IsNodeCount, IsNumber}
 use Rattle.relay_script.specs.declared.event.Event.{Event}
 use Rattle.relay_script.specs.declared.event.Event.TheVariants.{Connect, Send, Carry, Break, Tick, Give, Compact, Stop}
+use Rattle.relay_script.specs.declared.event.Event.TheVariants.{Return, Discard}
 use Rattle.relay_script.specs.declared.event.ScriptLine.{ScriptLine}
 use Rattle.relay_script.specs.declared.event.ScriptLine.TheVariants.{Skipped, Nodes, Event as Happens, Ledger, Marks}
 use Rattle.relay_script.specs.declared.event.ScriptLine.TheVariants.{Copies, Lost}
@@ -50,6 +51,10 @@ SpellsEvent text (Give node) = SpellsWords text (codes "give") (Node node ∷ []
 SpellsEvent text (Compact node) = SpellsWords text (codes "compact") (Node node ∷ [])
 SpellsEvent text (Stop node calls pick) =
     SpellsWords text (codes "stop") (Node node ∷ Number calls ∷ Number pick ∷ [])
+SpellsEvent text (Return node number place) =
+    SpellsWords text (codes "return") (Node node ∷ Number number ∷ Number place ∷ [])
+SpellsEvent text (Discard node number place) =
+    SpellsWords text (codes "discard") (Node node ∷ Number number ∷ Number place ∷ [])
 
 -- the text is empty, or begins with `#`
 abbrev pub IsSkipped : List ℕ → Type 0

@@ -89,6 +89,11 @@ pub record IsDigitOf (octet value : ℕ) : Type 0 where
 pub record IsNoDigit (octet : ℕ) : Type 0 where
   pub absent : (value : ℕ) → ¬ IsDigitOf octet value
 
+-- the text withdraws no place
+pub record SpellsNoWithdrawal (text : List ℕ) : Type 0 where
+  pub returned : LacksWords (codes "return") (NodeKind ∷ NumberKind ∷ NumberKind ∷ []) text
+  pub discarded : LacksWords (codes "discard") (NodeKind ∷ NumberKind ∷ NumberKind ∷ []) text
+
 -- the text is no event but perhaps octets that are written on a link
 pub record SpellsNoEvent (text : List ℕ) : Type 0 where
   pub connect : LacksWords (codes "connect") (NodeKind ∷ []) text
@@ -98,6 +103,7 @@ pub record SpellsNoEvent (text : List ℕ) : Type 0 where
   pub give : LacksWords (codes "give") (NodeKind ∷ []) text
   pub compact : LacksWords (codes "compact") (NodeKind ∷ []) text
   pub stop : LacksWords (codes "stop") (NodeKind ∷ NumberKind ∷ NumberKind ∷ []) text
+  pub withdrawal : SpellsNoWithdrawal text
 
 -- the text asks for nothing
 pub record SpellsNoQuestion (text : List ℕ) : Type 0 where

@@ -44,6 +44,18 @@ pub enum Event {
         calls: u64,
         pick: u64,
     },
+    /// The postmaster returns a place of a node's message of that number: it fails, with the report that is owed.
+    Return {
+        node: NodeIndex,
+        number: u64,
+        place: u64,
+    },
+    /// The postmaster discards such a place: it ends without a report.
+    Discard {
+        node: NodeIndex,
+        number: u64,
+        place: u64,
+    },
 }
 
 /// A line of a script.

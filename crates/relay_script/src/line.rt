@@ -3,7 +3,7 @@ ghost use Rattle.std.specs.Prelude.{◌≡◌, ◌↔◌, [], ◌∷◌, codes, 
 ghost use Rattle.relay_script.specs.Line.{IsSkipped, Spells, SpellsEvent, SpellsNoLine, SpellsWords};
 ghost use Rattle.relay_script.specs.Line.Operand.{Number, Text};
 ghost use Rattle.relay_script.specs.Reading.{LacksOperands, LacksWords, SpellsNoEvent, SpellsNoQuestion};
-ghost use Rattle.relay_script.specs.Reading.{SpellsOperands};
+ghost use Rattle.relay_script.specs.Reading.{SpellsNoWithdrawal, SpellsOperands};
 ghost use Rattle.relay_script.specs.Reading.Kind.{NumberKind, TextKind};
 
 use crate::event::{Event, ScriptLine};
@@ -103,8 +103,29 @@ fn read_event(line: &[u8]) -> Option<Event>
     if let Some(node) = node_behind(b"compact", line) {
         return Some(Event::Compact { node });
     }
-    let (node, calls, pick) = node_and_numbers_behind(b"stop", line)?;
-    Some(Event::Stop { node, calls, pick })
+    if let Some((node, calls, pick)) = node_and_numbers_behind(b"stop", line) {
+        return Some(Event::Stop { node, calls, pick });
+    }
+    read_withdrawal(line)
+}
+
+/// Returns the places that the postmaster withdraws in a line.
+fn read_withdrawal(line: &[u8]) -> Option<Event>
+    ensures { MatchOption result (SpellsNoWithdrawal line.now) (λ event. SpellsEvent line.now event) }
+{
+    if let Some((node, number, place)) = node_and_numbers_behind(b"return", line) {
+        return Some(Event::Return {
+            node,
+            number,
+            place,
+        });
+    }
+    let (node, number, place) = node_and_numbers_behind(b"discard", line)?;
+    Some(Event::Discard {
+        node,
+        number,
+        place,
+    })
 }
 
 /// Returns the link of a `send`, and the octets that are written on it.

@@ -12,7 +12,8 @@ use Rattle.relay_book.specs.declared.change.Change.{Change}
 use Rattle.relay_book.specs.declared.change.Change.TheVariants as change
 use Rattle.relay_book.specs.declared.change.Outcome.{Outcome}
 use Rattle.relay_book.specs.declared.change.Ruling.{Ruling}
-use Rattle.relay_book.specs.declared.change.Verdict.TheVariants.{NoRoute, Taken}
+use Rattle.relay_book.specs.declared.change.Verdict.TheVariants.{NoRoute, Taken, Withdrawn}
+use Rattle.relay_book.specs.declared.change.Withdrawal.{Withdrawal}
 use Rattle.relay_book.specs.declared.fate.PlaceStep.{PlaceStep}
 use Rattle.relay_book.specs.declared.message.Message.{Message}
 use Rattle.relay_book.specs.Marks.{message_at, place_steps}
@@ -26,7 +27,8 @@ use Rattle.relay_course.specs.VerdictTable.{all_later}
 use Rattle.relay_attempts.specs.AddedOutcome.{reported_as}
 use Rattle.relay_routes.specs.Routes.{RouteTable}
 use Rattle.relay_attempts.specs.Hops.{hop_of_place, is_stranded, stranded_places}
-use Rattle.relay_attempts.specs.Outcomes.{AddsUnroutable, rulings_of, unroutable, unrouted}
+use Rattle.relay_attempts.specs.Outcomes.{rulings_of, unroutable, unrouted}
+use Rattle.relay_attempts.specs.Withdrawals.{is_held_of, is_named, named_places, withdrawal_of, withdrawn}
 use Rattle.relay_attempts.specs.Reply.{IsLost, Told, outcome_at}
 use Rattle.relay_node.specs.Attempts.{RepliesBy, Tells}
 use Rattle.relay_node.specs.Node.{NodeState}
@@ -35,10 +37,11 @@ use Rattle.relay_world.specs.declared.attempt.Fate.TheVariants.{Lost, Replied}
 use Rattle.relay_world.specs.declared.line.Line.TheVariants.{Accepted}
 use Rattle.relay_world.specs.Bound.{HostKeeps, IsBound, IsListOf, NodeKeeps, told_by}
 use Rattle.relay_world.specs.Ledger.{Accepts, Becomes, Step, steps_by, steps_in, steps_of}
-use Rattle.relay_world.specs.Once.{HasNoHops, IsTriedOnce}
+use Rattle.relay_world.specs.GivingUp.{AddsGivenUp, NoHop, Postmaster, Reason, Withdrawing, asked_by, outcome_for}
+use Rattle.relay_world.specs.Once.{EndsAlone, HasNoHops, IsTriedOnce, IsWithdrawal}
 use Rattle.relay_world.specs.Steps.{AttemptOf, HasGivenUp, HasLost, HasRead, IsPut, RecordsHeard, RecordsRead, SessionOf, waiting_down, without_note}
 use Rattle.relay_world.specs.World.{Host, Up, World}
-use Rattle.relay_world.proofs.AmongLemmas.{found_in, in_found, of_map, ruled_by}
+use Rattle.relay_world.proofs.AmongLemmas.{found_in, in_first, in_found, of_map, ruled_by}
 use Rattle.relay_world.proofs.AttemptLemmas.{KnowsAttempt, known}
 use Rattle.relay_world.proofs.FrameLemmas.{steps_in_more, steps_more}
 use Rattle.relay_world.proofs.GrowLemmas.{one_more, some_more}
@@ -101,6 +104,63 @@ stranded_no_hops table changes number at message report outcome accepted same =
           );
     })
 
+-- a place that is withdrawn is named
+named_there : (names : List ℕ) (message : Message) (place : ℕ) → Contains (named_places names message) place
+    → is_named names place ≡ true
+named_there names message place has =
+    let there = passing_there (is_held_of names) 0 message.places place has in
+    (and_parts there.1.held (is_named names place) there.4).1
+
+-- the postmaster has asked for it, if it is he
+abbrev pub AsksBy : List Withdrawing → Reason → ℕ → ℕ → Type 0
+AsksBy asked NoHop node message = Unit {0}
+AsksBy asked (Postmaster withdrawal names) node message =
+    Contains asked (record { node = node; message = message; withdrawal = withdrawal; names = names })
+
+pub asks_itself : (reason : Reason) (node message : ℕ) (asked : List Withdrawing)
+    → AsksBy (asked_by reason node message ++ asked) reason node message
+asks_itself NoHop node message asked = tt
+asks_itself (Postmaster withdrawal names) node message asked =
+    in_first (record { node = node; message = message; withdrawal = withdrawal; names = names }) asked
+
+-- the outcome by which the postmaster withdraws places says so of each
+withdrawn_alone : (asked : List Withdrawing) (node : ℕ) (withdrawal : Withdrawal) (names : List ℕ) (number at : ℕ)
+    (message : Message) (report : List ℕ) (outcome : Outcome)
+    → Contains asked (record { node = node; message = number; withdrawal = withdrawal; names = names })
+    → reported_as (withdrawal_of number at withdrawal names message) report ≡ change.Outcome outcome
+    → IsWithdrawal asked node outcome
+withdrawn_alone asked node withdrawal names number at message report outcome asks same =
+    subst (λ o. IsWithdrawal asked node o)
+    (same_outcome (record (withdrawal_of number at withdrawal names message) { report = report }) outcome same) (record {
+      each = λ place verdict has.
+          let ruling : Ruling = record { place = place; verdict = verdict } in
+          let there = found_in (withdrawn withdrawal (named_places names message)) ruling has in
+          let one = of_map (λ (p : ℕ). record { place = p; verdict = Withdrawn withdrawal }) (named_places names message)
+          there.0 ruling there.1 in
+          let its_place : one.0 ≡ place = ap (λ (r : Ruling). r.place) one.2 in (
+            withdrawal,
+            sym (ap (λ (r : Ruling). r.verdict) one.2),
+            record {
+              names = names;
+              named = named_there names message place
+                  (subst (λ p. Contains (named_places names message) p) its_place
+                  (in_found (named_places names message) one.0 there.0 one.1));
+              there = asks;
+            },
+          );
+    })
+
+-- so an outcome by which places are given up is without an attempt
+pub given_up_alone : (asked : List Withdrawing) (node : ℕ) (reason : Reason) (table : RouteTable) (changes : List Change)
+    (number at : ℕ) (message : Message) (report : List ℕ) (outcome : Outcome) → AsksBy asked reason node number
+    → message_at changes number ≡ Some message.accept
+    → reported_as (outcome_for reason table number at message) report ≡ change.Outcome outcome
+    → EndsAlone asked node table changes outcome
+given_up_alone asked node NoHop table changes number at message report outcome asks accepted same =
+    inl (stranded_no_hops table changes number at message report outcome accepted same)
+given_up_alone asked node (Postmaster withdrawal names) table changes number at message report outcome asks accepted same =
+    inr (withdrawn_alone asked node withdrawal names number at message report outcome asks same)
+
 pub noted_octets : (noted : Option Noted) (note : Noted) (changes : List Change) (one : Change) (used : ℕ) → noted ≡ Some note
     → IsNoted noted changes one used → note.octets ≡ encode one
 noted_octets noted note changes one used is has =
@@ -127,7 +187,7 @@ taken_down old new node number host after None records = records
 taken_down old new node number host after (Some change) records = (records.0, records.2, records.3)
 
 module _ {D : Type 0} (honest : Type 0) (words : DiskWords D) (old new : World D) (lists later : List (List Change))
-    (bound : IsBound honest words old lists) (once : IsTriedOnce old lists) (now : IsBound honest words new later) where
+    (bound : IsBound honest words old lists) {asked : List Withdrawing} (once : IsTriedOnce old lists asked) (now : IsBound honest words new later) where
   abbrev Adds : Type 0
   Adds = ListsAdd honest words old new lists later bound once now
 
@@ -251,15 +311,15 @@ module _ {D : Type 0} (honest : Type 0) (words : DiskWords D) (old new : World D
           (subst (λ (c : Config). Tells c.host knows.changes loses.of.before.attempts loses.of.slot told)
           (sym knows.its_node.config_is) knows.tells)
 
-  -- and places that are given up one by which they have no hop
-  pub given_adds : (node message change_now : ℕ) (gives : HasGivenUp honest words old new node message change_now) → Adds
-  given_adds node message change_now gives =
+  -- and places that are given up one without an attempt
+  pub given_adds : (reason : Reason) (node message change_now : ℕ) → AsksBy asked reason node message → (gives : HasGivenUp honest words old new reason node message change_now) → Adds
+  given_adds reason node message change_now asks gives =
       outcome_adds node gives.host (without_note gives.after) gives.noted gives.before.config.host
-      (unroutable gives.before.config.routes message old.clock given_up.message) change_now listed.0 listed.1
+      (outcome_for reason gives.before.config.routes message old.clock given_up.message) change_now listed.0 listed.1
       gives.host_at gives.hosts takes (λ outcome same was at. inr
-      (subst (λ (c : Config). HasNoHops c.routes listed.0 outcome)
+      (subst (λ (c : Config). EndsAlone asked node c.routes listed.0 outcome)
       (its_node.config_is ∙ ap (λ (h : Host D). h.config) (same_Some gives.host was (sym gives.host_at ∙ at)))
-      (stranded_no_hops gives.before.config.routes listed.0 message old.clock given_up.message takes.report outcome
+      (given_up_alone asked node reason gives.before.config.routes listed.0 message old.clock given_up.message takes.report outcome asks
       (fold_knows listed.0 its_node.keeps.fitting message given_up.message
       (ap (λ (q : Queue). message_of q.messages message) (sym its_node.keeps.queue) ∙ given_up.found)).accept_is same)))
     where
@@ -272,13 +332,13 @@ module _ {D : Type 0} (honest : Type 0) (words : DiskWords D) (old new : World D
       its_node : NodeKeeps honest words gives.host.config gives.before listed.0
       its_node = node_kept honest words gives.host listed.0 gives.before kept gives.up
 
-      given_up : AddsUnroutable honest words (reporter_of gives.before.config) gives.before.config.routes message old.clock listed.0
+      given_up : AddsGivenUp honest words (reporter_of gives.before.config) gives.before.config.routes reason message old.clock listed.0
           gives.before.records gives.after.records change_now
       given_up = gives.gives_up listed.0 its_node.keeps
 
       takes : TakesOutcome honest words (reporter_of gives.before.config) listed.0
-          (unroutable gives.before.config.routes message old.clock given_up.message) (without_note gives.after).records
+          (outcome_for reason gives.before.config.routes message old.clock given_up.message) (without_note gives.after).records
           change_now gives.noted
       takes = outcome_added honest words (reporter_of gives.before.config) listed.0
-          (unroutable gives.before.config.routes message old.clock given_up.message) 0 change_now gives.after gives.noted
+          (outcome_for reason gives.before.config.routes message old.clock given_up.message) 0 change_now gives.after gives.noted
           gives.note_is given_up.adds

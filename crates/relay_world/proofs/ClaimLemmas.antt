@@ -14,6 +14,7 @@ use Rattle.relay_book.specs.Marks.{change_at, message_at}
 use Rattle.relay_node.specs.Node.{NodeState}
 use Rattle.relay_routes.specs.declared.config.Config.{Config}
 use Rattle.relay_attempts.specs.Hops.{goes_to}
+use Rattle.relay_world.specs.GivingUp.{Withdrawing}
 use Rattle.relay_world.specs.declared.attempt.Attempt.{Attempt}
 use Rattle.relay_world.specs.declared.attempt.Fate.{Fate}
 use Rattle.relay_world.specs.declared.attempt.Fate.TheVariants.{Running, Replied, Lost, Dropped}
@@ -21,9 +22,9 @@ use Rattle.relay_world.specs.declared.link.Link.{Link}
 use Rattle.relay_world.specs.Bound.{HasFate, HasLink, IsBound, IsTried, PassesOn, StandsAt}
 use Rattle.relay_world.specs.Children.{IsAttempt}
 use Rattle.relay_world.specs.Ledger.{accepts_on}
-use Rattle.relay_world.specs.Once.{Claims, ClaimsAt, GivesUpNoHops, GoesToHop, HasNoHops, IsOutcomeOf, IsTriedOnce}
+use Rattle.relay_world.specs.Once.{Claims, ClaimsAt, EndsAlone, GivesUpAlone, GoesToHop, HasNoHops, IsOutcomeOf, IsTriedOnce}
 use Rattle.relay_world.specs.Steps.{IsPut, IsPutAt}
-use Rattle.relay_world.specs.World.{Down, FromNoHop, Host, Undecided, Up, World, link_at}
+use Rattle.relay_world.specs.World.{Down, FromGivingUp, Host, Undecided, Up, World, link_at}
 use Rattle.relay_world.proofs.ChildrenLemmas.{passes_of}
 use Rattle.relay_world.proofs.FrameLemmas.{ChangesStay}
 use Rattle.relay_world.proofs.GrowLemmas.{changes_kept, list_grown, messages_kept, one_list}
@@ -61,7 +62,7 @@ pub claims_running : (changes : List Change) (place slot : ℕ) (fate : Fate) �
 claims_running changes place slot fate runs = subst (λ f. Claims changes place f) (sym runs) tt
 
 -- an outcome by which places have no hop is one by a list that has grown, with the same routes
-pub no_hops_kept : (before after : List Change) (one other : Config) (outcome : Outcome) → Begins before after → other ≡ one
+no_hops_kept : (before after : List Change) (one other : Config) (outcome : Outcome) → Begins before after → other ≡ one
     → HasNoHops one.routes before outcome → HasNoHops other.routes after outcome
 no_hops_kept before after one other outcome begins same none =
     subst (λ (c : Config). HasNoHops c.routes after outcome) (sym same) (record {
@@ -69,6 +70,13 @@ no_hops_kept before after one other outcome begins same none =
       accepted = messages_kept before after (changes_kept before after begins) outcome.message none.accept none.accepted;
       each = none.each;
     })
+
+-- and so is one without an attempt
+pub alone_kept : (asked : List Withdrawing) (node : ℕ) (before after : List Change) (one other : Config) (outcome : Outcome)
+    → Begins before after → other ≡ one
+    → EndsAlone asked node one.routes before outcome → EndsAlone asked node other.routes after outcome
+alone_kept asked node before after one other outcome begins same (inl none) = inl (no_hops_kept before after one other outcome begins same none)
+alone_kept asked node before after one other outcome begins same (inr withdrawn) = inr withdrawn
 
 module _ {D : Type 0} (honest : Type 0) (words : DiskWords D) where
   -- an attempt there, with all that it has
@@ -104,7 +112,7 @@ module _ {D : Type 0} (honest : Type 0) (words : DiskWords D) where
       (_, fate.1.2.found)
 
   module _ (old new : World D) (lists later : List (List Change)) (bound : IsBound honest words old lists)
-      (once : IsTriedOnce old lists) (now : IsBound honest words new later) where
+      {asked : List Withdrawing} (once : IsTriedOnce old lists asked) (now : IsBound honest words new later) where
     -- what an event did to the nodes: each goes by the same configuration, and has all its records
     pub record HostGrows (n : ℕ) (host : Host D) : Type 0 where
       pub was : Host D
@@ -135,19 +143,19 @@ module _ {D : Type 0} (honest : Type 0) (words : DiskWords D) where
         (number : ℕ) (link : Link) → link_at new.links number ≡ Some link → link.server ≡ None
         → accepts_on number new.ledger ≡ []
 
-    -- an outcome is that of an attempt, or gives up places without a hop
+    -- an outcome is that of an attempt, or gives up places without one
     abbrev pub OutcomesKept : Type 0
     OutcomesKept =
         (node number : ℕ) (host : Host D) (changes : List Change) (outcome : Outcome) → StandsAt new later node host changes
         → change_at changes number ≡ Some (change.Outcome outcome)
-        → IsOutcomeOf new node number ⊎ HasNoHops host.config.routes changes outcome
+        → IsOutcomeOf new node number ⊎ EndsAlone asked node host.config.routes changes outcome
 
     -- and so does an undecided change that came from no attempt
     abbrev pub GivenUpKept : Type 0
     GivenUpKept =
         (node message : ℕ) (host : Host D) (changes : List Change) (disk : Disks D) (undecided : Undecided)
         → StandsAt new later node host changes → host.state ≡ Down disk (Some undecided)
-        → undecided.origin ≡ FromNoHop message → GivesUpNoHops host.config.routes changes undecided.note.octets
+        → undecided.origin ≡ FromGivingUp message → GivesUpAlone asked node host.config.routes changes undecided.note.octets
 
     -- a node whose records are the same has the list that it had
     pub list_still : (n : ℕ) (was host : Host D) (changes : List Change) → slice_get old.hosts n ≡ Some was
@@ -234,7 +242,7 @@ module _ {D : Type 0} (honest : Type 0) (words : DiskWords D) where
 
       -- where each attempt was there, and nothing came on a link that no node serves, no place is tried twice
       pub once_kept : ((at : ℕ) (attempt : Attempt) → slice_get new.attempts at ≡ Some attempt → WasThere at attempt)
-          → OutcomesKept → GivenUpKept → NoneOutside → IsTriedOnce new later
+          → OutcomesKept → GivenUpKept → NoneOutside → IsTriedOnce new later asked
       once_kept there outcomes given outside = record {
         once = λ one other node message place mine yours. once.once one other node message place
             (claim_before one node message place mine (there one mine.attempt mine.is_there))
@@ -321,16 +329,17 @@ module _ {D : Type 0} (honest : Type 0) (words : DiskWords D) where
     -- the undecided changes, where one node has moved on, or none
     pub given_put : (node : ℕ) (moved : Host D) → IsPut old.hosts new.hosts node moved
         → ((message : ℕ) (changes : List Change) (disk : Disks D) (undecided : Undecided) → StandsAt new later node moved changes
-        → moved.state ≡ Down disk (Some undecided) → undecided.origin ≡ FromNoHop message
-        → GivesUpNoHops moved.config.routes changes undecided.note.octets) → GivenUpKept
+        → moved.state ≡ Down disk (Some undecided) → undecided.origin ≡ FromGivingUp message
+        → GivesUpAlone asked node moved.config.routes changes undecided.note.octets) → GivenUpKept
     given_put node moved put here n message host changes disk undecided stands down origin =
         elim (put_cases old.hosts new.hosts node moved put n host stands.host_at) [
           | inl same ↦
-              subst (λ (h : Host D). GivesUpNoHops h.config.routes changes undecided.note.octets) same.1
+              subst (λ k. GivesUpAlone asked k host.config.routes changes undecided.note.octets) (sym same.0)
+              (subst (λ (h : Host D). GivesUpAlone asked node h.config.routes changes undecided.note.octets) same.1
               (here message changes disk undecided (record {
                 host_at = put.at;
                 list_at = ap (λ k. slice_get later k) (sym same.0) ∙ stands.list_at;
-              }) (ap (λ (h : Host D). h.state) same.1 ∙ down) origin)
+              }) (ap (λ (h : Host D). h.state) same.1 ∙ down) origin))
           | inr other ↦ once.given_up n message host changes disk undecided (record {
             host_at = other.1;
             list_at = list_still n host host changes other.1 refl stands;

@@ -10,11 +10,12 @@ use Rattle.relay_lines.specs.ReplyReading.{CutsAllReplies}
 use Rattle.relay_lines.proofs.Theorems.{cut_is_one}
 use Rattle.relay_book.specs.declared.change.Change.{Change}
 use Rattle.relay_book.specs.declared.change.Verdict.{Verdict}
-use Rattle.relay_book.specs.declared.change.Verdict.TheVariants.{Taken, Refused, Later, CantSend, NoRoute}
+use Rattle.relay_book.specs.declared.change.Verdict.TheVariants.{Taken, Refused, Later, CantSend, NoRoute, Withdrawn}
 use Rattle.relay_attempts.specs.Outcomes.{rulings_of}
 use Rattle.relay_course.specs.Course.{IsCourse}
 use Rattle.relay_course.specs.Laws.{accepted_places}
 use Rattle.relay_course.proofs.Theorems.{verdict_for_each_place}
+use Rattle.relay_world.specs.GivingUp.{Withdrawing}
 use Rattle.relay_world.specs.declared.attempt.Attempt.{Attempt}
 use Rattle.relay_world.specs.declared.attempt.Fate.{Fate}
 use Rattle.relay_world.specs.declared.attempt.Fate.TheVariants.{Running, Replied, Lost, Dropped}
@@ -65,6 +66,7 @@ taken_or_other (Refused code text) = inr (λ dsn e. cc)
 taken_or_other Later = inr (λ dsn e. cc)
 taken_or_other CantSend = inr (λ dsn e. cc)
 taken_or_other NoRoute = inr (λ dsn e. cc)
+taken_or_other (Withdrawn withdrawal) = inr (λ dsn e. cc)
 
 -- who is lost is counted
 kept_more : (is : Bool) (one : Attempt) (rest : List Attempt) → length rest ≤ length (cond is (one ∷ rest) rest)
@@ -82,7 +84,7 @@ lost_counts node message place attempt its_node its_message has lost =
     ∙ lost
 
 module _ {D : Type 0} (honest : Type 0) (words : DiskWords D) (world : World D) (lists : List (List Change))
-    (bound : IsBound honest words world lists) (once : IsTriedOnce world lists) (node message place : ℕ) where
+    (bound : IsBound honest words world lists) {asked : List Withdrawing} (once : IsTriedOnce world lists asked) (node message place : ℕ) where
   abbrev Passing : Attempt → Type 0
   Passing attempt = PassesPlace world lists node message place attempt
 
@@ -374,5 +376,5 @@ module _ {D : Type 0} (honest : Type 0) (words : DiskWords D) (world : World D) 
       }
 
 pub copies_are_few : {D : Type 0} (honest : Type 0) (words : DiskWords D) → CopiesAreFew honest words
-copies_are_few honest words world lists bound once node message place =
+copies_are_few honest words world lists asked bound once node message place =
     few_copies honest words world lists bound once node message place

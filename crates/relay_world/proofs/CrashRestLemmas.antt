@@ -102,9 +102,9 @@ module _ {D : Type 0} (honest : Type 0) (words : DiskWords D) (old new : World D
       stopped_run node crash.host crash.before crash.disk crash.host_at crash.up
       (left_by_none crash.before.records crash.stopped crash.disk crash.halts crash.left) crash.down
 
-  giving_stops : (node message : ℕ) (crash : CrashesGivingUp honest words old new node message)
-      → StopsGivingUp honest words (let_go node old) (record (let_go node old) { hosts = crash.down.hosts }) node message
-  giving_stops node message crash = record {
+  giving_stops : (reason : Reason) (node message : ℕ) (crash : CrashesGivingUp honest words old new reason node message)
+      → StopsGivingUp honest words (let_go node old) (record (let_go node old) { hosts = crash.down.hosts }) reason node message
+  giving_stops reason node message crash = record {
     host = crash.host;
     host_at = crash.host_at;
     before = crash.before;
@@ -122,31 +122,33 @@ module _ {D : Type 0} (honest : Type 0) (words : DiskWords D) (old new : World D
     rest = (refl, refl, refl, refl, crash.down.as_many);
   }
 
-  pub giving_run : (node message : ℕ) → CrashesGivingUp honest words old new node message
+  pub giving_run : (reason : Reason) (node message : ℕ) → CrashesGivingUp honest words old new reason node message
       → Happen honest words (suc (suc zero)) old new
-  giving_run node message crash = (
+  giving_run reason node message crash = (
     let_go node old,
     LetsGo node (hangs node old),
     (
       record (let_go node old) { hosts = crash.down.hosts },
-      StopsInGivingUp node message (giving_stops node message crash),
+      StopsInGivingUp reason node message (giving_stops reason node message crash),
       crash.down.new_is,
     ),
   )
 
 pub resting_crash_happens : {D : Type 0} (honest : Type 0) (words : DiskWords D) → RestingCrashHappens honest words
-resting_crash_happens honest words old new node message = (
-  rest_run honest words old new node,
-  giving_run honest words old new node message,
-  compacting_run honest words old new node,
+unfolding stopped_run rest_run giving_run compacting_run
+resting_crash_happens honest words old new reason node message = (
+  λ crash. record { run = rest_run honest words old new node crash; asks = λ before. refl },
+  λ crash. record { run = giving_run honest words old new reason node message crash; asks = λ before. refl },
+  λ crash. record { run = compacting_run honest words old new node crash; asks = λ before. refl },
 )
 
 -- a run of three, of which the last event opens a node
 pub compacting_happens : {D : Type 0} (honest : Type 0) (words : DiskWords D) → CompactingHappens honest words
+unfolding stopped_run compacting_run
 compacting_happens honest words old between new node = (
-  λ compacted. (new, GoesOn node compacted.stays, refl),
+  λ compacted. record { run = (new, GoesOn node compacted.stays, refl); asks = λ before. refl },
   λ crash opens.
       let run = compacting_run honest words old between node crash in
       let opened = Reopens node (subst (λ w. HasReopened honest words w new node) run.2.2 opens) in
-      (run.0, run.1, (run.2.0, run.2.1, (new, opened, refl))),
+      record { run = (run.0, run.1, (run.2.0, run.2.1, (new, opened, refl))); asks = λ before. refl },
 )

@@ -10,6 +10,7 @@ use Rattle.relay_book.specs.declared.change.Change.{Change}
 use Rattle.relay_book.specs.declared.fate.PlaceStep.{PlaceStep}
 use Rattle.relay_node.specs.Node.{NodeState}
 use Rattle.relay_records.specs.declared.noted.Noted.{Noted}
+use Rattle.relay_world.specs.GivingUp.{Reason, Withdrawing}
 use Rattle.relay_world.specs.declared.attempt.Attempt.{Attempt}
 use Rattle.relay_world.specs.declared.attempt.Fate.{Fate}
 use Rattle.relay_world.specs.declared.attempt.Fate.TheVariants.{Lost, Dropped, Replied}
@@ -22,7 +23,7 @@ use Rattle.relay_world.specs.Ledger.{accepts_on, left_lines, report_told}
 use Rattle.relay_world.specs.Once.{IsTriedOnce}
 use Rattle.relay_world.specs.Steps.{AttemptOf, Breaks, DropsAttempt, EndsWith, HasGivenUp, HasHeard, HasLost, HasOpened, HasRead, HasWritten, IsPut, IsPutAt, RecordsRead, WritesAs, heard_link, opened_link, read_link, without_note, ended_link, SessionOf}
 use Rattle.relay_world.specs.World.{Host, Up, World, link_at}
-use Rattle.relay_world.proofs.AddedLemmas.{HasTakenDown, given_adds, heard_adds, left_by, lost_adds, taken_down}
+use Rattle.relay_world.proofs.AddedLemmas.{AsksBy, HasTakenDown, given_adds, heard_adds, left_by, lost_adds, taken_down}
 use Rattle.relay_world.proofs.TakerLemmas.{EndedStay, ListsAdd, ended_same, ended_still, lists_same, lists_stay, takers_kept}
 use Rattle.relay_world.proofs.ClaimLemmas.{GivenUpKept, HostsGrow, NoneOutside, WasThere, all_same, given_same, given_up_at, hosts_put, hosts_same, once_kept, one_ended, outside_put, outside_same}
 use Rattle.relay_world.proofs.FrameLemmas.{accepts_on_more}
@@ -47,7 +48,7 @@ accepted_elsewhere ledger grown node number places link is other off =
     ∙ append-nil (accepts_on other ledger)
 
 module _ {D : Type 0} (honest : Type 0) (words : DiskWords D) (old new : World D) (lists later : List (List Change))
-    (bound : IsBound honest words old lists) (once : IsTriedOnce old lists) (now : IsBound honest words new later) where
+    (bound : IsBound honest words old lists) {asked : List Withdrawing} (once : IsTriedOnce old lists asked) (now : IsBound honest words new later) where
   abbrev Grow : Type 0
   Grow = HostsGrow honest words old new lists later bound once now
 
@@ -67,7 +68,7 @@ module _ {D : Type 0} (honest : Type 0) (words : DiskWords D) (old new : World D
   abbrev Given : Type 0
   Given = GivenUpKept honest words old new lists later bound once now
 
-  pub kept : Grow → There → Adds → Stay → Given → Outside → IsTriedOnce new later
+  pub kept : Grow → There → Adds → Stay → Given → Outside → IsTriedOnce new later asked
   kept grow there adds stay given outside =
       once_kept honest words old new lists later bound once now grow there
       (takers_kept honest words old new lists later bound once now grow adds stay) given outside
@@ -125,7 +126,7 @@ module _ {D : Type 0} (honest : Type 0) (words : DiskWords D) (old new : World D
   pub same_accepts : new.ledger ≡ old.ledger → (other : ℕ) → accepts_on other new.ledger ≡ accepts_on other old.ledger
   same_accepts same other = ap (λ l. accepts_on other l) same
 
-  pub opened : (node : ℕ) (peer : List ℕ) → HasOpened old new node peer → IsTriedOnce new later
+  pub opened : (node : ℕ) (peer : List ℕ) → HasOpened old new node peer → IsTriedOnce new later asked
   opened node peer opens =
       kept (stayed node opens.host opens.after opens.host_at opens.hosts) (there_same opens.rest.0)
       (list_stayed node opens.host opens.after opens.host_at opens.hosts) (same_ends opens.rest.0)
@@ -141,7 +142,7 @@ module _ {D : Type 0} (honest : Type 0) (words : DiskWords D) (old new : World D
   -- only the links have changed
   links_alone : (links : List Link) (number : ℕ) (was link : Link) → new ≡ record old { links = links }
       → link_at old.links number ≡ Some was → link.server ≡ was.server → IsPutAt old.links links number link
-      → IsTriedOnce new later
+      → IsTriedOnce new later asked
   links_alone links number was link same is server put =
       kept (hosts_same honest words old new lists later bound once now (ap (λ (w : World D). w.hosts) same))
       (there_same (ap (λ (w : World D). w.attempts) same))
@@ -152,12 +153,12 @@ module _ {D : Type 0} (honest : Type 0) (words : DiskWords D) (old new : World D
       (subst (λ l. IsPutAt old.links l number link) (sym (ap (λ (w : World D). w.links) same)) put)
       (same_accepts (ap (λ (w : World D). w.ledger) same)))
 
-  pub written : (number : ℕ) (octets : List ℕ) → HasWritten old new number octets → IsTriedOnce new later
+  pub written : (number : ℕ) (octets : List ℕ) → HasWritten old new number octets → IsTriedOnce new later asked
   written number octets writes =
       links_alone writes.links number writes.link writes.written writes.new_is writes.link_is
       (written_server writes.link writes.written octets writes.writes) writes.put
 
-  pub broken : (number : ℕ) → Breaks old new number → IsTriedOnce new later
+  pub broken : (number : ℕ) → Breaks old new number → IsTriedOnce new later asked
   broken number breaks =
       links_alone breaks.links number breaks.link (record breaks.link { broken = true }) breaks.new_is breaks.link_is refl
       breaks.put
@@ -184,20 +185,20 @@ module _ {D : Type 0} (honest : Type 0) (words : DiskWords D) (old new : World D
   -- a session was heard, and its link has its end
   pub heard_of : (number : ℕ) (of : SessionOf old number) (link : Link) (end : ServerEnd) → link.server ≡ Some end
       → IsPutAt old.links new.links number link → new.attempts ≡ old.attempts → (after : NodeState D) (change : Option ℕ)
-      → HasTakenDown old new of.end.node number of.host after change → IsTriedOnce new later
+      → HasTakenDown old new of.end.node number of.host after change → IsTriedOnce new later asked
   heard_of number of link end serves links attempts after change records =
       kept (heard_grow number of after change records) (there_same attempts)
       (heard_adds honest words old new lists later bound once now number of after change records)
       (same_ends attempts) (heard_given number of after change records)
       (served number link end serves links (heard_elsewhere number of after change records))
 
-  pub heard : (number count : ℕ) → HasHeard honest words old new number count → IsTriedOnce new later
+  pub heard : (number count : ℕ) → HasHeard honest words old new number count → IsTriedOnce new later asked
   heard number count hears =
       heard_of number hears.of (heard_link hears.of.link hears.of.end hears.of.session hears.received) _ refl hears.links
       hears.rest.0 (left_by hears.after hears.received.change) hears.received.change
       (taken_down old new hears.of.end.node number hears.of.host hears.after hears.received.change hears.records)
 
-  pub ended : (number : ℕ) (closing : Option Reply) → EndsWith old new number closing → IsTriedOnce new later
+  pub ended : (number : ℕ) (closing : Option Reply) → EndsWith old new number closing → IsTriedOnce new later asked
   ended number closing ends =
       kept (stayed ends.of.end.node ends.of.host ends.after ends.of.host_at ends.hosts) (there_same ends.rest.0)
       (list_stayed ends.of.end.node ends.of.host ends.after ends.of.host_at ends.hosts) (same_ends ends.rest.0)
@@ -208,7 +209,7 @@ module _ {D : Type 0} (honest : Type 0) (words : DiskWords D) (old new : World D
   -- an outcome of an attempt was recorded
   pub recorded : (number change : ℕ) (of : AttemptOf old number) (after : NodeState D) (fate : Fate) (noted : Noted)
       (link : Link) → link.server ≡ of.link.server → IsPutAt old.links new.links number link
-      → HasTakenOutcome old new number of after fate change noted → Adds → IsTriedOnce new later
+      → HasTakenOutcome old new number of after fate change noted → Adds → IsTriedOnce new later asked
   recorded number change of after fate noted link server links taken adds =
       kept (recorded_more of.attempt.node of.host after noted.octets of.host_at taken.hosts)
       (one_ended honest words old new lists later bound once now of.place of.slot of.attempt fate of.attempt_at of.runs
@@ -226,7 +227,7 @@ module _ {D : Type 0} (honest : Type 0) (words : DiskWords D) (old new : World D
       → link.server ≡ of.link.server → IsPutAt old.links new.links number link
       → IsPut old.hosts new.hosts of.attempt.node (record of.host { state = Up after })
       × (new.ledger ≡ old.ledger) × (new.attempts ≡ old.attempts)
-      → IsTriedOnce new later
+      → IsTriedOnce new later asked
   read_on number of after link server links puts =
       kept (stayed of.attempt.node of.host after of.host_at puts.0) (there_same puts.2)
       (list_stayed of.attempt.node of.host after of.host_at puts.0) (same_ends puts.2)
@@ -234,7 +235,7 @@ module _ {D : Type 0} (honest : Type 0) (words : DiskWords D) (old new : World D
       (relinked number of.link link of.link_is server links (same_accepts puts.1))
 
   pub read_by : (number count : ℕ) (reads : HasRead honest words old new number count) (change : Option ℕ)
-      → RecordsRead old new number reads.of reads.after change → Adds → IsTriedOnce new later
+      → RecordsRead old new number reads.of reads.after change → Adds → IsTriedOnce new later asked
   read_by number count reads None records adds =
       read_on number reads.of reads.after (read_link reads.of.link reads.replied) refl reads.links records
   read_by number count reads (Some change) records adds =
@@ -251,14 +252,14 @@ module _ {D : Type 0} (honest : Type 0) (words : DiskWords D) (old new : World D
     grows = let count = ap length same in omega (arith, count);
   }
 
-  pub lost : (number change : ℕ) → HasLost honest words old new number change → IsTriedOnce new later
+  pub lost : (number change : ℕ) → HasLost honest words old new number change → IsTriedOnce new later asked
   lost number change loses =
       recorded number change loses.of (without_note loses.after) (Lost change) loses.records.noted loses.of.link refl
       (link_put number loses.of.link loses.of.link_is loses.links)
       (outcome_taken old new number loses.of loses.after (Lost change) change loses.records)
       (lost_adds honest words old new lists later bound once now number change loses)
 
-  pub dropped : (number : ℕ) → DropsAttempt old new number → IsTriedOnce new later
+  pub dropped : (number : ℕ) → DropsAttempt old new number → IsTriedOnce new later asked
   dropped number drops =
       kept (stayed drops.of.attempt.node drops.of.host drops.after drops.of.host_at drops.hosts)
       (one_ended honest words old new lists later bound once now drops.of.place drops.of.slot drops.of.attempt Dropped
@@ -269,11 +270,11 @@ module _ {D : Type 0} (honest : Type 0) (words : DiskWords D) (old new : World D
       (given_at drops.of.attempt.node drops.of.host drops.after drops.of.host.records drops.hosts)
       (outside_same honest words old new lists later bound once now drops.links (same_accepts drops.ledger))
 
-  pub given_up : (node message change : ℕ) → HasGivenUp honest words old new node message change → IsTriedOnce new later
-  given_up node message change gives =
+  pub given_up : (reason : Reason) (node message change : ℕ) → AsksBy asked reason node message → HasGivenUp honest words old new reason node message change → IsTriedOnce new later asked
+  given_up reason node message change asks gives =
       kept (recorded_more node gives.host (without_note gives.after) gives.noted.octets gives.host_at gives.hosts)
       (there_same gives.rest.1)
-      (given_adds honest words old new lists later bound once now node message change gives) (same_ends gives.rest.1)
+      (given_adds honest words old new lists later bound once now reason node message change asks gives) (same_ends gives.rest.1)
       (given_at node gives.host (without_note gives.after) (gives.host.records ++ gives.noted.octets ∷ []) gives.hosts)
       (outside_same honest words old new lists later bound once now gives.rest.0
       (left_same old.ledger new.ledger node message 0 (report_told change gives.noted.report) gives.noted.left.items

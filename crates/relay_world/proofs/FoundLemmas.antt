@@ -20,7 +20,7 @@ use Rattle.relay_records.proofs.Theorems.{halted_is_not_refused, halted_is_opene
 use Rattle.relay_world.specs.Bound.{StateKeeps, HostKeeps, MayBeIn, link_of}
 use Rattle.relay_world.specs.Ledger.{Accepts, accepts_on, lines_by, report_told, steps_in}
 use Rattle.relay_world.specs.Stops.{DownIsNotRefused}
-use Rattle.relay_world.specs.World.{Down, FromClient, FromLoss, FromNoHop, FromReplies, Host, Origin, Undecided, World}
+use Rattle.relay_world.specs.World.{Down, FromClient, FromLoss, FromGivingUp, FromReplies, Host, Origin, Undecided, World}
 use Rattle.relay_world.proofs.GrowLemmas.{one_list}
 use Rattle.relay_world.proofs.OpenLemmas.{off_by}
 use Rattle.relay_world.proofs.RecordLemmas.{left_elsewhere, left_within, none_left_accepted}
@@ -30,7 +30,7 @@ abbrev pub origin_link : Origin → ℕ
 origin_link (FromClient link) = link
 origin_link (FromReplies link place message) = link
 origin_link (FromLoss link place message) = link
-origin_link (FromNoHop message) = 0
+origin_link (FromGivingUp message) = 0
 
 -- its lines tell nothing of other nodes, nor of an accept on other links
 pub lines_elsewhere : (node other : ℕ) (note : Noted) (origin : Origin) → other ≢ node
@@ -41,7 +41,7 @@ lines_elsewhere node other note (FromReplies link place message) off =
     left_elsewhere node other message link (report_told note.number note.report) note.left.items off
 lines_elsewhere node other note (FromLoss link place message) off =
     left_elsewhere node other message link (report_told note.number note.report) note.left.items off
-lines_elsewhere node other note (FromNoHop message) off =
+lines_elsewhere node other note (FromGivingUp message) off =
     left_elsewhere node other message 0 (report_told note.number note.report) note.left.items off
 
 pub lines_accepted : (node other : ℕ) (note : Noted) (origin : Origin) → other ≢ origin_link origin
@@ -52,7 +52,7 @@ lines_accepted node other note (FromReplies link place message) off =
     none_left_accepted node other message link (report_told note.number note.report) note.left.items
 lines_accepted node other note (FromLoss link place message) off =
     none_left_accepted node other message link (report_told note.number note.report) note.left.items
-lines_accepted node other note (FromNoHop message) off =
+lines_accepted node other note (FromGivingUp message) off =
     none_left_accepted node other message 0 (report_told note.number note.report) note.left.items
 
 pub lines_few : (node count : ℕ) (note : Noted) (origin : Origin) → origin_link origin ≤ count
@@ -62,7 +62,7 @@ lines_few node count note (FromReplies link place message) few =
     left_within node message link (report_told note.number note.report) count note.left.items few
 lines_few node count note (FromLoss link place message) few =
     left_within node message link (report_told note.number note.report) count note.left.items few
-lines_few node count note (FromNoHop message) few =
+lines_few node count note (FromGivingUp message) few =
     left_within node message 0 (report_told note.number note.report) count note.left.items few
 
 -- bodies stand for a change of this record where they stand for another

@@ -8,10 +8,10 @@ use Rattle.relay_server.specs.Dialogue.{Said}
 use Rattle.relay_book.specs.declared.change.Change.{Change}
 use Rattle.relay_records.specs.Records.{Kept}
 use Rattle.relay_routes.specs.declared.config.Config.{Config}
-use Rattle.relay_attempts.specs.Outcomes.{AddsUnroutable}
 use Rattle.relay_attempts.specs.Reply.{IsLost, Told}
 use Rattle.relay_node.specs.Attempts.{RepliesBy, Tells}
 use Rattle.relay_node.specs.Node.{Makes, Receives}
+use Rattle.relay_world.specs.GivingUp.{AddsGivenUp, Reason}
 use Rattle.relay_world.specs.Bound.{HostKeeps, IsBound, NodeKeeps, told_by}
 use Rattle.relay_world.specs.Fuses.{CountsDown, StopsCountDown, calls_of}
 use Rattle.relay_world.specs.Steps.{HasGivenUp, HasHeard, HasLost, HasRead, waiting_down, waiting_up}
@@ -92,9 +92,9 @@ module _ {D : Type 0} (honest : Type 0) (words : DiskWords D) (old new : World D
           (subst (λ (c : Config). Tells c.host knows.changes lost.of.before.attempts lost.of.slot told)
           (sym knows.its_node.config_is) knows.tells)
 
-  given_counts : (node message change : ℕ) (given : HasGivenUp honest words old new node message change)
+  given_counts : (reason : Reason) (node message change : ℕ) (given : HasGivenUp honest words old new reason node message change)
       → CountsDown words 4 given.before given.after
-  given_counts node message change given = given_up.calls
+  given_counts reason node message change given = given_up.calls
     where
       there : (list : List Change) × (slice_get lists node ≡ Some list)
       there = list_there old.hosts lists node given.host bound.even given.host_at
@@ -105,15 +105,15 @@ module _ {D : Type 0} (honest : Type 0) (words : DiskWords D) (old new : World D
       keeps : NodeKeeps honest words given.host.config given.before there.0
       keeps = node_kept honest words given.host there.0 given.before kept given.up
 
-      given_up : AddsUnroutable honest words (reporter_of given.before.config) given.before.config.routes message old.clock
+      given_up : AddsGivenUp honest words (reporter_of given.before.config) given.before.config.routes reason message old.clock
           there.0 given.before.records given.after.records change
       given_up = given.gives_up there.0 keeps.keeps
 
 pub stops_count_down : {D : Type 0} (honest : Type 0) (words : DiskWords D) → StopsCountDown honest words
-stops_count_down honest words old new lists number count node message change bound = (
+stops_count_down honest words old new lists reason number count node message change bound = (
   heard_counts honest words old new lists bound number count,
   read_counts honest words old new lists bound number count,
   lost_counts honest words old new lists bound number change,
-  given_counts honest words old new lists bound node message change,
+  given_counts honest words old new lists bound reason node message change,
   λ compacted. compacted.compacts.calls,
 )

@@ -9,11 +9,11 @@ use Rattle.relay_book.specs.declared.change.Change.{Change}
 use Rattle.relay_book.specs.declared.change.Outcome.{Outcome}
 use Rattle.relay_book.proofs.Theorems.{message_stays}
 use Rattle.relay_routes.specs.declared.config.Config.{Config}
-use Rattle.relay_attempts.specs.Outcomes.{AddsUnroutable, unroutable}
 use Rattle.relay_attempts.specs.AddedOutcome.{reported_as}
 use Rattle.relay_node.specs.Attempts.{Tells}
 use Rattle.relay_node.specs.Node.{SeatHasSaid, NodeState}
 use Rattle.relay_node.proofs.Theorems.{told_stays}
+use Rattle.relay_world.specs.GivingUp.{AddsGivenUp, outcome_for}
 use Rattle.relay_world.specs.declared.link.Link.{Link}
 use Rattle.relay_world.specs.Bound.{HasLink, HostKeeps, NodeKeeps, SaysThere}
 use Rattle.relay_world.specs.Steps.{GivingUpKeeps, without_note}
@@ -32,7 +32,7 @@ nowhere = record { client = None; server = None; up = []; up_read = 0; down = []
 
 pub giving_up_keeps : {D : Type 0} (honest : Type 0) (words : DiskWords D) → GivingUpKeeps honest words
 unfolding nowhere
-giving_up_keeps {D} honest words old new lists node message change_now bound gives = (
+giving_up_keeps {D} honest words old new lists reason node message change_now bound gives = (
   with_at lists node grown,
   moved_keeps honest words old new lists (with_at lists node grown) node 0 host moved changes grown nowhere bound moves
       joins,
@@ -56,12 +56,12 @@ giving_up_keeps {D} honest words old new lists node message change_now bound giv
     its_node : NodeKeeps honest words host.config gives.before changes
     its_node = node_kept honest words host changes gives.before kept gives.up
 
-    given_up : AddsUnroutable honest words (reporter_of gives.before.config) gives.before.config.routes message old.clock changes
+    given_up : AddsGivenUp honest words (reporter_of gives.before.config) gives.before.config.routes reason message old.clock changes
         gives.before.records gives.after.records change_now
     given_up = gives.gives_up changes its_node.keeps
 
     outcome : Outcome
-    outcome = unroutable gives.before.config.routes message old.clock given_up.message
+    outcome = outcome_for reason gives.before.config.routes message old.clock given_up.message
 
     takes : TakesOutcome honest words (reporter_of host.config) changes outcome (without_note gives.after).records change_now
         gives.noted

@@ -5,6 +5,7 @@ use Rattle.relay_disk.specs.Device.{DiskWords}
 use Rattle.relay_book.specs.declared.change.Change.{Change}
 use Rattle.relay_node.specs.Node.{NodeState}
 use Rattle.relay_records.specs.Staged.{Row, no_row}
+use Rattle.relay_world.specs.GivingUp.{Withdrawing}
 use Rattle.relay_world.specs.declared.attempt.Fate.TheVariants.{Replied}
 use Rattle.relay_world.specs.Bound.{IsBound}
 use Rattle.relay_world.specs.Crashes.{let_go as lets_go}
@@ -37,13 +38,13 @@ module _ {D : Type 0} (honest : Type 0) (words : DiskWords D) where
     -- a world in which a node awaits changes, and each place is tried once
     record OnceUnsettled (world : World D) (row : Row) : Type 0 where
       pub unsettled : Unsettled honest words old lists node changes world row
-      pub once : IsTriedOnce world unsettled.later
+      pub once : IsTriedOnce world unsettled.later asked
 
     -- where the node turns to a link, the world after that is such a one too
     module _ (world next : World D) (row left : Row) (was : OnceUnsettled world row)
         (now : Unsettled honest words old lists node changes next left) where
       heard_once : (at : ℕ) (piece : Piece) → HasHeardInto honest words at world next node piece row left
-          → IsTriedOnce next now.later
+          → IsTriedOnce next now.later asked
       heard_once at piece hears =
           heard_of ⊥ words world next was.unsettled.later now.later was.unsettled.bound was.once now.bound piece.number
           hears.of (heard_link hears.of.link hears.of.end hears.of.session hears.received) _ refl hears.links
@@ -51,7 +52,7 @@ module _ {D : Type 0} (honest : Type 0) (words : DiskWords D) where
           (taken_into at world next node piece row left hears hears.received.change hears.accepts)
 
       read_once : (at : ℕ) (piece : Piece) (reads : HasReadInto honest words at world next node piece row left)
-          → IsTriedOnce next now.later
+          → IsTriedOnce next now.later asked
       read_once at piece reads =
           by reads.replied.change
           (replies honest words old lists node changes world next row left was.unsettled at piece reads) reads.outcome
@@ -59,7 +60,7 @@ module _ {D : Type 0} (honest : Type 0) (words : DiskWords D) where
           by : (made : Option ℕ)
               → Replies honest words old lists node changes world next row left was.unsettled at piece reads made
               → OutcomeInto honest words world next piece.number reads.of reads.after row left made
-              → IsTriedOnce next now.later
+              → IsTriedOnce next now.later asked
           by None on puts =
               read_on ⊥ words world next was.unsettled.later now.later was.unsettled.bound was.once now.bound
               piece.number reads.of reads.after (read_link reads.of.link reads.replied) refl reads.links puts
@@ -82,7 +83,7 @@ module _ {D : Type 0} (honest : Type 0) (words : DiskWords D) where
               ends puts))
 
       turned_once : (at : ℕ) (piece : Piece) → HasTurnedTo honest words at world next node piece row left
-          → IsTriedOnce next now.later
+          → IsTriedOnce next now.later asked
       turned_once at piece (Heard hears) = heard_once at piece hears
       turned_once at piece (SessionEnded ends here same) =
           ended ⊥ words world next was.unsettled.later now.later was.unsettled.bound was.once now.bound piece.number
@@ -104,8 +105,8 @@ module _ {D : Type 0} (honest : Type 0) (words : DiskWords D) where
         (record { unsettled = now; once = turned_once world next row more was now at piece one }) others
 
   -- a node that was up has heard and read links one after another
-  once_heard : (old : World D) (lists : List (List Change)) (node : ℕ) (bound : IsBound honest words old lists)
-      → IsTriedOnce old lists → (before : IsUp old node) (at : ℕ) (pieces : List Piece) (heard : World D) (row : Row)
+  once_heard : {asked : List Withdrawing} (old : World D) (lists : List (List Change)) (node : ℕ) (bound : IsBound honest words old lists)
+      → IsTriedOnce old lists asked → (before : IsUp old node) (at : ℕ) (pieces : List Piece) (heard : World D) (row : Row)
       (each : HasHeardEach honest words at old heard node pieces no_row row) (staged : IsUp heard node)
       → OnceUnsettled old lists node (first honest words old lists node bound before at pieces heard row each
       staged).0 heard row
@@ -117,10 +118,10 @@ module _ {D : Type 0} (honest : Type 0) (words : DiskWords D) where
         once = once;
       }) each
 
-  pub heard_all : (old new : World D) (lists later : List (List Change)) → IsBound honest words old lists
-      → IsTriedOnce old lists
+  pub heard_all : {asked : List Withdrawing} (old new : World D) (lists later : List (List Change)) → IsBound honest words old lists
+      → IsTriedOnce old lists asked
       → IsBound honest words new later → (node : ℕ) (pieces : List Piece)
-      → HasHeardAll honest words old new node pieces → IsTriedOnce new later
+      → HasHeardAll honest words old new node pieces → IsTriedOnce new later asked
   heard_all old new lists later bound once now node pieces hears =
       let last = once_heard old lists node bound once hears.before old.clock pieces hears.heard hears.row hears.each
       hears.staged in
@@ -128,18 +129,18 @@ module _ {D : Type 0} (honest : Type 0) (words : DiskWords D) where
       (bound_unsaid honest words new later now) node (stays honest words old new lists node pieces bound hears)
 
   -- a node of the world that is opened again
-  opened_again : (world new : World D) (lists later : List (List Change)) → IsBound honest words world lists
-      → IsTriedOnce world lists → IsBound honest words new later → (node : ℕ) (is : IsUp world node)
+  opened_again : {asked : List Withdrawing} (world new : World D) (lists later : List (List Change)) → IsBound honest words world lists
+      → IsTriedOnce world lists asked → IsBound honest words new later → (node : ℕ) (is : IsUp world node)
       (after : NodeState D)
-      → IsOpenedAgain world new node is.host after → IsTriedOnce new later
+      → IsOpenedAgain world new node is.host after → IsTriedOnce new later asked
   opened_again world new lists later bound once now node is after again =
       let then : World D = record (lets_go node world) { hosts = again.hosts } in
       let gone : IsBound honest words (lets_go node world) lists =
       hanging_up_keeps honest words world (lets_go node world) lists node bound (hangs node world) in
-      let still : IsTriedOnce (lets_go node world) lists =
+      let still : IsTriedOnce (lets_go node world) lists asked =
       let_go honest words world (lets_go node world) lists lists bound once gone node (hangs node world) in
       let there : IsBound honest words then later = subst (λ w. IsBound honest words w later) again.new_is now in
-      subst (λ w. IsTriedOnce w later) (sym again.new_is)
+      subst (λ w. IsTriedOnce w later asked) (sym again.new_is)
       (state_alone honest words (lets_go node world) then lists later gone still there node is.host
       (Up after) is.host_at
       again.put refl refl refl
@@ -147,10 +148,10 @@ module _ {D : Type 0} (honest : Type 0) (words : DiskWords D) where
       is.host.records
       again.put))
 
-pub reopened_behind : {D : Type 0} (honest : Type 0) (words : DiskWords D) (old new : World D)
+pub reopened_behind : {D : Type 0} {asked : List Withdrawing} (honest : Type 0) (words : DiskWords D) (old new : World D)
     (lists later : List (List Change))
-    → IsBound honest words old lists → IsTriedOnce old lists → IsBound honest words new later → (node : ℕ)
-    (pieces : List Piece) → HasReopenedBehindGroup honest words old new node pieces → IsTriedOnce new later
+    → IsBound honest words old lists → IsTriedOnce old lists asked → IsBound honest words new later → (node : ℕ)
+    (pieces : List Piece) → HasReopenedBehindGroup honest words old new node pieces → IsTriedOnce new later asked
 reopened_behind honest words old new lists later bound once now node pieces reopens = elim reopens.decides [
   | inl none ↦
       opened_again honest words old new lists later bound once now node reopens.before reopens.after none.1

@@ -18,7 +18,7 @@ use Rattle.relay_world.specs.HangUp.{HangsUp}
 use Rattle.relay_world.specs.Once.{BreaksOff, Drops, Ends, GivesUp, GoesOn, Happens, Hears, IsNotOpened, LetsGo, Loses, Opens, Reads, Reopens, Starts, Stops, StopsInGivingUp, StopsInHearing, StopsInLosing, StopsInReading, Ticks, Writes, Closes, HearsAll, ReopensBehindGroup}
 use Rattle.relay_world.specs.Steps.{AttemptOf, IsPut, RecordsRead}
 use Rattle.relay_world.specs.Stops.{Decides, Finds, FindsOutcome, HasReopened}
-use Rattle.relay_world.specs.World.{Down, FromClient, FromLoss, FromNoHop, FromReplies, Host, Origin, Undecided, World}
+use Rattle.relay_world.specs.World.{Down, FromClient, FromLoss, FromGivingUp, FromReplies, Host, Origin, Undecided, World}
 use Rattle.relay_world.proofs.CrashRestLemmas.{hangs}
 use Rattle.relay_world.proofs.HangUpLemmas.{LooseAttempt, attempt_onward}
 use Rattle.relay_world.proofs.OpenLemmas.{list_there}
@@ -185,7 +185,7 @@ module _ {D : Type 0} (honest : Type 0) (words : DiskWords D) where
         outcome node host changes undecided may number place undecided.note.used (Replied undecided.note.number) tt finds came
     found node host changes undecided may (FromLoss number place message) finds came =
         outcome node host changes undecided may number place undecided.note.used (Lost undecided.note.number) tt finds came
-    found node host changes undecided may (FromNoHop message) finds came = attempts_same old new finds.1
+    found node host changes undecided may (FromGivingUp message) finds came = attempts_same old new finds.1
 
     reopened : (node : ℕ) → HasReopened honest words old new node → AttemptsGrow old new
     reopened node is = by is.undecided refl is.decides
@@ -214,12 +214,12 @@ module _ {D : Type 0} (honest : Type 0) (words : DiskWords D) where
     event_attempts (Drops number is) = ended old new number is.of Dropped tt is.attempts
     event_attempts (BreaksOff number is) = attempts_same old new (ap (λ (w : World D). w.attempts) is.new_is)
     event_attempts (Starts number message hop is) = begun old new is.attempt is.attempts
-    event_attempts (GivesUp node message change is) = attempts_same old new is.rest.1
+    event_attempts (GivesUp reason node message change is) = attempts_same old new is.rest.1
     event_attempts (Stops node is) = attempts_same old new is.rest.1
     event_attempts (StopsInHearing number count is) = attempts_same old new is.rest.0
     event_attempts (StopsInReading number count is) = ended old new number is.of Dropped tt is.drops.attempts
     event_attempts (StopsInLosing number is) = ended old new number is.of Dropped tt is.drops.attempts
-    event_attempts (StopsInGivingUp node message is) = attempts_same old new is.rest.1
+    event_attempts (StopsInGivingUp reason node message is) = attempts_same old new is.rest.1
     event_attempts (IsNotOpened node is) = attempts_same old new is.rest.1
     event_attempts (Reopens node is) = reopened node is
     event_attempts (ReopensBehindGroup node pieces is) = reopened_behind old new node pieces is

@@ -8,7 +8,7 @@ use Rattle.relay_world.specs.Growth.{GrownListsBegin, HasGrown, LinkGrows, RunsG
 use Rattle.relay_world.specs.Once.{BreaksOff, Drops, Ends, GivesUp, GoesOn, Happens, Hears, IsNotOpened, LetsGo, Loses, Opens, Reads, Reopens, Starts, Stops, StopsInGivingUp, StopsInHearing, StopsInLosing, StopsInReading, Ticks, Writes, Closes, HearsAll, ReopensBehindGroup}
 use Rattle.relay_world.specs.Steps.{heard_link, opened_link, without_note}
 use Rattle.relay_world.specs.Stops.{cut_off_link}
-use Rattle.relay_world.specs.World.{Down, FromClient, FromNoHop, Up, World, link_at}
+use Rattle.relay_world.specs.World.{Down, FromClient, FromGivingUp, Up, World, link_at}
 use Rattle.relay_world.proofs.ClaimLemmas.{there_too}
 use Rattle.relay_world.proofs.GrowLemmas.{list_grown}
 use Rattle.relay_world.proofs.GrowthGroupLemmas.{heard_all, reopened_behind}
@@ -63,7 +63,7 @@ event_grows {D} honest words old new (Starts number message hop is) =
         let within = number_within old.links number was at in
         let is_next = fresh.0 in
         absurd (omega (arith, within, is_next))
-event_grows honest words old new (GivesUp node message change is) =
+event_grows honest words old new (GivesUp reason node message change is) =
     grown old new
     (records_put old new node is.host
     (record is.host { state = Up (without_note is.after); records = is.host.records ++ is.noted.octets ∷ [] }) is.host_at
@@ -82,10 +82,10 @@ event_grows honest words old new (StopsInHearing number count is) =
     (cut_off_grows is.of.link is.of.end is.of.serves))
 event_grows honest words old new (StopsInReading number count is) = dropped_at old new number is.of is.stopped _ is.drops
 event_grows honest words old new (StopsInLosing number is) = dropped_at old new number is.of is.stopped _ is.drops
-event_grows honest words old new (StopsInGivingUp node message is) =
+event_grows honest words old new (StopsInGivingUp reason node message is) =
     grown old new
     (stays old new node is.host
-    (record is.host { state = Down is.disk (Some (record { note = is.noted; origin = FromNoHop message })) }) is.host_at is.hosts
+    (record is.host { state = Down is.disk (Some (record { note = is.noted; origin = FromGivingUp message })) }) is.host_at is.hosts
     refl)
     (same_ledger old new is.rest.2) (octets_same old new is.rest.0)
 event_grows honest words old new (IsNotOpened node is) =

@@ -20,7 +20,7 @@ use Rattle.relay_world.specs.Growth.{EndStays, HasGrown, LinkGrows, StaysBroken}
 use Rattle.relay_world.specs.HangUp.{HangsUp}
 use Rattle.relay_world.specs.Steps.{AttemptOf, DropsAttempt, IsPut, IsPutAt, RecordsHeard, RecordsRead, WritesAs, heard_link, read_link, session_after, unless_broken, without_note, EndsWith, ended_link, closed_down}
 use Rattle.relay_world.specs.Stops.{Decides, DropsAtStop, Finds, FindsOutcome, HasFound, cut_off_link}
-use Rattle.relay_world.specs.World.{Down, FromClient, FromLoss, FromNoHop, FromReplies, Host, Origin, Undecided, Up, World, link_at}
+use Rattle.relay_world.specs.World.{Down, FromClient, FromLoss, FromGivingUp, FromReplies, Host, Origin, Undecided, Up, World, link_at}
 use Rattle.relay_world.proofs.HangUpLemmas.{Loose, LooseServer, link_onward}
 use Rattle.relay_world.proofs.PieceLemmas.{written_broken}
 use Rattle.relay_world.proofs.RecordLemmas.{HasTakenOutcome, outcome_taken}
@@ -330,7 +330,7 @@ module _ {D : Type 0} (old new : World D) where
       by (FromReplies number place message) its =
           outcome number place undecided.note.used (RepliedBy undecided.note.number) its
       by (FromLoss number place message) its = outcome number place undecided.note.used (Lost undecided.note.number) its
-      by (FromNoHop message) its = octets_same its.0
+      by (FromGivingUp message) its = octets_same its.0
 
   pub decided : (node : ℕ) (host : Host D) (after : NodeState D) (undecided : Option Undecided)
       → slice_get old.hosts node ≡ Some host → Decides old new node host after undecided → HasGrown old new

@@ -8,7 +8,7 @@ use Rattle.relay_world.specs.HopLinks.{HopLinksAtFirst}
 use Rattle.relay_world.specs.Once.{BreaksOff, Drops, Ends, GivesUp, GoesOn, Hears, IsNotOpened, LetsGo, Loses, HopLinksAreKept, Opens, Reads, Reopens, Starts, Stops, StopsInGivingUp, StopsInHearing, StopsInLosing, StopsInReading, Ticks, Writes, Closes, HearsAll, ReopensBehindGroup}
 use Rattle.relay_world.specs.Steps.{heard_link, opened_link, read_link, session_after, without_note}
 use Rattle.relay_world.specs.Stops.{cut_off_link}
-use Rattle.relay_world.specs.World.{Down, FromClient, FromNoHop, Up, World}
+use Rattle.relay_world.specs.World.{Down, FromClient, FromGivingUp, Up, World}
 use Rattle.relay_world.proofs.HopGroupLemmas.{heard_all, reopened_behind}
 use Rattle.relay_world.proofs.HopWayLemmas.{all_linked, decided, dropped, dropped_at, ended, heard_names, hops_same, let_go, names_put, names_same, one_link, one_node, read_by, recorded, started, ways_ended, ways_like, ways_put, ways_same, written_server}
 use Rattle.relay_world.proofs.OpenLemmas.{number_within}
@@ -49,7 +49,7 @@ hop_links_are_kept honest words old new linked (BreaksOff number breaks) =
     one_link old new linked breaks.links number breaks.link (record breaks.link { broken = true }) breaks.new_is breaks.link_is
     refl breaks.put
 hop_links_are_kept honest words old new linked (Starts number message hop starts) = started old new linked number message hop starts
-hop_links_are_kept honest words old new linked (GivesUp node message change gives) =
+hop_links_are_kept honest words old new linked (GivesUp reason node message change gives) =
     one_node old new linked node gives.host
     (record gives.host {
       state = Up (without_note gives.after);
@@ -69,9 +69,9 @@ hop_links_are_kept honest words old new linked (StopsInReading number count stop
     dropped_at old new linked number stops.of stops.stopped _ stops.drops
 hop_links_are_kept honest words old new linked (StopsInLosing number stops) =
     dropped_at old new linked number stops.of stops.stopped _ stops.drops
-hop_links_are_kept honest words old new linked (StopsInGivingUp node message stops) =
+hop_links_are_kept honest words old new linked (StopsInGivingUp reason node message stops) =
     one_node old new linked node stops.host
-    (record stops.host { state = Down stops.disk (Some (record { note = stops.noted; origin = FromNoHop message })) })
+    (record stops.host { state = Down stops.disk (Some (record { note = stops.noted; origin = FromGivingUp message })) })
     stops.host_at stops.hosts refl stops.rest.4 stops.rest.0 stops.rest.1
 hop_links_are_kept honest words old new linked (IsNotOpened node stays) =
     one_node old new linked node stays.host (record stays.host { state = Down stays.again stays.undecided }) stays.host_at

@@ -18,7 +18,7 @@ use Rattle.relay_world.specs.Steps.{AttemptOf, DropsAttempt, HasStarted, IsPut, 
 use Rattle.relay_world.specs.Stops.{Decides, DropsAtStop, Finds, FindsOutcome, HasFound}
 use Rattle.relay_records.specs.Records.{Kept}
 use Rattle.relay_records.specs.declared.noted.Noted.{Noted}
-use Rattle.relay_world.specs.World.{Down, FromClient, FromLoss, FromNoHop, FromReplies, Host, Origin, Undecided, Up, World, link_at}
+use Rattle.relay_world.specs.World.{Down, FromClient, FromLoss, FromGivingUp, FromReplies, Host, Origin, Undecided, Up, World, link_at}
 use Rattle.relay_world.proofs.ClaimLemmas.{there_too}
 use Rattle.relay_world.proofs.HangUpLemmas.{LooseAttempt, LooseServer, attempt_back, link_onward}
 use Rattle.relay_world.proofs.MoveLemmas.{put_cases}
@@ -311,7 +311,7 @@ module _ {D : Type 0} (old new : World D) where
         by (FromReplies number place message) its =
             outcome number place undecided.note.used (Replied undecided.note.number) its
         by (FromLoss number place message) its = outcome number place undecided.note.used (Lost undecided.note.number) its
-        by (FromNoHop message) its = all_linked even names (ways_same its.0) linked (hops_same its.1)
+        by (FromGivingUp message) its = all_linked even names (ways_same its.0) linked (hops_same its.1)
 
     pub decided : (node : ℕ) (host : Host D) (after : NodeState D) (undecided : Option Undecided)
         → slice_get old.hosts node ≡ Some host → length new.hosts ≡ length old.hosts → Decides old new node host after undecided

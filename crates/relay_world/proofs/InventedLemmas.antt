@@ -7,6 +7,7 @@ use Rattle.relay_book.specs.declared.change.Change.{Change}
 use Rattle.relay_book.specs.declared.change.Verdict.{Verdict}
 use Rattle.relay_book.specs.Marks.{change_at}
 use Rattle.relay_attempts.specs.AddedOutcome.{AddsOutcome, reported_as}
+use Rattle.relay_world.specs.GivingUp.{Withdrawing}
 use Rattle.relay_world.specs.declared.attempt.Fate.TheVariants.{Lost, Replied}
 use Rattle.relay_world.specs.declared.link.Link.{Link}
 use Rattle.relay_world.specs.Bound.{HasFate, HostKeeps, IsBound, IsItsOutcome, NodeKeeps, PassesOn, StandsAt}
@@ -25,7 +26,7 @@ use Rattle.relay_report.specs.Report.{reporter_of}
 
 module _ {D : Type 0} (honest : Type 0) (words : DiskWords D) (old new : World D) (lists later : List (List Change))
     (node change_now : ℕ) (bound : IsBound honest words old lists) (invents : Invents honest words old new node change_now)
-    (now : IsBound honest words new later) (once : IsTriedOnce new later) where
+    (now : IsBound honest words new later) {asked : List Withdrawing} (once : IsTriedOnce new later asked) where
   listed : (list : List Change) × (slice_get lists node ≡ Some list)
   listed = list_there old.hosts lists node invents.host bound.even invents.host_at
 
@@ -101,9 +102,12 @@ module _ {D : Type 0} (honest : Type 0) (words : DiskWords D) (old new : World D
   broken = elim (once.outcomes node (suc (length listed.0)) moved more.0 (record invents.outcome { report = adds.report }) stands
       found) [
         | inl ended ↦ not_ended ended
-        | inr none ↦ invents.other (none.each invents.place invents.verdict invents.ruling).0
+        | inr (inl none) ↦ invents.other (none.each invents.place invents.verdict invents.ruling).0
+        | inr (inr withdrawn) ↦
+            let his = withdrawn.each invents.place invents.verdict invents.ruling in
+            invents.not_withdrawn his.0 his.1
       ]
 
 pub inventing_breaks : {D : Type 0} (honest : Type 0) (words : DiskWords D) → InventingBreaks honest words
-inventing_breaks honest words old new lists later node change bound invents now once =
+inventing_breaks honest words old new lists later asked node change bound invents now once =
     broken honest words old new lists later node change bound invents now once

@@ -13,6 +13,7 @@ use Rattle.relay_attempts.specs.Reply.{IsLost, Told}
 use Rattle.relay_node.specs.Attempts.{Begins, RepliesBy, Tells}
 use Rattle.relay_node.specs.Node.{NodeState}
 use Rattle.relay_slots.specs.Slots.{AreFree, slot_at}
+use Rattle.relay_world.specs.GivingUp.{Reason}
 use Rattle.relay_world.specs.declared.attempt.Attempt.{Attempt}
 use Rattle.relay_world.specs.declared.attempt.Fate.{Fate}
 use Rattle.relay_world.specs.declared.attempt.Fate.TheVariants.{Replied, Lost, Dropped}
@@ -23,7 +24,7 @@ use Rattle.relay_world.specs.HangUp.{broken_link, dropped, hung_up_attempt, hung
 use Rattle.relay_world.specs.Leaks.{GoesOnThere, NothingLeaks, RunsThere}
 use Rattle.relay_world.specs.Steps.{Breaks, DropsAttempt, EndsWith, HasGivenUp, HasHeard, HasLost, HasOpened, HasRead, HasStarted, HasTicked, HasWritten, IsPut, IsPutAt, RecordsHeard, RecordsRead, WritesAs, ended_link, heard_link, opened_link, read_link, session_after, waiting_down, without_note}
 use Rattle.relay_world.specs.Stops.{Decides, Finds, FindsOutcome, HasReopened, StaysDown, StaysUp}
-use Rattle.relay_world.specs.World.{Down, FromClient, FromLoss, FromNoHop, FromReplies, Host, Origin, Undecided, Up, World, link_at}
+use Rattle.relay_world.specs.World.{Down, FromClient, FromLoss, FromGivingUp, FromReplies, Host, Origin, Undecided, Up, World, link_at}
 use Rattle.relay_world.proofs.AttemptLemmas.{KnowsAttempt, known}
 use Rattle.relay_world.proofs.HangUpLemmas.{get_map, link_map}
 use Rattle.relay_world.proofs.HearLemmas.{closed_gone}
@@ -161,9 +162,9 @@ module _ {D : Type 0} (old new : World D) where
       (attempts_same old new (ap (λ (w : World D). w.attempts) is.new_is)) was
 
 module _ {D : Type 0} (honest : Type 0) (words : DiskWords D) (old new : World D) where
-  pub given_leaks : (node message change : ℕ) → HasGivenUp honest words old new node message change → NothingLeaks old
+  pub given_leaks : (reason : Reason) (node message change : ℕ) → HasGivenUp honest words old new reason node message change → NothingLeaks old
       → NothingLeaks new
-  given_leaks node message change is was =
+  given_leaks reason node message change is was =
       still_up old new node is.host is.before (without_note is.after) (is.host.records ++ is.noted.octets ∷ []) is.hosts
       (same_seats old new node is.host is.before (without_note is.after) is.host_at is.up is.seats
       (links_same old new is.rest.0) was)
@@ -386,7 +387,7 @@ module _ {D : Type 0} (honest : Type 0) (words : DiskWords D) (old new : World D
               finds.link_is refl finds.links,
           outcome changes undecided may number place undecided.note.used (Lost undecided.note.number) finds came,
         )
-        found changes undecided may (FromNoHop message) finds came =
+        found changes undecided may (FromGivingUp message) finds came =
             (links_same old new finds.0, attempts_same old new finds.1)
 
         by : (undecided : Option Undecided) → is.undecided ≡ undecided

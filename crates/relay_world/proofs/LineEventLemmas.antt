@@ -16,7 +16,6 @@ use Rattle.relay_book.specs.Queue.{Fitting, Queue, message_of, queue_of}
 use Rattle.relay_book.specs.Record.{IsChange, encode}
 use Rattle.relay_book.proofs.Theorems.{encoding_is_one, fold_knows}
 use Rattle.relay_attempts.specs.AddedOutcome.{reported_as}
-use Rattle.relay_attempts.specs.Outcomes.{AddsUnroutable, unroutable}
 use Rattle.relay_attempts.specs.Reply.{IsLost, Told}
 use Rattle.relay_node.specs.Attempts.{RepliesBy, Tells}
 use Rattle.relay_node.specs.Node.{NodeState}
@@ -29,12 +28,14 @@ use Rattle.relay_world.specs.declared.link.ServerEnd.{ServerEnd}
 use Rattle.relay_world.specs.Bound.{HostKeeps, IsBound, IsListOf, IsTried, MayBeHeard, MayBeIn, MayHaveCome, MayHaveEnded, NodeKeeps, told_by}
 use Rattle.relay_world.specs.Growth.{AttemptsGrow, HasGrown}
 use Rattle.relay_world.specs.Ledger.{Becomes, lines_by, report_told, steps_by}
-use Rattle.relay_world.specs.Lines.{HasEndedOn, HasSources, SaysNoHop}
-use Rattle.relay_world.specs.Once.{GivesUpNoHops, HasNoHops, IsTriedOnce}
+use Rattle.relay_world.specs.Lines.{HasEndedOn, HasSources, SaysNoHop, SaysWithdrawn}
+use Rattle.relay_routes.specs.Routes.{RouteTable}
+use Rattle.relay_world.specs.GivingUp.{AddsGivenUp, Reason, Withdrawing, asked_by, outcome_for}
+use Rattle.relay_world.specs.Once.{EndsAlone, GivesUpAlone, IsTriedOnce}
 use Rattle.relay_world.specs.Steps.{HasGivenUp, HasLost, HasRead, IsPutAt, RecordsHeard, RecordsRead, SessionOf, waiting_down, without_note}
 use Rattle.relay_world.specs.Stops.{Decides, FindsAccept, FindsOutcome, Finds, HasFound, HasReopened}
-use Rattle.relay_world.specs.World.{Down, FromClient, FromLoss, FromNoHop, FromReplies, Host, Origin, Undecided, Up, World, link_at}
-use Rattle.relay_world.proofs.AddedLemmas.{same_outcome, stranded_no_hops}
+use Rattle.relay_world.specs.World.{Down, FromClient, FromLoss, FromGivingUp, FromReplies, Host, Origin, Undecided, Up, World, link_at}
+use Rattle.relay_world.proofs.AddedLemmas.{asks_itself, given_up_alone, same_outcome}
 use Rattle.relay_world.proofs.AttemptLemmas.{KnowsAttempt, known}
 use Rattle.relay_world.proofs.FrameLemmas.{get_last}
 use Rattle.relay_world.proofs.GrowLemmas.{one_more, some_more, stored_fits}
@@ -44,17 +45,28 @@ use Rattle.relay_world.proofs.OpenLemmas.{list_there, node_kept}
 use Rattle.relay_world.proofs.RecordLemmas.{TakesOutcome, outcome_added}
 use Rattle.relay_report.specs.Report.{reporter_of}
 
--- the outcome by which a message's places without a hop are given up says so of each
-says_no_hop : (config : Config) (changes : List Change) (number at : ℕ) (given : Message) (report : List ℕ)
+-- an outcome without an attempt says so of each of its places
+says_alone : (asked : List Withdrawing) (node : ℕ) (table : RouteTable) (changes : List Change) (one : Change) (outcome : Outcome) → one ≡ change.Outcome outcome
+    → EndsAlone asked node table changes outcome → SaysNoHop one ⊎ SaysWithdrawn one
+says_alone asked node table changes one outcome is (inl none) =
+    inl (record { outcome = outcome; is = is; each = λ place verdict has. (none.each place verdict has).0 })
+says_alone asked node table changes one outcome is (inr withdrawn) =
+    inr (record {
+      outcome = outcome;
+      is = is;
+      each = λ place verdict has. let his = withdrawn.each place verdict has in (his.0, his.1);
+    })
+
+-- so does the outcome by which places of a message are given up
+says_given_up : (reason : Reason) (config : Config) (changes : List Change) (number at : ℕ) (given : Message) (report : List ℕ)
     → message_at changes number ≡ Some given.accept
-    → SaysNoHop (reported_as (unroutable config.routes number at given) report)
-says_no_hop config changes number at given report accepted = record {
-  outcome = record (unroutable config.routes number at given) { report = report };
-  is = refl;
-  each = λ place verdict has.
-      ((stranded_no_hops config.routes changes number at given report
-      (record (unroutable config.routes number at given) { report = report }) accepted refl).each place verdict has).0;
-}
+    → SaysNoHop (reported_as (outcome_for reason config.routes number at given) report)
+    ⊎ SaysWithdrawn (reported_as (outcome_for reason config.routes number at given) report)
+says_given_up reason config changes number at given report accepted =
+    let outcome : Outcome = record (outcome_for reason config.routes number at given) { report = report } in
+    says_alone (asked_by reason 0 number) 0 config.routes changes (change.Outcome outcome) outcome refl
+    (given_up_alone (asked_by reason 0 number) 0 reason config.routes changes number at given report outcome
+    (asks_itself reason 0 number []) accepted refl)
 
 module _ {D : Type 0} (honest : Type 0) (words : DiskWords D) (old new : World D) (lists later : List (List Change))
     (bound : IsBound honest words old lists) (now : IsBound honest words new later) (grows : HasGrown old new)
@@ -162,11 +174,11 @@ module _ {D : Type 0} (honest : Type 0) (words : DiskWords D) (old new : World D
           }) loses.records.noted.octets loses.of.host_at loses.records.hosts.at refl knows.changes knows.list_at
 
   -- places that are given up
-  pub given : (node message change : ℕ) → HasGivenUp honest words old new node message change → HasSources new later
-  given node message change_now gives =
+  pub given : (reason : Reason) (node message change : ℕ) → HasGivenUp honest words old new reason node message change → HasSources new later
+  given reason node message change_now gives =
       recorded honest words old new lists later bound now grows goes node message 0
       (report_told change_now gives.noted.report) gives.noted.left.items listed.0
-      (reported_as (unroutable gives.before.config.routes message old.clock given_up.message) takes.report)
+      (reported_as (outcome_for reason gives.before.config.routes message old.clock given_up.message) takes.report)
       listed.1 listed_now gives.ledger (λ step place makes. inr (refl, says)) was
     where
       listed : (list : List Change) × (slice_get lists node ≡ Some list)
@@ -178,35 +190,36 @@ module _ {D : Type 0} (honest : Type 0) (words : DiskWords D) (old new : World D
       its_node : NodeKeeps honest words gives.host.config gives.before listed.0
       its_node = node_kept honest words gives.host listed.0 gives.before kept gives.up
 
-      given_up : AddsUnroutable honest words (reporter_of gives.before.config) gives.before.config.routes message old.clock listed.0
+      given_up : AddsGivenUp honest words (reporter_of gives.before.config) gives.before.config.routes reason message old.clock listed.0
           gives.before.records gives.after.records change_now
       given_up = gives.gives_up listed.0 its_node.keeps
 
       takes : TakesOutcome honest words (reporter_of gives.before.config) listed.0
-          (unroutable gives.before.config.routes message old.clock given_up.message) (without_note gives.after).records
+          (outcome_for reason gives.before.config.routes message old.clock given_up.message) (without_note gives.after).records
           change_now gives.noted
       takes = outcome_added honest words (reporter_of gives.before.config) listed.0
-          (unroutable gives.before.config.routes message old.clock given_up.message) 0 change_now gives.after gives.noted
+          (outcome_for reason gives.before.config.routes message old.clock given_up.message) 0 change_now gives.after gives.noted
           gives.note_is given_up.adds
 
       listed_now : slice_get later node
           ≡ Some (listed.0
-          ++ reported_as (unroutable gives.before.config.routes message old.clock given_up.message) takes.report ∷ [])
+          ++ reported_as (outcome_for reason gives.before.config.routes message old.clock given_up.message) takes.report ∷ [])
       listed_now = listed_with node gives.host
           (record gives.host {
             state = Up (without_note gives.after);
             records = gives.host.records ++ gives.noted.octets ∷ [];
           }) gives.noted.octets gives.host_at gives.hosts.at refl listed.0 listed.1
-          (reported_as (unroutable gives.before.config.routes message old.clock given_up.message) takes.report)
+          (reported_as (outcome_for reason gives.before.config.routes message old.clock given_up.message) takes.report)
           takes.keeps.fitting takes.octets
 
-      says : SaysNoHop (reported_as (unroutable gives.before.config.routes message old.clock given_up.message) takes.report)
-      says = says_no_hop gives.before.config listed.0 message old.clock given_up.message takes.report
+      says : SaysNoHop (reported_as (outcome_for reason gives.before.config.routes message old.clock given_up.message) takes.report)
+          ⊎ SaysWithdrawn (reported_as (outcome_for reason gives.before.config.routes message old.clock given_up.message) takes.report)
+      says = says_given_up reason gives.before.config listed.0 message old.clock given_up.message takes.report
           (fold_knows listed.0 its_node.keeps.fitting message given_up.message
           (ap (λ (q : Queue). message_of q.messages message) (sym its_node.keeps.queue) ∙ given_up.found)).accept_is
 
   -- a node that is opened again
-  module _ (once : IsTriedOnce old lists) (node : ℕ) (reopens : HasReopened honest words old new node) where
+  module _ {asked : List Withdrawing} (once : IsTriedOnce old lists asked) (node : ℕ) (reopens : HasReopened honest words old new node) where
     listed : (list : List Change) × (slice_get lists node ≡ Some list)
     listed = list_there old.hosts lists node reopens.host bound.even reopens.host_at
 
@@ -291,11 +304,11 @@ module _ {D : Type 0} (honest : Type 0) (words : DiskWords D) (old new : World D
                 ended = subst (λ n. (fate ≡ Replied n) ⊎ (fate ≡ Lost n)) number_is ends;
               }
 
-      -- places that had no hop
-      found_given_up : (message : ℕ) → undecided.origin ≡ FromNoHop message
-          → new.ledger ≡ old.ledger ++ lines_by node undecided.note (FromNoHop message) → HasSources new later
+      -- places that were given up
+      found_given_up : (message : ℕ) → undecided.origin ≡ FromGivingUp message
+          → new.ledger ≡ old.ledger ++ lines_by node undecided.note (FromGivingUp message) → HasSources new later
       found_given_up message origin ledger =
-          let none : GivesUpNoHops reopens.host.config.routes listed.0 undecided.note.octets =
+          let none : GivesUpAlone asked node reopens.host.config.routes listed.0 undecided.note.octets =
           once.given_up node message reopens.host listed.0 reopens.disk undecided
           (record { host_at = reopens.host_at; list_at = listed.1 }) down origin in
           let valid : IsChange may.change =
@@ -308,14 +321,9 @@ module _ {D : Type 0} (honest : Type 0) (words : DiskWords D) (old new : World D
           (λ step p makes.
           let one = made_by listed.0 may.change step message p
           (report_told undecided.note.number undecided.note.report) makes in
-          let hops : HasNoHops reopens.host.config.routes listed.0 one.0 = none.none one.0 (same_one ∙ one.1) in
           inr (
             refl,
-            record {
-              outcome = one.0;
-              is = one.1;
-              each = λ place verdict has. (hops.each place verdict has).0;
-            },
+            says_alone asked node reopens.host.config.routes listed.0 may.change one.0 one.1 (none.alone one.0 (same_one ∙ one.1)),
           ))
           was
 
@@ -335,7 +343,7 @@ module _ {D : Type 0} (honest : Type 0) (words : DiskWords D) (old new : World D
           (λ outcome is_one. ap (λ (o : Outcome). o.message)
           (same_outcome outcome _ (sym is_one ∙ outcome_is _ fate.1.2.found)))
           ledger
-      found_by (FromNoHop message) is_origin finds came ledger = found_given_up message is_origin ledger
+      found_by (FromGivingUp message) is_origin finds came ledger = found_given_up message is_origin ledger
 
       found_all : HasSources new later
       found_all = found_by undecided.origin refl found.finds may.came found.ledger

@@ -170,13 +170,13 @@ sources_are_kept {D} honest words old new lists later bound once was happens now
     by (Drops number is) = still is.ledger
     by (BreaksOff number is) = still (ap (λ (w : World D). w.ledger) is.new_is)
     by (Starts number message hop is) = still is.rest.0
-    by (GivesUp node message change is) =
-        given honest words old new lists later bound now grows goes was node message change is
+    by (GivesUp reason node message change is) =
+        given honest words old new lists later bound now grows goes was reason node message change is
     by (Stops node is) = still is.rest.2
     by (StopsInHearing number count is) = still is.rest.1
     by (StopsInReading number count is) = still is.drops.rest.0
     by (StopsInLosing number is) = still is.drops.rest.0
-    by (StopsInGivingUp node message is) = still is.rest.2
+    by (StopsInGivingUp reason node message is) = still is.rest.2
     by (IsNotOpened node is) = still is.rest.2
     by (Reopens node is) = reopened honest words old new lists later bound now grows goes was once node is
     by (ReopensBehindGroup node pieces is) =

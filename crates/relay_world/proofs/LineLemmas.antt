@@ -21,7 +21,7 @@ use Rattle.relay_world.specs.declared.line.Line.TheVariants.{Accepted, Became}
 use Rattle.relay_world.specs.Bound.{IsBound, IsTried}
 use Rattle.relay_world.specs.Growth.{AttemptsGrow, EndStays, FateGrows, HasGrown}
 use Rattle.relay_world.specs.Ledger.{Accepts, Becomes, left_lines, report_number, steps_by, steps_in, steps_of}
-use Rattle.relay_world.specs.Lines.{HasEndedOn, HasSource, HasSources, IsMadeBy, IsServedBy, SaysNoHop}
+use Rattle.relay_world.specs.Lines.{HasEndedOn, HasSource, HasSources, IsMadeBy, IsServedBy, SaysNoHop, SaysWithdrawn}
 use Rattle.relay_world.specs.Steps.{AttemptOf, IsPut}
 use Rattle.relay_world.specs.World.{World}
 use Rattle.relay_world.proofs.AmongLemmas.{all_by, found_in, in_cons, in_found, in_map, in_none, of_map}
@@ -176,7 +176,7 @@ module _ {D : Type 0} (honest : Type 0) (words : DiskWords D) (old new : World D
   abbrev pub Causes : ℕ → ℕ → ℕ → ℕ → List Change → Change → Type 0
   Causes node message link report before one =
       (step : PlaceStep) (place : ℕ) → Contains (steps_by before one) (Becomes step message place report)
-      → HasEndedOn new node message link (suc (length before)) ⊎ ((link ≡ 0) × SaysNoHop one)
+      → HasEndedOn new node message link (suc (length before)) ⊎ ((link ≡ 0) × (SaysNoHop one ⊎ SaysWithdrawn one))
 
   -- the lines of an outcome
   pub recorded : (node message link report : ℕ) (left : List (ℕ × PlaceStep)) (before : List Change) (one : Change)

@@ -23,6 +23,7 @@ use Rattle.relay_attempts.specs.Hops.{due_places_in, goes_to, hop_of_place, is_d
 use Rattle.relay_attempts.specs.Runs.{is_run_for, is_running}
 use Rattle.relay_node.specs.Attempts.{Begins}
 use Rattle.relay_node.specs.Node.{NodeState}
+use Rattle.relay_world.specs.GivingUp.{Withdrawing}
 use Rattle.relay_world.specs.declared.attempt.Attempt.{Attempt}
 use Rattle.relay_world.specs.declared.attempt.Fate.{Fate}
 use Rattle.relay_world.specs.declared.attempt.Fate.TheVariants.{Running, Replied, Lost, Dropped}
@@ -82,7 +83,7 @@ run_there (first ∷ runs) (suc slot) message hop run at same its =
     or_true false b is = is
 
 module _ {D : Type 0} (honest : Type 0) (words : DiskWords D) (old new : World D) (lists later : List (List Change))
-    (number message : ℕ) (hop : List ℕ) (bound : IsBound honest words old lists) (once : IsTriedOnce old lists)
+    (number message : ℕ) (hop : List ℕ) (bound : IsBound honest words old lists) {asked : List Withdrawing} (once : IsTriedOnce old lists asked)
     (now : IsBound honest words new later) (starts : HasStarted honest words old new number message hop) where
   listed : (list : List Change) × (slice_get lists starts.attempt.node ≡ Some list)
   listed = list_there old.hosts lists starts.attempt.node starts.host bound.even starts.host_at
@@ -252,7 +253,7 @@ module _ {D : Type 0} (honest : Type 0) (words : DiskWords D) (old new : World D
           ap (λ l. accepts_on number l) starts.rest.0
           ∙ none_accepted number (length old.links) old.ledger (omega (arith, is)) bound.lines
 
-  pub once_started : IsTriedOnce new later
+  pub once_started : IsTriedOnce new later asked
   once_started = record {
     once = λ one other its letter place mine yours.
         elim (claim_cases one its letter place mine) [

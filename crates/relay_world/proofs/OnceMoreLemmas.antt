@@ -1,18 +1,22 @@
 -- A clock that is set, and a node that lets go of its ends of links, keep it so that each place is tried once.
-use Rattle.std.proofs.Common.{inl, inr, get_or, ◌≡◌, ◌<◌, ℕ, List, [], length, None, Some, refl, sym, subst, ap, ◌∙◌, arith}
+use Rattle.std.proofs.Common.{inl, inr, get_or, ◌≡◌, ◌<◌, ℕ, List, [], ◌∷◌, ◌++◌, length, None, Some, refl, sym, subst, ap, ◌∙◌, arith}
 use Rattle.std.specs.Prelude.{slice_get}
 use Rattle.std.proofs.lemmas.List.{same_lists}
 use Rattle.std.proofs.lemmas.Option.{none-some, slice_get-get_or}
 use Rattle.relay_disk.specs.Device.{DiskWords}
 use Rattle.relay_book.specs.declared.change.Change.{Change}
+use Rattle.relay_book.specs.declared.change.Outcome.{Outcome}
+use Rattle.relay_routes.specs.Routes.{RouteTable}
+use Rattle.relay_world.specs.GivingUp.{NoHop, Postmaster, Reason, Withdrawing, asked_by}
 use Rattle.relay_world.specs.declared.attempt.Attempt.{Attempt}
 use Rattle.relay_world.specs.declared.link.Link.{Link}
 use Rattle.relay_world.specs.Bound.{IsBound}
 use Rattle.relay_world.specs.HangUp.{HangsUp}
 use Rattle.relay_world.specs.Ledger.{accepts_on}
-use Rattle.relay_world.specs.Once.{Claims, ClaimsAt, GoesToHop, IsOutcomeOf, IsTriedOnce}
+use Rattle.relay_world.specs.Once.{Claims, ClaimsAt, EndsAlone, GoesToHop, IsOutcomeOf, IsTriedOnce}
 use Rattle.relay_world.specs.Steps.{HasTicked}
 use Rattle.relay_world.specs.World.{World, link_at}
+use Rattle.relay_world.proofs.AmongLemmas.{in_rest}
 use Rattle.relay_world.proofs.ClaimLemmas.{there_too}
 use Rattle.relay_world.proofs.FateLemmas.{lost_ends, replied_ends}
 use Rattle.relay_world.proofs.GrowLemmas.{one_list}
@@ -38,9 +42,55 @@ one_row {D} honest words world lists later bound now =
         (now.hosts k host.0 (get_or later k d) (record { host_at = host.1; list_at = yours })).list
         (bound.hosts k host.0 (get_or lists k d) (record { host_at = host.1; list_at = mine })).list refl
 
-pub ticked_once : {D : Type 0} (old new : World D) (lists : List (List Change)) (now : ℕ) → IsTriedOnce old lists
-    → HasTicked old new now → IsTriedOnce new lists
-ticked_once {D} old new lists now once ticks = subst (λ w. IsTriedOnce w lists) (sym ticks.new_is) (record {
+-- where the postmaster has asked for more, it is so too
+more_alone : (one : Withdrawing) (asked : List Withdrawing) (node : ℕ) (routes : RouteTable) (changes : List Change)
+    (outcome : Outcome) → EndsAlone asked node routes changes outcome → EndsAlone (one ∷ asked) node routes changes outcome
+more_alone one asked node routes changes outcome (inl none) = inl none
+more_alone one asked node routes changes outcome (inr withdrawn) = inr (record {
+  each = λ place verdict has.
+      let his = withdrawn.each place verdict has in (
+        his.0,
+        his.1,
+        record {
+          names = his.2.names;
+          named = his.2.named;
+          there = in_rest one
+              (record { node = node; message = outcome.message; withdrawal = his.0; names = his.2.names }) asked his.2.there;
+        },
+      );
+})
+
+asks_more : {D : Type 0} (world : World D) (lists : List (List Change)) (asked : List Withdrawing) (one : Withdrawing)
+    → IsTriedOnce world lists asked → IsTriedOnce world lists (one ∷ asked)
+asks_more world lists asked one once = record {
+  once = once.once;
+  hops = once.hops;
+  outcomes = λ node number host changes outcome stands is.
+      elim (once.outcomes node number host changes outcome stands is) [
+        | inl ended ↦ inl ended
+        | inr alone ↦ inr (more_alone one asked node host.config.routes changes outcome alone)
+      ];
+  given_up = λ node message host changes disk undecided stands down origin.
+      let was = once.given_up node message host changes disk undecided stands down origin in
+      record {
+        one = was.one;
+        valid = was.valid;
+        octets_are = was.octets_are;
+        alone = λ outcome same. more_alone one asked node host.config.routes changes outcome (was.alone outcome same);
+      };
+  outside = once.outside;
+}
+
+pub asks_all : {D : Type 0} (world : World D) (lists : List (List Change)) (asked : List Withdrawing) (reason : Reason)
+    (node message : ℕ) → IsTriedOnce world lists asked
+    → IsTriedOnce world lists (asked_by reason node message ++ asked)
+asks_all world lists asked NoHop node message once = once
+asks_all world lists asked (Postmaster withdrawal names) node message once =
+    asks_more world lists asked (record { node = node; message = message; withdrawal = withdrawal; names = names }) once
+
+pub ticked_once : {D : Type 0} {asked : List Withdrawing} (old new : World D) (lists : List (List Change)) (now : ℕ)
+    → IsTriedOnce old lists asked → HasTicked old new now → IsTriedOnce new lists asked
+ticked_once {D} old new lists now once ticks = subst (λ w. IsTriedOnce w lists asked) (sym ticks.new_is) (record {
   once = λ one other node message place mine yours. once.once one other node message place (claims one node message place mine)
       (claims other node message place yours);
   hops = λ at attempt is.
@@ -84,7 +134,7 @@ ticked_once {D} old new lists now once ticks = subst (λ w. IsTriedOnce w lists)
       claims = is.claims;
     }
 
-module _ {D : Type 0} (old : World D) (lists : List (List Change)) (node : ℕ) (once : IsTriedOnce old lists) (new : World D)
+module _ {D : Type 0} (old : World D) (lists : List (List Change)) (node : ℕ) {asked : List Withdrawing} (once : IsTriedOnce old lists asked) (new : World D)
     (hangs : HangsUp old new node) where
   abbrev now : World D
   now = record old { links = hangs.links; attempts = hangs.attempts }
@@ -165,8 +215,8 @@ module _ {D : Type 0} (old : World D) (lists : List (List Change)) (node : ℕ) 
         | inr gone ↦ absurd (none-some _ (sym none ∙ gone.2))
       ]
 
-  pub hung_up_once : IsTriedOnce new lists
-  hung_up_once = subst (λ w. IsTriedOnce w lists) (sym hangs.new_is) (record {
+  pub hung_up_once : IsTriedOnce new lists asked
+  hung_up_once = subst (λ w. IsTriedOnce w lists asked) (sym hangs.new_is) (record {
     once = λ one other n message place mine yours.
         once.once one other n message place (was_claim one n message place mine) (was_claim other n message place yours);
     hops = goes_now;
@@ -183,18 +233,18 @@ module _ {D : Type 0} (old : World D) (lists : List (List Change)) (node : ℕ) 
   })
 
 -- both keep it by whatever lists both worlds are bound
-pub ticked : {D : Type 0} (honest : Type 0) (words : DiskWords D) (old new : World D) (lists later : List (List Change))
-    → IsBound honest words old lists → IsTriedOnce old lists → IsBound honest words new later → (now : ℕ)
-    → HasTicked old new now → IsTriedOnce new later
+pub ticked : {D : Type 0} {asked : List Withdrawing} (honest : Type 0) (words : DiskWords D) (old new : World D) (lists later : List (List Change))
+    → IsBound honest words old lists → IsTriedOnce old lists asked → IsBound honest words new later → (now : ℕ)
+    → HasTicked old new now → IsTriedOnce new later asked
 ticked honest words old new lists later bound once after now ticks =
-    subst (λ l. IsTriedOnce new l)
+    subst (λ l. IsTriedOnce new l asked)
     (one_row honest words new lists later (ticking_keeps honest words old new lists now bound ticks) after)
     (ticked_once old new lists now once ticks)
 
-pub let_go : {D : Type 0} (honest : Type 0) (words : DiskWords D) (old new : World D) (lists later : List (List Change))
-    → IsBound honest words old lists → IsTriedOnce old lists → IsBound honest words new later → (node : ℕ)
-    → HangsUp old new node → IsTriedOnce new later
+pub let_go : {D : Type 0} {asked : List Withdrawing} (honest : Type 0) (words : DiskWords D) (old new : World D) (lists later : List (List Change))
+    → IsBound honest words old lists → IsTriedOnce old lists asked → IsBound honest words new later → (node : ℕ)
+    → HangsUp old new node → IsTriedOnce new later asked
 let_go honest words old new lists later bound once after node hangs =
-    subst (λ l. IsTriedOnce new l)
+    subst (λ l. IsTriedOnce new l asked)
     (one_row honest words new lists later (hanging_up_keeps honest words old new lists node bound hangs) after)
     (hung_up_once old lists node once new hangs)

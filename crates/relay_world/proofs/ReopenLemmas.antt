@@ -20,7 +20,7 @@ use Rattle.relay_world.specs.Bound.{StateKeeps, HostKeeps, IsBound, IsServed, Is
 use Rattle.relay_world.specs.Ledger.{accepts_on, lines_by, report_told, steps_in, steps_of}
 use Rattle.relay_world.specs.Steps.{IsPut, IsPutAt}
 use Rattle.relay_world.specs.Stops.{Decides, FindsOutcome, HasFound, HasNotFound, HasReopened, FindsAccept, ReopeningKeeps}
-use Rattle.relay_world.specs.World.{Down, FromClient, FromLoss, FromNoHop, FromReplies, Host, Origin, Undecided, Up, World, link_at}
+use Rattle.relay_world.specs.World.{Down, FromClient, FromLoss, FromGivingUp, FromReplies, Host, Origin, Undecided, Up, World, link_at}
 use Rattle.relay_world.proofs.CutLemmas.{LinkMoves, WasThere, link_moved, link_moved_so, still_there}
 use Rattle.relay_world.proofs.DownLemmas.{host_moved, no_attempt_down, no_session_down}
 use Rattle.relay_world.proofs.FateLemmas.{lost_ends, replied_ends}
@@ -413,8 +413,8 @@ module _ {D : Type 0} (honest : Type 0) (words : DiskWords D) (old new : World D
       (Lost note.number) refl
       (λ other. none_left_accepted node other message number (report_told note.number note.report) note.left.items)
       (lost_ends note.number) may.came found.finds
-  found_by note (FromNoHop message) may keeps found =
-      found_unlinked (record { note = note; origin = FromNoHop message }) may keeps found.hosts found.ledger
+  found_by note (FromGivingUp message) may keeps found =
+      found_unlinked (record { note = note; origin = FromGivingUp message }) may keeps found.hosts found.ledger
       (λ other. none_left_accepted node other message 0 (report_told note.number note.report) note.left.items)
       refl found.finds.0 found.finds.1
 

@@ -17,6 +17,7 @@ use Rattle.relay_book.proofs.Theorems.{encoding_is_one}
 use Rattle.relay_records.specs.declared.noted.Noted.{Noted}
 use Rattle.relay_course.specs.Course.{Concludes}
 use Rattle.relay_course.specs.VerdictTable.{all_later}
+use Rattle.relay_world.specs.GivingUp.{Withdrawing}
 use Rattle.relay_world.specs.declared.attempt.Attempt.{Attempt}
 use Rattle.relay_world.specs.declared.attempt.Fate.{Fate}
 use Rattle.relay_world.specs.declared.attempt.Fate.TheVariants.{Running, Replied, Lost, Dropped}
@@ -24,10 +25,10 @@ use Rattle.relay_world.specs.declared.link.Link.{Link}
 use Rattle.relay_world.specs.Bound.{HasFate, HostKeeps, IsBound, IsListOf, MayBeHeard, MayBeIn, MayHaveCome, MayHaveEnded, PassesOn, StandsAt}
 use Rattle.relay_world.specs.Children.{IsAttempt}
 use Rattle.relay_world.specs.Ledger.{Accepts, lines_by, report_told, steps_by, steps_in}
-use Rattle.relay_world.specs.Once.{Claims, ClaimsAt, GivesUpNoHops, HasNoHops, IsTriedOnce}
+use Rattle.relay_world.specs.Once.{Claims, ClaimsAt, EndsAlone, GivesUpAlone, IsTriedOnce}
 use Rattle.relay_world.specs.Passing.{Rules}
 use Rattle.relay_world.specs.Stops.{Decides, FindsAccept, FindsOutcome, Finds, HasFound, HasNotFound, HasReopened}
-use Rattle.relay_world.specs.World.{Down, FromClient, FromLoss, FromNoHop, FromReplies, Host, Origin, Undecided, Up, World}
+use Rattle.relay_world.specs.World.{Down, FromClient, FromLoss, FromGivingUp, FromReplies, Host, Origin, Undecided, Up, World}
 use Rattle.relay_world.proofs.AddedLemmas.{none_accepts, same_outcome}
 use Rattle.relay_world.proofs.ChildrenLemmas.{passes_of}
 use Rattle.relay_world.proofs.ClaimLemmas.{GivenUpKept, HostsGrow, claim_before, given_up_at, hop_still, hosts_put, known_attempt, one_changed, outside_same, was_for, was_same}
@@ -58,7 +59,7 @@ told_later places told rest None verdicts all is_told is (inr (inl so)) =
 told_later places told rest None verdicts all is_told is (inr (inr so)) = absurd (false≢true (sym so.0 ∙ is_told))
 
 module _ {D : Type 0} (honest : Type 0) (words : DiskWords D) (old new : World D) (lists later : List (List Change))
-    (bound : IsBound honest words old lists) (once : IsTriedOnce old lists) (now : IsBound honest words new later) (node : ℕ)
+    (bound : IsBound honest words old lists) {asked : List Withdrawing} (once : IsTriedOnce old lists asked) (now : IsBound honest words new later) (node : ℕ)
     (reopens : HasReopened honest words old new node) where
   listed : (list : List Change) × (slice_get lists node ≡ Some list)
   listed = list_there old.hosts lists node reopens.host bound.even reopens.host_at
@@ -69,7 +70,7 @@ module _ {D : Type 0} (honest : Type 0) (words : DiskWords D) (old new : World D
   keeps : HostKeeps honest words reopens.host listed.0
   keeps = bound.hosts node reopens.host listed.0 stands
 
-  not_found : HasNotFound old new node reopens.host reopens.after → IsTriedOnce new later
+  not_found : HasNotFound old new node reopens.host reopens.after → IsTriedOnce new later asked
   not_found none =
       state_alone honest words old new lists later bound once now node reopens.host (Up reopens.after) reopens.host_at none.hosts
       none.links none.attempts none.ledger
@@ -121,7 +122,7 @@ module _ {D : Type 0} (honest : Type 0) (words : DiskWords D) (old new : World D
     found_accept : (number : ℕ) → FindsAccept old new number note.used
         → MayBeHeard old node reopens.host listed.0 may.change note number
         → new.ledger ≡ old.ledger ++ lines_by node note (FromClient number)
-        → steps_in node (lines_by node note (FromClient number)) ≡ steps_by listed.0 may.change → IsTriedOnce new later
+        → steps_in node (lines_by node note (FromClient number)) ≡ steps_by listed.0 may.change → IsTriedOnce new later asked
     found_accept number finds came ledger steps =
         kept honest words old new lists later bound once now grow
         (there_same honest words old new lists later bound once now finds.attempts)
@@ -135,11 +136,11 @@ module _ {D : Type 0} (honest : Type 0) (words : DiskWords D) (old new : World D
         (ap (λ (l : Link). l.server) (same_Some finds.link came.link (sym finds.link_is ∙ came.link_is)) ∙ came.serves)
         finds.links (accepted_elsewhere old.ledger new.ledger node note.number note.accepted number ledger))
 
-    -- places that had no hop are found to be given up
-    found_given_up : (message : ℕ) → undecided.origin ≡ FromNoHop message → new.links ≡ old.links → new.attempts ≡ old.attempts
-        → new.ledger ≡ old.ledger ++ lines_by node note (FromNoHop message) → IsTriedOnce new later
+    -- places are found to be given up
+    found_given_up : (message : ℕ) → undecided.origin ≡ FromGivingUp message → new.links ≡ old.links → new.attempts ≡ old.attempts
+        → new.ledger ≡ old.ledger ++ lines_by node note (FromGivingUp message) → IsTriedOnce new later asked
     found_given_up message origin links attempts ledger =
-        let none : GivesUpNoHops reopens.host.config.routes listed.0 note.octets =
+        let none : GivesUpAlone asked node reopens.host.config.routes listed.0 note.octets =
         once.given_up node message reopens.host listed.0 reopens.disk undecided stands down origin in
         let valid : IsChange may.change =
         stored_fits (queue_of listed.0) may.change (last_fits listed.0 may.change may.fitting) in
@@ -148,8 +149,8 @@ module _ {D : Type 0} (honest : Type 0) (words : DiskWords D) (old new : World D
         kept honest words old new lists later bound once now grow
         (there_same honest words old new lists later bound once now attempts)
         (adds (λ outcome same was at. inr
-        (subst (λ (h : Host D). HasNoHops h.config.routes listed.0 outcome)
-        (same_Some reopens.host was (sym reopens.host_at ∙ at)) (none.none outcome (one ∙ same)))))
+        (subst (λ (h : Host D). EndsAlone asked node h.config.routes listed.0 outcome)
+        (same_Some reopens.host was (sym reopens.host_at ∙ at)) (none.alone outcome (one ∙ same)))))
         (same_ends honest words old new lists later bound once now attempts) given
         (outside_same honest words old new lists later bound once now links
         (left_same old.ledger new.ledger node message 0 (report_told note.number note.report) note.left.items ledger))
@@ -195,7 +196,7 @@ module _ {D : Type 0} (honest : Type 0) (words : DiskWords D) (old new : World D
         ended = inr (ap (λ k. Lost k) number_is);
       })
 
-      found_lost : new.ledger ≡ old.ledger ++ lines_by node note (FromLoss number place message) → IsTriedOnce new later
+      found_lost : new.ledger ≡ old.ledger ++ lines_by node note (FromLoss number place message) → IsTriedOnce new later asked
       found_lost ledger =
           kept honest words old new lists later bound once now grow
           (one_changed honest words old new lists later bound once now place finds.attempt (Lost note.number) finds.attempt_at
@@ -319,7 +320,7 @@ module _ {D : Type 0} (honest : Type 0) (words : DiskWords D) (old new : World D
             claims = mine.claims;
           }) same yours
 
-      found_replied : new.ledger ≡ old.ledger ++ lines_by node note (FromReplies number place message) → IsTriedOnce new later
+      found_replied : new.ledger ≡ old.ledger ++ lines_by node note (FromReplies number place message) → IsTriedOnce new later asked
       found_replied ledger = record {
         once = λ one other its letter p mine yours.
             elim (claim_cases one its letter p mine) [
@@ -351,27 +352,27 @@ module _ {D : Type 0} (honest : Type 0) (words : DiskWords D) (old new : World D
     found_by : (origin : Origin) → undecided.origin ≡ origin → Finds old new note origin
         → MayHaveCome old node reopens.host listed.0 may.change note origin
         → new.ledger ≡ old.ledger ++ lines_by node note origin
-        → steps_in node (lines_by node note origin) ≡ steps_by listed.0 may.change → IsTriedOnce new later
+        → steps_in node (lines_by node note origin) ≡ steps_by listed.0 may.change → IsTriedOnce new later asked
     found_by (FromClient number) same finds came ledger steps = found_accept number finds came ledger steps
     found_by (FromReplies number place message) same finds came ledger steps =
         found_replied number place message finds came ledger
     found_by (FromLoss number place message) same finds came ledger steps = found_lost number place message finds came ledger
-    found_by (FromNoHop message) same finds came ledger steps = found_given_up message same finds.0 finds.1 ledger
+    found_by (FromGivingUp message) same finds came ledger steps = found_given_up message same finds.0 finds.1 ledger
 
-    it_is_found : IsTriedOnce new later
+    it_is_found : IsTriedOnce new later asked
     it_is_found = found_by undecided.origin refl found.finds may.came found.ledger may.steps
 
   decided : (undecided : Option Undecided) → reopens.undecided ≡ undecided
-      → Decides old new node reopens.host reopens.after undecided → IsTriedOnce new later
+      → Decides old new node reopens.host reopens.after undecided → IsTriedOnce new later asked
   decided None is none = not_found none
   decided (Some undecided) is (inl none) = not_found none.1
   decided (Some undecided) is (inr found) = it_is_found undecided is found.1
 
-  pub reopened_once : IsTriedOnce new later
+  pub reopened_once : IsTriedOnce new later asked
   reopened_once = decided reopens.undecided refl reopens.decides
 
-pub reopened : {D : Type 0} (honest : Type 0) (words : DiskWords D) (old new : World D) (lists later : List (List Change))
-    → IsBound honest words old lists → IsTriedOnce old lists → IsBound honest words new later → (node : ℕ)
-    → HasReopened honest words old new node → IsTriedOnce new later
+pub reopened : {D : Type 0} {asked : List Withdrawing} (honest : Type 0) (words : DiskWords D) (old new : World D) (lists later : List (List Change))
+    → IsBound honest words old lists → IsTriedOnce old lists asked → IsBound honest words new later → (node : ℕ)
+    → HasReopened honest words old new node → IsTriedOnce new later asked
 reopened honest words old new lists later bound once now node reopens =
     reopened_once honest words old new lists later bound once now node reopens

@@ -8,6 +8,7 @@ use Rattle.relay_server.specs.Dialogue.{Said}
 use Rattle.relay_book.specs.declared.change.Change.{Change}
 use Rattle.relay_node.specs.Attempts.{Tells}
 use Rattle.relay_node.specs.Node.{SeatHasSaid, NodeState}
+use Rattle.relay_world.specs.GivingUp.{Withdrawing}
 use Rattle.relay_world.specs.declared.link.Link.{Link}
 use Rattle.relay_world.specs.Bound.{HasLink, HostKeeps, IsBound, NodeKeeps, SaysThere, link_of}
 use Rattle.relay_world.specs.Ledger.{accepts_on, steps_in}
@@ -121,8 +122,8 @@ staying_up_keeps {D} honest words old new lists node bound stays =
     }
 
 module _ {D : Type 0} (honest : Type 0) (words : DiskWords D) (old new : World D) (lists later : List (List Change))
-    (bound : IsBound honest words old lists) (once : IsTriedOnce old lists) (now : IsBound honest words new later) where
-  pub stayed_up : (node : ℕ) → StaysUp honest words old new node → IsTriedOnce new later
+    (bound : IsBound honest words old lists) {asked : List Withdrawing} (once : IsTriedOnce old lists asked) (now : IsBound honest words new later) where
+  pub stayed_up : (node : ℕ) → StaysUp honest words old new node → IsTriedOnce new later asked
   stayed_up node stays =
       state_alone honest words old new lists later bound once now node stays.host (Up stays.after) stays.host_at stays.hosts
       stays.rest.0 stays.rest.1 stays.rest.2

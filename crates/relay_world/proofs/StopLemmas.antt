@@ -8,13 +8,13 @@ use Rattle.relay_disk.specs.declared.disks.Disks.{Disks}
 use Rattle.relay_book.specs.declared.change.Change.{Change}
 use Rattle.relay_book.specs.declared.change.Outcome.{Outcome}
 use Rattle.relay_routes.specs.declared.config.Config.{Config}
-use Rattle.relay_attempts.specs.Outcomes.{CutsUnroutable, unroutable}
 use Rattle.relay_attempts.specs.AddedOutcome.{CutsOutcome, reported_as}
+use Rattle.relay_world.specs.GivingUp.{CutsGivenUp, outcome_for}
 use Rattle.relay_world.specs.Bound.{StateKeeps, HostKeeps, IsBound, MayBeIn, NodeKeeps, StandsAt, link_of}
 use Rattle.relay_world.specs.Ledger.{accepts_on, steps_in}
 use Rattle.relay_world.specs.Steps.{IsPut}
 use Rattle.relay_world.specs.Stops.{NoAttempt, NoSession, OnlyHostsChange, StayingDownKeeps, StoppingGivingUpKeeps, StoppingKeeps}
-use Rattle.relay_world.specs.World.{Down, FromNoHop, HostState, Host, Undecided, World}
+use Rattle.relay_world.specs.World.{Down, FromGivingUp, HostState, Host, Undecided, World}
 use Rattle.relay_world.proofs.DownLemmas.{Notes, down_halted, down_left, fits_more, host_moved, no_attempt_down, no_session_down, notes, outcome_steps, remains_same, same_undecided}
 use Rattle.relay_world.proofs.OpenLemmas.{list_there, node_kept}
 use Rattle.relay_world.proofs.UndecidedLemmas.{still_may_be_in}
@@ -105,10 +105,10 @@ staying_down_keeps {D} honest words old new lists node bound stays =
         (bound.may_be_in node host changes stays.disk undecided stands (stays.down ∙ ap (λ u. Down stays.disk u) same))
 
 pub stopping_giving_up_keeps : {D : Type 0} (honest : Type 0) (words : DiskWords D) → StoppingGivingUpKeeps honest words
-stopping_giving_up_keeps {D} honest words old new lists node message bound stops =
+stopping_giving_up_keeps {D} honest words old new lists reason node message bound stops =
     state_moved honest words old new lists node bound host changes its.1 (Down stops.disk (Some its_undecided)) stops.hosts
     stops.rest stops.no_session stops.no_attempt
-    (down_halted honest words changes added stops.stopped stops.disk stops.noted (FromNoHop message) host
+    (down_halted honest words changes added stops.stopped stops.disk stops.noted (FromGivingUp message) host
     cuts.cuts.halted told.octets stops.left)
     (λ disk undecided down.
     subst (λ u. MayBeIn new node moved changes u)
@@ -119,7 +119,7 @@ stopping_giving_up_keeps {D} honest words old new lists node message bound stops
     host = stops.host
 
     its_undecided : Undecided
-    its_undecided = record { note = stops.noted; origin = FromNoHop message }
+    its_undecided = record { note = stops.noted; origin = FromGivingUp message }
 
     moved : Host D
     moved = record host { state = Down stops.disk (Some its_undecided) }
@@ -136,12 +136,12 @@ stopping_giving_up_keeps {D} honest words old new lists node message bound stops
     its_node : NodeKeeps honest words host.config stops.before changes
     its_node = node_kept honest words host changes stops.before kept stops.up
 
-    cut : CutsUnroutable honest words (reporter_of stops.before.config) stops.before.config.routes message old.clock changes
+    cut : CutsGivenUp honest words (reporter_of stops.before.config) stops.before.config.routes reason message old.clock changes
         stops.before.records stops.stopped
     cut = stops.cuts changes its_node.keeps
 
     outcome : Outcome
-    outcome = unroutable stops.before.config.routes message old.clock cut.message
+    outcome = outcome_for reason stops.before.config.routes message old.clock cut.message
 
     cuts : CutsOutcome honest words (reporter_of host.config) changes outcome 0 stops.stopped
     cuts = subst (λ (c : Config). CutsOutcome honest words (reporter_of c) changes outcome 0 stops.stopped) its_node.config_is cut.cuts

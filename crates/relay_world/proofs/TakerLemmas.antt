@@ -9,13 +9,14 @@ use Rattle.relay_book.specs.declared.change.Change.{Change}
 use Rattle.relay_book.specs.declared.change.Change.TheVariants as change
 use Rattle.relay_book.specs.declared.change.Outcome.{Outcome}
 use Rattle.relay_book.specs.Marks.{change_at}
+use Rattle.relay_world.specs.GivingUp.{Withdrawing}
 use Rattle.relay_world.specs.declared.attempt.Attempt.{Attempt}
 use Rattle.relay_world.specs.declared.attempt.Fate.TheVariants.{Running}
 use Rattle.relay_world.specs.Bound.{IsBound, IsListOf}
-use Rattle.relay_world.specs.Once.{HasNoHops, IsOutcomeOf, IsTriedOnce}
+use Rattle.relay_world.specs.Once.{EndsAlone, IsOutcomeOf, IsTriedOnce}
 use Rattle.relay_world.specs.Steps.{IsPut}
 use Rattle.relay_world.specs.World.{Host, World}
-use Rattle.relay_world.proofs.ClaimLemmas.{HostGrows, HostsGrow, OutcomesKept, list_before, no_hops_kept, there_too}
+use Rattle.relay_world.proofs.ClaimLemmas.{HostGrows, HostsGrow, OutcomesKept, alone_kept, list_before, there_too}
 use Rattle.relay_world.proofs.GrowLemmas.{one_list}
 use Rattle.relay_world.proofs.MoveLemmas.{put_cases}
 use Rattle.relay_world.proofs.FateLemmas.{lost_ends, replied_ends}
@@ -43,12 +44,12 @@ outcome_last before one (suc k) outcome is = elim (last_or before one (change.Ou
 ]
 
 module _ {D : Type 0} (honest : Type 0) (words : DiskWords D) (old new : World D) (lists later : List (List Change))
-    (bound : IsBound honest words old lists) (once : IsTriedOnce old lists) (now : IsBound honest words new later) where
-  -- a change after these that is an outcome is that of an attempt, or gives up places without a hop
+    (bound : IsBound honest words old lists) {asked : List Withdrawing} (once : IsTriedOnce old lists asked) (now : IsBound honest words new later) where
+  -- a change after these that is an outcome is that of an attempt, or gives up places without one
   abbrev pub HasTakers : ℕ → List Change → Change → Type 0
   HasTakers n before one =
       (outcome : Outcome) → one ≡ change.Outcome outcome → (was : Host D) → slice_get old.hosts n ≡ Some was
-      → IsOutcomeOf new n (suc (length before)) ⊎ HasNoHops was.config.routes before outcome
+      → IsOutcomeOf new n (suc (length before)) ⊎ EndsAlone asked n was.config.routes before outcome
 
   -- a list has stayed, or has such a change more
   abbrev pub AddsTo : ℕ → List Change → List Change → Type 0
@@ -84,11 +85,11 @@ module _ {D : Type 0} (honest : Type 0) (words : DiskWords D) (old new : World D
       grows : HostGrows honest words old new lists later bound once now n host
       grows = grow n host stands.host_at
 
-      kept : HasNoHops grows.was.config.routes before.0 outcome → HasNoHops host.config.routes changes outcome
-      kept none = no_hops_kept before.0 changes grows.was.config host.config outcome before.2 grows.config none
+      kept : EndsAlone asked n grows.was.config.routes before.0 outcome → EndsAlone asked n host.config.routes changes outcome
+      kept none = alone_kept asked n before.0 changes grows.was.config host.config outcome before.2 grows.config none
 
       was : change_at before.0 number ≡ Some (change.Outcome outcome)
-          → IsOutcomeOf new n number ⊎ HasNoHops host.config.routes changes outcome
+          → IsOutcomeOf new n number ⊎ EndsAlone asked n host.config.routes changes outcome
       was at = elim (once.outcomes n number grows.was before.0 outcome
           (record { host_at = grows.was_there; list_at = before.1 }) at) [
             | inl ended ↦ inl (stay n number ended)

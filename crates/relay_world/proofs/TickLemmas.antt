@@ -9,7 +9,7 @@ use Rattle.relay_world.specs.declared.link.Link.{Link}
 use Rattle.relay_world.specs.declared.link.ServerEnd.{ServerEnd}
 use Rattle.relay_world.specs.Bound.{IsBound, IsServed, IsTried, MayBeHeard, MayBeIn, MayHaveCome, MayHaveEnded}
 use Rattle.relay_world.specs.Steps.{TickingKeeps}
-use Rattle.relay_world.specs.World.{FromClient, FromLoss, FromNoHop, FromReplies, Host, Origin, Undecided, World}
+use Rattle.relay_world.specs.World.{FromClient, FromLoss, FromGivingUp, FromReplies, Host, Origin, Undecided, World}
 
 module _ {D : Type 0} (honest : Type 0) (words : DiskWords D) (old : World D) (lists : List (List Change)) (now : ℕ) where
   served_still : (number : ℕ) (link : Link) (end : ServerEnd) → IsServed old lists number link end
@@ -72,7 +72,7 @@ module _ {D : Type 0} (honest : Type 0) (words : DiskWords D) (old : World D) (l
       ended_still node host changes change note number place (Replied note.number) may
   came_still node host changes change note (FromLoss number place message) may =
       ended_still node host changes change note number place (Lost note.number) may
-  came_still node host changes change note (FromNoHop message) may = may
+  came_still node host changes change note (FromGivingUp message) may = may
 
   -- a change that is undecided stays so
   undecided_still : (node : ℕ) (host : Host D) (changes : List Change) (undecided : Undecided)

@@ -7,12 +7,14 @@ use Rattle.relay_book.specs.declared.change.Change.{Change}
 use Rattle.relay_book.specs.declared.change.Change.TheVariants as change
 use Rattle.relay_book.specs.declared.change.Outcome.{Outcome}
 use Rattle.relay_book.specs.declared.change.Verdict.{Verdict}
-use Rattle.relay_book.specs.declared.change.Verdict.TheVariants.{Taken, Refused, Later, CantSend, NoRoute}
+use Rattle.relay_book.specs.declared.change.Verdict.TheVariants.{Taken, Refused, Later, CantSend, NoRoute, Withdrawn}
+use Rattle.relay_book.specs.declared.change.Withdrawal.{Withdrawal}
 use Rattle.relay_book.specs.declared.fate.Way.TheVariants.{ByTransfer}
 use Rattle.relay_book.specs.Marks.{LeavesAt, change_at}
 use Rattle.relay_attempts.specs.Outcomes.{rulings_of}
 use Rattle.relay_course.specs.VerdictTable.{all_later}
 use Rattle.std.specs.List.{Contains}
+use Rattle.relay_world.specs.GivingUp.{Withdrawing}
 use Rattle.relay_world.specs.declared.attempt.Fate.TheVariants.{Lost, Replied}
 use Rattle.relay_world.specs.declared.attempt.Attempt.{Attempt}
 use Rattle.relay_world.specs.declared.link.Link.{Link}
@@ -38,6 +40,7 @@ taken_by accepted at (Refused code text) cause = absurd cause
 taken_by accepted at Later cause = absurd cause
 taken_by accepted at CantSend cause = absurd cause
 taken_by accepted at NoRoute cause = absurd cause
+taken_by accepted at (Withdrawn withdrawal) cause = absurd cause
 
 -- replies ended an attempt of the node, with the change of this number as its outcome
 record IsEndedBy {D : Type 0} (world : World D) (node number : ℕ) : Type 0 where
@@ -51,7 +54,7 @@ same_outcome : (one other : Outcome) → Some (change.Outcome one) ≡ Some (cha
 same_outcome one other is = cc
 
 module _ {D : Type 0} (honest : Type 0) (words : DiskWords D) (world : World D) (lists : List (List Change))
-    (bound : IsBound honest words world lists) (once : IsTriedOnce world lists) (linked : AreLinkedToHops world) (node : ℕ) (host : Host D)
+    (bound : IsBound honest words world lists) {asked : List Withdrawing} (once : IsTriedOnce world lists asked) (linked : AreLinkedToHops world) (node : ℕ) (host : Host D)
     (changes : List Change)
     (stands : StandsAt world lists node host changes) (at message place : ℕ)
     (leaves : LeavesAt changes at message place ByTransfer) where
@@ -104,6 +107,9 @@ module _ {D : Type 0} (honest : Type 0) (words : DiskWords D) (world : World D) 
   not_unrouted : NoRoute ≡ Taken taken.0 → ⊥
   not_unrouted same = cc
 
+  not_withdrawn : (withdrawal : Withdrawal) → Withdrawn withdrawal ≡ Taken taken.0 → ⊥
+  not_withdrawn withdrawal same = cc
+
   taker : IsEndedBy world node at
   taker = elim (once.outcomes node at host changes leaves.outcome stands leaves.change) [
     | inl ended ↦ elim ended.ended [
@@ -116,7 +122,10 @@ module _ {D : Type 0} (honest : Type 0) (words : DiskWords D) (world : World D) 
       }
       | inr lost ↦ absurd (none_lost ended lost)
     ]
-    | inr none ↦ absurd (not_unrouted (sym (none.each place leaves.verdict leaves.ruling).0 ∙ taken.1))
+    | inr (inl none) ↦ absurd (not_unrouted (sym (none.each place leaves.verdict leaves.ruling).0 ∙ taken.1))
+    | inr (inr withdrawn) ↦
+        let his = withdrawn.each place leaves.verdict leaves.ruling in
+        absurd (not_withdrawn his.0 (sym his.1 ∙ taken.1))
   ]
 
   abbrev link : Link
@@ -169,5 +178,5 @@ module _ {D : Type 0} (honest : Type 0) (words : DiskWords D) (world : World D) 
   }
 
 pub transferred_is_accepted : {D : Type 0} (honest : Type 0) (words : DiskWords D) → TransferredIsAccepted honest words
-transferred_is_accepted honest words world lists bound once linked node host changes stands message place transferred =
+transferred_is_accepted honest words world lists asked bound once linked node host changes stands message place transferred =
     passed_on honest words world lists bound once linked node host changes stands transferred.0 message place transferred.1

@@ -19,7 +19,7 @@ use Rattle.relay_world.specs.declared.link.Link.{Link}
 use Rattle.relay_world.specs.declared.link.ServerEnd.{ServerEnd}
 use Rattle.relay_world.specs.Bound.{MayBeHeard, MayBeIn, MayHaveCome, MayHaveEnded, SaysThere, ServesLink}
 use Rattle.relay_world.specs.Ledger.{accepts_on, lines_by}
-use Rattle.relay_world.specs.World.{Down, FromClient, FromLoss, FromNoHop, FromReplies, HostState, Host, Origin, Undecided, Up, World, link_at}
+use Rattle.relay_world.specs.World.{Down, FromClient, FromLoss, FromGivingUp, FromReplies, HostState, Host, Origin, Undecided, Up, World, link_at}
 use Rattle.relay_world.proofs.FrameLemmas.{accepts_on_more, passes_on, serves_on}
 use Rattle.relay_world.proofs.PieceLemmas.{passes_as}
 use Rattle.relay_world.proofs.FateLemmas.{lost_ends, replied_ends}
@@ -171,7 +171,7 @@ module _ {D : Type 0} (old new : World D) (node : ℕ) where
         still_ended change note number place (Replied note.number) (replied_ends note.number) may
     still_came change note (FromLoss number place message) may =
         still_ended change note number place (Lost note.number) (lost_ends note.number) may
-    still_came change note (FromNoHop message) may = tt
+    still_came change note (FromGivingUp message) may = tt
 
     -- a change that is undecided stays so
     pub still_may_be_in : (undecided : Undecided) → MayBeIn old node host changes undecided

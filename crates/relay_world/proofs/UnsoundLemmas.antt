@@ -38,5 +38,5 @@ healing_breaks D old new heals grows =
     ]
 
 pub stopping_is_failing : {D : Type 0} (honest : Type 0) (words : DiskWords D) → StoppingIsFailing honest words
-stopping_is_failing honest words old new number count node message =
+stopping_is_failing honest words old new reason number count node message =
     (λ crash. crash.failed, λ crash. crash.failed, λ crash. crash.failed, λ crash. crash.failed, λ crash. crash.failed)

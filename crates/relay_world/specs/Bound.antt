@@ -41,7 +41,7 @@ use Rattle.relay_world.specs.declared.line.Line.TheVariants.{Accepted, Became}
 use Rattle.relay_world.specs.declared.link.Link.{Link}
 use Rattle.relay_world.specs.declared.link.ServerEnd.{ServerEnd}
 use Rattle.relay_world.specs.Ledger.{accepts_on, lines_by, lines_of, steps_by, steps_in, steps_of}
-use Rattle.relay_world.specs.World.{Down, FromClient, FromLoss, FromNoHop, FromReplies, HostState, Host, Origin}
+use Rattle.relay_world.specs.World.{Down, FromClient, FromLoss, FromGivingUp, FromReplies, HostState, Host, Origin}
 use Rattle.relay_world.specs.World.{Undecided, Up, World, link_at}
 
 -- the records encode this list of changes
@@ -247,7 +247,7 @@ module _ {D : Type 0} (world : World D) (node : ℕ) (host : Host D) (changes : 
   MayHaveCome (FromClient number) = MayBeHeard number
   MayHaveCome (FromReplies number place message) = MayHaveEnded number place (Replied note.number)
   MayHaveCome (FromLoss number place message) = MayHaveEnded number place (Lost note.number)
-  MayHaveCome (FromNoHop message) = Unit {0}
+  MayHaveCome (FromGivingUp message) = Unit {0}
 
 -- a next change with this record may be in the spool of a node that keeps these; its steps are the lines that the
 -- ledger would get

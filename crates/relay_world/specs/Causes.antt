@@ -1,5 +1,5 @@
--- Why a place has left (RFC 5321, sections 4.2.5 and 6.1): by the course of an attempt for its message, or because it
--- has no hop.
+-- Why a place has left (RFC 5321, section 4.2.5 and 6.1): by the course of an attempt for its message, since it has no
+-- hop, or since the postmaster has withdrawn it.
 use Rattle.std.specs.Prelude.{◌≡◌, ◌⊎◌, ℕ, Bool, List, None, Some, take}
 use Rattle.std.specs.List.{Contains}
 use Rattle.relay_disk.specs.Device.{DiskWords}
@@ -8,7 +8,8 @@ use Rattle.relay_attempts.specs.Outcomes.{rulings_of}
 use Rattle.relay_book.specs.declared.change.Accept.{Accept}
 use Rattle.relay_book.specs.declared.change.Change.{Change}
 use Rattle.relay_book.specs.declared.change.Verdict.{Verdict}
-use Rattle.relay_book.specs.declared.change.Verdict.TheVariants.{NoRoute}
+use Rattle.relay_book.specs.declared.change.Verdict.TheVariants.{NoRoute, Withdrawn}
+use Rattle.relay_book.specs.declared.change.Withdrawal.{Withdrawal}
 use Rattle.relay_book.specs.declared.fate.Way.{Way}
 use Rattle.relay_book.specs.Marks.{LeavesAt, message_at}
 use Rattle.relay_course.specs.Course.{IsCourse}
@@ -17,6 +18,7 @@ use Rattle.relay_world.specs.declared.attempt.Fate.TheVariants.{Lost, Replied}
 use Rattle.relay_world.specs.declared.link.Link.{Link}
 use Rattle.relay_world.specs.Bound.{IsBound, StandsAt}
 use Rattle.relay_world.specs.Children.{IsAttempt}
+use Rattle.relay_world.specs.GivingUp.{IsAsked, Withdrawing}
 use Rattle.relay_world.specs.Once.{IsTriedOnce}
 use Rattle.relay_world.specs.World.{Host, World}
 
@@ -47,11 +49,17 @@ pub record HadNoHop {D : Type 0} (host : Host D) (changes : List Change) (messag
   pub accepted : message_at changes message ≡ Some accept
   pub none : hop_of_place host.config.routes accept.envelope.recipients place ≡ None
 
--- Each place that has left did so for one of these two reasons.
+-- the verdict is the postmaster's, who has asked for it
+abbrev pub WasWithdrawn : List Withdrawing → ℕ → ℕ → ℕ → Verdict → Type 0
+WasWithdrawn asked node message place verdict =
+    (withdrawal : Withdrawal) × (verdict ≡ Withdrawn withdrawal) × IsAsked asked node message place withdrawal
+
+-- Each place that has left has left by one of the three.
 abbrev pub LeavingIsCaused : {D : Type 0} → Type 0 → DiskWords D → Type 0
 LeavingIsCaused {D} honest words =
-    (world : World D) (lists : List (List Change)) → IsBound honest words world lists → IsTriedOnce world lists
+    (world : World D) (lists : List (List Change)) (asked : List Withdrawing) → IsBound honest words world lists
+    → IsTriedOnce world lists asked
     → (node : ℕ) (host : Host D) (changes : List Change) → StandsAt world lists node host changes
     → (at message place : ℕ) (way : Way) (leaves : LeavesAt changes at message place way)
     → GaveVerdict world lists node host changes at message place leaves.verdict
-    ⊎ HadNoHop host changes message place leaves.verdict
+    ⊎ (HadNoHop host changes message place leaves.verdict ⊎ WasWithdrawn asked node message place leaves.verdict)

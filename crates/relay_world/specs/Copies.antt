@@ -13,6 +13,7 @@ use Rattle.relay_world.specs.declared.attempt.Fate.TheVariants.{Running, Replied
 use Rattle.relay_world.specs.declared.link.Link.{Link}
 use Rattle.relay_world.specs.Bound.{IsBound, StandsAt}
 use Rattle.relay_world.specs.Children.{AreChildPlaces, children_of}
+use Rattle.relay_world.specs.GivingUp.{Withdrawing}
 use Rattle.relay_world.specs.Once.{IsTriedOnce}
 use Rattle.relay_world.specs.World.{Host, World, link_at}
 
@@ -84,5 +85,6 @@ pub record HasFewCopies {D : Type 0} (world : World D) (lists : List (List Chang
 -- This holds in each world with the invariant in which each place is tried once at a time.
 abbrev pub CopiesAreFew : {D : Type 0} → Type 0 → DiskWords D → Type 0
 CopiesAreFew {D} honest words =
-    (world : World D) (lists : List (List Change)) → IsBound honest words world lists → IsTriedOnce world lists
+    (world : World D) (lists : List (List Change)) (asked : List Withdrawing) → IsBound honest words world lists
+    → IsTriedOnce world lists asked
     → (node message place : ℕ) → HasFewCopies world lists node message place

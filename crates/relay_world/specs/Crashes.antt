@@ -8,7 +8,6 @@ use Rattle.relay_server.specs.Dialogue.{Said}
 use Rattle.relay_book.specs.declared.change.Change.{Change}
 use Rattle.relay_records.specs.declared.noted.Noted.{Noted}
 use Rattle.relay_records.specs.Records.{Halted, IsStopped, Keeps, Kept}
-use Rattle.relay_attempts.specs.Outcomes.{CutsUnroutable}
 use Rattle.relay_attempts.specs.Reply.{CutsLoss, CutsReply, Told}
 use Rattle.relay_node.specs.Attempts.{Tells}
 use Rattle.relay_node.specs.Node.{CutsTalk, SeatHasSaid, NodeState}
@@ -19,7 +18,8 @@ use Rattle.relay_world.specs.Bound.{IsBound}
 use Rattle.relay_world.specs.HangUp.{broken_link, hung_up_attempt, hung_up_link}
 use Rattle.relay_world.specs.Steps.{AttemptOf, IsPut, SessionOf, waiting_down, waiting_up}
 use Rattle.relay_world.specs.Stops.{IsLeftBy}
-use Rattle.relay_world.specs.World.{Down, FromClient, FromLoss, FromNoHop, FromReplies, Host, Origin, Undecided, Up}
+use Rattle.relay_world.specs.GivingUp.{CutsGivenUp, Reason}
+use Rattle.relay_world.specs.World.{Down, FromClient, FromLoss, FromGivingUp, FromReplies, Host, Origin, Undecided, Up}
 use Rattle.relay_world.specs.World.{World}
 use Rattle.relay_report.specs.Report.{reporter_of}
 
@@ -87,9 +87,10 @@ pub record CrashesCompacting {D : Type 0} (honest : Type 0) (words : DiskWords D
   pub left : IsLeftBy honest words stopped disk
   pub down : GoesDown old new node host disk None
 
--- A node crashed in a call that gave up the places of a message without a hop: its device failed while their outcome
+-- A node crashed in a call that gave up places of a message without an attempt: its device failed while their outcome
 -- was added.
-pub record CrashesGivingUp {D : Type 0} (honest : Type 0) (words : DiskWords D) (old new : World D) (node message : ℕ)
+pub record CrashesGivingUp {D : Type 0} (honest : Type 0) (words : DiskWords D) (old new : World D) (reason : Reason)
+    (node message : ℕ)
     : Type 0
   where
     pub host : Host D
@@ -99,13 +100,13 @@ pub record CrashesGivingUp {D : Type 0} (honest : Type 0) (words : DiskWords D) 
     pub stopped : Kept D
     pub failed : IsStopped words before.records stopped
     pub cuts : (changes : List Change) → Keeps honest words before.records changes
-        → CutsUnroutable honest words (reporter_of before.config) before.config.routes message old.clock changes
+        → CutsGivenUp honest words (reporter_of before.config) before.config.routes reason message old.clock changes
         before.records stopped
     pub noted : Noted
     pub note_is : stopped.noted ≡ Some noted
     pub disk : Disks D
     pub left : IsLeftBy honest words stopped disk
-    pub down : GoesDown old new node host disk (Some (record { note = noted; origin = FromNoHop message }))
+    pub down : GoesDown old new node host disk (Some (record { note = noted; origin = FromGivingUp message }))
 
 -- A node crashed in a call that heard octets of a link: its device failed while an accept was added.
 pub record CrashesHearing {D : Type 0} (honest : Type 0) (words : DiskWords D) (old new : World D) (number count : ℕ)

@@ -1,5 +1,5 @@
 -- Custody of each recipient that a node acknowledged (RFC 5321, section 6.1): it is held, or the next hop has taken it,
--- or it has ended for a cause, and the same change queued the report that is owed.
+-- or it has ended for a cause, or was withdrawn, and then the report that is owed was queued in the same change.
 use Rattle.std.specs.Prelude.{◌≡◌, ◌↔◌, ℕ, zero, suc, ◌+◌, ◌<◌, ◌≤◌, false, List, [], ◌∷◌, ◌++◌, length, take, Some}
 use Rattle.std.specs.Prelude.{Option}
 use Rattle.std.specs.Prelude.{slice_get}
@@ -16,10 +16,11 @@ use Rattle.relay_book.specs.declared.change.Change.{Change}
 use Rattle.relay_book.specs.declared.change.Change.TheVariants as change
 use Rattle.relay_book.specs.declared.change.Verdict.{Verdict}
 use Rattle.relay_book.specs.declared.change.Verdict.TheVariants.{Taken, Refused, Later, CantSend, NoRoute}
+use Rattle.relay_book.specs.declared.change.Verdict.TheVariants.{Withdrawn as WithdrawnBy}
 use Rattle.relay_book.specs.declared.fate.Way.{Way}
-use Rattle.relay_book.specs.declared.fate.Way.TheVariants.{ByTransfer, ByEnd}
+use Rattle.relay_book.specs.declared.fate.Way.TheVariants.{ByTransfer, ByEnd, ByWithdrawal}
 use Rattle.relay_book.specs.DueReport.{patience}
-use Rattle.relay_book.specs.Marks.{Added, Ended, Held, IsOneOf, LeavesAt, Transferred}
+use Rattle.relay_book.specs.Marks.{Added, Ended, Held, IsOneOf, LeavesAt, Transferred, Withdrawn}
 use Rattle.relay_book.specs.Queue.{held_of}
 use Rattle.relay_book.specs.StandsFor.{StandsFor}
 use Rattle.relay_node.specs.Node.{NodeState}
@@ -68,8 +69,8 @@ AcceptedIsAcknowledged {D} honest words =
     → link.broken ≡ false → (number places : ℕ)
     → Contains {X = ℕ × ℕ} (accepts_on on world.ledger) (number, places) → Acknowledged world end.node number places
 
--- why a place leaves by a verdict, with the times of its accept and its leaving: it was taken, was refused, can't be
--- sent, has no hop, or was tried for too long
+-- why a place that was accepted at one time leaves at another in this way by a verdict: it was taken; it was refused,
+-- can't be sent, has no hop, or was tried for too long; or the postmaster has ended it so
 abbrev pub HasCause : ℕ → ℕ → Way → Verdict → Type 0
 HasCause accepted at ByTransfer (Taken dsn) = Unit {0}
 HasCause accepted at ByTransfer _ = ⊥
@@ -78,6 +79,9 @@ HasCause accepted at ByEnd (Refused code text) = Unit {0}
 HasCause accepted at ByEnd Later = accepted + patience ≤ at
 HasCause accepted at ByEnd CantSend = Unit {0}
 HasCause accepted at ByEnd NoRoute = Unit {0}
+HasCause accepted at ByEnd (WithdrawnBy withdrawal) = ⊥
+HasCause accepted at (ByWithdrawal withdrawal) (WithdrawnBy other) = other ≡ withdrawal
+HasCause accepted at (ByWithdrawal withdrawal) _ = ⊥
 
 -- the changes before the one of this number
 abbrev pub changes_before : ℕ → List Change → List Change
@@ -97,9 +101,10 @@ pub record KeepsCustody {D : Type 0} (honest : Type 0) (words : DiskWords D) (wo
   -- each acknowledged recipient was added
   pub acknowledged : (number places place : ℕ) → Acknowledged world node number places → place < places
       → Added changes number place
-  -- each added recipient is held, was transferred or has ended: exactly one of these
+  -- each that was added is held, was transferred, has ended or was withdrawn, and only one of these
   pub one_of : (number place : ℕ) → Added changes number place
       → IsOneOf (Held changes number place) (Transferred changes number place) (Ended changes number place)
+      (Withdrawn changes number place)
   -- the queue of a node that is up has exactly the held places, and so has every image that a stop may leave
   pub held : (standing : NodeState D) → host.state ≡ Up standing → (number place : ℕ)
       → Contains {X = ℕ × ℕ} (held_of standing.records.queue) (number, place) ↔ Held changes number place

@@ -9,7 +9,7 @@ use Rattle.relay_book.specs.Marks.{place_steps}
 use Rattle.relay_records.specs.declared.noted.Noted.{Noted}
 use Rattle.relay_world.specs.declared.line.Line.{Line}
 use Rattle.relay_world.specs.declared.line.Line.TheVariants.{Accepted, Became}
-use Rattle.relay_world.specs.World.{FromClient, FromLoss, FromNoHop, FromReplies, Origin, Undecided}
+use Rattle.relay_world.specs.World.{FromClient, FromLoss, FromGivingUp, FromReplies, Origin, Undecided}
 
 -- A message was accepted with this many places; or a place of a message left or was reported as delayed, and a report
 -- was queued under this number (0: none).
@@ -74,7 +74,8 @@ lines_by node note (FromReplies link place message) =
     left_lines node message link (report_told note.number note.report) note.left.items
 lines_by node note (FromLoss link place message) =
     left_lines node message link (report_told note.number note.report) note.left.items
-lines_by node note (FromNoHop message) = left_lines node message 0 (report_told note.number note.report) note.left.items
+lines_by node note (FromGivingUp message) =
+    left_lines node message 0 (report_told note.number note.report) note.left.items
 
 -- the lines that an undecided change of a node would add
 abbrev pub lines_of : ℕ → Undecided → List Line

@@ -4,6 +4,7 @@ pub mod Bound
 pub mod Custody
 pub mod Content
 pub mod HopLinks
+pub mod GivingUp
 pub mod Steps
 pub mod Stops
 pub mod HangUp

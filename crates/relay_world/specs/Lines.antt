@@ -1,12 +1,14 @@
 -- The source of each ledger line: for an accept, the node that serves its link; for a place that left or was delayed,
--- the change that made it so, which is the outcome of the attempt on the line's link or gives up places without a hop.
+-- the change that made it so, which is the outcome of the attempt on the line's link or gives up places without an
+-- attempt.
 use Rattle.std.specs.Prelude.{◌≡◌, ◌⊎◌, ℕ, suc, List, ◌∷◌, ◌++◌, length, Some, slice_get}
 use Rattle.std.specs.List.{AllByRecursion, Contains}
 use Rattle.relay_book.specs.declared.change.Change.{Change}
 use Rattle.relay_book.specs.declared.change.Change.TheVariants as change
 use Rattle.relay_book.specs.declared.change.Outcome.{Outcome}
 use Rattle.relay_book.specs.declared.change.Verdict.{Verdict}
-use Rattle.relay_book.specs.declared.change.Verdict.TheVariants.{NoRoute}
+use Rattle.relay_book.specs.declared.change.Verdict.TheVariants.{NoRoute, Withdrawn}
+use Rattle.relay_book.specs.declared.change.Withdrawal.{Withdrawal}
 use Rattle.relay_book.specs.declared.fate.PlaceStep.{PlaceStep}
 use Rattle.relay_world.specs.declared.attempt.Attempt.{Attempt}
 use Rattle.relay_world.specs.declared.attempt.Fate.TheVariants.{Replied, Lost}
@@ -43,6 +45,13 @@ pub record SaysNoHop (one : Change) : Type 0 where
   pub each : (place : ℕ) (verdict : Verdict) → Contains outcome.rulings (record { place = place; verdict = verdict })
       → verdict ≡ NoRoute
 
+-- The change is an outcome by which the postmaster ends each of its places.
+pub record SaysWithdrawn (one : Change) : Type 0 where
+  pub outcome : Outcome
+  pub is : one ≡ change.Outcome outcome
+  pub each : (place : ℕ) (verdict : Verdict) → Contains outcome.rulings (record { place = place; verdict = verdict })
+      → (withdrawal : Withdrawal) × (verdict ≡ Withdrawn withdrawal)
+
 -- The node serves the link.
 pub record IsServedBy {D : Type 0} (world : World D) (node link : ℕ) : Type 0 where
   pub its : Link
@@ -52,14 +61,14 @@ pub record IsServedBy {D : Type 0} (world : World D) (node link : ℕ) : Type 0 
   pub its_node : end.node ≡ node
 
 -- A change of the node's list makes the step. It is the outcome of an attempt on the link; or there is no link, and the
--- change gives up places without a hop.
+-- change gives up places without a hop or places that the postmaster withdraws.
 pub record ComesOfChange {D : Type 0} (world : World D) (lists : List (List Change)) (step : PlaceStep)
     (node message place link report : ℕ) : Type 0 where
   pub changes : List Change
   pub list_at : slice_get lists node ≡ Some changes
   pub number : ℕ
   pub made : IsMadeBy changes number step message place report
-  pub cause : HasEndedOn world node message link number ⊎ ((link ≡ 0) × SaysNoHop made.one)
+  pub cause : HasEndedOn world node message link number ⊎ ((link ≡ 0) × (SaysNoHop made.one ⊎ SaysWithdrawn made.one))
 
 -- the source of a line
 abbrev pub HasSource : {D : Type 0} → World D → List (List Change) → Line → Type 0

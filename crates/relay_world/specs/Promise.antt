@@ -5,7 +5,8 @@ use Rattle.relay_book.specs.declared.change.Accept.{Accept}
 use Rattle.relay_book.specs.declared.change.Change.{Change}
 use Rattle.relay_book.specs.declared.change.Verdict.{Verdict}
 use Rattle.relay_book.specs.declared.change.Verdict.TheVariants.{Taken}
-use Rattle.relay_book.specs.declared.fate.Way.TheVariants.{ByEnd}
+use Rattle.relay_book.specs.declared.change.Withdrawal.{Withdrawal}
+use Rattle.relay_book.specs.declared.fate.Way.TheVariants.{ByEnd, ByWithdrawal}
 use Rattle.relay_book.specs.Marks.{Added, Held, Transferred, message_at}
 use Rattle.relay_world.specs.declared.attempt.Attempt.{Attempt}
 use Rattle.relay_world.specs.declared.link.Link.{Link}
@@ -17,38 +18,62 @@ use Rattle.relay_world.specs.Content.{PassesOnly}
 use Rattle.relay_world.specs.Copies.{HasFewCopies}
 use Rattle.relay_world.specs.Custody.{Acknowledged, KeepsCustody, LeftFor}
 use Rattle.relay_world.specs.Delays.{DelaysOnce}
+use Rattle.relay_world.specs.GivingUp.{IsAsked, Withdrawing}
 use Rattle.relay_world.specs.Growth.{AttemptsGrow, HasGrown, ListsGrow}
 use Rattle.relay_world.specs.HopLinks.{AreLinkedToHops}
 use Rattle.relay_world.specs.Lines.{HasSources}
-use Rattle.relay_world.specs.Once.{Happen, IsTriedOnce}
+use Rattle.relay_world.specs.Once.{Happen, IsTriedOnce, asked_in}
 use Rattle.relay_world.specs.Passing.{NoChildHolds, RepliesGave}
 use Rattle.relay_world.specs.Transfers.{HasPassedOn}
 use Rattle.relay_world.specs.World.{Host, World, link_at}
 use Rattle.relay_report.specs.Report.{reporter_of}
 
 -- What has become of a recipient: its node holds it; its next hop has accepted it; or it has ended for a cause, with
--- the report that is owed, by a verdict from what an attempt for its message has read, or because it has no hop.
-pub data HasCome {D : Type 0} (world : World D) (lists : List (List Change)) (node : ℕ) (host : Host D)
-    (changes : List Change)
+-- the report that is owed, by a verdict from what an attempt for its message has read, or because it has no hop.; or the postmaster has withdrawn it, with the report that is owed, and has asked for that
+pub data HasCome {D : Type 0} (world : World D) (lists : List (List Change)) (asked : List Withdrawing) (node : ℕ)
+    (host : Host D) (changes : List Change)
     (number place : ℕ) : Type 0 where
-  IsHeld : Held changes number place → HasCome world lists node host changes number place
+  IsHeld : Held changes number place → HasCome world lists asked node host changes number place
   IsPassedOn : HasPassedOn world lists node host changes number place
-      → HasCome world lists node host changes number place
+      → HasCome world lists asked node host changes number place
   HasEnded : (at : ℕ) (left : LeftFor (reporter_of host.config) changes at number place ByEnd)
       → GaveVerdict world lists node host changes at number place left.leaves.verdict
-      ⊎ HadNoHop host changes number place left.leaves.verdict → HasCome world lists node host changes number place
+      ⊎ HadNoHop host changes number place left.leaves.verdict
+      → HasCome world lists asked node host changes number place
+  IsWithdrawn : (at : ℕ) (withdrawal : Withdrawal)
+      → LeftFor (reporter_of host.config) changes at number place (ByWithdrawal withdrawal)
+      → IsAsked asked node number place withdrawal → HasCome world lists asked node host changes number place
+
+-- its outcome where the postmaster has asked for nothing: one of the first three
+pub data HasComeUnasked {D : Type 0} (world : World D) (lists : List (List Change)) (node : ℕ) (host : Host D)
+    (changes : List Change)
+    (number place : ℕ) : Type 0 where
+  StillHeld : Held changes number place → HasComeUnasked world lists node host changes number place
+  WasPassedOn : HasPassedOn world lists node host changes number place
+      → HasComeUnasked world lists node host changes number place
+  EndedFor : (at : ℕ) (left : LeftFor (reporter_of host.config) changes at number place ByEnd)
+      → GaveVerdict world lists node host changes at number place left.leaves.verdict
+      ⊎ HadNoHop host changes number place left.leaves.verdict
+      → HasComeUnasked world lists node host changes number place
+
+-- Of a run in which the postmaster has asked for nothing it is the promise that there is without him.
+abbrev pub UnaskedIsKept : Type 0 → Type 0
+UnaskedIsKept D =
+    (world : World D) (lists : List (List Change)) (node : ℕ) (host : Host D) (changes : List Change)
+    (number place : ℕ) → HasCome world lists [] node host changes number place
+    → HasComeUnasked world lists node host changes number place
 
 -- The promise, in a given world.
 pub record KeepsPromise {D : Type 0} (honest : Type 0) (words : DiskWords D) (world : World D)
-    (lists : List (List Change))
+    (lists : List (List Change)) (asked : List Withdrawing)
     : Type 0 where
-  -- each recipient that a node acknowledged is held, accepted by its next hop, or ended
+  -- each recipient that a node acknowledged is held, accepted by its next hop, has ended, or was withdrawn
   pub recipients : (node : ℕ) (host : Host D) (changes : List Change) → StandsAt world lists node host changes
       → (number places place : ℕ) → Acknowledged world node number places → place < places
-      → HasCome world lists node host changes number place
+      → HasCome world lists asked node host changes number place
   -- so is each place of each message that a node has added itself, as a report
   pub added : (node : ℕ) (host : Host D) (changes : List Change) → StandsAt world lists node host changes
-      → (number place : ℕ) → Added changes number place → HasCome world lists node host changes number place
+      → (number place : ℕ) → Added changes number place → HasCome world lists asked node host changes number place
   -- each transferred place was accepted by its next hop: a node of ours holds the place by one message with the values
   -- of the original
   pub transferred : (node : ℕ) (host : Host D) (changes : List Change) → StandsAt world lists node host changes
@@ -80,7 +105,7 @@ pub record KeepsPromise {D : Type 0} (honest : Type 0) (words : DiskWords D) (wo
   -- mail that goes from node to node is accepted at most 100 times
   pub chains : KeepsChainsShort world lists
   -- a place is tried once at a time, in an attempt whose link leads to its hop's node, or to outside
-  pub once : IsTriedOnce world lists
+  pub once : IsTriedOnce world lists asked
   pub linked : AreLinkedToHops world
   -- each line of the ledger has its source
   pub sources : HasSources world lists
@@ -88,12 +113,14 @@ pub record KeepsPromise {D : Type 0} (honest : Type 0) (words : DiskWords D) (wo
   pub delays : (node : ℕ) (host : Host D) (changes : List Change) → StandsAt world lists node host changes
       → DelaysOnce changes
 
--- From a world with the invariant, in which each place is tried once, attempts have the right links and ledger lines
--- their sources, any number of events on honest disks lead to a world that keeps the promise. All that was recorded,
--- written and read is still there, and attempts have only moved on.
+-- After any number of events, on honest disks, relays that were bound, tried each place once, had the links that they
+-- were meant to have, and lines with their sources, keep the promise, with what the postmaster has asked for until
+-- then, and have all that they had recorded, told, written and read, and the attempts that they had.
 abbrev pub PromiseIsKept : {D : Type 0} → Type 0 → DiskWords D → Type 0
 PromiseIsKept {D} honest words =
-    honest → (count : ℕ) (old new : World D) (lists : List (List Change)) → IsBound honest words old lists
-    → IsTriedOnce old lists → AreLinkedToHops old → HasSources old lists → Happen honest words count old new
-    → (later : List (List Change)) × IsBound honest words new later × KeepsPromise honest words new later
+    honest → (count : ℕ) (old new : World D) (lists : List (List Change)) (asked : List Withdrawing)
+    → IsBound honest words old lists → IsTriedOnce old lists asked → AreLinkedToHops old → HasSources old lists
+    → (run : Happen honest words count old new)
+    → (later : List (List Change)) × IsBound honest words new later
+    × KeepsPromise honest words new later (asked_in honest words count old new run asked)
     × HasGrown old new × AttemptsGrow old new × ListsGrow lists later

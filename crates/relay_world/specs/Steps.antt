@@ -7,7 +7,6 @@ use Rattle.relay_book.specs.declared.change.Change.{Change}
 use Rattle.relay_attempts.specs.declared.reply.Replied.{Replied}
 use Rattle.relay_attempts.specs.Reply.{IsLost, Told}
 use Rattle.relay_attempts.specs.declared.start.Started.{Started}
-use Rattle.relay_attempts.specs.Outcomes.{AddsUnroutable}
 use Rattle.relay_node.specs.Attempts.{Begins, Replies, Tells}
 use Rattle.relay_node.specs.declared.node.Connected.{Connected}
 use Rattle.relay_node.specs.declared.receive.Received.{Received}
@@ -24,6 +23,7 @@ use Rattle.relay_world.specs.declared.link.Link.{Link}
 use Rattle.relay_world.specs.declared.link.ServerEnd.{ServerEnd}
 use Rattle.relay_world.specs.Bound.{IsBound}
 use Rattle.relay_world.specs.Ledger.{left_lines, report_told}
+use Rattle.relay_world.specs.GivingUp.{AddsGivenUp, Reason}
 use Rattle.relay_world.specs.HopLinks.{IsLinkedToHop}
 use Rattle.relay_world.specs.World.{Host, Up, World, link_at}
 use Rattle.relay_report.specs.Report.{reporter_of}
@@ -341,8 +341,9 @@ pub record HasStarted {D : Type 0} (honest : Type 0) (words : DiskWords D) (old 
   pub linked : IsLinkedToHop new attempt
   pub rest : (new.ledger ≡ old.ledger) × (new.clock ≡ old.clock) × (length new.hosts ≡ length old.hosts)
 
--- A node has given up the places of a message that have no hop, by the change of this number. No link is involved.
-pub record HasGivenUp {D : Type 0} (honest : Type 0) (words : DiskWords D) (old new : World D) (node message change : ℕ)
+-- A node has given up places of a message without an attempt, in the change of this number. No link is theirs.
+pub record HasGivenUp {D : Type 0} (honest : Type 0) (words : DiskWords D) (old new : World D) (reason : Reason)
+    (node message change : ℕ)
     : Type 0
   where
     pub host : Host D
@@ -351,9 +352,8 @@ pub record HasGivenUp {D : Type 0} (honest : Type 0) (words : DiskWords D) (old 
     pub up : host.state ≡ Up before
     pub after : NodeState D
     pub gives_up : (changes : List Change) → Keeps honest words before.records changes
-        → AddsUnroutable honest words (reporter_of before.config) before.config.routes message old.clock changes
-        before.records
-        after.records change
+        → AddsGivenUp honest words (reporter_of before.config) before.config.routes reason message old.clock changes
+        before.records after.records change
     pub config : after.config ≡ before.config
     pub seats : after.seats ≡ before.seats
     pub attempts : after.attempts ≡ before.attempts
@@ -427,8 +427,8 @@ StartingKeeps {D} honest words =
 
 abbrev pub GivingUpKeeps : {D : Type 0} → Type 0 → DiskWords D → Type 0
 GivingUpKeeps {D} honest words =
-    (old new : World D) (lists : List (List Change)) (node message change : ℕ) → IsBound honest words old lists
-    → HasGivenUp honest words old new node message change
+    (old new : World D) (lists : List (List Change)) (reason : Reason) (node message change : ℕ)
+    → IsBound honest words old lists → HasGivenUp honest words old new reason node message change
     → (later : List (List Change)) × IsBound honest words new later
 
 abbrev pub TickingKeeps : {D : Type 0} → Type 0 → DiskWords D → Type 0

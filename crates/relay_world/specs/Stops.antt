@@ -14,7 +14,6 @@ use Rattle.relay_records.specs.declared.fault.Cause.{Cause}
 use Rattle.relay_records.specs.ListLaws.{IsNoFaultOfImage}
 use Rattle.relay_records.specs.Open.{FailsFor, Opens, RefusesImage}
 use Rattle.relay_records.specs.Records.{Compacts, IsStopped, Keeps, Kept}
-use Rattle.relay_attempts.specs.Outcomes.{CutsUnroutable}
 use Rattle.relay_attempts.specs.Reply.{CutsLoss, CutsReply, Told}
 use Rattle.relay_node.specs.Attempts.{Tells}
 use Rattle.relay_node.specs.Node.{CutsTalk, IsFused, IsIdle, SeatHasSaid, NodeState}
@@ -26,7 +25,8 @@ use Rattle.relay_world.specs.declared.link.ServerEnd.{ServerEnd}
 use Rattle.relay_world.specs.Bound.{HasSession, HasSlot, IsBound, StandsAt}
 use Rattle.relay_world.specs.Ledger.{lines_of}
 use Rattle.relay_world.specs.Steps.{AttemptOf, IsPut, IsPutAt, SessionOf, waiting_down, waiting_up}
-use Rattle.relay_world.specs.World.{Down, FromClient, FromLoss, FromNoHop, FromReplies, Host, Origin, Undecided, Up}
+use Rattle.relay_world.specs.GivingUp.{CutsGivenUp, Reason}
+use Rattle.relay_world.specs.World.{Down, FromClient, FromLoss, FromGivingUp, FromReplies, Host, Origin, Undecided, Up}
 use Rattle.relay_world.specs.World.{World, link_at}
 use Rattle.relay_report.specs.Report.{reporter_of}
 
@@ -182,9 +182,10 @@ pub record StopsLosing {D : Type 0} (honest : Type 0) (words : DiskWords D) (old
       → CutsLoss honest words (reporter_of of.before.config) old.clock changes of.slot told stopped
   pub drops : DropsAtStop honest words old new number of stopped (FromLoss number of.place of.attempt.message)
 
--- A node has stopped in a call that gave up the places of a message without a hop: its device failed while their
+-- A node has stopped in a call that gave up places of a message without an attempt, as its device failed while their
 -- outcome was added.
-pub record StopsGivingUp {D : Type 0} (honest : Type 0) (words : DiskWords D) (old new : World D) (node message : ℕ)
+pub record StopsGivingUp {D : Type 0} (honest : Type 0) (words : DiskWords D) (old new : World D) (reason : Reason)
+    (node message : ℕ)
     : Type 0
   where
     pub host : Host D
@@ -196,14 +197,14 @@ pub record StopsGivingUp {D : Type 0} (honest : Type 0) (words : DiskWords D) (o
     pub stopped : Kept D
     pub failed : IsStopped words before.records stopped
     pub cuts : (changes : List Change) → Keeps honest words before.records changes
-        → CutsUnroutable honest words (reporter_of before.config) before.config.routes message old.clock changes
+        → CutsGivenUp honest words (reporter_of before.config) before.config.routes reason message old.clock changes
         before.records stopped
     pub noted : Noted
     pub note_is : stopped.noted ≡ Some noted
     pub disk : Disks D
     pub left : IsLeftBy honest words stopped disk
     pub hosts : IsPut old.hosts new.hosts node
-        (record host { state = Down disk (Some (record { note = noted; origin = FromNoHop message })) })
+        (record host { state = Down disk (Some (record { note = noted; origin = FromGivingUp message })) })
     pub rest : OnlyHostsChange old new
 
 -- A node that is down stays down, and its disks leave no images that they didn't leave before: they were refused, or
@@ -255,7 +256,7 @@ Finds old new note (FromClient number) = FindsAccept old new number note.used
 Finds old new note (FromReplies number place message) =
     FindsOutcome old new number place note.used (Replied note.number)
 Finds old new note (FromLoss number place message) = FindsOutcome old new number place note.used (Lost note.number)
-Finds old new note (FromNoHop message) = (new.links ≡ old.links) × (new.attempts ≡ old.attempts)
+Finds old new note (FromGivingUp message) = (new.links ≡ old.links) × (new.attempts ≡ old.attempts)
 
 -- the node has the undecided change
 pub record HasFound {D : Type 0} (old new : World D) (node : ℕ) (host : Host D) (after : NodeState D)
@@ -322,8 +323,9 @@ StoppingLosingKeeps {D} honest words =
 
 abbrev pub StoppingGivingUpKeeps : {D : Type 0} → Type 0 → DiskWords D → Type 0
 StoppingGivingUpKeeps {D} honest words =
-    (old new : World D) (lists : List (List Change)) (node message : ℕ) → IsBound honest words old lists
-    → StopsGivingUp honest words old new node message → IsBound honest words new lists
+    (old new : World D) (lists : List (List Change)) (reason : Reason) (node message : ℕ)
+    → IsBound honest words old lists → StopsGivingUp honest words old new reason node message
+    → IsBound honest words new lists
 
 abbrev pub StayingDownKeeps : {D : Type 0} → Type 0 → DiskWords D → Type 0
 StayingDownKeeps {D} honest words =

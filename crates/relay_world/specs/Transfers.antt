@@ -10,6 +10,7 @@ use Rattle.relay_world.specs.declared.link.Link.{Link}
 use Rattle.relay_world.specs.Bound.{IsBound, StandsAt}
 use Rattle.relay_world.specs.Children.{HasAnswers, HasOneChild, IsAttempt}
 use Rattle.relay_world.specs.HopLinks.{AreLinkedToHops, LeadsTo}
+use Rattle.relay_world.specs.GivingUp.{Withdrawing}
 use Rattle.relay_world.specs.Once.{GoesToHop, IsTriedOnce}
 use Rattle.relay_world.specs.Passing.{AcceptsPlace}
 use Rattle.relay_world.specs.World.{Host, World}
@@ -42,7 +43,8 @@ pub record HasPassedOn {D : Type 0} (world : World D) (lists : List (List Change
 -- Each transferred place was accepted so.
 abbrev pub TransferredIsAccepted : {D : Type 0} → Type 0 → DiskWords D → Type 0
 TransferredIsAccepted {D} honest words =
-    (world : World D) (lists : List (List Change)) → IsBound honest words world lists → IsTriedOnce world lists
+    (world : World D) (lists : List (List Change)) (asked : List Withdrawing) → IsBound honest words world lists
+    → IsTriedOnce world lists asked
     → AreLinkedToHops world → (node : ℕ) (host : Host D) (changes : List Change)
     → StandsAt world lists node host changes
     → (message place : ℕ) → Transferred changes message place

@@ -11,6 +11,7 @@ use Rattle.relay_world.specs.declared.attempt.Fate.TheVariants.{Replied}
 use Rattle.relay_world.specs.declared.line.Line.TheVariants.{Accepted, Became}
 use Rattle.relay_world.specs.declared.link.Link.{Link}
 use Rattle.relay_world.specs.declared.link.ServerEnd.{ServerEnd}
+use Rattle.relay_world.specs.GivingUp.{Reason}
 use Rattle.relay_world.specs.Crashes.{CrashesCompacting, CrashesGivingUp, CrashesHearing, CrashesLosing, CrashesReading}
 use Rattle.relay_world.specs.Growth.{AttemptsGrow, HasGrown}
 use Rattle.relay_world.specs.Lines.{HasSources}
@@ -76,11 +77,12 @@ HealingBreaks D = (old new : World D) → Heals old new → HasGrown old new →
 -- A node stops in a call only because its device has failed there, whatever the call.
 abbrev pub StoppingIsFailing : {D : Type 0} → Type 0 → DiskWords D → Type 0
 StoppingIsFailing {D} honest words =
-    (old new : World D) (number count node message : ℕ)
+    (old new : World D) (reason : Reason) (number count node message : ℕ)
     → ((crash : CrashesHearing honest words old new number count)
     → IsStopped words crash.of.before.records crash.stopped)
     × ((crash : CrashesReading honest words old new number count)
     → IsStopped words crash.of.before.records crash.stopped)
     × ((crash : CrashesLosing honest words old new number) → IsStopped words crash.of.before.records crash.stopped)
-    × ((crash : CrashesGivingUp honest words old new node message) → IsStopped words crash.before.records crash.stopped)
+    × ((crash : CrashesGivingUp honest words old new reason node message)
+    → IsStopped words crash.before.records crash.stopped)
     × ((crash : CrashesCompacting honest words old new node) → IsStopped words crash.before.records crash.stopped)

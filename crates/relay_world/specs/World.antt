@@ -10,12 +10,12 @@ use Rattle.relay_world.specs.declared.line.Line.{Line}
 use Rattle.relay_world.specs.declared.link.Link.{Link}
 
 -- The cause of a change: octets that a client wrote on a link; replies that the attempt at an index read, or the loss
--- of its link, with the attempt's message; or places of a message that had no hop.
+-- of its link, with the attempt's message; or places of a message that the node gave up without an attempt.
 pub data Origin : Type 0 where
   FromClient : (link : ℕ) → Origin
   FromReplies : (link place message : ℕ) → Origin
   FromLoss : (link place message : ℕ) → Origin
-  FromNoHop : (message : ℕ) → Origin
+  FromGivingUp : (message : ℕ) → Origin
 
 -- the change that a stop left undecided: its note, and its cause
 pub record Undecided : Type 0 where

@@ -12,7 +12,7 @@ ghost use Rattle.relay_world.specs.Invented.{InventingBreaks};
 ghost use Rattle.relay_world.specs.HopLinks.{HopLinksAtFirst};
 ghost use Rattle.relay_world.specs.Once.{HopLinksAreKept, OnceAtFirst, OnceIsKept, RunsKeepAll};
 ghost use Rattle.relay_world.specs.Passing.{AtMostOneChild, OthersAreNotHeld, TakenIsAccepted};
-ghost use Rattle.relay_world.specs.Promise.{PromiseIsKept};
+ghost use Rattle.relay_world.specs.Promise.{PromiseIsKept, UnaskedIsKept};
 ghost use Rattle.relay_world.specs.Transfers.{TransferredIsAccepted};
 ghost use Rattle.relay_world.specs.Unsound.{ForgettingOutcomeBreaks, HealingBreaks, MisnamingBreaks};
 ghost use Rattle.relay_world.specs.Unsound.{StoppingIsFailing};
@@ -162,6 +162,12 @@ pub fn grown_lists_begin<D: Disk>()
 /// relayed, each line of the ledger has its source, and attempts have gone on or ended.
 pub fn promise_is_kept<D: Disk>()
     ensures { PromiseIsKept D.honest D.words }
+{}
+
+/// Where the postmaster has asked for nothing, of each recipient has come one of three: it is held, its next hop has
+/// accepted it, or it has ended for a cause that isn't his.
+pub fn unasked_is_kept<D: Disk>()
+    ensures { UnaskedIsKept D }
 {}
 
 /// Crashing in a call preserves that each place is tried once.

@@ -5,10 +5,10 @@ ghost use Rattle.std.specs.List.{AllByRecursion, flat_map};
 ghost use Rattle.relay_pieces.specs.Pieces.{text_of};
 ghost use Rattle.relay_book.specs.Book.{if_there, live};
 ghost use Rattle.relay_book.specs.Queue.{empty_queue, last_number};
-ghost use Rattle.relay_book.specs.declared.version.Version.TheVariants.{WithDelay};
+ghost use Rattle.relay_book.specs.declared.version.SnapshotVersion.TheVariants.{WithDelay};
 ghost use Rattle.relay_book.specs.Snapshot.{IsNoSnapshot, IsQueue, IsQueued, IsSnapshotOf, entry_octets, snapshot};
 ghost use Rattle.relay_book.specs.Snapshot.{snapshot_kind};
-ghost use Rattle.relay_book.specs.declared.version.Version.{Version as AnyVersion};
+ghost use Rattle.relay_book.specs.declared.version.SnapshotVersion.{SnapshotVersion as AnyVersion};
 ghost use Rattle.relay_book.specs.SnapshotFields.{AreEntries, HasNoEntries, HoldsHead, MayBeSnapshot, SpellsCounts};
 ghost use Rattle.relay_book.specs.SnapshotFields.{SpellsNoCounts, SpellsNoSnapshot, SpellsSnapshot, entries_length};
 
@@ -20,7 +20,7 @@ use crate::field::{push_1, push_4, push_8, read_4, read_8};
 use crate::length::{ENTRY_HEAD, entry_length};
 use crate::limits::LAST_NUMBER;
 use crate::message::Message;
-use crate::version::Version;
+use crate::version::SnapshotVersion;
 use indexmap::IndexMap;
 use relay_pieces::Pieces;
 use std::alloc::{AllocError, Global};
@@ -71,7 +71,7 @@ impl Book {
     fn read_entries(
         &mut self,
         alloc: Global,
-        version: Version,
+        version: SnapshotVersion,
         next: u64,
         count: u32,
         mut text: Pieces,
@@ -103,7 +103,7 @@ impl Book {
 
 /// Returns the version of a snapshot, the next number and the count of messages, which are let go.
 #[tactic(auto, using(crate::proofs::PieceLemmas::heads_in_pieces))]
-fn next_head(octets: &mut Pieces) -> Result<(Version, u64, u32), BookFault>
+fn next_head(octets: &mut Pieces) -> Result<(SnapshotVersion, u64, u32), BookFault>
     ensures head { IfOk result (λ parts.
         SpellsSnapshot parts.0 (text_of octets.old) parts.1 parts.2 (text_of octets.new)) }
     ensures bad { IsErrOf result BookFault.BadRecord → SpellsNoSnapshot (text_of octets.old) }
@@ -122,7 +122,7 @@ fn next_head(octets: &mut Pieces) -> Result<(Version, u64, u32), BookFault>
 /// Returns the version of a snapshot, by its first octet, the next number, the count of messages, and what follows
 /// them.
 #[tactic(auto, using(crate::proofs::SnapshotReadLemmas::snapshot_heads))]
-fn read_head(octets: &[u8]) -> Option<(Version, u64, u32, &[u8])>
+fn read_head(octets: &[u8]) -> Option<(SnapshotVersion, u64, u32, &[u8])>
     ensures { MatchOption result (SpellsNoSnapshot octets.now)
         (λ parts. SpellsSnapshot parts.0 octets.now parts.1 parts.2 parts.3.now) }
 {
@@ -134,13 +134,13 @@ fn read_head(octets: &[u8]) -> Option<(Version, u64, u32, &[u8])>
 
 /// Returns the version of a snapshot with this first octet.
 #[tactic(auto, using(crate::proofs::SnapshotReadLemmas::no_version))]
-fn version_of(kind: u8) -> Option<Version>
+fn version_of(kind: u8) -> Option<SnapshotVersion>
     ensures { MatchOption result ((version : AnyVersion) → kind ≢ snapshot_kind version)
         (λ version. kind ≡ snapshot_kind version) }
 {
     match kind {
-        3 => Some(Version::WithoutDelay),
-        5 => Some(Version::WithDelay),
+        3 => Some(SnapshotVersion::WithoutDelay),
+        5 => Some(SnapshotVersion::WithDelay),
         _ => None,
     }
 }

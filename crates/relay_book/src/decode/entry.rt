@@ -13,7 +13,7 @@ use crate::fault::BookFault;
 use crate::field::{read_8, read_sized_4};
 use crate::limits::text_limit;
 use crate::message::{Message, Places};
-use crate::version::Version;
+use crate::version::SnapshotVersion;
 use relay_envelope::{Envelope, Recipients};
 use relay_octets::Octets;
 use relay_pieces::Pieces;
@@ -35,7 +35,11 @@ type EntryFields<'a> = (
 );
 
 /// Cuts a message into its fields.
-fn split_entry(alloc: Global, version: Version, text: &[u8]) -> Result<EntryFields<'_>, BookFault>
+fn split_entry(
+    alloc: Global,
+    version: SnapshotVersion,
+    text: &[u8],
+) -> Result<EntryFields<'_>, BookFault>
     ensures fields { IfOk result (λ parts. SpellsEntry
         version text.now parts.0 parts.1 parts.2.now parts.3 parts.4.now parts.5 parts.6 parts.7.now parts.8.now) }
     ensures bad { IsErrOf result BookFault.BadRecord → HasNone (IsQueuedBy version) (entry_octets version) text.now }
@@ -68,7 +72,11 @@ fn split_entry(alloc: Global, version: Version, text: &[u8]) -> Result<EntryFiel
 
 /// Returns a message, with a copy of its stored text, and what follows it.
 #[tactic(auto, using(crate::proofs::EntryFieldLemmas::refused_entries))]
-fn read_entry(alloc: Global, version: Version, text: &[u8]) -> Result<(Message, &[u8]), BookFault>
+fn read_entry(
+    alloc: Global,
+    version: SnapshotVersion,
+    text: &[u8],
+) -> Result<(Message, &[u8]), BookFault>
     ensures entry { IfOk result (λ parts. IsQueuedBy version (numbered parts.0)
         × (text.now ≡ entry_octets version (numbered parts.0) ++ parts.1.now)) }
     ensures bad { IsErrOf result BookFault.BadRecord → HasNone (IsQueuedBy version) (entry_octets version) text.now }
@@ -106,7 +114,7 @@ fn read_entry(alloc: Global, version: Version, text: &[u8]) -> Result<(Message, 
 #[tactic(auto, using(crate::proofs::EntryFieldLemmas::none_in, crate::proofs::EntryFieldLemmas::out_of_row))]
 fn read_entry_in(
     alloc: Global,
-    version: Version,
+    version: SnapshotVersion,
     least: u64,
     next: u64,
     text: &[u8],
@@ -127,7 +135,7 @@ fn read_entry_in(
 #[tactic(auto, using(crate::proofs::PieceLemmas::behind_first, crate::proofs::PieceLemmas::first_behind))]
 fn read_front(
     alloc: Global,
-    version: Version,
+    version: SnapshotVersion,
     least: u64,
     next: u64,
     text: &mut Pieces,
@@ -150,7 +158,7 @@ fn read_front(
 #[tactic(auto, using(crate::proofs::PieceLemmas::none_in_all))]
 pub(crate) fn next_entry(
     alloc: Global,
-    version: Version,
+    version: SnapshotVersion,
     least: u64,
     next: u64,
     text: &mut Pieces,

@@ -15,7 +15,7 @@ use crate::fault::BookFault;
 use crate::field::read_8;
 use crate::message::{Place, Places};
 use crate::retry::LEFT_PLACE;
-use crate::version::Version;
+use crate::version::SnapshotVersion;
 use relay_envelope::{Rcpt, Recipient, Recipients};
 use std::alloc::{AllocError, Global};
 
@@ -75,13 +75,13 @@ fn waiting_place(laters: u8, delayed: bool, due: u64) -> Place
 /// Returns whether a place was reported as delayed, and what follows it: the first version says nothing, which counts
 /// as 0.
 #[tactic(auto, using(crate::proofs::PlacedLemmas::said_of_delay))]
-fn split_delay(version: Version, text: &[u8]) -> Option<(u8, &[u8])>
+fn split_delay(version: SnapshotVersion, text: &[u8]) -> Option<(u8, &[u8])>
     ensures { MatchOption result (HasNoDelay version text.now)
         (λ parts. SpellsDelay version text.now parts.0 parts.1.now) }
 {
     match version {
-        Version::WithoutDelay => Some((0, text)),
-        Version::WithDelay => {
+        SnapshotVersion::WithoutDelay => Some((0, text)),
+        SnapshotVersion::WithDelay => {
             let (delayed, rest) = text.split_first()?;
             Some((*delayed, rest))
         }
@@ -90,7 +90,7 @@ fn split_delay(version: Version, text: &[u8]) -> Option<(u8, &[u8])>
 
 /// Returns the fields of a place, and what follows them.
 #[tactic(auto, using(crate::proofs::PlacedLemmas::place_fields))]
-fn split_place(version: Version, text: &[u8]) -> Option<(u8, u8, u8, u64, &[u8])>
+fn split_place(version: SnapshotVersion, text: &[u8]) -> Option<(u8, u8, u8, u64, &[u8])>
     ensures { MatchOption result (HasNoPlaceFields version text.now)
         (λ parts. SpellsPlace version text.now parts.0 parts.1 parts.2 parts.3 parts.4.now) }
 {
@@ -105,7 +105,7 @@ fn split_place(version: Version, text: &[u8]) -> Option<(u8, u8, u8, u64, &[u8])
 
 /// Returns a place, and what follows it.
 #[tactic(auto, using(crate::proofs::PlacedLemmas::judged_places))]
-fn read_place(version: Version, text: &[u8]) -> Option<(Place, &[u8])>
+fn read_place(version: SnapshotVersion, text: &[u8]) -> Option<(Place, &[u8])>
     ensures { MatchOption result (HasNone (IsPlaceBy version) (place_octets version) text.now)
         (λ parts. IsPlaceBy version parts.0 × (text.now ≡ place_octets version parts.0 ++ parts.1.now)) }
 {
@@ -116,7 +116,7 @@ fn read_place(version: Version, text: &[u8]) -> Option<(Place, &[u8])>
 
 /// Returns a recipient and its place, and what follows them.
 #[tactic(auto, using(crate::proofs::PlacedLemmas::placed_recipients))]
-fn read_one(version: Version, text: &[u8]) -> Option<(Rcpt<'_>, Place, &[u8])>
+fn read_one(version: SnapshotVersion, text: &[u8]) -> Option<(Rcpt<'_>, Place, &[u8])>
     ensures { MatchOption result (HasNone (IsPlacedBy version) (placed_octets version) text.now)
         (λ parts. IsPlacedBy version (recipient_from (rcpt_value parts.0), parts.1)
         × (text.now ≡ placed_octets version (recipient_from (rcpt_value parts.0), parts.1) ++ parts.2.now)) }
@@ -139,7 +139,7 @@ fn push_place(places: &mut Vec<Place>, place: Place) -> Result<(), AllocError>
 /// Returns this many recipients and their places, and what follows them.
 fn read_row(
     alloc: Global,
-    version: Version,
+    version: SnapshotVersion,
     count: u8,
     text: &[u8],
 ) -> Result<(Recipients, Vec<Place>, &[u8]), BookFault>
@@ -167,7 +167,7 @@ fn read_row(
 #[tactic(auto, using(crate::proofs::RowLemmas::refused_rows, crate::proofs::PlacedLemmas::placed_rows))]
 pub(super) fn read_placed(
     alloc: Global,
-    version: Version,
+    version: SnapshotVersion,
     text: &[u8],
 ) -> Result<(Recipients, Places, &[u8]), BookFault>
     ensures placed { IfOk result (λ parts. ReadsPlaced version text.now parts.0 parts.1 parts.2.now) }

@@ -6,7 +6,7 @@ ghost use Rattle.relay_book.specs.Record.{IsRefusal, IsRuling, IsVerdict, counte
 ghost use Rattle.relay_book.specs.Fields.{AreSoMany, AreSome, HasCount, HasNoCounted, HasNoRefusal, HasNoRow, HasNone};
 ghost use Rattle.relay_book.specs.Fields.{refusal_octets};
 
-use crate::change::{Ruling, Rulings, Verdict};
+use crate::change::{Ruling, Rulings, Verdict, Withdrawal};
 use crate::fault::BookFault;
 use crate::field::read_2;
 use crate::limits::{REFUSAL_LIMIT, is_printable, is_reply_code};
@@ -53,6 +53,8 @@ fn read_verdict(alloc: Global, text: &[u8]) -> Result<(Verdict, &[u8]), BookFaul
         4 => Ok((Verdict::Later, rest)),
         5 => Ok((Verdict::CantSend, rest)),
         6 => Ok((Verdict::NoRoute, rest)),
+        7 => Ok((Verdict::Withdrawn(Withdrawal::Return), rest)),
+        8 => Ok((Verdict::Withdrawn(Withdrawal::Discard), rest)),
         _ => Err(BookFault::BadRecord),
     }
 }

@@ -1,6 +1,6 @@
 //! Verdicts as the transcripts have them.
 use itoa::Buffer;
-use relay_book::Verdict;
+use relay_book::{Verdict, Withdrawal};
 use relay_client::Verdicts;
 use std::alloc::{AllocError, Global};
 
@@ -29,5 +29,7 @@ fn push_verdict(out: &mut Vec<u8>, verdict: &Verdict) -> Result<(), AllocError> 
         Verdict::Later => out.extend_from_slice(b"Later"),
         Verdict::CantSend => out.extend_from_slice(b"CantSend"),
         Verdict::NoRoute => out.extend_from_slice(b"NoRoute"),
+        Verdict::Withdrawn(Withdrawal::Return) => out.extend_from_slice(b"Returned"),
+        Verdict::Withdrawn(Withdrawal::Discard) => out.extend_from_slice(b"Discarded"),
     }
 }

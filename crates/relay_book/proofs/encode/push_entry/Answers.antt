@@ -3,7 +3,7 @@ use Rattle.std.specs.List.{zip}
 use Rattle.std.proofs.lemmas.Result.{on_ok_weaker}
 use Rattle.relay_envelope.specs.declared.envelope.Recipient.{Recipient}
 use Rattle.relay_book.specs.declared.message.Place.{Place}
-use Rattle.relay_book.specs.declared.version.Version.TheVariants.{WithDelay}
+use Rattle.relay_book.specs.declared.version.SnapshotVersion.TheVariants.{WithDelay}
 use Rattle.relay_book.specs.Record.{counted, sized_4}
 use Rattle.relay_book.specs.Snapshot.{placed_octets}
 use Rattle.relay_book.proofs.WriteLemmas.{entry_written}

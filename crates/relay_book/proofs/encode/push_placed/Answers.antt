@@ -1,4 +1,4 @@
-use Rattle.relay_book.specs.declared.version.Version.TheVariants.{WithDelay}
+use Rattle.relay_book.specs.declared.version.SnapshotVersion.TheVariants.{WithDelay}
 use Rattle.relay_book.proofs.PlacedLemmas.{row_written}
 use Rattle.relay_book.proofs.encode.push_placed.Goals as goal
 

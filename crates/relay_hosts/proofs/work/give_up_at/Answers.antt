@@ -3,7 +3,7 @@ use Rattle.std.specs.Prelude.{vec_capacity, vec_len}
 use Rattle.relay_attempts.specs.Outcomes.{RefusesToGiveUp}
 use Rattle.relay_hosts.specs.Call.{is_stop}
 use Rattle.relay_hosts.proofs.CallLemmas.{noted_some, notes_one, owed_stopped, owes_noted, stop_is}
-use Rattle.relay_hosts.proofs.WorkLemmas.{given_up_same, owes_unchanged, refuses_giving_up, same_node, stops_giving_up}
+use Rattle.relay_hosts.proofs.WorkLemmas.{given_up_same, owes_unchanged, refuses_giving_up, same_node, stops_giving_up, unroutable_given}
 use Rattle.relay_hosts.proofs.work.give_up_at.Goals as goal
 use Rattle.relay_report.specs.Report.{reporter_of}
 
@@ -67,7 +67,10 @@ returns-clause-given g c = record {
   before = c.args.node.now;
   up = search rules;
   after = c.give_up_unroutable.new.self;
-  gives_up = c.in-Ok-give_up_unroutable.ensures.gives_up;
+  gives_up = λ changes keeps.
+      unroutable_given g.D.Disk.honest g.D.Disk.words (reporter_of c.args.node.now.config) c.args.node.now.config.routes c.args.message
+      c.args.now changes c.args.node.now.records c.give_up_unroutable.new.self.records _
+      (c.in-Ok-give_up_unroutable.ensures.gives_up changes keeps);
   config = c.in-Ok-give_up_unroutable.ensures.rest.0;
   seats = c.in-Ok-give_up_unroutable.ensures.rest.1;
   attempts = c.in-Ok-give_up_unroutable.ensures.rest.2;

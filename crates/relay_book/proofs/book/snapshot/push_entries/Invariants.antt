@@ -2,7 +2,7 @@
 use Rattle.std.proofs.Common.{◌≡◌, ◌++◌, drop}
 use Rattle.std.specs.List.{AllByRecursion, flat_map}
 use Rattle.relay_book.specs.Book.{live}
-use Rattle.relay_book.specs.declared.version.Version.TheVariants.{WithDelay}
+use Rattle.relay_book.specs.declared.version.SnapshotVersion.TheVariants.{WithDelay}
 use Rattle.relay_book.specs.Snapshot.{IsQueued, entry_octets}
 use Rattle.relay_book.proofs.book.snapshot.push_entries.Given as goal
 

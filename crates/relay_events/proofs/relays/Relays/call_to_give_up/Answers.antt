@@ -1,6 +1,7 @@
 use Rattle.std.proofs.Common.{◌≡◌, length, Some, refl, subst, sym, arith, rules}
 use Rattle.std.specs.Prelude.{slice_get, slice_index_or, vec_len}
 use Rattle.relay_attempts.specs.declared.work.Work.TheVariants.{NoRoute}
+use Rattle.relay_world.specs.GivingUp.{NoHop}
 use Rattle.relay_events.specs.Relays.{world_of}
 use Rattle.relay_hosts.specs.Work.{GivesUpOrNot, GivesUpUnlessFull, HasChanges, works_in}
 use Rattle.relay_events.proofs.GiveLemmas.{first_has}
@@ -34,14 +35,16 @@ returns-clause-called g c =
     let same = value_same old.hosts c.args.node first.host was first.host_at at in
     let its = subst (λ h. slice_get (works_in old.clock h.state) 0 ≡ Some (NoRoute c.args.message)) (sym same) first.first in
     record {
-      was = first.host;
-      was_at = first.host_at;
-      has = first_has g.D.Disk.honest g.D.Disk.words old c.args.node (NoRoute c.args.message) first c.requires.bound;
-      now = c.give_up.new.self;
-      gives = subst
-          (λ h. GivesUpOrNot g.D.Disk.honest g.D.Disk.words old.clock h c.give_up.new.self c.args.message c.give_up.result) same
-          c.give_up.ensures.given;
+      called = record {
+        was = first.host;
+        was_at = first.host_at;
+        has = first_has g.D.Disk.honest g.D.Disk.words old c.args.node (NoRoute c.args.message) first c.requires.bound;
+        now = c.give_up.new.self;
+        gives = subst
+            (λ h. GivesUpOrNot g.D.Disk.honest g.D.Disk.words NoHop old.clock h c.give_up.new.self c.args.message c.give_up.result)
+            same c.give_up.ensures.given;
+        new_is = refl;
+      };
       first = subst (λ h. GivesUpUnlessFull g.D.Disk.honest g.D.Disk.words old.clock h c.args.message c.give_up.result) same
           (c.give_up.ensures.first its);
-      new_is = refl;
     }

@@ -1,4 +1,5 @@
 use Rattle.std.proofs.Common.{sym, subst, ap, ◌∙◌}
+use Rattle.relay_world.specs.GivingUp.{NoHop}
 use Rattle.relay_world.specs.World.{Host}
 use Rattle.relay_hosts.specs.Host.{host_in, host_of}
 use Rattle.relay_hosts.specs.Work.{GivesUpOrNot, HasChanges}
@@ -12,7 +13,7 @@ give_up_at-requires-clause-changes g c =
 
 pub returns : goal.returns
 returns g c =
-    let given = subst (λ (h : Host g.row.D.Denot). GivesUpOrNot g.D.Disk.honest g.D.Disk.words c.args.now h
+    let given = subst (λ (h : Host g.row.D.Denot). GivesUpOrNot g.D.Disk.honest g.D.Disk.words NoHop c.args.now h
     (host_of c.give_up_at.new.node c.give_up_at.new.records.items) c.args.message c.give_up_at.result)
     (sym (sym c.self.view_is ∙ ap (λ h. host_in h c.self.inside.records.items) c.in-Up.is)) c.give_up_at.ensures.given in
     record {

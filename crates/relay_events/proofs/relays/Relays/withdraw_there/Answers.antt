@@ -1,0 +1,177 @@
+use Rattle.std.proofs.Common.{inl, inr, ◌≤◌, ◌∷◌, [], ℕ, Err, refl, sym, subst, ap, arith, rules}
+use Rattle.std.specs.Prelude.{vec_capacity, vec_len}
+use Rattle.relay_book.specs.declared.change.Withdrawal.{Withdrawal}
+use Rattle.relay_world.specs.GivingUp.{Reason, Postmaster, asked_by}
+use Rattle.relay_events.specs.declared.event.Event.{Event}
+use Rattle.relay_events.specs.declared.event.Event.TheVariants.{Withdraw}
+use Rattle.relay_events.specs.Happened.{Asking, HasHappened, Unasked}
+use Rattle.relay_events.specs.Relays.{free_lines, world_of}
+use Rattle.relay_events.specs.Step.{CrashesInWithdrawing, Steps, Stops}
+use Rattle.relay_events.proofs.CarryLemmas.{same_order}
+use Rattle.relay_events.proofs.GiveUpLemmas.{called_same, few_given, given_bound, given_happened, given_room, given_told, halted_crash, halted_happened, halted_ready, halted_running, halted_short, unwithdrawn_same, unwithdrawn_steps, withdrawn_steps}
+use Rattle.relay_events.proofs.RunLemmas.{none_happened, still_bound_asking, then_happened}
+use Rattle.relay_events.proofs.StepLemmas.{done_steps}
+use Rattle.relay_events.proofs.relays.Relays.withdraw_there.Goals as goal
+
+abbrev by_him : Withdrawal → ℕ → Reason
+by_him withdrawal place = Postmaster withdrawal (place ∷ [])
+
+abbrev event_of : ℕ → ℕ → ℕ → Withdrawal → Event
+event_of node message place withdrawal = Withdraw node message place withdrawal
+
+pub note_left-requires : goal.note_left-requires
+note_left-requires g c =
+    let ledger = c.args.self.now.ledger in
+    let few = few_given g.D.Disk.honest g.D.Disk.words (by_him c.args.withdrawal c.args.place) (world_of c.args.self.now) (world_of c.call_to_withdraw.new.self)
+    c.args.node c.args.message c.in-Done.change c.in-Done.recorded c.in-Done.ensures.called in
+    let room = c.requires.room.lines in
+    let fits : vec_len ledger ≤ vec_capacity ledger = search rules in
+    let len = ap (λ l. vec_len l) c.call_to_withdraw.ensures.ledger in
+    let capacity = ap (λ l. vec_capacity l) c.call_to_withdraw.ensures.ledger in
+    omega (arith, few, room, fits, len, capacity)
+
+pub returns-in-Done-clause-steps : goal.returns-in-Done-clause-steps
+returns-in-Done-clause-steps g c =
+    withdrawn_steps g.D.Disk.honest g.D.Disk.words c.args.withdrawal c.args.place (world_of c.args.self.now)
+    (world_of c.call_to_withdraw.new.self) c.args.node c.args.message c.in-Done.change c.in-Done.recorded
+    c.in-Done.ensures.called (world_of c.note_left.new.self) c.note_left.ensures.world c.requires.up
+    c.requires.order.told
+
+pub returns-in-Done-clause-happened : goal.returns-in-Done-clause-happened
+returns-in-Done-clause-happened g c =
+    Asking (given_happened g.D.Disk.honest g.D.Disk.words (by_him c.args.withdrawal c.args.place) (world_of c.args.self.now)
+    (world_of c.call_to_withdraw.new.self) c.args.node c.args.message c.in-Done.change c.in-Done.recorded
+    c.in-Done.ensures.called (world_of c.note_left.new.self) c.note_left.ensures.world)
+
+pub returns-in-Done-clause-order : goal.returns-in-Done-clause-order
+returns-in-Done-clause-order g c =
+    let old = world_of c.args.self.now in
+    let called = world_of c.call_to_withdraw.new.self in
+    let new = world_of c.note_left.new.self in
+    let same_len = ap (λ l. vec_len l) c.call_to_withdraw.ensures.ledger in
+    let same_capacity = ap (λ l. vec_capacity l) c.call_to_withdraw.ensures.ledger in
+    let len = c.note_left.ensures.len in
+    let capacity = c.note_left.ensures.capacity in
+    record {
+      bound = given_bound g.D.Disk.honest g.D.Disk.words (by_him c.args.withdrawal c.args.place) old called c.args.node c.args.message c.in-Done.change
+          c.in-Done.recorded c.in-Done.ensures.called new c.note_left.ensures.world c.requires.honest c.runs_keep_all.ensures
+          c.requires.order.bound;
+      told = given_told g.D.Disk.honest g.D.Disk.words (by_him c.args.withdrawal c.args.place) old called c.args.node c.args.message c.in-Done.change
+          c.in-Done.recorded c.in-Done.ensures.called new c.note_left.ensures.world c.requires.order.told;
+      room = given_room g.D.Disk.honest g.D.Disk.words (by_him c.args.withdrawal c.args.place) old called c.args.node c.args.message c.in-Done.change
+          c.in-Done.recorded c.in-Done.ensures.called new c.note_left.ensures.world (free_lines c.args.self.now)
+          (free_lines c.note_left.new.self) c.requires.room.lines (omega (arith, same_len, same_capacity, len, capacity));
+    }
+
+pub returns-in-Refused-clause-steps : goal.returns-in-Refused-clause-steps
+returns-in-Refused-clause-steps g c =
+    let old = world_of c.args.self.now in
+    let new = world_of c.call_to_withdraw.new.self in
+    subst (λ f. Steps g.D.Disk.honest g.D.Disk.words old (event_of c.args.node c.args.message c.args.place c.args.withdrawal) new (Err f))
+    (sym c.fault_of.ensures)
+    (unwithdrawn_steps g.D.Disk.honest g.D.Disk.words c.args.withdrawal c.args.place old new c.args.node c.args.message
+    c.in-Refused.fault c.in-Refused.ensures.called c.requires.up c.requires.order.told)
+
+pub returns-in-Refused-clause-happened : goal.returns-in-Refused-clause-happened
+returns-in-Refused-clause-happened g c =
+    let old = world_of c.args.self.now in
+    Unasked (subst (λ w. HasHappened g.D.Disk.honest g.D.Disk.words old w)
+    (sym (unwithdrawn_same g.D.Disk.honest g.D.Disk.words c.args.withdrawal c.args.place old (world_of c.call_to_withdraw.new.self)
+    c.args.node c.args.message c.in-Refused.fault c.in-Refused.ensures.called)) (none_happened g.D.Disk.honest g.D.Disk.words old))
+
+pub returns-in-Refused-clause-order : goal.returns-in-Refused-clause-order
+returns-in-Refused-clause-order g c =
+    same_order g.D.Disk.honest g.D.Disk.words c.args.self.now c.call_to_withdraw.new.self
+    (unwithdrawn_same g.D.Disk.honest g.D.Disk.words c.args.withdrawal c.args.place (world_of c.args.self.now)
+    (world_of c.call_to_withdraw.new.self) c.args.node c.args.message c.in-Refused.fault c.in-Refused.ensures.called)
+    c.call_to_withdraw.ensures.ledger c.requires.order
+
+pub returns-in-NoRoom-clause-steps : goal.returns-in-NoRoom-clause-steps
+returns-in-NoRoom-clause-steps g c =
+    let calls = c.in-NoRoom.ensures.called in
+    inr (inl (
+      tt,
+      inl c.requires.up,
+      refl,
+      called_same g.D.Disk.honest g.D.Disk.words (by_him c.args.withdrawal c.args.place) (world_of c.args.self.now)
+          (world_of c.call_to_withdraw.new.self) c.args.node c.args.message calls.was calls.now calls.was_at calls.gives
+          calls.new_is,
+    ))
+
+pub returns-in-NoRoom-clause-happened : goal.returns-in-NoRoom-clause-happened
+returns-in-NoRoom-clause-happened g c =
+    let old = world_of c.args.self.now in
+    let calls = c.in-NoRoom.ensures.called in
+    Unasked (subst (λ w. HasHappened g.D.Disk.honest g.D.Disk.words old w)
+    (sym (called_same g.D.Disk.honest g.D.Disk.words (by_him c.args.withdrawal c.args.place) old (world_of c.call_to_withdraw.new.self)
+    c.args.node c.args.message calls.was calls.now calls.was_at calls.gives calls.new_is)) (none_happened g.D.Disk.honest g.D.Disk.words old))
+
+pub returns-in-NoRoom-clause-order : goal.returns-in-NoRoom-clause-order
+returns-in-NoRoom-clause-order g c =
+    let calls = c.in-NoRoom.ensures.called in
+    same_order g.D.Disk.honest g.D.Disk.words c.args.self.now c.call_to_withdraw.new.self
+    (called_same g.D.Disk.honest g.D.Disk.words (by_him c.args.withdrawal c.args.place) (world_of c.args.self.now)
+    (world_of c.call_to_withdraw.new.self) c.args.node c.args.message calls.was calls.now calls.was_at calls.gives
+    calls.new_is) c.call_to_withdraw.ensures.ledger c.requires.order
+
+pub restart-requires-clause-cut : goal.restart-requires-clause-cut
+restart-requires-clause-cut g c =
+    halted_short g.D.Disk.honest g.D.Disk.words (by_him c.args.withdrawal c.args.place) (world_of c.args.self.now) (world_of c.call_to_withdraw.new.self) c.args.node
+    c.args.message c.in-Stopped.ensures.called
+
+pub restart-requires-clause-ready : goal.restart-requires-clause-ready
+restart-requires-clause-ready g c =
+    let room = c.requires.room.lines in
+    let len = ap (λ l. vec_len l) c.call_to_withdraw.ensures.ledger in
+    let capacity = ap (λ l. vec_capacity l) c.call_to_withdraw.ensures.ledger in
+    halted_ready g.D.Disk.honest g.D.Disk.words (by_him c.args.withdrawal c.args.place) (world_of c.args.self.now) (world_of c.call_to_withdraw.new.self) c.args.node
+    c.args.message c.in-Stopped.ensures.called c.requires.honest c.runs_keep_all.ensures c.resting_crash_happens.ensures
+    c.requires.order.bound (free_lines c.call_to_withdraw.new.self) (omega (arith, room, len, capacity))
+
+pub finish-requires-clause-bound : goal.finish-requires-clause-bound
+finish-requires-clause-bound g c =
+    still_bound_asking g.D.Disk.honest g.D.Disk.words c.requires.honest c.runs_keep_all.ensures
+    (asked_by (by_him c.args.withdrawal c.args.place) c.args.node c.args.message) (world_of c.args.self.now)
+    (world_of c.restart.new.self) c.requires.order.bound
+    (halted_happened g.D.Disk.honest g.D.Disk.words (by_him c.args.withdrawal c.args.place) (world_of c.args.self.now) (world_of c.call_to_withdraw.new.self) c.args.node
+    c.args.message c.in-Stopped.ensures.called (world_of c.restart.new.self) c.restart.ensures.restarts
+    c.resting_crash_happens.ensures)
+
+pub finish-requires-clause-empty : goal.finish-requires-clause-empty
+finish-requires-clause-empty g c = c.requires.list.empty
+
+pub finish-requires-clause-list : goal.finish-requires-clause-list
+finish-requires-clause-list g c =
+    let room = c.requires.list.room in
+    let fewer = halted_running g.D.Disk.honest g.D.Disk.words (by_him c.args.withdrawal c.args.place) (world_of c.args.self.now) (world_of c.call_to_withdraw.new.self)
+    c.args.node c.args.message c.in-Stopped.ensures.called (world_of c.restart.new.self) c.restart.ensures.restarts in
+    omega (arith, room, fewer)
+
+pub returns-in-Stopped-clause-steps : goal.returns-in-Stopped-clause-steps
+returns-in-Stopped-clause-steps g c =
+    let old = world_of c.args.self.now in
+    let restarts = c.restart.ensures.restarts in
+    done_steps g.D.Disk.honest g.D.Disk.words old (event_of c.args.node c.args.message c.args.place c.args.withdrawal)
+    (world_of c.finish.new.self) c.finish.result (
+      c.requires.up,
+      (
+        world_of c.restart.new.self,
+        (
+          Stops c.args.node,
+          CrashesInWithdrawing restarts.down
+              (halted_crash g.D.Disk.honest g.D.Disk.words (by_him c.args.withdrawal c.args.place) old (world_of c.call_to_withdraw.new.self)
+              c.args.node c.args.message c.in-Stopped.ensures.called (world_of c.restart.new.self) restarts)
+              restarts.opened,
+          (c.finish.ensures.finished.0, c.finish.ensures.finished.1),
+        ),
+      ),
+    )
+
+pub returns-in-Stopped-clause-happened : goal.returns-in-Stopped-clause-happened
+returns-in-Stopped-clause-happened g c =
+    Asking (then_happened g.D.Disk.honest g.D.Disk.words (asked_by (by_him c.args.withdrawal c.args.place) c.args.node c.args.message)
+    (world_of c.args.self.now) (world_of c.restart.new.self) (world_of c.finish.new.self)
+    (halted_happened g.D.Disk.honest g.D.Disk.words (by_him c.args.withdrawal c.args.place) (world_of c.args.self.now)
+    (world_of c.call_to_withdraw.new.self) c.args.node c.args.message c.in-Stopped.ensures.called
+    (world_of c.restart.new.self) c.restart.ensures.restarts c.resting_crash_happens.ensures)
+    c.finish.ensures.happened)
