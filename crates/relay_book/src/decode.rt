@@ -224,10 +224,10 @@ fn read_outcome(alloc: Global, version: Version, text: &[u8]) -> Result<Outcome,
     let Ok(at) = Moment::new(at) else {
         return Err(BookFault::BadRecord);
     };
-    if !may_be_hop(hop)
-        || report.len() > REPORT_LIMIT
-        || !are_of_version(version, rulings.as_slice())
-    {
+    if !may_be_hop(hop) || report.len() > REPORT_LIMIT {
+        return Err(BookFault::BadRecord);
+    }
+    if !are_of_version(version, rulings.as_slice()) {
         return Err(BookFault::BadRecord);
     }
     Ok(Outcome {
