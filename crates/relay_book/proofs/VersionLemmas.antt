@@ -1,5 +1,5 @@
 -- Outcomes of later versions than the first report alike.
-use Rattle.std.proofs.Common.{◌≡◌, ℕ, Bool, true, false, if◌then◌else◌, Option, None, Some, option_and_then, slice_get, refl, ap}
+use Rattle.std.proofs.Common.{◌≡◌, ℕ, true, false, if◌then◌else◌, Option, None, Some, option_and_then, slice_get, refl, ap}
 use Rattle.std.proofs.lemmas.Bool.{false≢true}
 use Rattle.relay_envelope.specs.declared.parameters.Notify.{Notify}
 use Rattle.relay_envelope.specs.declared.envelope.Recipient.{Recipient}

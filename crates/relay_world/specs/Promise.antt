@@ -28,8 +28,9 @@ use Rattle.relay_world.specs.Transfers.{HasPassedOn}
 use Rattle.relay_world.specs.World.{Host, World, link_at}
 use Rattle.relay_report.specs.Report.{reporter_of}
 
--- What has become of a recipient: its node holds it; its next hop has accepted it; or it has ended for a cause, with
--- the report that is owed, by a verdict from what an attempt for its message has read, or because it has no hop.; or the postmaster has withdrawn it, with the report that is owed, and has asked for that
+-- What has become of a recipient: its node holds it; its next hop has accepted it; it has ended for a cause, with the
+-- report that is owed, by a verdict from what an attempt for its message has read, or because it has no hop; or the
+-- postmaster, who asked for just that, has withdrawn it, with the report that is owed.
 pub data HasCome {D : Type 0} (world : World D) (lists : List (List Change)) (asked : List Withdrawing) (node : ℕ)
     (host : Host D) (changes : List Change)
     (number place : ℕ) : Type 0 where
@@ -44,7 +45,7 @@ pub data HasCome {D : Type 0} (world : World D) (lists : List (List Change)) (as
       → LeftFor (reporter_of host.config) changes at number place (ByWithdrawal withdrawal)
       → IsAsked asked node number place withdrawal → HasCome world lists asked node host changes number place
 
--- its outcome where the postmaster has asked for nothing: one of the first three
+-- What has become of a recipient if the postmaster has asked for nothing: one of the first three.
 pub data HasComeUnasked {D : Type 0} (world : World D) (lists : List (List Change)) (node : ℕ) (host : Host D)
     (changes : List Change)
     (number place : ℕ) : Type 0 where
@@ -56,7 +57,7 @@ pub data HasComeUnasked {D : Type 0} (world : World D) (lists : List (List Chang
       ⊎ HadNoHop host changes number place left.leaves.verdict
       → HasComeUnasked world lists node host changes number place
 
--- Of a run in which the postmaster has asked for nothing it is the promise that there is without him.
+-- If the postmaster has asked for nothing, the promise is the one without withdrawals.
 abbrev pub UnaskedIsKept : Type 0 → Type 0
 UnaskedIsKept D =
     (world : World D) (lists : List (List Change)) (node : ℕ) (host : Host D) (changes : List Change)
@@ -114,8 +115,8 @@ pub record KeepsPromise {D : Type 0} (honest : Type 0) (words : DiskWords D) (wo
       → DelaysOnce changes
 
 -- After any number of events, on honest disks, relays that were bound, tried each place once, had the links that they
--- were meant to have, and lines with their sources, keep the promise, with what the postmaster has asked for until
--- then, and have all that they had recorded, told, written and read, and the attempts that they had.
+-- were meant to have, and lines with their sources, keep the promise with what the postmaster has asked for until then.
+-- They still have all that they had recorded, reported, written and read, and the attempts that they had.
 abbrev pub PromiseIsKept : {D : Type 0} → Type 0 → DiskWords D → Type 0
 PromiseIsKept {D} honest words =
     honest → (count : ℕ) (old new : World D) (lists : List (List Change)) (asked : List Withdrawing)
