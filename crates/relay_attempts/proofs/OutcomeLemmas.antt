@@ -113,7 +113,7 @@ first_is_held : (outcome : Outcome) (message : Message) (least : ℕ) (numbers :
 first_is_held outcome message least [] some held = absurd (some refl)
 first_is_held outcome message least (n ∷ numbers) some held = held_any (message_after outcome message).places n held.1
 
-pub some_is : {A : Type 0} (x y : A) → Some x ≡ Some y → x ≡ y
+some_is : {A : Type 0} (x y : A) → Some x ≡ Some y → x ≡ y
 some_is x y e = cc
 
 module _ (host : List ℕ) (table : RouteTable) (queue : Queue) (outcome : Outcome) where

@@ -25,7 +25,7 @@ use Rattle.relay_attempts.specs.Hops.{places_where, stranded_of}
 use Rattle.relay_attempts.specs.Runs.{AreHeld, RunsFor}
 use Rattle.relay_attempts.specs.Withdrawals.{NamesHeld, RefusesToWithdraw, is_held_of, is_named, is_tried, named_places, tries_one, withdrawal_of, withdrawn}
 use Rattle.relay_attempts.proofs.MessageLemmas.{is_ruled}
-use Rattle.relay_attempts.proofs.OutcomeLemmas.{AreApart, held_are_few, holds_within, run_goes_on, some_is}
+use Rattle.relay_attempts.proofs.OutcomeLemmas.{AreApart, held_are_few, holds_within, run_goes_on}
 use Rattle.relay_attempts.proofs.PlaceLemmas.{each_passes, named_are_held}
 
 withdrawn_are_rulings : (withdrawal : Withdrawal) (places : List Place) (least : ℕ) (numbers : List ℕ) → AreHeld places least numbers
