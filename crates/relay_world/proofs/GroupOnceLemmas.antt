@@ -34,7 +34,7 @@ module _ {D : Type 0} (honest : Type 0) (words : DiskWords D) where
   taken_into at old new node piece row left hears None accepts = accepts
   taken_into at old new node piece row left hears (Some change) accepts = (accepts.0, accepts.2, accepts.3)
 
-  module _ (old : World D) (lists : List (List Change)) (node : ℕ) (changes : List Change) where
+  module _ (asked : List Withdrawing) (old : World D) (lists : List (List Change)) (node : ℕ) (changes : List Change) where
     -- a world in which a node awaits changes, and each place is tried once
     record OnceUnsettled (world : World D) (row : Row) : Type 0 where
       pub unsettled : Unsettled honest words old lists node changes world row
@@ -108,12 +108,12 @@ module _ {D : Type 0} (honest : Type 0) (words : DiskWords D) where
   once_heard : {asked : List Withdrawing} (old : World D) (lists : List (List Change)) (node : ℕ) (bound : IsBound honest words old lists)
       → IsTriedOnce old lists asked → (before : IsUp old node) (at : ℕ) (pieces : List Piece) (heard : World D) (row : Row)
       (each : HasHeardEach honest words at old heard node pieces no_row row) (staged : IsUp heard node)
-      → OnceUnsettled old lists node (first honest words old lists node bound before at pieces heard row each
+      → OnceUnsettled asked old lists node (first honest words old lists node bound before at pieces heard row each
       staged).0 heard row
-  once_heard old lists node bound once before at pieces heard row each staged =
+  once_heard {asked} old lists node bound once before at pieces heard row each staged =
       let its_list = first honest words old lists node bound before at pieces heard row each staged in
       let kept = first_kept honest words old lists node bound before at pieces heard row each staged in
-      once_each old lists node its_list.0 pieces at old heard no_row row (record {
+      once_each asked old lists node its_list.0 pieces at old heard no_row row (record {
         unsettled = unsettled_first honest words old lists node its_list.0 bound before its_list.1 kept.keeps;
         once = once;
       }) each
@@ -133,7 +133,7 @@ module _ {D : Type 0} (honest : Type 0) (words : DiskWords D) where
       → IsTriedOnce world lists asked → IsBound honest words new later → (node : ℕ) (is : IsUp world node)
       (after : NodeState D)
       → IsOpenedAgain world new node is.host after → IsTriedOnce new later asked
-  opened_again world new lists later bound once now node is after again =
+  opened_again {asked} world new lists later bound once now node is after again =
       let then : World D = record (lets_go node world) { hosts = again.hosts } in
       let gone : IsBound honest words (lets_go node world) lists =
       hanging_up_keeps honest words world (lets_go node world) lists node bound (hangs node world) in

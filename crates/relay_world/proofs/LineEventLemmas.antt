@@ -64,8 +64,9 @@ says_given_up : (reason : Reason) (config : Config) (changes : List Change) (num
     ⊎ SaysWithdrawn (reported_as (outcome_for reason config.routes number at given) report)
 says_given_up reason config changes number at given report accepted =
     let outcome : Outcome = record (outcome_for reason config.routes number at given) { report = report } in
-    says_alone (asked_by reason 0 number) 0 config.routes changes (change.Outcome outcome) outcome refl
-    (given_up_alone (asked_by reason 0 number) 0 reason config.routes changes number at given report outcome
+    let asked : List Withdrawing = asked_by reason 0 number ++ [] in
+    says_alone asked 0 config.routes changes (change.Outcome outcome) outcome refl
+    (given_up_alone asked 0 reason config.routes changes number at given report outcome
     (asks_itself reason 0 number []) accepted refl)
 
 module _ {D : Type 0} (honest : Type 0) (words : DiskWords D) (old new : World D) (lists later : List (List Change))

@@ -144,7 +144,7 @@ module _ {D : Type 0} (honest : Type 0) (words : DiskWords D) where
 
 -- each event, in a line
 pub sources_are_kept : {D : Type 0} (honest : Type 0) (words : DiskWords D) → SourcesAreKept honest words
-sources_are_kept {D} honest words old new lists later bound once was happens now = by happens
+sources_are_kept {D} honest words old new lists later asked bound once was happens now = by happens
   where
     grows : HasGrown old new
     grows = event_grows honest words old new happens

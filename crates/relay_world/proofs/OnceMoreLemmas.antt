@@ -90,7 +90,7 @@ asks_all world lists asked (Postmaster withdrawal names) node message once =
 
 pub ticked_once : {D : Type 0} {asked : List Withdrawing} (old new : World D) (lists : List (List Change)) (now : ℕ)
     → IsTriedOnce old lists asked → HasTicked old new now → IsTriedOnce new lists asked
-ticked_once {D} old new lists now once ticks = subst (λ w. IsTriedOnce w lists asked) (sym ticks.new_is) (record {
+ticked_once {D} {asked} old new lists now once ticks = subst (λ w. IsTriedOnce w lists asked) (sym ticks.new_is) (record {
   once = λ one other node message place mine yours. once.once one other node message place (claims one node message place mine)
       (claims other node message place yours);
   hops = λ at attempt is.
@@ -236,7 +236,7 @@ module _ {D : Type 0} (old : World D) (lists : List (List Change)) (node : ℕ) 
 pub ticked : {D : Type 0} {asked : List Withdrawing} (honest : Type 0) (words : DiskWords D) (old new : World D) (lists later : List (List Change))
     → IsBound honest words old lists → IsTriedOnce old lists asked → IsBound honest words new later → (now : ℕ)
     → HasTicked old new now → IsTriedOnce new later asked
-ticked honest words old new lists later bound once after now ticks =
+ticked {D} {asked} honest words old new lists later bound once after now ticks =
     subst (λ l. IsTriedOnce new l asked)
     (one_row honest words new lists later (ticking_keeps honest words old new lists now bound ticks) after)
     (ticked_once old new lists now once ticks)
@@ -244,7 +244,7 @@ ticked honest words old new lists later bound once after now ticks =
 pub let_go : {D : Type 0} {asked : List Withdrawing} (honest : Type 0) (words : DiskWords D) (old new : World D) (lists later : List (List Change))
     → IsBound honest words old lists → IsTriedOnce old lists asked → IsBound honest words new later → (node : ℕ)
     → HangsUp old new node → IsTriedOnce new later asked
-let_go honest words old new lists later bound once after node hangs =
+let_go {D} {asked} honest words old new lists later bound once after node hangs =
     subst (λ l. IsTriedOnce new l asked)
     (one_row honest words new lists later (hanging_up_keeps honest words old new lists node bound hangs) after)
     (hung_up_once old lists node once new hangs)
