@@ -24,7 +24,7 @@ module _ {D : Type 0} (honest : Type 0) (words : DiskWords D) where
       → HappenAsking honest words asked count old new → HasHappenedAsking honest words asked old new
   run_happened asked count old new happen = record { count = count; run = happen.run; asks = happen.asks }
 
-  -- runs one behind the other, and what is asked for in both
+  -- a run after another, and what is asked for in both
   abbrev Joined : (one two : ℕ) (old next new : World D) → Happen honest words one old next
       → Happen honest words two next new → Type 0
   Joined one two old next new first second =

@@ -3,6 +3,11 @@ use Rattle.std.proofs.Common.{List, [], ◌∷◌, ◌++◌, Result, refl, subst
 use Rattle.std.specs.List.{AllByRecursion}
 use Rattle.std.proofs.lemmas.List.Elements.{Contains-append_left, Contains-push}
 use Rattle.relay_disk.specs.Device.{DiskWords}
+use Rattle.relay_book.specs.declared.change.Change.{Change}
+use Rattle.relay_world.specs.Bound.{IsBound}
+use Rattle.relay_world.specs.HopLinks.{AreLinkedToHops}
+use Rattle.relay_world.specs.Lines.{HasSources}
+use Rattle.relay_world.specs.Once.{IsTriedOnce}
 use Rattle.relay_world.specs.Promise.{KeepsPromise, PromiseIsKept}
 use Rattle.relay_world.specs.World.{World}
 use Rattle.relay_events.specs.declared.event.Event.{Event}
@@ -14,6 +19,7 @@ use Rattle.relay_events.specs.Happened.{Asking, HasHappened, HasHappenedAsking, 
 use Rattle.relay_events.specs.Relays.{AreBound}
 use Rattle.relay_events.specs.Step.{Steps}
 use Rattle.relay_events.proofs.Theorems.{both_asking}
+use Rattle.relay_world.proofs.Theorems.{one_row}
 use Rattle.relay_pair.specs.Promise.{IsAskedBy, KeepsItsPromise, RunKeepsItsPromise}
 use Rattle.relay_pair.specs.Run.{StepsEach}
 
@@ -55,6 +61,16 @@ both_all P [] ys all rest = rest
 both_all P (x ∷ xs) ys all rest = (all.0, both_all P xs ys all.1 rest)
 
 module _ {D : Type 0} (honest : Type 0) (words : DiskWords D) where
+  -- The promise is kept with whatever was asked for before, by the lists that the relays have now.
+  kept_by : honest → PromiseIsKept honest words → (asked : List Withdrawing) (old new : World D)
+      (before lists : List (List Change)) → IsBound honest words old before → AreLinkedToHops old → HasSources old before
+      → HasHappenedAsking honest words asked old new → IsBound honest words new lists → (earlier : List Withdrawing)
+      → IsTriedOnce old before earlier → KeepsPromise honest words new lists (asked ++ earlier)
+  kept_by is_honest keeps asked old new before lists were linked sources happened theirs earlier once =
+      let later = keeps is_honest happened.count old new before earlier were once linked sources happened.run in
+      subst (λ l. KeepsPromise honest words new l (asked ++ earlier)) (one_row honest words new later.0 lists later.1 theirs)
+      (subst (λ l. KeepsPromise honest words new later.0 l) (happened.asks earlier) later.2)
+
   -- and the promise is kept
   pub promise_kept : honest → PromiseIsKept honest words → (asked : List Withdrawing) (old new : World D) → AreBound honest words old
       → HasHappenedAsking honest words asked old new → KeepsItsPromise honest words asked old new
@@ -64,12 +80,13 @@ module _ {D : Type 0} (honest : Type 0) (words : DiskWords D) where
       record {
         lists = later.0;
         theirs = later.1;
-        asked_before = bound.asked;
-        promise = subst (λ l. KeepsPromise honest words new later.0 l) (happened.asks bound.asked) later.2;
-        grown = later.3;
-        attempts = later.4;
         before = bound.lists;
         were = bound.bound;
+        promise = kept_by is_honest keeps asked old new bound.lists later.0 bound.bound bound.linked bound.sources happened
+            later.1;
+        grown = later.3;
+        attempts = later.4;
+        asked_before = bound.asked;
         once_before = bound.once;
         linked_before = bound.linked;
         sources_before = bound.sources;
@@ -88,12 +105,13 @@ module _ {D : Type 0} (honest : Type 0) (words : DiskWords D) where
       record {
         lists = later.0;
         theirs = later.1;
-        asked_before = kept.asked_before;
-        promise = subst (λ l. KeepsPromise honest words new later.0 l) (both.asks kept.asked_before) later.2;
-        grown = later.3;
-        attempts = later.4;
         before = kept.before;
         were = kept.were;
+        promise = kept_by is_honest keeps (more ++ asked) old new kept.before later.0 kept.were kept.linked_before
+            kept.sources_before both later.1;
+        grown = later.3;
+        attempts = later.4;
+        asked_before = kept.asked_before;
         once_before = kept.once_before;
         linked_before = kept.linked_before;
         sources_before = kept.sources_before;

@@ -24,12 +24,14 @@ pub record KeepsItsPromise {D : Type 0} (honest : Type 0) (words : DiskWords D) 
     (old new : World D) : Type 0 where
   pub lists : List (List Change)
   pub theirs : IsBound honest words new lists
-  pub asked_before : List Withdrawing
-  pub promise : KeepsPromise honest words new lists (asked ++ asked_before)
-  pub grown : HasGrown old new
-  pub attempts : AttemptsGrow old new
   pub before : List (List Change)
   pub were : IsBound honest words old before
+  -- with whatever he had asked for before by which it was so, be it nothing
+  pub promise : (earlier : List Withdrawing) → IsTriedOnce old before earlier
+      → KeepsPromise honest words new lists (asked ++ earlier)
+  pub grown : HasGrown old new
+  pub attempts : AttemptsGrow old new
+  pub asked_before : List Withdrawing
   pub once_before : IsTriedOnce old before asked_before
   pub linked_before : AreLinkedToHops old
   pub sources_before : HasSources old before
