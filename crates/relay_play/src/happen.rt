@@ -60,8 +60,8 @@ fn event_of(said: Said) -> Event
     }
 }
 
-/// Returns the event by which the postmaster withdraws a place. No message has so many as 256 places, so a place past 255
-/// is named as 255, which is none either.
+/// Returns the event by which the postmaster withdraws a place. No message has as many as 256 places, so a place past
+/// 255 is named as 255, which is none either.
 fn withdraw(node: NodeIndex, number: u64, place: u64, withdrawal: Withdrawal) -> Event
     ensures { result ≡ Event.Withdraw node number (min place 255) withdrawal }
 {

@@ -283,7 +283,7 @@ module _ {D : Type 0} (honest : Type 0) (words : DiskWords D) (old new : World D
           (record reads.of.host { state = Up reads.after }) reads.of.host_at records.0 refl
       by (Some change_now) ended records =
           ended_adds number change_now reads.of (without_note reads.after) (Replied change_now) records.noted
-          reads.of.before.config.host (outcome_at old.clock told ended.verdicts) knows.changes knows.list_at (inl refl)
+          (reporter_of reads.of.before.config) (outcome_at old.clock told ended.verdicts) knows.changes knows.list_at (inl refl)
           (outcome_added honest words (reporter_of reads.of.before.config) knows.changes (outcome_at old.clock told ended.verdicts)
           reads.replied.used change_now reads.after records.noted records.note_is ended.adds)
           (outcome_taken old new number reads.of reads.after (Replied change_now) change_now records)
@@ -292,7 +292,7 @@ module _ {D : Type 0} (honest : Type 0) (words : DiskWords D) (old new : World D
   pub lost_adds : (number change_now : ℕ) (loses : HasLost honest words old new number change_now) → Adds
   lost_adds number change_now loses =
       ended_adds number change_now loses.of (without_note loses.after) (Lost change_now) loses.records.noted
-      loses.of.before.config.host (outcome_at old.clock told (all_later told.places)) knows.changes knows.list_at
+      (reporter_of loses.of.before.config) (outcome_at old.clock told (all_later told.places)) knows.changes knows.list_at
       (inr refl)
       (outcome_added honest words (reporter_of loses.of.before.config) knows.changes
       (outcome_at old.clock told (all_later told.places)) 0 change_now loses.after loses.records.noted
@@ -314,7 +314,7 @@ module _ {D : Type 0} (honest : Type 0) (words : DiskWords D) (old new : World D
   -- and places that are given up one without an attempt
   pub given_adds : (reason : Reason) (node message change_now : ℕ) → AsksBy asked reason node message → (gives : HasGivenUp honest words old new reason node message change_now) → Adds
   given_adds reason node message change_now asks gives =
-      outcome_adds node gives.host (without_note gives.after) gives.noted gives.before.config.host
+      outcome_adds node gives.host (without_note gives.after) gives.noted (reporter_of gives.before.config)
       (outcome_for reason gives.before.config.routes message old.clock given_up.message) change_now listed.0 listed.1
       gives.host_at gives.hosts takes (λ outcome same was at. inr
       (subst (λ (c : Config). EndsAlone asked node c.routes listed.0 outcome)

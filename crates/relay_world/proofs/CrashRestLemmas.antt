@@ -12,6 +12,7 @@ use Rattle.relay_world.specs.declared.attempt.Attempt.{Attempt}
 use Rattle.relay_world.specs.declared.link.Link.{Link}
 use Rattle.relay_world.specs.Bound.{HasSession, HasSlot}
 use Rattle.relay_world.specs.Crashes.{CrashesAtRest, CrashesCompacting, CrashesGivingUp, GoesDown, let_go, let_go_link}
+use Rattle.relay_world.specs.GivingUp.{Reason}
 use Rattle.relay_world.specs.CrashRuns.{CompactingHappens, RestingCrashHappens}
 use Rattle.relay_world.specs.HangUp.{HangsUp, IsLetGo, hung_up_attempt}
 use Rattle.relay_world.specs.Once.{GoesOn, Happen, LetsGo, Reopens, Stops, StopsInGivingUp}

@@ -1,5 +1,5 @@
 -- a stop in a call, as one event, keeps it so that each place is tried once.
-use Rattle.std.proofs.Common.{ℕ, zero, suc, List, sym, subst}
+use Rattle.std.proofs.Common.{ℕ, zero, suc, List, refl, sym, subst}
 use Rattle.relay_disk.specs.Device.{DiskWords}
 use Rattle.relay_book.specs.declared.change.Change.{Change}
 use Rattle.relay_world.specs.GivingUp.{Withdrawing}

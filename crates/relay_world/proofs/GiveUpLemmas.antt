@@ -25,6 +25,8 @@ use Rattle.relay_world.proofs.RecordLemmas.{Recording, TakesOutcome, accepts_sam
 use Rattle.relay_world.proofs.UndecidedLemmas.{up_not_down}
 use Rattle.relay_world.proofs.OpenLemmas.{list_there, node_kept, same_Up}
 use Rattle.relay_report.specs.Report.{reporter_of}
+use Rattle.relay_world.specs.Ledger.{left_lines, report_told}
+use Rattle.relay_world.proofs.ReasonLemmas.{number_for}
 
 -- no link at all
 nowhere : Link
@@ -86,7 +88,9 @@ giving_up_keeps {D} honest words old new lists reason node message change_now bo
       config = gives.config;
       noted = gives.noted;
       takes = takes;
-      ledger = gives.ledger;
+      ledger = gives.ledger
+          ∙ ap (λ m. old.ledger ++ left_lines node m 0 (report_told change_now gives.noted.report) gives.noted.left.items)
+          (sym (number_for reason gives.before.config.routes message old.clock given_up.message));
       grows = subst (λ l. length old.links ≤ length l) (sym gives.rest.0) (omega arith);
       few = omega arith;
     }

@@ -24,6 +24,7 @@ use Rattle.relay_world.proofs.OnceMoreLemmas.{let_go}
 use Rattle.relay_world.proofs.StayUpLemmas.{stayed_up}
 use Rattle.relay_world.proofs.StopOnceLemmas.{state_alone}
 use Rattle.relay_world.proofs.UnsettledLemmas.{Unsettled, bound_unsaid, unsettled_first}
+use Rattle.relay_report.specs.Report.{reporter_of}
 
 module _ {D : Type 0} (honest : Type 0) (words : DiskWords D) where
   -- what was heard into a row was taken down
@@ -71,7 +72,8 @@ module _ {D : Type 0} (honest : Type 0) (words : DiskWords D) where
               (taken honest words old lists node changes world next row left was.unsettled at piece reads change_now
               ends puts)
               (ended_adds ⊥ words world next was.unsettled.later now.later was.unsettled.bound was.once now.bound
-              piece.number change_now reads.of reads.after (Replied change_now) puts.noted reads.of.before.config.host
+              piece.number change_now reads.of reads.after (Replied change_now) puts.noted
+              (reporter_of reads.of.before.config)
               (outcome honest words old lists node changes world next row left was.unsettled at piece reads change_now
               ends puts)
               (changes ++ was.unsettled.pending)

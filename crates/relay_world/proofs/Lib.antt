@@ -24,6 +24,7 @@ mod ReplyLemmas
 mod ReadLemmas
 mod LoseLemmas
 mod StartLemmas
+mod ReasonLemmas
 mod GiveUpLemmas
 mod DownLemmas
 mod StopLemmas

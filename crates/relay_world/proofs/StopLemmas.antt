@@ -11,12 +11,13 @@ use Rattle.relay_routes.specs.declared.config.Config.{Config}
 use Rattle.relay_attempts.specs.AddedOutcome.{CutsOutcome, reported_as}
 use Rattle.relay_world.specs.GivingUp.{CutsGivenUp, outcome_for}
 use Rattle.relay_world.specs.Bound.{StateKeeps, HostKeeps, IsBound, MayBeIn, NodeKeeps, StandsAt, link_of}
-use Rattle.relay_world.specs.Ledger.{accepts_on, steps_in}
+use Rattle.relay_world.specs.Ledger.{accepts_on, left_lines, report_told, steps_in}
 use Rattle.relay_world.specs.Steps.{IsPut}
 use Rattle.relay_world.specs.Stops.{NoAttempt, NoSession, OnlyHostsChange, StayingDownKeeps, StoppingGivingUpKeeps, StoppingKeeps}
 use Rattle.relay_world.specs.World.{Down, FromGivingUp, HostState, Host, Undecided, World}
 use Rattle.relay_world.proofs.DownLemmas.{Notes, down_halted, down_left, fits_more, host_moved, no_attempt_down, no_session_down, notes, outcome_steps, remains_same, same_undecided}
 use Rattle.relay_world.proofs.OpenLemmas.{list_there, node_kept}
+use Rattle.relay_world.proofs.ReasonLemmas.{number_for}
 use Rattle.relay_world.proofs.UndecidedLemmas.{still_may_be_in}
 use Rattle.relay_report.specs.Report.{reporter_of}
 
@@ -159,6 +160,10 @@ stopping_giving_up_keeps {D} honest words old new lists reason node message boun
       number = told.number;
       fitting = fits_more changes added its_node.keeps.fitting cuts.cuts.fits;
       reported = cuts.reported;
-      steps = outcome_steps node 0 stops.noted changes outcome cuts.report 0 told;
+      steps = ap
+          (λ m. steps_in node
+          (left_lines node m 0 (report_told stops.noted.number stops.noted.report) stops.noted.left.items))
+          (sym (number_for reason stops.before.config.routes message old.clock cut.message))
+          ∙ outcome_steps node 0 stops.noted changes outcome cuts.report 0 told;
       came = tt;
     }
