@@ -188,6 +188,7 @@ module _ {D : Type 0} (honest : Type 0) (words : DiskWords D) (old new : World D
     up = gives.up;
     after = gives.after;
     gives_up = gives.gives_up;
+    free = gives.free;
     config = gives.config;
     seats = gives.seats;
     attempts = gives.attempts;

@@ -19,7 +19,7 @@ use Rattle.relay_attempts.specs.Work.{works_of}
 use Rattle.relay_node.specs.declared.node.Connected.{Connected}
 use Rattle.relay_node.specs.Attempts.{Begins}
 use Rattle.relay_node.specs.Node.{Connects, NodeState}
-use Rattle.relay_world.specs.GivingUp.{AddsGivenUp, CutsGivenUp, NoHop, Postmaster, Reason}
+use Rattle.relay_world.specs.GivingUp.{AddsGivenUp, AreFree, CutsGivenUp, NoHop, Postmaster, Reason}
 use Rattle.relay_world.specs.World.{Down, HostState, Host, Up}
 use Rattle.relay_hosts.specs.declared.recorded.Recorded.{Recorded}
 use Rattle.relay_hosts.specs.declared.work.Begun.{Begun}
@@ -129,7 +129,8 @@ module _ {D : Type 0} (honest : Type 0) (words : DiskWords D) where
       RefusesToWithdraw words (reporter_of node.config) node.attempts message now withdrawal names node.records
       node.records fault
 
-  -- A host has given up places of a message without an attempt, by the change of this number.
+  -- A host has given up places of a message without an attempt, by the change of this number, and none that the
+  -- postmaster names was tried.
   pub record GivesUp (reason : Reason) (now : ℕ) (old new : Host D) (message change : ℕ) (recorded : Recorded)
       : Type 0 where
     pub before : NodeState D
@@ -138,6 +139,7 @@ module _ {D : Type 0} (honest : Type 0) (words : DiskWords D) where
     pub gives_up : (changes : List Change) → Keeps honest words before.records changes
         → AddsGivenUp honest words (reporter_of before.config) before.config.routes reason message now changes
         before.records after.records change
+    pub free : AreFree reason message before.attempts
     pub config : after.config ≡ before.config
     pub seats : after.seats ≡ before.seats
     pub attempts : after.attempts ≡ before.attempts

@@ -1,5 +1,5 @@
 -- Places that a node gives up without an attempt: since they have no hop, or since the postmaster withdraws them.
-use Rattle.std.specs.Prelude.{◌≡◌, ℕ, true, List, [], ◌∷◌, Some}
+use Rattle.std.specs.Prelude.{◌≡◌, ℕ, true, false, List, [], ◌∷◌, Option, Some}
 use Rattle.std.specs.List.{Contains}
 use Rattle.relay_disk.specs.Device.{DiskWords}
 use Rattle.relay_routes.specs.Routes.{RouteTable}
@@ -11,9 +11,10 @@ use Rattle.relay_book.specs.declared.message.Message.{Message}
 use Rattle.relay_book.specs.Queue.{message_of}
 use Rattle.relay_records.specs.Records.{Kept}
 use Rattle.relay_report.specs.Report.{Reporter}
+use Rattle.relay_attempts.specs.declared.runs.Run.{Run}
 use Rattle.relay_attempts.specs.AddedOutcome.{AddsOutcome, CutsOutcome}
 use Rattle.relay_attempts.specs.Outcomes.{unroutable}
-use Rattle.relay_attempts.specs.Withdrawals.{NamesHeld, is_named, withdrawal_of}
+use Rattle.relay_attempts.specs.Withdrawals.{NamesHeld, is_named, is_tried, withdrawal_of}
 
 -- why: the held places without a hop; or the named places, which the postmaster returns or discards
 pub data Reason : Type 0 where
@@ -29,6 +30,11 @@ outcome_for (Postmaster withdrawal names) table number at message = withdrawal_o
 abbrev pub AreNamed : Reason → Message → Type 0
 AreNamed NoHop message = Unit {0}
 AreNamed (Postmaster withdrawal names) message = NamesHeld names message
+
+-- no attempt of the node tries a place of the message that the postmaster names
+abbrev pub AreFree : Reason → ℕ → List (Option Run) → Type 0
+AreFree NoHop number runs = Unit {0}
+AreFree (Postmaster withdrawal names) number runs = is_tried runs number names ≡ false
 
 module _ {D : Type 0} (honest : Type 0) (words : DiskWords D) (reporter : Reporter) (table : RouteTable)
     (reason : Reason) (number at : ℕ) where

@@ -23,7 +23,7 @@ use Rattle.relay_world.specs.declared.link.Link.{Link}
 use Rattle.relay_world.specs.declared.link.ServerEnd.{ServerEnd}
 use Rattle.relay_world.specs.Bound.{IsBound}
 use Rattle.relay_world.specs.Ledger.{left_lines, report_told}
-use Rattle.relay_world.specs.GivingUp.{AddsGivenUp, Reason}
+use Rattle.relay_world.specs.GivingUp.{AddsGivenUp, AreFree, Reason}
 use Rattle.relay_world.specs.HopLinks.{IsLinkedToHop}
 use Rattle.relay_world.specs.World.{Host, Up, World, link_at}
 use Rattle.relay_report.specs.Report.{reporter_of}
@@ -341,7 +341,8 @@ pub record HasStarted {D : Type 0} (honest : Type 0) (words : DiskWords D) (old 
   pub linked : IsLinkedToHop new attempt
   pub rest : (new.ledger ≡ old.ledger) × (new.clock ≡ old.clock) × (length new.hosts ≡ length old.hosts)
 
--- A node has given up places of a message without an attempt, in the change of this number. No link is theirs.
+-- A node has given up places of a message without an attempt, in the change of this number. No link is theirs, and none
+-- that the postmaster names was tried.
 pub record HasGivenUp {D : Type 0} (honest : Type 0) (words : DiskWords D) (old new : World D) (reason : Reason)
     (node message change : ℕ)
     : Type 0
@@ -354,6 +355,7 @@ pub record HasGivenUp {D : Type 0} (honest : Type 0) (words : DiskWords D) (old 
     pub gives_up : (changes : List Change) → Keeps honest words before.records changes
         → AddsGivenUp honest words (reporter_of before.config) before.config.routes reason message old.clock changes
         before.records after.records change
+    pub free : AreFree reason message before.attempts
     pub config : after.config ≡ before.config
     pub seats : after.seats ≡ before.seats
     pub attempts : after.attempts ≡ before.attempts

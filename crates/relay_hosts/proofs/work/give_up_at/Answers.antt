@@ -71,6 +71,7 @@ returns-clause-given g c = record {
       unroutable_given g.D.Disk.honest g.D.Disk.words (reporter_of c.args.node.now.config) c.args.node.now.config.routes c.args.message
       c.args.now changes c.args.node.now.records c.give_up_unroutable.new.self.records _
       (c.in-Ok-give_up_unroutable.ensures.gives_up changes keeps);
+  free = tt;
   config = c.in-Ok-give_up_unroutable.ensures.rest.0;
   seats = c.in-Ok-give_up_unroutable.ensures.rest.1;
   attempts = c.in-Ok-give_up_unroutable.ensures.rest.2;

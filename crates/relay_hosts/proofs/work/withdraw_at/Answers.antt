@@ -71,6 +71,7 @@ returns-clause-given g c = record {
       withdrawal_given g.D.Disk.honest g.D.Disk.words (reporter_of c.args.node.now.config) c.args.node.now.config.routes c.args.message
       c.args.now changes c.args.node.now.records c.withdraw.new.self.records c.args.withdrawal c.args.places.now _
       (c.in-Ok-withdraw.ensures.withdraws changes keeps);
+  free = c.in-Ok-withdraw.ensures.ends.free;
   config = c.in-Ok-withdraw.ensures.rest.0;
   seats = c.in-Ok-withdraw.ensures.rest.1;
   attempts = c.in-Ok-withdraw.ensures.rest.2;
