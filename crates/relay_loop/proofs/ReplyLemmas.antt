@@ -206,7 +206,7 @@ module _ {D : Type 0} (honest : Type 0) (words : DiskWords D) (changes : List Ch
         staged =
             subst (λ (change : Option ℕ). IsEnding (length changes + length pending + 1) change
             (more_by replied.change uses.makes)) (sym a.change)
-            (is_ending old.node.config.host at reply.attempt old.node.attempts new.node.attempts replied.used
+            (is_ending (reporter_of old.node.config) at reply.attempt old.node.attempts new.node.attempts replied.used
             old.node.records new.node.records row left honest words changes pending awaits replied.change uses.makes);
         unread = λ why. absurd (stays_unread old reply.attempt row why drained light);
         makes = λ _ _.
@@ -220,7 +220,7 @@ module _ {D : Type 0} (honest : Type 0) (words : DiskWords D) (changes : List Ch
       };
       only = only;
       awaits =
-          awaits_made old.node.config.host at reply.attempt old.node.attempts new.node.attempts replied.used
+          awaits_made (reporter_of old.node.config) at reply.attempt old.node.attempts new.node.attempts replied.used
           old.node.records new.node.records row left honest words changes pending awaits replied.change uses.makes;
     }
 
