@@ -27,6 +27,7 @@ use Rattle.relay_links.specs.declared.push.Pushed.{Pushed}
 use Rattle.relay_links.specs.declared.push.Pushed.TheVariants as pushed
 use Rattle.relay_links.specs.Push.{PushHasEnded, IsAt, PushesTo, push_start_at}
 use Rattle.relay_service.specs.Pushing.{Concludes, DoesEach, DoesOne, DoesSome, Ends, HandsOn, IsDone, IsSameButNote, StaysBeside, TellsDevice, WorksOff, WorksTo, HasEnded as EndsOn}
+use Rattle.relay_routes.specs.declared.config.Config.{Config}
 use Rattle.relay_report.specs.Report.{Reporter, reporter_of}
 
 -- the same node with this note
@@ -240,7 +241,7 @@ module _ {D : Type 0} (honest : Type 0) (words : DiskWords D) where
           started = started;
           begins = begins;
           at = h.at;
-          ended = inl (subst (λ reporter. Ends reporter changes h.later (begun_with number hop started.places.items begins.message) h.at) (ap (λ config. config.host) config) h.ends);
+          ended = inl (subst (λ reporter. Ends reporter changes h.later (begun_with number hop started.places.items begins.message) h.at) (ap (λ (c : Config). reporter_of c) config) h.ends);
         });
         keeps = h.keeps;
         beside = beside h.keeps.live;
