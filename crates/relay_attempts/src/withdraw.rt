@@ -1,5 +1,5 @@
 //! Places that the postmaster withdraws.
-ghost use Rattle.std.specs.Prelude.{◌≡◌, ◌≤◌, ◌↔◌, List, Err, IfErr, IfOk, IsTrue, length};
+ghost use Rattle.std.specs.Prelude.{◌≡◌, ◌≤◌, ◌↔◌, List, Err, IfErr, IfOk, IsTrue, length, true};
 ghost use Rattle.relay_attempts.specs.Attempts.{Serves};
 ghost use Rattle.relay_attempts.specs.Withdrawals.{AddsWithdrawal, CutsWithdrawal, EndsWithdrawal, NamesHeld};
 ghost use Rattle.relay_attempts.specs.Withdrawals.{RefusesToWithdraw, is_held_of, is_named, is_tried, named_places};
