@@ -320,12 +320,13 @@ module _ {D : Type 0} (honest : Type 0) (words : DiskWords D) (world : World D) 
           × (count + mine ≤ counts.total)
       next = counts_next world counts.lists node message place attempt (drop (at + 1) world.attempts) count mine counts.total
           (subst (λ (l : List Attempt). CountsOn world counts.lists node message place l count counts.total) split_is counts.on)
-          (by counts.lists counts.bound counts.once)
+          (by counts.lists counts.asked counts.bound counts.once)
 
       pub counts_more : CountsLeft (drop (at + 1) world.attempts) (count + mine)
       counts_more = record {
         lists = counts.lists;
         bound = counts.bound;
+        asked = counts.asked;
         once = counts.once;
         total = counts.total;
         copies = counts.copies;

@@ -8,9 +8,9 @@ use Rattle.relay_pair.proofs.copies.count_copies.Goals as goal
 pub loop-at-init : goal.loop-at-init
 loop-at-init g c =
     counts_begin g.D.Disk.honest g.D.Disk.words (world_of c.args.relays.now) c.args.node c.args.message c.args.place c.requires.lists
-    c.requires.bound c.requires.once
-    (c.copies_are_few.ensures (world_of c.args.relays.now) c.requires.lists c.requires.bound c.requires.once c.args.node c.args.message
-    c.args.place)
+    c.requires.asked c.requires.bound c.requires.once
+    (c.copies_are_few.ensures (world_of c.args.relays.now) c.requires.lists c.requires.asked c.requires.bound c.requires.once
+    c.args.node c.args.message c.args.place)
 
 pub overflow_add-count : goal.overflow_add-count
 overflow_add-count g c =

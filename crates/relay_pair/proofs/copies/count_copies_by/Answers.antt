@@ -33,7 +33,7 @@ slice_bounds-replies_in-end g c =
     sym (length-take-le value.down_read c.as_slice-2.result.now within)
 
 pub returns-then-accepts_place : goal.returns-then-accepts_place
-returns-then-accepts_place g c = λ lists bound once.
+returns-then-accepts_place g c = λ lists asked bound once.
     let old = world_of c.args.relays.now in
     let attempt = c.args.attempt.now in
     let replies = c.in_ok-replies.replies.items in
@@ -56,7 +56,7 @@ returns-then-accepts_place g c = λ lists bound once.
     c.requires.is_there has.link has.is_there its_node its_message replies read (sym tested ∙ c.if-accepts_place.true))
 
 pub returns : goal.returns
-returns g c = λ lists bound once.
+returns g c = λ lists asked bound once.
     let old = world_of c.args.relays.now in
     let attempt = c.args.attempt.now in
     let replies = c.in_ok-replies.replies.items in
