@@ -1,6 +1,6 @@
 -- Nothing leaks by an event of relays: after each no node that is up keeps a seat without a link, or a number without an
 -- attempt.
-use Rattle.std.proofs.Common.{◌≡◌, ◌⊎◌, inl, inr, ℕ, zero, suc, List, [], None, Some, Result, Ok, Err, refl, sym, subst, ◌∙◌}
+use Rattle.std.proofs.Common.{◌≡◌, ◌⊎◌, inl, inr, ℕ, zero, suc, List, [], ◌∷◌, None, Some, Result, Ok, Err, refl, sym, subst, ◌∙◌}
 use Rattle.relay_disk.specs.Device.{DiskWords}
 use Rattle.relay_book.specs.declared.change.Withdrawal.{Withdrawal}
 use Rattle.relay_events.specs.declared.event.Event.TheVariants.{Withdraw}
