@@ -28,10 +28,10 @@ def runs_without(words, folder, shim="refuse_memory", given=b"", cwd=None):
     raise Difference(f"more than {MOST} allocations")
 
 
-def outcomes_without(words, folder, outcome_of, shim="refuse_memory"):
+def outcomes_without(words, folder, outcome_of, shim="refuse_memory", given=b""):
     """Counts the outcomes of the runs in which one was refused, by the name that a function gives each."""
     met = collections.Counter()
-    for run in runs_without(words, folder, shim):
+    for run in runs_without(words, folder, shim, given):
         if run.was_refused:
             met[outcome_of(run)] += 1
     return met

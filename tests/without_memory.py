@@ -4,17 +4,17 @@ names, and each of these comes. It ends at the first difference.
 
     tests/without_memory.py sessions build/relayd
     tests/without_memory.py books crates/relay_rows_tests/out/relay_rows_tests
-    tests/without_memory.py nodes crates/relay_node_tests/out/relay_node_tests
+    tests/without_memory.py nodes build/relayd
 
 - sessions: three dialogues. All goes well all the same; or the program says so, ends with status 1, and has written a
   prefix of the replies. A disk in memory that can't grow is a device that failed.
 - books: changes of a book. If the book refuses one for lack of memory, the program applies it again, and each later
   row comes out; else it ends with status 1, and has written a prefix of the rows.
-- nodes: a node with two sessions, whose mail comes as lines or in chunks; with an attempt whose three places go three
-  ways in one change with a report; and with a spool that is compacted. The program couldn't begin, and ends with
-  status 1; or the call that met the refusal is answered so, its session or attempt is gone, no change was made for it,
-  and what is done after it comes as if nothing had been; or the disk couldn't grow, which counts as a device that
-  failed, and the node is stopped.
+- nodes: plays of one node: two sessions, whose mail comes as lines or in chunks; an attempt whose three places go three
+  ways in one change with a report, which is handed on then; and a spool that is compacted twice after a message. Each
+  ends with stops, after which the node is opened again. The play says that there was no memory and has shown a prefix;
+  or one line is refused, and what is done after it comes as if it hadn't been said, or as if its link had broken in its
+  place or after it; or the disk couldn't grow, and all comes as if the node had been stopped there.
 """
 import pathlib
 import re
@@ -85,141 +85,156 @@ def books(program, folder):
     yield f"{refused} allocations refused in turn, and after {answered} of them all rows came out"
 
 
-# What the program of a node prints, line by line.
+# Plays of one node, line by line, with what is seen of each; none stands where that follows from the rest. A session's
+# mail has one recipient, and that of the report three, of which a next hop with DSN takes the first, refuses the second,
+# and may take the third later.
 
-LINES, CHUNKS = "69 octets used, 104 out", "98 octets used, 154 out"
-
-
-def mail(session, change, taken=LINES):
-    return f"session {session}: {taken}, change {change}, close false"
-
-
-def leaving(session):
-    return f"session {session}: 6 octets used, 27 out, change 0, close true"
-
-
-def refused(session):
-    return f"session {session}: no memory"
-
-
-def gone(session):
-    return f"session {session}: unknown"
-
-
-def stopped(session):
-    return f"session {session}: stopped"
-
-
-def following(change):
-    return f"the next change is {change}"
-
-
-def opened(change, *marks):
-    return [f"opened again: the next change is {change}", *(f"held again: {mark}" for mark in marks)]
-
-
-def held(*marks):
-    return [f"held: {mark}" for mark in marks]
-
-
-def two_sessions(taken):
-    """Two sessions whose mail is answered so: what comes out where no piece, or where one of the four, met the
-    refusal; and where the disk couldn't grow for the first piece, or for the second."""
-    first, second = mail(0, 1, taken), mail(1, 2, taken)
-    both, one = [following(3), *opened(3, "1 0", "2 0")], [following(2), *opened(2, "1 0")]
-    return {
-        "none": [first, second, leaving(0), leaving(1), *both],
-        "first": [refused(0), mail(1, 1, taken), gone(0), leaving(1), *one],
-        "second": [first, refused(1), leaving(0), gone(1), *one],
-        "third": [first, second, refused(0), leaving(1), *both],
-        "fourth": [first, second, leaving(0), refused(1), *both],
-        "device": [stopped(0), stopped(1), stopped(0), stopped(1), following(1), *opened(1)],
-        "later": [first, stopped(1), stopped(0), stopped(1), *one],
-    }
-
-
-def record_of(lines):
-    """The change with a report, down to the line of its octets."""
-    begin = lines.index("change 2, report true:")
-    end = next(place for place in range(begin + 1, len(lines)) if re.fullmatch("[0-9a-f]*", lines[place]))
-    return lines[begin:end + 1]
-
-
-def attempt_with_a_report(lines):
-    """The change of the attempt's end leaves the place that may be tried later, and the report, which is the second
-    message. Each call in turn is answered that there is no memory, and the next attempt ends as if it were the first;
-    and the disk can't grow for the change."""
-    def attempt(answer):
-        return f"attempt 0: {answer}"
-
-    places, end = "message 1: 3 places", attempt("73 octets used, 239 out, change 2, close false")
-    before = [attempt("unknown"), following(2), *held("1 0", "1 1", "1 2")]
-    after = [following(3), *held("1 2", "2 0")]
-    whole, record = [places, end, attempt("unknown"), *after], record_of(lines)
-    rest = [*after, *record, *opened(3, "1 2", "2 0")]
-    unlisted = [following(3), *held("no memory")]
-    standing = [following(2), *held("stopped")]
-    return {
-        "none": [*whole, *rest],
-        "due": ["due: no memory", *before, *whole, *rest],
-        "start": ["message 1: no memory", *before, *whole, *rest],
-        "reply": [places, attempt("no memory"), *before, *whole, *rest],
-        "held": [places, end, attempt("unknown"), *unlisted, *rest],
-        "last": [*whole, *unlisted, *record, *opened(3, "1 2", "2 0")],
-        "device": [places, attempt("stopped"), attempt("stopped"), *standing, "due: stopped", attempt("stopped"),
-                   *standing, *standing, *record, *opened(2, "1 0", "1 1", "1 2")],
-    }
-
-
-def two_compactions(lines):
-    """A spool that is compacted twice after a message, and the session that goes on after that. What wasn't compacted
-    is unchanged, and the next call compacts it; and the disk can't grow for the body, or for the message after it."""
-    before, after = map(int, lines[0].split(" ")[1:])
-    # The one body has a next number and a count, and a message its number, where its record has none; and of its place
-    # that it is held, how often it was tried, whether it was reported as delayed, and when it is due.
-    same("the compacted size", after, before + 12 + 8 + 11)
-    first, second = f"compact: {before} {after}", f"compact: {after} {after}"
-    unwritten, spent = "compact: no memory", "compact: stopped"
-    one = [following(2), *opened(2, "1 0")]
-    goes_on = [mail(0, 2), leaving(0), following(3), *opened(3, "1 0", "2 0")]
-    return {
-        "none": [first, second, *goes_on],
-        "first": [unwritten, first, *goes_on],
-        "second": [first, unwritten, *goes_on],
-        "third": [first, second, refused(0), gone(0), *one],
-        "fourth": [first, second, mail(0, 2), refused(0), following(3), *opened(3, "1 0", "2 0")],
-        "device": [spent, spent, stopped(0), stopped(0), *one],
-        "device again": [first, spent, stopped(0), stopped(0), *one],
-        "later": [first, second, stopped(0), stopped(0), *one],
-    }
-
-
-NODES = {
-    "sessions": lambda lines: two_sessions(LINES),
-    "chunks": lambda lines: two_sessions(CHUNKS),
-    "report": attempt_with_a_report,
-    "compactions": two_compactions,
+SESSION = r"HELO x\r\nMAIL FROM:<a@out.example>\r\nRCPT TO:<b@out.example>\r\n"
+LINES = SESSION + r"DATA\r\n.\r\n"
+CHUNKS = SESSION.replace("HELO", "EHLO") + r"BDAT 1\r\naDATA\r\nBDAT 2\r\n\r\nBDAT 0 LAST\r\n"
+FOR_THREE = (SESSION.replace("HELO", "EHLO") + r"RCPT TO:<c@out.example>\r\nRCPT TO:<d@out.example>\r\nDATA\r\n.\r\n")
+OFFERS = r"250-a.example\r\n250-PIPELINING\r\n250-CHUNKING\r\n250 DSN\r\n"
+TAKEN = {
+    LINES: r"node a link {0} used 69 out 250 a.example\r\n250 sender OK\r\n250 recipient OK\r\n"
+           r"354 end with a line of one period\r\n250 queued as {1}\r\n change {1}",
+    CHUNKS: r"node a link {0} used 98 out " + OFFERS + r"250 sender OK\r\n250 recipient OK\r\n250 chunk OK\r\n"
+            r"503 bad sequence\r\n250 chunk OK\r\n250 queued as {1}\r\n change {1}",
+    FOR_THREE: r"node a link {0} used 119 out " + OFFERS + r"250 sender OK\r\n" + r"250 recipient OK\r\n" * 3 +
+               r"354 end with a line of one period\r\n250 queued as {1}\r\n change {1}",
 }
 
 
+def connect(link):
+    return [("connect a", rf"link {link} out 220 a.example ESMTP relay ready\r\n")]
+
+
+def mail(link, change, text):
+    return [(f"send {link} {text}", "ok"), (f"carry {link} a 1000", TAKEN[text].format(link, change))]
+
+
+def leaving(link):
+    return [(rf"send {link} QUIT\r\n", "ok"),
+            (f"carry {link} a 1000", rf"node a link {link} used 6 out 221 a.example closing\r\n end")]
+
+
+def two_sessions(text):
+    return [*connect(1), *connect(2), *mail(1, 1, text), *mail(2, 2, text), *leaving(1), *leaving(2)], "a 1 0\na 2 0\n"
+
+
+def attempt_with_a_report():
+    """The report is handed on too."""
+    hop = r"220 n\r\n250-n\r\n250 DSN\r\n250 ok\r\n250 ok\r\n"
+    return [*connect(1), *mail(1, 1, FOR_THREE), ("give a", "start a 1 out.example link 2"),
+            (rf"send 2 {hop}550 no\r\n552 full\r\n354 go\r\n250 ok\r\n", "ok"), ("carry 2 a 1000", None),
+            ("give a", "start a 2 out.example link 3"), (rf"send 3 {hop}354 go\r\n250 ok\r\n", "ok"),
+            ("carry 3 a 1000", None)], "a 1 2\n"
+
+
+def two_compactions():
+    """A message takes 174 octets, of the head too. The one body has 31 more: 12 of a next number and a count, 8 of the
+    message's number, where its record has none, and 11 of its place: that it is held, how often it was tried, whether
+    it was reported as delayed, and when it is due."""
+    size = ("compact a", f"compact a size {174 + 12 + 8 + 11}")
+    return [*connect(1), *mail(1, 1, LINES), size, size, *mail(1, 2, LINES), *leaving(1)], "a 1 0\na 2 0\n"
+
+
+NODES = {
+    "sessions": lambda: two_sessions(LINES),
+    "chunks": lambda: two_sessions(CHUNKS),
+    "report": attempt_with_a_report,
+    "compactions": two_compactions,
+}
+# A node that can't be opened for want of memory is opened by its next stop.
+ENDING = ["stop a 0 0", "marks", "ledger"] * 2
+
+
+class Plays:
+    """Plays of a program with all its memory, each done once."""
+
+    def __init__(self, program):
+        self.program, self.seen = program, {}
+
+    def of(self, lines):
+        """What is seen of each line of a play, and of its ending."""
+        if tuple(lines) not in self.seen:
+            done = subprocess.run([self.program, "play"], input=script_of(lines), capture_output=True, check=True)
+            shown = done.stdout.decode().splitlines()
+            self.seen[tuple(lines)] = shown[:len(lines)], shown[len(lines):]
+        return self.seen[tuple(lines)]
+
+    def outcomes(self, lines, place):
+        """What may be seen where the line of this place met the refusal: by the name of what that is, all lines."""
+        before, line, after = lines[:place], lines[place], lines[place + 1:]
+        link = line.split(" ")[1]
+        others = {"as if it had not been said": []}
+        if line.startswith("carry "):
+            others["as if its link had broken"] = [f"break {link}"]
+            others["as if its link had broken after it"] = [line, f"break {link}"]
+            if any(it.startswith("start a ") and it.endswith(f" link {link}") for it in self.of(lines)[0]):
+                # An attempt that is refused leaves no change. No other link of such a play is of use after it.
+                others["as if its attempt had not begun"] = ["stop a 0 0"]
+        if not line.startswith(("connect ", "send ", "give ")):
+            others["as if the node had been stopped"] = ["stop a 0 0"]
+        for name, instead in others.items():
+            seen, end = self.of(before + instead + after)
+            shown = "stopped a" if name.endswith("stopped") else "refused NoMemory"
+            yield name, [*seen[:place], shown, *seen[place + len(instead):], *end]
+
+
+# What comes of a refusal in each play, but of the mail of one client alone: its link breaks as if nothing was said.
+OUTCOMES = {"no memory for the play", "as if it had not been said", "as if its link had broken",
+            "as if its link had broken after it", "as if the node had been stopped", "down until its next stop",
+            "not stopped"}
+OF_AN_ATTEMPT = OUTCOMES - {"as if its link had broken"} | {"as if its attempt had not begun"}
+
+
+def script_of(lines):
+    return "".join(f"{line}\n" for line in [*lines, *ENDING]).encode()
+
+
+def is_down(shown, wanted):
+    """Whether this is what is wanted but for the marks of a node that stays down at one of the last stops."""
+    def up_to(place):
+        return next((it for it in range(place, len(wanted)) if not wanted[it].startswith("a ")), len(wanted))
+
+    stops = [place + 1 for place, line in enumerate(wanted) if line == "stopped a"]
+    return any(shown == wanted[:place] + wanted[up_to(place):] for place in stops)
+
+
 def nodes(program, folder):
-    for word, outcomes_of in NODES.items():
-        lines = printed(program, word).splitlines()
-        outcomes = {name: "".join(f"{line}\n" for line in it) for name, it in outcomes_of(lines).items()}
-        same(f"{word} with all its memory", lines, outcomes["none"].splitlines())
+    plays = Plays(program)
+    for word, row in NODES.items():
+        rows, held = row()
+        lines = [line for line, _ in rows]
+        seen, end = plays.of(lines)
+        same(f"{word} with all its memory", [it for it, (_, wanted) in zip(seen, rows) if wanted],
+             [wanted for _, wanted in rows if wanted])
+        same(f"{word}: what is held in the end", "".join(f"{it}\n" for it in end).startswith(f"stopped a\n{held}"), True)
+        whole = [*seen, *end]
 
         def name_of(run):
             what = f"{word} without allocation {run.number}"
-            if run.status == 0:
-                found = [name for name, text in outcomes.items() if run.out == text]
-                if not found:
-                    raise Difference(f"{what}: {run.out}")
-                return found[0]
-            same(what, (run.status, run.out), (1, ""))
-            return "before it began"
+            shown = run.out.splitlines()
+            if run.status != 0:
+                is_prefix = "".join(f"{line}\n" for line in whole).startswith(run.out)
+                same(f"{what}: status, fault and a prefix", (run.status, run.errors, is_prefix),
+                     (1, "relayd: no memory\n", True))
+                return "no memory for the play"
+            if shown == whole:
+                return "none"
+            if is_down(shown, whole):
+                return "down until its next stop"
+            place = next(it for it, (one, other) in enumerate(zip(shown, whole)) if one != other)
+            if place >= len(lines):
+                same(what, shown, [*whole[:place], "refused NoMemory", *whole[place + 1:]])
+                return "not stopped"
+            for name, wanted in plays.outcomes(lines, place):
+                if shown == wanted:
+                    return name
+            raise Difference(f"{what}: {run.out}")
 
-        met = outcomes_without([program, word], folder, name_of)
-        missing = [name for name in ("before it began", *outcomes) if name != "none" and met[name] == 0]
+        met = outcomes_without([program, "play"], folder, name_of, given=script_of(lines))
+        missing = [name for name in (OF_AN_ATTEMPT if word == "report" else OUTCOMES) if met[name] == 0]
         same(f"{word}: outcomes that no refusal has", missing, [])
         yield f"{word}: {sum(met.values())} allocations refused in turn: {counted(met)}"
 
