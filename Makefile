@@ -9,7 +9,7 @@ SHELL := bash
 # scripts of tests/run_all.py, over the programs that these have built. The gate's own last line is the last.
 test:
 	cmp relayd.toml crates/relay_rows_tests/data/relayd.toml
-	cmp docs/plays/lost_reply.play crates/relay_pair_tests/data/lost_reply.play
+	cmp docs/plays/lost_reply.play crates/relay_node_tests/data/lost_reply.play
 	mkdir -p build
 	rm -rf build/lanes
 	RT_JOBS=$$(tools/lanes.sh) rt ci | tee build/gate.log

@@ -1,6 +1,6 @@
 //! Each call of a node once, in a function without clauses: what calls these sees none of a node's contracts. And the
 //! usual node over memory, at the first second.
-use relay_disk::{Disks, MemoryDisk};
+use relay_disk::{Disk, Disks, MemoryDisk, Reboot};
 use relay_node::{
     Connected, HeldPlace, Node, NodeFault, NotOpened, Noted, Received, Replied, Started, Work,
 };
@@ -18,10 +18,10 @@ pub type MemoryNode = Node<MemoryDisk>;
 /// Disks in memory that were refused.
 pub type Refused = NotOpened<MemoryDisk>;
 
-/// The limit of a spool, in octets, where no other one is set.
-pub const SPOOL_LIMIT: u64 = 67_108_864;
+/// The name of the usual host.
+pub const HOST: &str = "relay.example";
 
-/// The line of keys that sets it.
+/// The line of keys that sets the limit of a spool, where no other one is set.
 pub const KEYS: &str = "spool_limit = 67108864";
 
 /// A table of routes: a domain, and the name of its hop.
@@ -43,11 +43,16 @@ pub struct Handed {
     pub is_closed: bool,
 }
 
-/// Returns a configuration with this line of further keys, and a route for each two words: a domain, and the name of
-/// its hop. There is none if they are no configuration.
-pub fn configuration(alloc: Global, keys: &str, table: &str) -> Result<Option<Config>, AllocError> {
+/// Returns a configuration of this host, with this line of further keys, and a route for each two words: a domain, and
+/// the name of its hop. There is none if they are no configuration.
+pub fn configuration(
+    alloc: Global,
+    host: &str,
+    keys: &str,
+    table: &str,
+) -> Result<Option<Config>, AllocError> {
     let mut text = format!(in alloc;
-        "host = \"relay.example\"
+        "host = \"{host}\"
 listen = \"127.0.0.1:2525\"
 spool = \"relay.spool\"
 {keys}
@@ -73,70 +78,57 @@ pub fn first_moment() -> Moment {
     }
 }
 
-/// Returns the configuration with this line of further keys, and these routes.
-pub fn config_of(alloc: Global, keys: &str, table: &str) -> Result<Config, Fail> {
-    match configuration(alloc, keys, table)? {
+/// Returns the configuration of this host, with this line of further keys, and these routes.
+pub fn config_of(alloc: Global, host: &str, keys: &str, table: &str) -> Result<Config, Fail> {
+    match configuration(alloc, host, keys, table)? {
         Some(config) => Ok(config),
         None => Err(Fail::new("no configuration")),
     }
 }
 
-/// Returns the configuration with this limit of the spool, and a route for one domain.
-pub fn config_with(alloc: Global, limit: u64) -> Result<Config, Fail> {
-    let limit = format!(in alloc; "spool_limit = {limit}")?;
-    config_of(alloc, limit.as_str(), TABLE)
-}
-
-/// Returns a node without changes, of the usual configuration.
-pub fn empty_node(alloc: Global) -> Result<MemoryNode, Fail> {
-    empty_node_with(alloc, SPOOL_LIMIT, None)
-}
-
 /// Returns a node without changes, with this limit of its spool, whose device takes this many calls and no more, if
 /// that is said.
 pub fn empty_node_with(alloc: Global, limit: u64, calls: Option<u64>) -> Result<MemoryNode, Fail> {
-    let Ok(mut node) = create(alloc, config_with(alloc, limit)?) else {
-        return Err(Fail::new("not created"));
-    };
+    let limit = format!(in alloc; "spool_limit = {limit}")?;
+    let config = config_of(alloc, HOST, limit.as_str(), TABLE)?;
+    match create(alloc, config, empty_disks(alloc)) {
+        Ok(node) => Ok(with_fuse(node, calls)),
+        Err(_) => Err(Fail::new("not created")),
+    }
+}
+
+/// Returns a node whose device takes this many calls and no more, if that is said.
+fn with_fuse(mut node: MemoryNode, calls: Option<u64>) -> MemoryNode {
     if let Some(calls) = calls {
         node.fuse(calls);
     }
-    Ok(node)
+    node
 }
 
-/// Returns a node without changes, on empty disks.
-pub fn create(alloc: Global, config: Config) -> Result<MemoryNode, Refused> {
-    let disks = Disks {
-        first: MemoryDisk::new(alloc),
-        second: MemoryDisk::new(alloc),
-    };
+/// Returns a node without changes, on empty disks of any kind.
+pub fn create<D: Disk>(
+    alloc: Global,
+    config: Config,
+    disks: Disks<D>,
+) -> Result<Node<D>, NotOpened<D>> {
     Node::create(alloc, config, disks)
 }
 
+/// Returns empty disks.
+pub fn empty_disks(alloc: Global) -> MemoryDisks {
+    Disks {
+        first: MemoryDisk::new(alloc),
+        second: MemoryDisk::new(alloc),
+    }
+}
+
 /// Returns a node of what disks hold.
-pub fn open(alloc: Global, config: Config, disks: MemoryDisks) -> Result<MemoryNode, Refused> {
+pub fn open<D: Disk>(
+    alloc: Global,
+    config: Config,
+    disks: Disks<D>,
+) -> Result<Node<D>, NotOpened<D>> {
     Node::open(alloc, config, disks)
-}
-
-/// Returns a node that is opened again by its own configuration, after a stop at which nothing stays that wasn't
-/// synced. What is refused for lack of memory is done once more. There is none if it can't be opened.
-pub fn stop_and_open(alloc: Global, node: MemoryNode) -> Option<MemoryNode> {
-    let (config, disks) = node.into_parts();
-    match Node::open_again(alloc, config, stop(disks)) {
-        Ok(node) => Some(node),
-        Err(refused) => Node::open_again(alloc, refused.config, refused.refused.disk).ok(),
-    }
-}
-
-/// Returns what a stop leaves of disks at which nothing stays that wasn't synced.
-fn stop(disks: MemoryDisks) -> MemoryDisks {
-    match disks.after_stop(0) {
-        Ok(disks) => disks,
-        Err(refused) => match refused.value.after_stop(0) {
-            Ok(disks) => disks,
-            Err(refused) => refused.value,
-        },
-    }
 }
 
 /// Returns the disks of a node.
@@ -155,18 +147,18 @@ pub fn fuse(node: &mut MemoryNode, calls: u64) {
 }
 
 /// Compacts the spool, and gives its sizes before and after that.
-pub fn compact(node: &mut MemoryNode) -> Result<(usize, usize), NodeFault> {
+pub fn compact<D: Disk>(node: &mut Node<D>) -> Result<(usize, usize), NodeFault> {
     node.compact()
 }
 
 /// Opens a session for a client.
-pub fn connect(node: &mut MemoryNode) -> Result<Connected, NodeFault> {
+pub fn connect<D: Disk>(node: &mut Node<D>) -> Result<Connected, NodeFault> {
     node.connect(CLIENT)
 }
 
 /// Gives a session octets of its client.
-pub fn receive(
-    node: &mut MemoryNode,
+pub fn receive<D: Disk>(
+    node: &mut Node<D>,
     session: usize,
     piece: &[u8],
     now: Moment,
@@ -191,13 +183,13 @@ pub fn end(node: &mut MemoryNode, session: usize) -> Result<(), NodeFault> {
 }
 
 /// Returns what there is to do.
-pub fn due(alloc: Global, node: &MemoryNode, now: Moment) -> Result<Vec<Work>, NodeFault> {
+pub fn due<D: Disk>(alloc: Global, node: &Node<D>, now: Moment) -> Result<Vec<Work>, NodeFault> {
     node.due(alloc, now)
 }
 
 /// Begins an attempt.
-pub fn start(
-    node: &mut MemoryNode,
+pub fn start<D: Disk>(
+    node: &mut Node<D>,
     message: u64,
     hop: &HostName,
     now: Moment,
@@ -206,8 +198,8 @@ pub fn start(
 }
 
 /// Gives an attempt octets of its next hop.
-pub fn reply(
-    node: &mut MemoryNode,
+pub fn reply<D: Disk>(
+    node: &mut Node<D>,
     attempt: usize,
     piece: &[u8],
     now: Moment,
@@ -222,7 +214,7 @@ pub fn reply(
 }
 
 /// Ends an attempt whose connection is lost.
-pub fn lose(node: &mut MemoryNode, attempt: usize, now: Moment) -> Result<u64, NodeFault> {
+pub fn lose<D: Disk>(node: &mut Node<D>, attempt: usize, now: Moment) -> Result<u64, NodeFault> {
     node.lost(attempt, now)
 }
 
@@ -251,7 +243,7 @@ pub fn take_noted(node: &mut MemoryNode) -> Option<Noted> {
 }
 
 /// Returns the number of the next change.
-pub fn next_number(node: &MemoryNode) -> u64 {
+pub fn next_number<D: Disk>(node: &Node<D>) -> u64 {
     node.next_number()
 }
 

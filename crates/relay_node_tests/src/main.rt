@@ -1,12 +1,11 @@
 //! Plays each scenario of data/ on a node over memory: in one piece, with what the other sides say cut in two at each
 //! octet, octet by octet, and in one piece among this many other clients that 64 are there; or, where a device fails,
 //! for each call and each stop. The outcome of each event is compared with what is written down. Then it shows the
-//! scenes of a relay without a socket, links over the node, and calls of nodes of which one call of the disks fails,
-//! and runs each measurement of bench/ on a few octets.
+//! scenes of a relay without a socket, a run of a network and which configurations make one, and runs each measurement of
+//! bench/ on a few octets.
 //!
-//! By the word `sessions`, `chunks`, `report` or `compactions` it plays what tests/without_memory.py refuses each
-//! allocation of in turn, by `scenes` and a path the steps of that file, as tests/groups_without_memory.py does, by
-//! `file` and a path the scenarios of that file alone, and by `bench` the measurement that the next words name.
+//! By the word `scenes` and a path it plays the steps of that file, as tests/groups_without_memory.py does, by `file` and
+//! a path the scenarios of that file alone, and by `bench` the measurement that the next words name.
 #![tactic(auto)]
 
 mod answers;
@@ -15,10 +14,7 @@ mod calls;
 mod course;
 mod crowd;
 mod escape;
-mod hub;
-mod once;
-mod pushed;
-mod refused;
+mod pair;
 mod scenario;
 mod scene;
 mod scenes;
@@ -30,9 +26,7 @@ mod trial;
 mod words;
 
 use bench::{measure_each, measure_named};
-use hub::play_links;
-use once::show_once;
-use refused::{chunks, compactions, report, sessions};
+use pair::{show_networks, show_run};
 use scenario::Scenario;
 use scenes::show_scenes;
 use std::test::Fail;
@@ -50,34 +44,18 @@ fn main(rt: HostRuntime) -> Result<(), Fail> {
     let words: Vec<String> = env::args(&rt)?.collect(rt.alloc())?;
     match word_of(words.as_slice(), 1) {
         "" => {
-            play_node(&rt)?;
-            // The runtime has its threads in this function alone.
-            let links = fs::read_to_string(&rt, "links.in")?;
-            play_links(&rt, rt.alloc(), links.as_str())?;
-            show_rest(&rt)
+            play_files(&rt, ".")?;
+            show_scenes(&rt, "scenes.in")?;
+            show_run(&rt)?;
+            show_networks(&rt)?;
+            measure_each(&rt)
         }
-        "sessions" => sessions(&rt),
-        "chunks" => chunks(&rt),
-        "report" => report(&rt),
-        "compactions" => compactions(&rt),
         "scenes" => show_scenes(&rt, word_of(words.as_slice(), 2)),
         "file" => play_named(&rt, word_of(words.as_slice(), 2)),
         "bench" if words.len() == 2 => measure_each(&rt),
         "bench" => measure_named(&rt, words.get(2..).unwrap_or(&[])),
         folder => play_files(&rt, folder),
     }
-}
-
-/// Plays the scenarios of a node, and the scenes of a relay.
-fn play_node(rt: &HostRuntime) -> Result<(), Fail> {
-    play_files(rt, ".")?;
-    show_scenes(rt, "scenes.in")
-}
-
-/// Shows the disks of which a call fails once, and each measurement.
-fn show_rest(rt: &HostRuntime) -> Result<(), Fail> {
-    show_once(rt)?;
-    measure_each(rt)
 }
 
 /// Returns the word at this place; an empty one if there is none.

@@ -1,6 +1,6 @@
 use crate::calls::{
-    KEYS, MemoryDisks, MemoryNode, Refused, TABLE, after_stop, configuration, create, into_disk,
-    open,
+    HOST, KEYS, MemoryDisks, MemoryNode, Refused, TABLE, after_stop, configuration, create,
+    empty_disks, into_disk, open,
 };
 use crate::course::Course;
 use crate::scene::Scene;
@@ -120,7 +120,7 @@ impl<'a> Stage<'a> {
 
     /// Starts a node on these disks, and on empty ones if there are none.
     fn start(&mut self, disks: Option<MemoryDisks>) {
-        match configuration(self.scene.alloc, self.keys, self.table) {
+        match configuration(self.scene.alloc, HOST, self.keys, self.table) {
             Ok(Some(config)) => self.start_with(config, disks),
             Ok(None) => self.scene.tell("no configuration"),
             Err(_) => self.scene.is_short = true,
@@ -174,6 +174,6 @@ impl<'a> Stage<'a> {
 fn made(alloc: Global, config: Config, disks: Option<MemoryDisks>) -> Result<MemoryNode, Refused> {
     match disks {
         Some(disks) => open(alloc, config, disks),
-        None => create(alloc, config),
+        None => create(alloc, config, empty_disks(alloc)),
     }
 }

@@ -51,12 +51,6 @@ impl Told {
         self.note(said);
     }
 
-    /// Tells an octet in two hexadecimal digits.
-    pub fn hex(&mut self, octet: u8) {
-        let said = write!(self.text, "{octet:02x}");
-        self.note(said);
-    }
-
     /// Tells octets as scenarios write them.
     pub fn escape(&mut self, octets: &[u8]) {
         let said = push_escaped(&mut self.text, octets);

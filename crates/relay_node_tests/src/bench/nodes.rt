@@ -1,10 +1,11 @@
 use crate::bench::disks::files;
 use crate::bench::mail::moment;
-use crate::calls::{CLIENT, config_of, first_moment};
+use crate::calls::{
+    HOST, compact, config_of, connect, create, first_moment, next_number, open, receive,
+};
 use crate::told::Told;
 use relay_disk::FileDisk;
 use relay_node::Node;
-use relay_routes::Config;
 use relay_trace::Moment;
 use std::test::Fail;
 
@@ -29,7 +30,7 @@ pub fn accept_messages(
     transaction: &[u8],
     path: &str,
 ) -> Result<(), Fail> {
-    let mut node = created(rt, path)?;
+    let mut node = node_at(rt, path, true)?;
     let queued = accept_each(&mut node, count, transaction)?;
     tell_messages(told, queued, &node);
     Ok(())
@@ -42,11 +43,12 @@ pub fn tell_messages(told: &mut Told, count: u64, node: &Node<FileDisk>) {
     told.say(" octets");
 }
 
-/// Gives a node the commands and the content this many times, and counts the messages that were queued.
+/// Gives a node the commands and the content this many times, on a session of which the client has said its name, and
+/// counts the messages that were queued.
 fn accept_each(node: &mut Node<FileDisk>, count: u64, transaction: &[u8]) -> Result<u64, Fail> {
-    let session = greeted(node)?;
+    let session = connect(node)?.session;
+    let mut queued = give(node, session, first_moment(), b"HELO x\r\n")?;
     let later = moment(LATER);
-    let mut queued: u64 = 0;
     for turn in 0..count {
         let now = if turn < EARLY_MESSAGES {
             first_moment()
@@ -60,47 +62,37 @@ fn accept_each(node: &mut Node<FileDisk>, count: u64, transaction: &[u8]) -> Res
 
 /// Opens the node in these files, and tells the number of its next change.
 pub fn open_node(rt: &HostRuntime, told: &mut Told, path: &str) -> Result<(), Fail> {
-    told.count("next number ", opened(rt, path)?.next_number());
+    let node = node_at(rt, path, false)?;
+    told.count("next number ", next_number(&node));
     Ok(())
 }
 
 /// Opens the node in these files, and compacts its spool.
 pub fn compact_node(rt: &HostRuntime, told: &mut Told, path: &str) -> Result<(), Fail> {
-    let (before, behind) = opened(rt, path)?.compact()?;
+    let mut node = node_at(rt, path, false)?;
+    let (before, behind) = compact(&mut node)?;
     told.count("", before as u64);
     told.count(" octets, ", behind as u64);
     told.say(" octets");
     Ok(())
 }
 
-/// Returns a node without mail, on the files of this path, which are to be empty.
-fn created(rt: &HostRuntime, path: &str) -> Result<Node<FileDisk>, Fail> {
-    match Node::create(rt.alloc(), config(rt)?, files(rt, path)?) {
+/// Returns the node in the files of this path, or a new one without mail, for which they are to be empty.
+pub fn node_at(rt: &HostRuntime, path: &str, is_new: bool) -> Result<Node<FileDisk>, Fail> {
+    let config = config_of(rt.alloc(), HOST, KEYS, "* next.example")?;
+    let disks = files(rt, path)?;
+    let made = if is_new {
+        create(rt.alloc(), config, disks)
+    } else {
+        open(rt.alloc(), config, disks)
+    };
+    match made {
         Ok(node) => Ok(node),
         Err(not) => Err(Fail::new(not.cause)),
     }
 }
 
-/// Returns the node in the files of this path.
-pub fn opened(rt: &HostRuntime, path: &str) -> Result<Node<FileDisk>, Fail> {
-    match Node::open(rt.alloc(), config(rt)?, files(rt, path)?) {
-        Ok(node) => Ok(node),
-        Err(not) => Err(Fail::new(not.cause)),
-    }
-}
-
-fn config(rt: &HostRuntime) -> Result<Config, Fail> {
-    config_of(rt.alloc(), KEYS, "* next.example")
-}
-
-/// Returns the number of a session of which the client has said its name.
-fn greeted(node: &mut Node<FileDisk>) -> Result<usize, Fail> {
-    let session = node.connect(CLIENT)?.session;
-    give(node, session, first_moment(), b"HELO x\r\n")?;
-    Ok(session)
-}
-
-/// Gives a session these octets in blocks, and counts the messages that were queued.
+/// Gives a session these octets in blocks, and counts the messages that were queued. The session is to go on.
 fn give(
     node: &mut Node<FileDisk>,
     session: usize,
@@ -113,26 +105,14 @@ fn give(
         if rest.is_empty() {
             break;
         }
-        let block = &rest[..rest.len().min(BLOCK)];
-        let (used, is_queued) = give_block(node, session, now, block)?;
-        if is_queued {
+        let handed = receive(node, session, &rest[..rest.len().min(BLOCK)], now)?;
+        if handed.is_closed {
+            return Err(Fail::new("the session ended"));
+        }
+        if handed.change.is_some() {
             queued = queued.saturating_add(1);
         }
-        rest = rest.get(used..).unwrap_or(&[]);
+        rest = rest.get(handed.used..).unwrap_or(&[]);
     }
     Ok(queued)
-}
-
-/// Gives a session a block: how many octets it used, and whether a message was queued.
-fn give_block(
-    node: &mut Node<FileDisk>,
-    session: usize,
-    now: Moment,
-    block: &[u8],
-) -> Result<(usize, bool), Fail> {
-    let received = node.receive(session, block, now)?;
-    if received.close {
-        return Err(Fail::new("the session ended"));
-    }
-    Ok((received.used, received.change.is_some()))
 }

@@ -1,6 +1,6 @@
 use crate::bench::mail::moment;
-use crate::bench::nodes::{LATER, opened, tell_messages};
-use crate::calls::first_moment;
+use crate::bench::nodes::{LATER, node_at, tell_messages};
+use crate::calls::{due, first_moment, lose, reply, start};
 use crate::told::Told;
 use relay_disk::FileDisk;
 use relay_node::{Node, NodeFault, Work};
@@ -28,10 +28,10 @@ pub fn ask_for_works(
     times: u64,
     path: &str,
 ) -> Result<(), Fail> {
-    let node = opened(rt, path)?;
+    let node = node_at(rt, path, false)?;
     let mut works: u64 = 0;
     for _ in 0..times {
-        works = works.saturating_add(works_at(told.alloc, &node, moment(DUE))?.len() as u64);
+        works = works.saturating_add(due(told.alloc, &node, moment(DUE))?.len() as u64);
     }
     told.count("", works);
     told.count(" in ", times);
@@ -46,7 +46,7 @@ pub fn begin_attempts(
     times: u64,
     path: &str,
 ) -> Result<(), Fail> {
-    let mut node = opened(rt, path)?;
+    let mut node = node_at(rt, path, false)?;
     let mut begun: u64 = 0;
     for _ in 0..times {
         begun = begun.saturating_add(begin_and_lose(told.alloc, &mut node)?);
@@ -59,26 +59,21 @@ pub fn begin_attempts(
 
 /// Hands each message of the node in these files to a next hop that takes it, one after another.
 pub fn deliver_messages(rt: &HostRuntime, told: &mut Told, path: &str) -> Result<(), Fail> {
-    let mut node = opened(rt, path)?;
+    let mut node = node_at(rt, path, false)?;
     let delivered = deliver(told.alloc, &mut node)?;
     tell_messages(told, delivered, &node);
     Ok(())
 }
 
-/// Returns what there is to do at a time.
-fn works_at(alloc: Global, node: &Node<FileDisk>, now: Moment) -> Result<Vec<Work>, NodeFault> {
-    node.due(alloc, now)
-}
-
 /// Begins an attempt for each message that is due, and loses it at the time 0.
 fn begin_and_lose(alloc: Global, node: &mut Node<FileDisk>) -> Result<u64, NodeFault> {
     let now = moment(DUE);
-    let works = works_at(alloc, node, now)?;
+    let works = due(alloc, node, now)?;
     let mut begun: u64 = 0;
     for work in works.iter() {
         if let Work::Try(message, hop) = work {
-            let attempt = start(node, *message, hop, now)?;
-            node.lost(attempt, first_moment())?;
+            let attempt = start(node, *message, hop, now)?.attempt;
+            lose(node, attempt, first_moment())?;
             begun = begun.saturating_add(1);
         }
     }
@@ -88,7 +83,7 @@ fn begin_and_lose(alloc: Global, node: &mut Node<FileDisk>) -> Result<u64, NodeF
 /// Hands each message on, and counts those of which the attempt ended with the last reply.
 fn deliver(alloc: Global, node: &mut Node<FileDisk>) -> Result<u64, NodeFault> {
     let now = moment(LATER);
-    let works = works_at(alloc, node, now)?;
+    let works = due(alloc, node, now)?;
     let mut delivered: u64 = 0;
     for work in works.iter() {
         if let Work::Try(message, hop) = work
@@ -107,20 +102,10 @@ fn hand_on(
     hop: &HostName,
     now: Moment,
 ) -> Result<bool, NodeFault> {
-    let attempt = start(node, message, hop, now)?;
+    let attempt = start(node, message, hop, now)?.attempt;
     let mut is_ended = false;
-    for reply in REPLIES {
-        is_ended = node.reply(attempt, reply, now)?.change.is_some();
+    for said in REPLIES {
+        is_ended = reply(node, attempt, said, now)?.change.is_some();
     }
     Ok(is_ended)
-}
-
-/// Begins an attempt, and gives its number.
-fn start(
-    node: &mut Node<FileDisk>,
-    message: u64,
-    hop: &HostName,
-    now: Moment,
-) -> Result<usize, NodeFault> {
-    Ok(node.start(message, hop, now)?.attempt)
 }
