@@ -183,4 +183,25 @@ append: 32 octets
 END
 image "$head"'\x01\x01\0\0\0\x03abc\x01\0\0\0\x01f\0'
 
+# A file is got for one process at a time, which may ask twice, and is there for the next one when that has ended.
+take "a lock" "" files lock lock
+hold answers answers << END
+yes
+yes
+END
+printf 'files\nlock\n' | flock spool "$steps" steps spool > answers
+hold answers answers << END
+no
+END
+take "the next lock" "" files lock
+hold answers answers << END
+yes
+END
+
+# A path in no folder is refused.
+if printf 'files\n' | "$steps" steps no_such_folder/spool > answers 2> faults; then
+    fail "a file in no folder"
+fi
+grep -q 'input or output' faults || fail "another fault: $(cat faults)"
+
 echo "spool_on_a_file: the calls of the device are in order, and a sync that fails, half a write and want of space lose no body"

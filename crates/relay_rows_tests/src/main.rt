@@ -40,7 +40,7 @@ mod verdict;
 mod words;
 
 use answer::{Answer, RowsFault};
-use disks::{show_files, show_steps, take_given_steps, tell_faults};
+use disks::{show_steps, take_given_steps, tell_faults};
 use envelopes::show_envelopes;
 use lines::tell_calls;
 use meeting::{show_transcripts, tell_size};
@@ -101,7 +101,6 @@ fn show_all(rt: &HostRuntime, answer: &mut Answer) {
     show_rows(rt, answer, ".", "meetings", Topic::Meetings);
     show_books(rt, answer, ".");
     show_rows(rt, answer, ".", "disks", Topic::Disks);
-    show_files(rt, answer);
     show_steps(rt, answer);
     tell_faults(answer);
     answer.print(rt);

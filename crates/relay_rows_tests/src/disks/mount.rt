@@ -7,13 +7,11 @@
 //! - `stop PICK`: what a stop leaves of the disk, or of both, by the pick;
 //! - `create`, `open`: a spool on the disks in hand, which answers how many bodies and octets it has;
 //! - `bodiless`: nothing of the disks in hand, which answers whether they hold no spool, or one without a body;
-//! - `once CALLS CALL`: nothing of the disks in hand, of which one call fails in a call of a spool (once.rt);
 //! - `unmount`: the disks of the spool.
 use crate::answer::{Answer, RowsFault};
 use crate::disks::device::{ask_disk, ask_disks, ask_spool, number_of};
 use crate::disks::held::{Held, Mounted};
 use crate::disks::octets::octets_of;
-use crate::disks::once::fail_once;
 use relay_disk::{Disks, MemoryDisk, Reboot};
 use relay_pieces::Pieces;
 use relay_spool::{Opened, Refused, Spool, SpoolFault};
@@ -99,11 +97,6 @@ pub fn turn_disks(
         "open" => opened(answer, disks),
         "bodiless" => {
             answer.decide(is_bodiless(answer.alloc, disks));
-            Held::Nothing
-        }
-        "once" => {
-            let (calls, call) = text.split_once(' ').unwrap_or((text, ""));
-            fail_once(answer, disks, number_of(calls, number), call);
             Held::Nothing
         }
         _ => {

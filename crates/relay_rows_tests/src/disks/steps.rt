@@ -5,6 +5,7 @@
 //! - `remove`: removes the files, where there are any;
 //! - `create`: opens the files, which are to be empty, and makes a spool there;
 //! - `open`: opens the files anew, and the spool in them, and shows its bodies;
+//! - `files`: opens the files alone, and `lock` asks then whether the first is got for this process;
 //! - `again`: opens the spool on the disks that the last step left, without opening the files anew;
 //! - `append TEXT`: appends a body;
 //! - `append_all TEXT TEXT ..`: appends a row of bodies, a word each;
@@ -72,24 +73,30 @@ fn take_step(rt: &HostRuntime, paths: Paths<'_>, held: &mut Held, line: &str, an
             let _ = fs::remove_file(rt, paths.second);
             *held = Held::Nothing;
         }
-        "create" => *held = create_in(rt, paths, answer),
-        "open" => *held = open_in(rt, paths, answer),
+        "files" => *held = files_in(rt, paths, answer),
+        "create" => *held = files_in(rt, paths, answer).created(answer),
+        "open" => *held = files_in(rt, paths, answer).opened_again(answer),
+        "lock" => tell_lock(held, answer),
         "again" => *held = mem::replace(held, Held::Nothing).opened_again(answer),
         _ => change(held, step, text, answer),
     }
 }
 
-fn create_in(rt: &HostRuntime, paths: Paths<'_>, answer: &mut Answer) -> Held {
+fn files_in(rt: &HostRuntime, paths: Paths<'_>, answer: &mut Answer) -> Held {
     match open_files(rt, paths) {
-        Ok(disks) => create(disks, answer),
+        Ok(disks) => Held::Disks(disks),
         Err(_) => stopped(answer),
     }
 }
 
-fn open_in(rt: &HostRuntime, paths: Paths<'_>, answer: &mut Answer) -> Held {
-    match open_files(rt, paths) {
-        Ok(disks) => open(disks, answer),
-        Err(_) => stopped(answer),
+/// Tells whether the first of the files that are held is got for this process.
+fn tell_lock(held: &Held, answer: &mut Answer) {
+    match held {
+        Held::Disks(disks) => match disks.first.try_lock() {
+            Ok(taken) => answer.decide(taken),
+            Err(error) => answer.stop(RowsFault::from(error)),
+        },
+        _ => answer.say("no files"),
     }
 }
 
@@ -106,6 +113,14 @@ fn open_files(rt: &HostRuntime, paths: Paths<'_>) -> io::Result<Disks<FileDisk>>
 }
 
 impl Held {
+    /// Makes a spool on the disks that are held.
+    fn created(self, answer: &mut Answer) -> Self {
+        match self {
+            Held::Disks(disks) => create(disks, answer),
+            other => other,
+        }
+    }
+
     /// Opens the spool on the disks that are held.
     fn opened_again(self, answer: &mut Answer) -> Self {
         match self {
