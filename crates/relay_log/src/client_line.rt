@@ -168,12 +168,36 @@ pub(crate) fn unserved_line(head: Head, peer: SocketAddrV4) -> io::Result<LogLin
     Ok(line)
 }
 
-/// Returns the line of clients of an address that were told that there are too many connections, with the address and
-/// port of the last.
-pub(crate) fn turned_away_line(head: Head, peer: SocketAddrV4, count: u64) -> io::Result<LogLine> {
+/// Why a client that has come is told by one line that it isn't served.
+#[derive(Clone, Copy, Debug, Drop, PartialEq, Eq)]
+pub enum Refusal {
+    /// 421: as many connections stand as may.
+    NoRoom,
+    /// 554: it may not connect.
+    NoService,
+}
+
+impl Refusal {
+    /// Returns the word of the log for it.
+    fn word(self) -> &'static [u8] {
+        match self {
+            Refusal::NoRoom => b"too-many",
+            Refusal::NoService => b"no-service",
+        }
+    }
+}
+
+/// Returns the line of clients of an address that were told that they aren't served, with the address and port of the
+/// last.
+pub(crate) fn turned_away_line(
+    head: Head,
+    peer: SocketAddrV4,
+    why: Refusal,
+    count: u64,
+) -> io::Result<LogLine> {
     let mut line = head.line(b"client-end")?;
     head.add_address(&mut line, b"client", peer)?;
-    line.octets(b"reason", b"too-many")?;
+    line.octets(b"reason", why.word())?;
     line.number(b"count", count, b"")?;
     Ok(line)
 }

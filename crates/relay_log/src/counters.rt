@@ -55,6 +55,8 @@ pub struct Rejections {
     pub not_offered: u64,
     /// 421: the relay closes the connection of a client in a session.
     pub closing: u64,
+    /// 554: the client may not connect.
+    pub no_service: u64,
 }
 
 impl Counters {
@@ -92,6 +94,7 @@ impl Rejections {
             syntax: 0,
             not_offered: 0,
             closing: 0,
+            no_service: 0,
         }
     }
 

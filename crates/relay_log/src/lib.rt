@@ -14,7 +14,7 @@ mod settling;
 mod talk;
 
 pub use attempt_line::Attempt;
-pub use client_line::{ClientEnd, Connection, HeaderFault, Messages};
+pub use client_line::{ClientEnd, Connection, HeaderFault, Messages, Refusal};
 pub use client_record::ClientRecord;
 pub use client_writer::ClientWriter;
 pub use counters::{Counters, Rejection, Rejections};

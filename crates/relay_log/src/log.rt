@@ -5,9 +5,9 @@ use crate::attempt_line::{
     Attempt, count_outcome, outcome_of, recipient_line, report_line, unrecorded_line,
 };
 use crate::client_line::{
-    ClientEnd, Connection, HeaderFault, accepted_line, client_end_line, connection_line, count_of,
-    header_fault_line, more_accepted_line, more_rejected_line, rejected_line, turned_away_line,
-    unserved_line,
+    ClientEnd, Connection, HeaderFault, Refusal, accepted_line, client_end_line, connection_line,
+    count_of, header_fault_line, more_accepted_line, more_rejected_line, rejected_line,
+    turned_away_line, unserved_line,
 };
 use crate::client_record::ClientRecord;
 use crate::counters::{Counters, Rejection, add};
@@ -220,12 +220,14 @@ impl<'a, E: Write> Log<'a, E> {
         }
     }
 
-    /// Logs that clients of an address were refused because of too many connections: `count` of them, this one being
-    /// the last.
-    pub fn refused(&mut self, peer: SocketAddrV4, count: u64) {
-        add(&mut self.counters.turned_away, count);
+    /// Logs that clients of an address were refused, and why: `count` of them, this one being the last.
+    pub fn refused(&mut self, peer: SocketAddrV4, why: Refusal, count: u64) {
+        match why {
+            Refusal::NoRoom => add(&mut self.counters.turned_away, count),
+            Refusal::NoService => add(&mut self.counters.rejected.no_service, count),
+        }
         if self.speaks {
-            self.say(turned_away_line(self.head, peer, count));
+            self.say(turned_away_line(self.head, peer, why, count));
         }
     }
 
