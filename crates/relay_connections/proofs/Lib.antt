@@ -14,4 +14,5 @@ mod TableLemmas
 mod RefusalLemmas
 mod HeaderFrontLemmas
 mod ArrivalLemmas
+mod WelcomeLemmas
 pub mod Theorems

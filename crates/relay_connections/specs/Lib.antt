@@ -8,6 +8,7 @@ pub mod Served
 pub mod Readiness
 pub mod Room
 pub mod Leaving
+pub mod Welcome
 pub mod Share
 pub mod Hearing
 pub mod Refusals

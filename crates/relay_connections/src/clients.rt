@@ -1,5 +1,6 @@
 ghost use Rattle.std.specs.Prelude.{◌≡◌, ◌≢◌, ◌≤◌, ◌<◌, ◌↔◌, ℕ, List, None, IfErr, IfOk, IfSome, IsTrue, true};
 ghost use Rattle.std.specs.Net.Addr.{ipv4_octets};
+ghost use Rattle.std.specs.Net.Socket.{v4_ip};
 ghost use Rattle.relay_book.specs.declared.change.Change.{Change};
 ghost use Rattle.relay_loop.specs.Outboxes.{unwritten_at};
 ghost use Rattle.relay_slots.specs.Slots.{AreFree, slot_at};
@@ -10,6 +11,7 @@ ghost use Rattle.relay_connections.specs.Readiness.{IsLeftClient, IsNoted, clien
 ghost use Rattle.relay_connections.specs.Room.{HasRoom, is_at};
 ghost use Rattle.relay_connections.specs.Served.{AreServed, StaysSaid, opened};
 ghost use Rattle.relay_connections.specs.Table.{count_of, count_of_such, is_such};
+ghost use Rattle.relay_connections.specs.Welcome.{IsRefusedFor, MayConnect, allowed_of};
 
 use crate::channel::{Channel, Readiness};
 use crate::client::Client;
@@ -19,7 +21,8 @@ use crate::stream::Stream;
 use crate::table::Table;
 use mio::net::TcpStream;
 use relay_disk::Disk;
-use relay_limits::Limits;
+use relay_limits::{AllowedClients, Limits};
+use relay_log::Refusal;
 use relay_loop::Relay;
 use relay_node::NodeFault;
 use relay_slots::SLOT_COUNT;
@@ -41,6 +44,8 @@ pub struct Clients<S = TcpStream> {
     pub(crate) alloc: Global,
     // Boxed, so that a walk over the slots touches little memory, and taking a client out doesn't copy it.
     pub(crate) clients: Table<Box<Client<S>>>,
+    /// The clients that may connect.
+    allowed: AllowedClients,
     /// The most clients at one address.
     most: usize,
     /// How many seconds a client may be idle.
@@ -57,6 +62,7 @@ impl<S: Drop> Drop for Clients<S> {
         let Clients {
             alloc: _,
             clients: _clients,
+            allowed: _allowed,
             most: _,
             timeout: _,
             is_crowded: _,
@@ -66,13 +72,15 @@ impl<S: Drop> Drop for Clients<S> {
 }
 
 impl<S: Stream + Drop> Clients<S> {
-    /// Returns an empty table with these limits. Fails if memory runs out.
-    pub fn new(alloc: Global, limits: &Limits) -> Result<Self, AllocError>
-        ensures { IfOk result (λ clients. AreFree (clients_of clients)) }
+    /// Returns an empty table with these limits, for the clients that may connect. Fails if memory runs out.
+    pub fn new(alloc: Global, limits: &Limits, allowed: AllowedClients) -> Result<Self, AllocError>
+        ensures free { IfOk result (λ clients. AreFree (clients_of clients)) }
+        ensures allowed { IfOk result (λ clients. allowed_of clients ≡ allowed) }
     {
         Ok(Clients {
             alloc,
             clients: Table::new(alloc)?,
+            allowed,
             most: usize::from(limits.sessions_per_client),
             timeout: u64::from(limits.client_timeout),
             is_crowded: false,
@@ -80,9 +88,22 @@ impl<S: Stream + Drop> Clients<S> {
         })
     }
 
+    /// Returns why a client at this address isn't served. `None`: it may connect, and there is room for it.
+    pub(crate) fn refusal(&self, client: Ipv4Addr) -> Option<Refusal>
+        ensures { IsRefusedFor (ipv4_octets client) self.now result }
+    {
+        if !self.allowed.may_connect(client) {
+            Some(Refusal::NoService)
+        } else if self.has_room(client) {
+            None
+        } else {
+            Some(Refusal::NoRoom)
+        }
+    }
+
     /// Returns whether there is room for one more client at this address: fewer than 64 in all, and fewer than the
     /// limit at this address.
-    pub fn has_room(&self, address: Ipv4Addr) -> bool
+    fn has_room(&self, address: Ipv4Addr) -> bool
         ensures { IsTrue result ↔ HasRoom (ipv4_octets address) self.now }
     {
         self.count_at(address.octets()) < self.most && self.clients.count() < SLOT_COUNT
@@ -109,9 +130,9 @@ impl<S: Stream + Drop> Clients<S> {
         count
     }
 
-    /// Opens a session for a client, and greets it. If the system or the node has no room for it, closes the connection
-    /// unserved. Fails only if the device has failed.
-    pub fn open<D: Disk>(
+    /// Opens a session for a client that may connect, and greets it. If the system or the node has no room for it,
+    /// closes the connection unserved. Fails only if the device has failed.
+    pub(crate) fn open<D: Disk>(
         &mut self,
         registry: &S::Registry,
         relay: &mut Relay<D>,
@@ -119,12 +140,14 @@ impl<S: Stream + Drop> Clients<S> {
         peer: SocketAddrV4,
         now: &Now,
     ) -> Result<(), NodeFault>
+        requires { MayConnect (ipv4_octets (v4_ip peer)) self.old }
         ensures opens { AreMatched (clients_of self.old) relay.old
             → Opens peer (clients_of self.old) (clients_of self.new) relay.new }
         ensures served { (changes : List Change) (setting : Setting)
             → AreServed D.honest D.words S.remaining S.contents changes setting (clients_of self.old) relay.old
             → IfOk result (λ _. AreServed D.honest D.words S.remaining S.contents changes
             (opened S.remaining S.contents setting (clients_of self.old) peer stream) (clients_of self.new) relay.new) }
+        ensures networks { allowed_of self.new ≡ allowed_of self.old }
         ensures fault { IfErr result (λ fault. fault ≡ NodeFault.Stopped) }
     {
         let session = match relay.accept(peer.ip().octets()) {

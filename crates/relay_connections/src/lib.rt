@@ -21,6 +21,7 @@ mod serving;
 mod share;
 mod stream;
 mod table;
+mod welcome;
 
 pub use arrival::Arrived;
 pub use arrivals::Arrivals;
@@ -34,3 +35,4 @@ pub use refusals::Refusals;
 pub use scripted::ScriptedStream;
 pub use stream::Stream;
 pub use table::{Table, holds, turned};
+pub use welcome::close_with;

@@ -10,7 +10,7 @@ ghost use Rattle.relay_connections.specs.Table.{is_such};
 
 use crate::clocks::Now;
 use crate::table::{Table, turned};
-use relay_log::Log;
+use relay_log::{Log, Refusal};
 use relay_slots::SLOT_COUNT;
 use std::alloc::{AllocError, Global};
 use std::net::SocketAddrV4;
@@ -52,10 +52,10 @@ impl Tally {
         }
     }
 
-    /// Logs the refusals of the tally.
-    fn tell(&self, log: &mut Log<'_, Vec<u8>>) {
+    /// Logs the refusals of the tally, which have this reason.
+    fn tell(&self, why: Refusal, log: &mut Log<'_, Vec<u8>>) {
         if 0 < self.count {
-            log.refused(self.peer, self.count);
+            log.refused(self.peer, why, self.count);
         }
     }
 }
@@ -70,9 +70,10 @@ fn is_of(slot: &Option<Tally>, address: [u8; 4]) -> bool
     }
 }
 
-/// Refused clients by address, for up to 64 addresses: when the last line was written, and how many were refused since.
-/// Each refusal is logged once, by a line of its own or in the number of a later line.
+/// Clients that were refused for one reason, by address, for up to 64 addresses: when the last line was written, and how
+/// many were refused since. Each refusal is logged once, by a line of its own or in the number of a later line.
 pub struct Refusals {
+    why: Refusal,
     tallies: Table<Tally>,
     /// The slot that was last given to another address.
     dropped: usize,
@@ -82,6 +83,7 @@ pub struct Refusals {
 impl Drop for Refusals {
     fn drop(self) {
         let Refusals {
+            why: _,
             tallies: _tallies,
             dropped: _,
         } = self;
@@ -89,11 +91,12 @@ impl Drop for Refusals {
 }
 
 impl Refusals {
-    /// Returns an empty table. Fails if memory runs out.
-    pub fn new(alloc: Global) -> Result<Self, AllocError>
+    /// Returns an empty table of clients that are refused for this reason. Fails if memory runs out.
+    pub fn new(alloc: Global, why: Refusal) -> Result<Self, AllocError>
         ensures { IfOk result (λ refusals. AreFree (tallies_of refusals)) }
     {
         Ok(Refusals {
+            why,
             tallies: Table::new(alloc)?,
             dropped: 0,
         })
@@ -107,17 +110,17 @@ impl Refusals {
         }
         let (number, other) = self.make_room();
         if let Some(other) = other {
-            other.tell(log);
+            other.tell(self.why, log);
         }
         self.tallies.put(number, Tally::told(peer, now));
-        log.refused(peer, 1);
+        log.refused(peer, self.why, 1);
     }
 
     /// Logs the refusals of the addresses that had no line for a minute.
     pub fn tell(&mut self, now: &Now, log: &mut Log<'_, Vec<u8>>) {
         for number in 0..self.tallies.standing().len() {
             if let Some(tally) = self.take_over(number, now) {
-                tally.tell(log);
+                tally.tell(self.why, log);
             }
         }
     }

@@ -1,0 +1,63 @@
+-- A client that has come: which one is served, and what another one gets.
+use Rattle.std.specs.Prelude.{◌≡◌, ℕ, true, false, List, ◌++◌, codes, Option, None, Some, Box}
+use Rattle.std.specs.Global.{Global}
+use Rattle.std.specs.Io.KnownBytes.{append_known}
+use Rattle.std.specs.Net.Addr.{ipv4_octets}
+use Rattle.std.specs.Net.Socket.{v4_ip}
+use Rattle.relay_lines.specs.Reply.{one_line, reply_text}
+use Rattle.relay_limits.specs.AllowedClients.{may_connect}
+use Rattle.relay_log.specs.declared.client_line.Refusal.{Refusal}
+use Rattle.relay_log.specs.declared.client_line.Refusal.TheVariants.{NoRoom, NoService}
+use Rattle.relay_loop.specs.Closing.{closing_of}
+use Rattle.relay_loop.specs.Relay.{RelayState}
+use Rattle.relay_loop.specs.declared.closing.Closing.TheVariants.{TooMany}
+use Rattle.relay_routes.specs.declared.network.Network.{Network}
+use Rattle.relay_slots.specs.Slots.{slot_at}
+use Rattle.relay_connections.specs.Leaving.{IsOneOf}
+use Rattle.relay_connections.specs.Matched.{AreMatched}
+use Rattle.relay_connections.specs.Readiness.{clients_of}
+use Rattle.relay_connections.specs.Room.{HasRoom}
+use Rattle.relay_connections.specs.declared.client.Client.{Client}
+use Rattle.relay_connections.specs.declared.clients.Clients.{Clients}
+use Rattle.relay_connections.specs.declared.leaving.Leaver.{Leaver}
+
+-- the networks of the clients that may connect, where any are named
+abbrev pub allowed_of : {S : Type 0} → Clients S → Option (List Network)
+allowed_of clients = clients.allowed
+
+-- the client at this address may connect
+abbrev pub MayConnect : {S : Type 0} → List ℕ → Clients S → Type 0
+MayConnect address clients = may_connect (allowed_of clients) address ≡ true
+
+-- each client of the table has its session, whose peer it is, and may connect
+pub record AreAllowed {S D : Type 0} (clients : Clients S) (relay : RelayState D) : Type 0 where
+  pub matched : AreMatched (clients_of clients) relay
+  pub each : (number : ℕ) (client : Box (Client S) Global) → slot_at (clients_of clients) number ≡ Some client
+      → MayConnect (ipv4_octets (v4_ip client.value.peer)) clients
+
+-- Why the client at this address isn't served: it may not connect; or it may, and there is no room for it. It is served
+-- if it may connect and there is room.
+abbrev pub IsRefusedFor : {S : Type 0} → List ℕ → Clients S → Option Refusal → Type 0
+IsRefusedFor address clients None = MayConnect address clients × HasRoom address clients
+IsRefusedFor address clients (Some NoRoom) = MayConnect address clients × ¬ HasRoom address clients
+IsRefusedFor address clients (Some NoService) = may_connect (allowed_of clients) address ≡ false
+
+-- the one line that such a client gets of this host: 421 (RFC 5321, section 3.8), or 554 (section 3.1)
+abbrev pub refusal_of : List ℕ → Refusal → List ℕ
+refusal_of host NoRoom = closing_of host TooMany
+refusal_of host NoService = reply_text (one_line 554 (host ++ codes " no service"))
+
+-- The words below are of what is known of the streams of connections.
+module _ {S : Type 0} (remaining contents : S → Option (List ℕ)) where
+  -- What leaves under a number is as before. If nothing did, the connection of this stream may, whose peer gets this line
+  -- and nothing after it.
+  abbrev pub MayLeaveWith : S → List ℕ → Option (Box (Leaver S) Global) → Option (Box (Leaver S) Global) → Type 0
+  MayLeaveWith stream line None None = Unit {0}
+  MayLeaveWith stream line None (Some leaver) =
+      IsOneOf remaining contents None (append_known (contents stream) line) leaver.value
+  MayLeaveWith stream line (Some leaver) new = new ≡ Some leaver
+
+  -- so it is of all numbers
+  abbrev pub LeavesWith
+      : S → List ℕ → List (Option (Box (Leaver S) Global)) → List (Option (Box (Leaver S) Global)) → Type 0
+  LeavesWith stream line old new = (number : ℕ) → MayLeaveWith stream line (slot_at old number) (slot_at new number)
