@@ -1,16 +1,23 @@
 //! The listener, and the clients that connect to it.
-ghost use Rattle.std.specs.Prelude.{◌≤◌};
+ghost use Rattle.std.specs.Prelude.{◌≡◌, ◌≤◌, false, true};
+ghost use Rattle.std.specs.List.{list_any};
+ghost use Rattle.std.specs.Net.Addr.{ipv4_octets};
+ghost use Rattle.std.specs.Net.Socket.{v4_ip};
+ghost use Rattle.relay_connections.specs.Leaving.{leavers_of};
+ghost use Rattle.relay_connections.specs.Welcome.{AreAllowed, LeavesWith, allowed_of, refusal_of};
+ghost use Rattle.relay_limits.specs.AllowedClients.{may_connect};
+ghost use Rattle.relay_routes.specs.Network.{is_in};
 
 use crate::listen::{Found, Listen};
 use mio::net::TcpStream;
 use relay_connections::{
-    Arrivals, Arrived, Channel, Clients, Leaving, Now, Readiness, Refusals, Stream,
+    Arrivals, Arrived, Clients, Leaving, Now, Readiness, Refusals, Stream, close_with,
 };
 use relay_disk::Disk;
 use relay_files::Fault;
 use relay_limits::Balancers;
-use relay_log::Log;
-use relay_loop::{Closing, Outbox, Relay, closing_line};
+use relay_log::{Log, Refusal};
+use relay_loop::Relay;
 use relay_next_hops::Dial;
 use relay_slots::SLOT_COUNT;
 use std::alloc::{AllocError, Global};
@@ -25,13 +32,14 @@ const MOST_AT_ONCE: usize = 64;
 /// The state of the listener, the balancers' connections whose headers aren't read yet, and the clients that were
 /// refused.
 pub(crate) struct Door<S = TcpStream> {
-    alloc: Global,
     /// Whether clients may be waiting.
     is_ready: bool,
     /// The tick before which no client is accepted.
     paused_until: u64,
     /// The clients that were refused for lack of room.
     refusals: Refusals,
+    /// Clients that were refused because they may not connect.
+    strangers: Refusals,
     /// The addresses whose connections begin with a PROXY protocol header.
     balancers: Balancers,
     /// The connections whose headers aren't read yet.
@@ -42,10 +50,10 @@ pub(crate) struct Door<S = TcpStream> {
 impl<S: Drop> Drop for Door<S> {
     fn drop(self) {
         let Door {
-            alloc: _,
             is_ready: _,
             paused_until: _,
             refusals: _refusals,
+            strangers: _strangers,
             balancers: _balancers,
             arrivals: _arrivals,
         } = self;
@@ -61,10 +69,10 @@ impl<S: Stream + Drop> Door<S> {
     /// Returns a door at which clients may be waiting, for these balancers. Fails if memory runs out.
     pub(crate) fn new(alloc: Global, balancers: Balancers) -> Result<Self, AllocError> {
         Ok(Door {
-            alloc,
             is_ready: true,
             paused_until: 0,
-            refusals: Refusals::new(alloc)?,
+            refusals: Refusals::new(alloc, Refusal::NoRoom)?,
+            strangers: Refusals::new(alloc, Refusal::NoService)?,
             balancers,
             arrivals: Arrivals::new(alloc)?,
         })
@@ -110,6 +118,7 @@ impl<S: Stream + Drop> Door<S> {
         ensures { result ≤ otherwise }
     {
         let next = self.refusals.next_deadline(otherwise);
+        let next = self.strangers.next_deadline(next);
         let next = self.arrivals.next_deadline(next);
         if self.is_ready {
             next.min(self.paused_until)
@@ -119,7 +128,7 @@ impl<S: Stream + Drop> Door<S> {
     }
 
     /// Takes the clients that are waiting, while the descriptors are kept that are for attempts, and then those whose
-    /// headers are whole. One for which there is no room is told so and closed.
+    /// headers are whole. One that isn't served is told so and closed.
     pub(crate) fn admit<L: Listen<Stream = S>, N: Dial, D: Disk>(
         &mut self,
         listener: &mut L,
@@ -130,8 +139,11 @@ impl<S: Stream + Drop> Door<S> {
         leaving: &mut Leaving<S>,
         now: &Now,
         log: &mut Log<'_, Vec<u8>>,
-    ) -> Result<(), Fault> {
+    ) -> Result<(), Fault>
+        ensures allowed { AreAllowed clients.old relay.old → AreAllowed clients.new relay.new }
+    {
         self.refusals.tell(now, log);
+        self.strangers.tell(now, log);
         for _ in 0..MOST_AT_ONCE {
             if !self.may_accept(now) {
                 break;
@@ -142,13 +154,7 @@ impl<S: Stream + Drop> Door<S> {
             }
             match listener.accept() {
                 Found::Client(stream, peer) => {
-                    if self.balancers.contains(*peer.ip()) {
-                        if !self.arrivals.take(registry, stream, peer, now) {
-                            self.refusals.note(peer, now, log);
-                        }
-                    } else {
-                        self.welcome(registry, relay, clients, leaving, stream, peer, now, log)?;
-                    }
+                    self.receive(registry, relay, clients, leaving, stream, peer, now, log)?;
                 }
                 Found::Missed => {}
                 Found::Nobody => self.is_ready = false,
@@ -156,6 +162,37 @@ impl<S: Stream + Drop> Door<S> {
             }
         }
         self.admit_arrived(registry, relay, clients, leaving, now, log)
+    }
+
+    /// Opens a session for a client, or tells it why it isn't served. A balancer's connection has no client before its
+    /// header is whole.
+    fn receive<D: Disk>(
+        &mut self,
+        registry: &S::Registry,
+        relay: &mut Relay<D>,
+        clients: &mut Clients<S>,
+        leaving: &mut Leaving<S>,
+        stream: S,
+        peer: SocketAddrV4,
+        now: &Now,
+        log: &mut Log<'_, Vec<u8>>,
+    ) -> Result<(), Fault>
+        ensures balancer { list_any (is_in (ipv4_octets (v4_ip peer))) self.old.balancers ≡ true
+            → (relay.new ≡ relay.old) × (clients.new ≡ clients.old) × (leaving.new ≡ leaving.old) }
+        ensures stranger { list_any (is_in (ipv4_octets (v4_ip peer))) self.old.balancers ≡ false
+            → may_connect (allowed_of clients.old) (ipv4_octets (v4_ip peer)) ≡ false
+            → (relay.new ≡ relay.old) × (clients.new ≡ clients.old)
+            × LeavesWith S.remaining S.contents stream (refusal_of relay.old.node.config.host Refusal.NoService)
+            (leavers_of leaving.old) (leavers_of leaving.new) }
+        ensures allowed { AreAllowed clients.old relay.old → AreAllowed clients.new relay.new }
+    {
+        if !self.balancers.contains(*peer.ip()) {
+            return self.welcome(registry, relay, clients, leaving, stream, peer, now, log);
+        }
+        if !self.arrivals.take(registry, stream, peer, now) {
+            self.refusals.note(peer, now, log);
+        }
+        Ok(())
     }
 
     /// Takes the clients of balancers whose headers are whole. A connection without one is closed.
@@ -167,7 +204,9 @@ impl<S: Stream + Drop> Door<S> {
         leaving: &mut Leaving<S>,
         now: &Now,
         log: &mut Log<'_, Vec<u8>>,
-    ) -> Result<(), Fault> {
+    ) -> Result<(), Fault>
+        ensures allowed { AreAllowed clients.old relay.old → AreAllowed clients.new relay.new }
+    {
         for _ in 0..MOST_AT_ONCE {
             match self.arrivals.next(registry, now) {
                 Some(Arrived::Client(stream, peer)) => {
@@ -183,7 +222,7 @@ impl<S: Stream + Drop> Door<S> {
         Ok(())
     }
 
-    /// Opens a session for a client, or tells it that there is no room.
+    /// Opens a session for a client, or tells it why it isn't served.
     fn welcome<D: Disk>(
         &mut self,
         registry: &S::Registry,
@@ -194,13 +233,17 @@ impl<S: Stream + Drop> Door<S> {
         peer: SocketAddrV4,
         now: &Now,
         log: &mut Log<'_, Vec<u8>>,
-    ) -> Result<(), Fault> {
-        if clients.has_room(*peer.ip()) {
-            clients.open(registry, relay, stream, peer, now)?;
-            log.connected();
-        } else {
-            self.refusals.note(peer, now, log);
-            turn_away(self.alloc, registry, relay, leaving, stream, now);
+    ) -> Result<(), Fault>
+        ensures stranger { may_connect (allowed_of clients.old) (ipv4_octets (v4_ip peer)) ≡ false
+            → (relay.new ≡ relay.old) × (clients.new ≡ clients.old)
+            × LeavesWith S.remaining S.contents stream (refusal_of relay.old.node.config.host Refusal.NoService)
+            (leavers_of leaving.old) (leavers_of leaving.new) }
+        ensures allowed { AreAllowed clients.old relay.old → AreAllowed clients.new relay.new }
+    {
+        match clients.welcome(registry, relay, leaving, stream, peer, now)? {
+            None => log.connected(),
+            Some(Refusal::NoRoom) => self.refusals.note(peer, now, log),
+            Some(Refusal::NoService) => self.strangers.note(peer, now, log),
         }
         Ok(())
     }
@@ -210,41 +253,9 @@ impl<S: Stream + Drop> Door<S> {
 pub(crate) fn refuse_all<S: Stream + Drop, L: Listen<Stream = S>>(listener: &mut L, line: &[u8]) {
     for _ in 0..MOST_AT_ONCE {
         match listener.accept() {
-            Found::Client(stream, _peer) => dismiss(stream, line),
+            Found::Client(stream, _peer) => close_with(stream, line),
             Found::Missed => {}
             Found::Nobody | Found::Want => return,
         }
     }
-}
-
-/// Tells a client that there is no room for it. If many are told so, its connection is closed at once.
-fn turn_away<S: Stream + Drop, D: Disk>(
-    alloc: Global,
-    registry: &S::Registry,
-    relay: &Relay<D>,
-    leaving: &mut Leaving<S>,
-    stream: S,
-    now: &Now,
-) {
-    let Ok(line) = closing_line(alloc, &relay.node().config().host, Closing::TooMany) else {
-        return;
-    };
-    if leaving.has_room_for_strangers() {
-        leaving.take(
-            registry,
-            Channel::new(alloc, stream),
-            Outbox::new(line),
-            None,
-            now,
-        );
-    } else {
-        dismiss(stream, line.as_slice());
-    }
-}
-
-/// Writes a line to a client and closes its connection. A client that doesn't read it finds the connection closed.
-fn dismiss<S: Stream + Drop>(stream: S, line: &[u8]) {
-    let mut stream = stream;
-    let _ = stream.try_write(line);
-    stream.shut_down();
 }

@@ -3,7 +3,7 @@ ghost use Rattle.std.specs.Prelude.{IfOk};
 use crate::door::Door;
 use crate::shell::{Shell, SystemShell};
 use crate::start::{
-    kept_file, locked_relay, log_form, open_listener, open_page, say_ready, settings,
+    Settings, kept_file, locked_relay, log_form, open_listener, open_page, say_ready, settings,
 };
 use crate::status_page::StatusPage;
 use crate::turns::{System, serve};
@@ -44,7 +44,12 @@ pub fn run<
 ) -> Result<(), Fault>
     ensures { IfOk result (λ _. ⊥) }
 {
-    let (config, limits, balancers) = settings(alloc, rt, path)?;
+    let Settings {
+        config,
+        limits,
+        balancers,
+        allowed,
+    } = settings(alloc, rt, path)?;
     let at = config.listen;
     let form = log_form(quiet, &limits);
     let (relay, room) = locked_relay(alloc, rt, config)?;
@@ -55,7 +60,7 @@ pub fn run<
     let listener = open_listener(alloc, rt, poll.registry(), at, form, errors)?;
     let page = open_page(alloc, rt, poll.registry(), &limits, &relay)?;
     let door = Door::new(alloc, balancers)?;
-    let mut shell: SystemShell = Shell::new(alloc, relay, door, room, &limits)?;
+    let mut shell: SystemShell = Shell::new(alloc, relay, door, room, &limits, allowed)?;
     shell.next_hops.prepare(&shell.relay)?;
     let events = Events::with_capacity(alloc, EVENT_COUNT)?;
     say_ready(alloc, &shell.relay, at, writer)?;

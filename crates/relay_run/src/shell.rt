@@ -14,7 +14,7 @@ use mio::net::TcpStream;
 use relay_connections::{Clients, Intake, Leaving, Now, Replied, Stream};
 use relay_disk::{Disk, FileDisk};
 use relay_files::Fault;
-use relay_limits::Limits;
+use relay_limits::{AllowedClients, Limits};
 use relay_log::Log;
 use relay_loop::Relay;
 use relay_next_hops::{Dial, NextHops};
@@ -59,15 +59,16 @@ impl<S: Drop, D: Disk + Drop, F: Drop> Drop for Shell<S, D, F> {
 }
 
 impl<S: Stream + Drop, D: Disk + Drop, F: Disk + Drop> Shell<S, D, F> {
-    /// Makes a shell without connections, with these limits. Fails if memory runs out.
+    /// Makes a shell without connections, with these limits, for the clients that may connect. Fails if memory runs out.
     pub(crate) fn new(
         alloc: Global,
         relay: Relay<D>,
         door: Door<S>,
         room: Room<F>,
         limits: &Limits,
+        allowed: AllowedClients,
     ) -> Result<Self, AllocError> {
-        let clients = Clients::new(alloc, limits)?;
+        let clients = Clients::new(alloc, limits, allowed)?;
         let next_hops = NextHops::new(alloc, limits)?;
         let leaving = Leaving::new(alloc, u64::from(limits.client_timeout))?;
         let pauses = Pauses::new(relay.node().size());

@@ -8,7 +8,7 @@ use mio::Registry;
 use mio::net::TcpListener;
 use relay_disk::FileDisk;
 use relay_files::{Fault, configuration_text, locked_node};
-use relay_limits::{Balancers, Limit, Limits, LogForm};
+use relay_limits::{AllowedClients, Balancers, Limit, Limits, LogForm};
 use relay_log::{Counters, Form, Log};
 use relay_loop::Relay;
 use relay_routes::{Config, ConfigFault};
@@ -24,21 +24,38 @@ use std::time::Duration;
 /// second.
 const ADDRESS_SECONDS: u64 = 60;
 
-/// Returns the configuration, the limits and the balancers in the file at this path. Faults are checked in this order:
-/// the file, the configuration, the limits, the balancers.
+/// What the configuration's file says.
+pub(crate) struct Settings {
+    pub(crate) config: Config,
+    pub(crate) limits: Limits,
+    pub(crate) balancers: Balancers,
+    /// The clients that may connect.
+    pub(crate) allowed: AllowedClients,
+}
+
+/// Returns what the file at this path says. Faults are checked in this order: the file, the configuration, the limits,
+/// the balancers, the clients that may connect.
 pub(crate) fn settings<F: Files<File = File>>(
     alloc: Global,
     files: &F,
     path: &str,
-) -> Result<(Config, Limits, Balancers), Fault> {
+) -> Result<Settings, Fault> {
     let text = configuration_text(alloc, files, path)?;
     let document = document(alloc, text.as_str())?;
     let config = Config::of_document(alloc, &document)?;
     let limits = Limits::of_document(&document)?;
-    match Balancers::of_document(alloc, &document)? {
-        Some(balancers) => Ok((config, limits, balancers)),
-        None => Err(Fault::Limit(Limit::Balancers)),
-    }
+    let Some(balancers) = Balancers::of_document(alloc, &document)? else {
+        return Err(Fault::Limit(Limit::Balancers));
+    };
+    let Some(allowed) = AllowedClients::of_document(alloc, &document)? else {
+        return Err(Fault::Limit(Limit::Clients));
+    };
+    Ok(Settings {
+        config,
+        limits,
+        balancers,
+        allowed,
+    })
 }
 
 /// Returns the format of the log; `None` if nothing is logged.

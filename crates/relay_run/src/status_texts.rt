@@ -136,8 +136,8 @@ fn rejections(counters: &Counters) -> u64 {
     sum
 }
 
-/// Returns how many commands and mail data were refused, by reply code and cause.
-fn rejections_by_cause(counters: &Counters) -> [(&'static [u8], u64); 10] {
+/// Returns how many commands, mail data and connections were refused, by reply code and cause.
+fn rejections_by_cause(counters: &Counters) -> [(&'static [u8], u64); 11] {
     let rejected = counters.rejected;
     [
         (b"no_route", rejected.no_route),
@@ -150,6 +150,7 @@ fn rejections_by_cause(counters: &Counters) -> [(&'static [u8], u64); 10] {
         (b"syntax", rejected.syntax),
         (b"not_offered", rejected.not_offered),
         (b"closing", rejected.closing),
+        (b"no_service", rejected.no_service),
     ]
 }
 
