@@ -13,6 +13,7 @@ import random
 import re
 import resource
 import select
+import shutil
 import socket
 import subprocess
 import sys
@@ -23,7 +24,7 @@ sys.dont_write_bytecode = True
 
 from mail_checks import CONTENT, CONTENTS, behind_mark, hand_in, one_message
 from relay_program import Difference, LOCKED, PATIENCE, same, until
-from running_relay import TEXT, TIMEOUT, TIMES, TOO_MANY, Client, Feeder, beside, clients_of, comes_to_rest
+from running_relay import NO_SERVICE, TEXT, TIMEOUT, TIMES, TOO_MANY, Client, Feeder, beside, clients_of, comes_to_rest
 from running_relay import greeted, lines_of, no_later, number_of, play_rows, repeats_at, resident, shim, slowest
 from running_relay import tokens_at
 
@@ -140,6 +141,41 @@ def the_65th_is_sent_away(field):
                 same("the 65th", client.rest(), TOO_MANY)
         others[31].hand_in()
         field.arrived(1)
+
+
+def only_clients_of_the_networks_may_connect(field):
+    for number, (networks, inside, outside) in enumerate([
+            ('["127.0.0.1"]', "127.0.0.1", "127.0.0.2"), ('["192.0.2.0/24", "127.0.0.2/31"]', "127.0.0.2", "127.0.0.1"),
+            ('["127.0.0.0/30"]', "127.0.0.3", "127.0.0.4")]):
+        relay = field.relay(f"relay{number}", clients=networks)
+        with relay.running(), Client(relay, inside) as client:
+            for _ in range(2):
+                with Client(relay, outside) as stranger:
+                    # What it sends at once is not read.
+                    stranger.link.sendall(b"EHLO client.example\r\nQUIT\r\n")
+                    same(f"what {outside} is told", stranger.rest(), NO_SERVICE)
+            client.begin()
+            client.hand_in()
+            field.arrived(1)
+    relay = field.relay("nobody", clients="[]")
+    with relay.running(), Client(relay) as client:
+        same("where nobody may connect", client.rest(), NO_SERVICE)
+
+
+def strangers_take_no_room_from_clients(field):
+    """Of 100 that stay 64 are waited for at most, and they have no session: 64 clients are served beside them."""
+    relay = field.relay(clients='["127.0.0.1", "127.0.0.2"]', sessions_per_client=64)
+    with relay.running(), contextlib.ExitStack() as stack:
+        strangers = [stack.enter_context(Client(relay, "127.0.0.3")) for _ in range(100)]
+        for _ in range(32):
+            for address in ("127.0.0.1", "127.0.0.2"):
+                stack.enter_context(Client(relay, address)).begin()
+        with Client(relay) as client:
+            same("the 65th client", client.rest(), TOO_MANY)
+        with Client(relay, "127.0.0.3") as client:
+            same("a stranger where all sessions are taken", client.rest(), NO_SERVICE)
+        for stranger in strangers:
+            same("what each is told", stranger.rest(), NO_SERVICE)
 
 
 def commands_and_chunks_come_in_one_piece(field):
@@ -471,6 +507,10 @@ def its_faults_end_it_before_it_is_ready(field):
         same(f"{key} = {value}", bad.refused("run"), (1, f"relayd: config BadValue {key}"))
         # The other subcommands don't look at it.
         same("list", bad.held(), [])
+    for value in ('"127.0.0.1"', '["127.0.0.256"]', '[5]', '["192.0.2.9/24"]'):
+        bad = field.relay("clients", clients=value)
+        same(f"clients = {value}", bad.refused("run"), (1, "relayd: config BadValue clients"))
+        shutil.rmtree(bad.folder)
     with socket.create_server(("127.0.0.1", relay.port)):
         same("a port that is taken", relay.refused("run"), (1, "relayd: socket"))
     ended = subprocess.run(relay.words("run", "--quiet"), stderr=subprocess.PIPE, timeout=PATIENCE,
@@ -544,6 +584,8 @@ ROWS = [
     sixty_four_sessions_stand_side_by_side,
     the_next_of_one_address_is_sent_away,
     the_65th_is_sent_away,
+    only_clients_of_the_networks_may_connect,
+    strangers_take_no_room_from_clients,
     commands_and_chunks_come_in_one_piece,
     a_bare_line_end_is_refused_where_that_is_asked,
     a_routed_address_is_refused_where_that_is_asked,

@@ -20,8 +20,8 @@ sys.dont_write_bytecode = True
 
 from mail_checks import hand_in, read_report
 from relay_program import Difference, PATIENCE, free_port, same, until
-from running_relay import SOON, TIMEOUT, TOO_MANY, Client, clients_of, hop_that, hop_that_falls_silent, lines_of
-from running_relay import no_later, play_rows, shim
+from running_relay import NO_SERVICE, SOON, TIMEOUT, TOO_MANY, Client, clients_of, hop_that
+from running_relay import hop_that_falls_silent, lines_of, no_later, play_rows, shim
 from running_relay import slowest
 from spool_files import bodies_of
 
@@ -115,10 +115,25 @@ def a_client_that_is_sent_away_has_a_line(field):
         until("its line", lambda: told(relay, "client-end") == [line])
 
 
-def sent_away(relay, address="127.0.0.1"):
-    """A client for which there is no room: its place."""
+def a_client_that_may_not_connect_has_a_line_a_minute(field):
+    relay = field.relay(clients='["127.0.0.1"]', sessions_per_client=1, client_timeout=3600)
+    shim(field, "run_clocks", relay, FASTER="15")
+    with relay.running(), clients_of(relay, 1):
+        text, many = "relayd: client-end client={} reason={} count={}", 4
+        strangers = [sent_away(relay, "127.0.0.2", NO_SERVICE) for _ in range(5)]
+        lines = [text.format(strangers[0], "no-service", 1)]
+        until("the line at once", lambda: told(relay, "client-end") == lines, SOON)
+        # Those for which there is no room have a line of their own.
+        lines.append(text.format(sent_away(relay), "too-many", 1))
+        until("the line of another", lambda: told(relay, "client-end") == lines, SOON)
+        lines.append(text.format(strangers[4], "no-service", many))
+        until("the line of the others", lambda: told(relay, "client-end") == lines, 4 + SOON)
+
+
+def sent_away(relay, address="127.0.0.1", line=TOO_MANY):
+    """A client that isn't served: its place."""
     with Client(relay, address) as client:
-        same("what it is told", client.rest(), TOO_MANY)
+        same("what it is told", client.rest(), line)
         return "{}:{}".format(*client.link.getsockname())
 
 
@@ -465,6 +480,7 @@ ROWS = [
     a_next_hop_that_is_back_has_a_line,
     a_client_that_is_cut_off_has_a_line,
     a_client_that_is_sent_away_has_a_line,
+    a_client_that_may_not_connect_has_a_line_a_minute,
     refused_clients_have_a_line_a_minute,
     each_refusal_is_told_of_where_many_addresses_are_refused,
     what_came_of_each_recipient_has_a_line,

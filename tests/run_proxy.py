@@ -15,7 +15,7 @@ import time
 sys.dont_write_bytecode = True
 
 from relay_program import Difference, PATIENCE, same, until
-from running_relay import TEXT, TIMES, TOO_MANY, Client, lines_of, number_of, play_rows
+from running_relay import NO_SERVICE, TEXT, TIMES, TOO_MANY, Client, lines_of, number_of, play_rows
 
 BALANCER = "127.0.0.2"
 SIGNATURE = bytes.fromhex("0d0a0d0a000d0a515549540a")
@@ -239,6 +239,31 @@ def trust_is_of_the_clients_address(field):
                     same(f"RCPT of {address}", client.say(b"RCPT TO:<c@elsewhere.example>\r\n")[:3], code)
 
 
+def whether_a_client_may_connect_is_by_its_own_address(field):
+    """The balancer may not connect, but its clients may, and the other way round."""
+    headers = [lambda address: tcp4(address), lambda address: block(PROXY, TCP4, addresses(address))]
+    relay = relay_of(field, clients='["192.0.2.0/25"]')
+    with relay.running():
+        for header in headers:
+            handed_in(field, relay, "192.0.2.77", header("192.0.2.77"))
+            for stranger in ("192.0.2.177", BALANCER, "127.0.0.1"):
+                with Behind(relay, header(stranger)) as client:
+                    same(f"what {stranger} is told", client.rest(), NO_SERVICE)
+        for header in (line("UNKNOWN"), block(LOCAL, 0, b"")):
+            with Behind(relay, header) as client:
+                same("what the balancer itself is told", client.rest(), NO_SERVICE)
+        with Client(relay) as client:
+            same("what a stranger without a balancer is told", client.rest(), NO_SERVICE)
+        # Nothing is told before the header has come.
+        is_refused(relay, "no-proxy-header", b"EHLO client.example\r\n")
+    relay = field.relay("balancer", balancers=f'["{BALANCER}"]', clients=f'["{BALANCER}"]')
+    with relay.running():
+        for header in headers:
+            with Behind(relay, header("192.0.2.77")) as client:
+                same("what a client of an allowed balancer is told", client.rest(), NO_SERVICE)
+        handed_in(field, relay, BALANCER, line("UNKNOWN"))
+
+
 ROWS = [
     a_line_says_whose_the_connection_is,
     a_block_says_whose_the_connection_is,
@@ -251,6 +276,7 @@ ROWS = [
     from_elsewhere_a_header_is_an_unknown_command,
     limits_are_of_the_clients_address,
     trust_is_of_the_clients_address,
+    whether_a_client_may_connect_is_by_its_own_address,
 ]
 
 

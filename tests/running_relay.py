@@ -22,6 +22,7 @@ TIMES = float(os.environ.get("TIMES", "2"))
 PROMPT, SOON = 0.1 * TIMES, 1.0 * TIMES
 TOO_MANY = b"421 relay.example too many connections, closing\r\n"
 TIMEOUT = b"421 relay.example timeout, closing\r\n"
+NO_SERVICE = b"554 relay.example no service\r\n"
 TEXT = b"Subject: side by side\r\n\r\ntext\r\n.\r\n"
 
 

@@ -22,7 +22,7 @@ import time
 sys.dont_write_bytecode = True
 
 from relay_program import Difference, PATIENCE, free_port, same, until
-from running_relay import PROMPT, TIMES, beside, clients_of, hop_that_hangs, play_rows, slowest
+from running_relay import PROMPT, TIMES, Client, beside, clients_of, hop_that_hangs, play_rows, slowest
 
 SCRIPT = '"<script>alert(1)</script>"'
 FIELDS = {
@@ -185,6 +185,24 @@ def metrics_tell_of_the_mail(field):
         same("promtool", (ended.returncode, ended.stdout + ended.stderr), (0, b""))
 
 
+def refused_connections_are_counted_by_their_reply(field):
+    page = Page(field, clients='["127.0.0.1"]', sessions_per_client=1)
+    with page.relay.running(), clients_of(page.relay, 1):
+        for address, count in (("127.0.0.1", 2), ("127.0.0.2", 3)):
+            for _ in range(count):
+                with Client(page.relay, address) as client:
+                    client.rest()
+        # The others are told of, and counted, a minute after the first.
+        until("one of each", lambda: counted(page) == (1, 1, 1))
+
+
+def counted(page):
+    """How many clients were served, for how many there was no room, and how many might not connect."""
+    values = page.values()
+    return (values["relayd_connections_total"], values["relayd_connections_turned_away_total"],
+            values['relayd_rejections_total{cause="no_service"}'])
+
+
 def connections_are_counted_while_they_stand(field):
     with hop_that_hangs() as (port, taken):
         page = Page(field, more={"hangs.example": ("hangs.example", port)})
@@ -330,6 +348,7 @@ ROWS = [
     a_request_may_come_octet_by_octet,
     the_page_of_an_empty_queue_says_so,
     metrics_tell_of_the_mail,
+    refused_connections_are_counted_by_their_reply,
     connections_are_counted_while_they_stand,
     the_list_is_that_of_list,
     markup_in_a_path_is_text,
