@@ -181,6 +181,16 @@ def message_is_shown(queue):
         same(f"show {word}", queue.relay.ended(20, "show", word).returncode, 2)
 
 
+def tries_are_told_in_words(queue):
+    accepted, paths = int(time.time()) - DAY, [b"<%s@example.org>" % name for name in (b"b", b"c", b"d", b"e")]
+    queue.write(accept(accepted, b"<a@example.org>", [recipient(path) for path in paths], b"x"),
+                *(deferral(1, accepted + hours * HOUR, places)
+                  for hours, places in [(1, [1, 2, 3]), (2, [2, 3]), (4, [3]), (8, [3]), (13, [3])]))
+    tries = re.findall(r"^ *state +queued for next\.example at 127\.0\.0\.1:2526; (.*), next ",
+                       queue.look("show", "1"), re.M)
+    same("the tries", tries, ["0 tries", "1 try", "2 tries", "4+ tries"])
+
+
 def status_sums_up(queue):
     now = three_messages(queue)
     lines = queue.look("status").splitlines()
@@ -254,7 +264,7 @@ def beside_a_running_relay(program, folder):
 
 
 ROWS = [list_is_a_table, times_are_local, empty_queue, filters_combine, objects_have_each_field, message_is_shown,
-        status_sums_up, metrics_are_prometheus, faults_are_those_of_list, many_messages]
+        tries_are_told_in_words, status_sums_up, metrics_are_prometheus, faults_are_those_of_list, many_messages]
 
 
 def main():

@@ -218,6 +218,35 @@ def each_recipient_has_the_reply_that_settles_it(field):
                  [f'<{name}@example.net> status=deferred reply="{reply}"' for name in "cd"])
 
 
+def a_next_hop_that_closes_by_421_is_quoted(field):
+    """It may answer any command so (RFC 5321, section 3.8), and answers no further one: its reply is that of each
+    recipient that has none of its own, and of the others their own; without a 421 the connection was closed."""
+    greeting, last = [b"220 hop.example", b"250 hop.example"], b"421 hop.example shutting down"
+    shut, closed = f'reply="{last.decode()}"', 'reason="connection closed"'
+    for number, (replies, ends) in enumerate([
+        ([last], [shut, shut]),
+        ([b"250 ok", last], [shut, shut]),
+        ([b"250 ok", b"450 busy", last], ['reply="450 busy"', shut]),
+        ([b"250 ok", b"250 ok", b"250 ok", b"354 go on", last], [shut, shut]),
+        ([b"250 ok", b"450 busy"], ['reply="450 busy"', closed]),
+        ([b"250 ok", b"250 ok", b"250 ok", b"354 go on"], [closed, closed]),
+    ]):
+
+        def answer(link):
+            for count, reply in enumerate([*greeting, *replies]):
+                if count > 0:
+                    link.recv(1 << 16)
+                link.sendall(reply + b"\r\n")
+
+        with hop_that(answer) as port:
+            relay = field.relay(f"relay-{number}", more={"example.net": ("odd.example", port)})
+            with relay.running():
+                hand_in(relay, recipients=("c@example.net", "d@example.net"))
+                until("its lines", lambda: len(told(relay, "status=deferred")) == 2)
+        same(f"after {replies}", [line.split(" to=")[1] for line in told(relay, "status=deferred")],
+             [f"<{name}@example.net> status=deferred {end}" for name, end in zip("cd", ends)])
+
+
 def lines_of_json_have_the_same_fields(field):
     """A time, the event, and the fields in their order; numbers have no unit, and an octet that isn't printable is the
     character of its number."""
@@ -275,12 +304,13 @@ def what_clients_are_refused_has_ten_lines_a_minute(field):
 
 def a_refusal_names_its_command_where_the_reply_is_that_of_one_alone(field):
     """Others may answer several commands, and name none."""
-    relay = field.relay()
+    relay = field.relay(routed_paths='"refuse"')
     with relay.running(), Client(relay) as client:
         client.begin()
         client.say(b"MAIL FROM:<a@example.org>\r\n")
         for octets, reply in ((b"NONSENSE\r\n", "500 unknown command"), (b"RCPT TO:b\r\n", "501 bad path"),
                               (b"RCPT TO:<b@nowhere.example>\r\n", "550 no route"),
+                              (b"RCPT TO:<b%nowhere.example@example.org>\r\n", "553 routed address refused"),
                               (b"DATA\r\n", "554 no valid recipients"),
                               (b"BDAT x\r\n", "421 relay.example bad chunk size, closing")):
             same("a reply", client.say(octets), reply)
@@ -288,7 +318,8 @@ def a_refusal_names_its_command_where_the_reply_is_that_of_one_alone(field):
         until("its end", lambda: told(relay, "client-end"))
     same("its lines", told(relay, "rejected client"), [f"relayd: rejected {name} {it}" for it in (
         'command=unknown reply="500 unknown command"', 'reply="501 bad path"', 'command=rcpt reply="550 no route"',
-        'reply="554 no valid recipients"', 'command=bdat reply="421 relay.example bad chunk size, closing"')])
+        'command=rcpt reply="553 routed address refused"', 'reply="554 no valid recipients"',
+        'command=bdat reply="421 relay.example bad chunk size, closing"')])
 
 
 def a_full_spool_has_a_line_once_a_minute(field):
@@ -485,6 +516,7 @@ ROWS = [
     each_refusal_is_told_of_where_many_addresses_are_refused,
     what_came_of_each_recipient_has_a_line,
     each_recipient_has_the_reply_that_settles_it,
+    a_next_hop_that_closes_by_421_is_quoted,
     lines_of_json_have_the_same_fields,
     what_clients_are_refused_has_ten_lines_a_minute,
     a_refusal_names_its_command_where_the_reply_is_that_of_one_alone,

@@ -260,7 +260,8 @@ def mail_whose_route_is_gone_is_reported(field):
         queued = [row[0] for row in relay.held() if row[2] == "<c@example.net>"]
         kept = [row[0] for row in relay.held() if row[2] == "<d@example.com>"]
     relay.route({"example.org": ("next.example", field.sink.port), "example.com": ("also-away.example", free_port())})
-    gone = re.compile(r' relayd: no-route message=(\d+) to=<c@example\.net> status=no-route reason="no route"$')
+    gone = re.compile(r" relayd: no-route message=(\d+) delay=\d+s to=<c@example\.net> "
+                      r'status=no-route reason="no route"$')
     report_of = re.compile(r" relayd: report message=(\d+) of=(\d+) to=<a@example\.org> kind=failed$")
     with relay.running():
         until("what has a route alone", lambda: [row[0] for row in relay.held()] == kept)

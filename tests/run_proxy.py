@@ -186,11 +186,12 @@ def a_header_that_does_not_come_is_waited_for_five_seconds(field):
 
 
 def silent_connections_of_the_balancer_hold_up_nobody(field):
-    """Of 70 without a header 64 are waited for. Meanwhile other clients are served."""
+    """Of 70 without a header 64 are waited for, and the others have a line each. Meanwhile other clients are served."""
     relay = relay_of(field)
     with relay.running(), contextlib.ExitStack() as stack:
         for _ in range(70):
             stack.enter_context(Behind(relay))
+        until("six lines", lambda: reasons(relay) == 6 * ["no-room"])
         with Client(relay) as client:
             client.begin()
             client.hand_in()
@@ -198,6 +199,7 @@ def silent_connections_of_the_balancer_hold_up_nobody(field):
         # After five seconds there is room for headers again.
         time.sleep(LONGEST + 1)
         handed_in(field, relay, "192.0.2.77", tcp4("192.0.2.77"))
+        same("lines of clients that were turned away", lines_of(relay, "too-many"), [])
 
 
 def from_elsewhere_a_header_is_an_unknown_command(field):

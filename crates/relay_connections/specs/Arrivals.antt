@@ -1,16 +1,16 @@
 -- Connections of balancers, each of which begins with a header of the PROXY protocol: how long its header is waited for,
 -- and what becomes of it then.
-use Rattle.std.specs.Prelude.{◌≡◌, ◌≢◌, ◌≤◌, ◌+◌, ◌-◌, ◌*◌, ◌^◌, ◌||◌, ℕ, min, Bool, false, true, List, [], Option, None, Some}
-use Rattle.std.specs.Prelude.{Box}
+use Rattle.std.specs.Prelude.{◌≡◌, ◌≢◌, ◌≤◌, ◌+◌, ◌-◌, ◌*◌, ◌^◌, ◌||◌, ℕ, min, Bool, true, List, [], Option, None, Some}
+use Rattle.std.specs.Prelude.{Box, Result, Ok, Err}
 use Rattle.std.specs.Global.{Global}
 use Rattle.std.specs.Io.KnownBytes.{Consumes}
 use Rattle.std.specs.declared.net.socket_addr.SocketAddrV4.{SocketAddrV4}
 use Rattle.relay_log.specs.declared.client_line.HeaderFault.{HeaderFault}
-use Rattle.relay_log.specs.declared.client_line.HeaderFault.TheVariants.{Missing, Late, OtherProtocol, NoMemory}
+use Rattle.relay_log.specs.declared.client_line.HeaderFault.TheVariants.{Missing, Late, OtherProtocol, NoRoom, NoMemory}
 use Rattle.relay_proxy.specs.Header.{IsHeader}
 use Rattle.relay_proxy.specs.declared.source.Source.{Source}
 use Rattle.relay_proxy.specs.declared.source.Source.TheVariants.{Other}
-use Rattle.relay_slots.specs.Slots.{IsLeastFree, OthersStay, slot_at}
+use Rattle.relay_slots.specs.Slots.{IsFull, IsLeastFree, OthersStay, slot_at}
 use Rattle.relay_connections.specs.HeaderFront.{Comes, IsLate, IsNoHeader, IsPeer, IsSomeHeader, IsWaiting}
 use Rattle.relay_connections.specs.declared.arrival.Arrival.{Arrival}
 use Rattle.relay_connections.specs.declared.arrival.Arrived.{Arrived}
@@ -29,11 +29,12 @@ deadline_from tick = min (tick + 5 * 1000) (2 ^ 64 - 1)
 
 -- Why a connection that begins with these octets has no client. They are no header, they are only the beginning of one
 -- and there is no time left, or the client comes by another protocol than TCP over IPv4; or they are a header, and the
--- system refuses the connection.
+-- system refuses the connection. It was waited for, so that there was room for it.
 abbrev pub IsFault : ℕ → ℕ → List ℕ → HeaderFault → Type 0
 IsFault tick deadline octets Missing = IsNoHeader octets
 IsFault tick deadline octets Late = IsLate tick deadline octets
 IsFault tick deadline octets OtherProtocol = IsHeader octets Other
+IsFault tick deadline octets NoRoom = ⊥
 IsFault tick deadline octets NoMemory = IsSomeHeader octets
 
 -- the state of a header
@@ -78,6 +79,15 @@ pub record IsReadable {S : Type 0} (arrivals : List (Option (Box (Arrival S) Glo
 pub record IsOneReadable {S : Type 0} (arrivals : List (Option (Box (Arrival S) Global))) : Type 0 where
   pub number : ℕ
   pub readable : IsReadable arrivals number
+
+-- why a connection isn't waited for: each slot has one; or there is a free one, and no memory, or no place with the
+-- system, for the connection
+abbrev pub IsNotTaken : {S : Type 0} → List (Option (Box (Arrival S) Global)) → HeaderFault → Type 0
+IsNotTaken arrivals Missing = ⊥
+IsNotTaken arrivals Late = ⊥
+IsNotTaken arrivals OtherProtocol = ⊥
+IsNotTaken arrivals NoRoom = IsFull arrivals
+IsNotTaken arrivals NoMemory = (number : ℕ) × IsLeastFree arrivals number
 
 -- The words below are of what is known of the streams of connections.
 module _ {S : Type 0} (remaining contents : S → Option (List ℕ)) where
@@ -169,11 +179,11 @@ module _ {S : Type 0} (remaining contents : S → Option (List ℕ)) where
     pub others : OthersStay old new number
     pub new_is : IsNew stream balancer tick arrival.value
 
-  -- it does, or nothing has changed
+  -- it is waited for, or nothing has changed, for this reason
   abbrev pub Takes : S → SocketAddrV4 → ℕ → List (Option (Box (Arrival S) Global))
-      → List (Option (Box (Arrival S) Global)) → Bool → Type 0
-  Takes stream balancer tick old new true = IsTaken stream balancer tick old new
-  Takes stream balancer tick old new false = new ≡ old
+      → List (Option (Box (Arrival S) Global)) → Result (Unit {0}) HeaderFault → Type 0
+  Takes stream balancer tick old new (Ok _) = IsTaken stream balancer tick old new
+  Takes stream balancer tick old new (Err fault) = IsNotTaken old fault × (new ≡ old)
 
   -- A client has come by a balancer's connection that began with this stream: a header was first in it, what follows
   -- the header comes next, and nothing was written. The client has the address in the header.

@@ -11,6 +11,7 @@ use crate::clocks::Now;
 use crate::stream::Stream;
 use crate::table::Table;
 use mio::net::TcpStream;
+use relay_log::HeaderFault;
 use relay_slots::SLOT_COUNT;
 use std::alloc::{AllocError, Global};
 use std::net::SocketAddrV4;
@@ -51,32 +52,33 @@ impl<S: Stream + Drop> Arrivals<S> {
         })
     }
 
-    /// Waits for the header of a balancer's connection. Returns whether it does: where 64 are waited for, memory runs
-    /// out, or the system doesn't tell of the connection, it is closed.
+    /// Waits for the header of a balancer's connection. Fails with [`HeaderFault::NoRoom`] if 64 headers are waited
+    /// for, and with [`HeaderFault::NoMemory`] if memory runs out or the system doesn't tell of the connection. It is
+    /// closed then, and nothing else changes.
     pub fn take(
         &mut self,
         registry: &S::Registry,
         stream: S,
         balancer: SocketAddrV4,
         now: &Now,
-    ) -> bool
+    ) -> Result<(), HeaderFault>
         ensures { Takes S.remaining S.contents stream balancer now.now.tick
             (arrivals_of self.old) (arrivals_of self.new) result }
     {
         let Some(number) = self.arrivals.free() else {
-            return false;
+            return Err(HeaderFault::NoRoom);
         };
         let mut stream = stream;
         let token = FIRST_TOKEN.saturating_add(number);
         if stream.register(registry, token, false).is_err() {
-            return false;
+            return Err(HeaderFault::NoMemory);
         }
         match Box::new(self.alloc, Arrival::new(stream, balancer, now)) {
             Ok(arrival) => {
                 self.arrivals.put(number, arrival);
-                true
+                Ok(())
             }
-            Err(_) => false,
+            Err(_) => Err(HeaderFault::NoMemory),
         }
     }
 

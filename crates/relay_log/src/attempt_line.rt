@@ -171,7 +171,8 @@ fn add_attempt(head: Head, line: &mut LogLine, attempt: &Attempt<'_>) -> io::Res
     Ok(())
 }
 
-/// Adds why a recipient may be tried again: what the connection failed for, why octets were no reply, or a reply.
+/// Adds why a recipient may be tried again: a reply of the next hop; without one, what the connection failed for, or
+/// why octets were no reply.
 fn add_reason(
     head: Head,
     line: &mut LogLine,
@@ -180,6 +181,9 @@ fn add_reason(
     count: usize,
     index: usize,
 ) -> io::Result<()> {
+    if let Some((code, text)) = talk.deferring_reply(count, index) {
+        return add_reply(head, line, code, text);
+    }
     if let Some(loss) = attempt.loss {
         line.octets(b"reason", loss.text())?;
         return Ok(());
@@ -187,9 +191,8 @@ fn add_reason(
     if let Some(fault) = talk.fault() {
         let text = format!(in head.alloc; "{fault}")?;
         line.octets(b"reason", text.as_bytes())?;
-        return Ok(());
     }
-    add_settling(head, line, talk, count, index)
+    Ok(())
 }
 
 /// Adds the reply that settles a recipient, if it is known.

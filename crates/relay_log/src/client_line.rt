@@ -1,6 +1,7 @@
 //! The lines of the log for clients.
 use crate::client_record::ClientRecord;
 use crate::head::Head;
+use crate::refused::Refused;
 use memchr::memmem;
 use relay_backlog::LogLine;
 use relay_book::Message;
@@ -85,6 +86,8 @@ pub enum HeaderFault {
     Late,
     /// The client comes by another protocol than TCP over IPv4.
     OtherProtocol,
+    /// As many connections as may wait for their headers are waiting.
+    NoRoom,
     /// There was no memory, or no place with the system, for it.
     NoMemory,
 }
@@ -96,6 +99,7 @@ impl HeaderFault {
             HeaderFault::Missing => b"no-proxy-header",
             HeaderFault::Late => b"proxy-header-timeout",
             HeaderFault::OtherProtocol => b"proxy-not-ipv4",
+            HeaderFault::NoRoom => b"no-room",
             HeaderFault::NoMemory => b"no-memory",
         }
     }
@@ -207,25 +211,11 @@ pub(crate) fn rejected_line(head: Head, peer: SocketAddrV4, reply: &[u8]) -> io:
     let reply = reply.trim_ascii();
     let mut line = head.line(b"rejected")?;
     head.add_address(&mut line, b"client", peer)?;
-    if let Some(command) = refused_command(reply) {
-        line.octets(b"command", command)?;
+    if let Some(command) = Refused::by_reply(reply) {
+        line.octets(b"command", command.word())?;
     }
     line.octets(b"reply", reply)?;
     Ok(line)
-}
-
-/// Returns the command that a reply refuses, if the relay gives that reply to one command alone; `unknown` is a verb
-/// that it doesn't know.
-fn refused_command(reply: &[u8]) -> Option<&'static [u8]> {
-    match reply {
-        b"550 no route" | b"452 too many recipients" => Some(b"rcpt"),
-        b"500 unknown command" => Some(b"unknown"),
-        // The relay's name is before these words.
-        _ if reply.starts_with(b"421 ") && reply.ends_with(b" bad chunk size, closing") => {
-            Some(b"bdat")
-        }
-        _ => None,
-    }
 }
 
 /// Returns the line of replies that refuse something and have no line of their own.

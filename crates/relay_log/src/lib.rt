@@ -9,6 +9,7 @@ mod counters;
 mod head;
 mod hop_link;
 mod log;
+mod refused;
 mod run_line;
 mod settling;
 mod talk;

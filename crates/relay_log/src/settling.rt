@@ -1,7 +1,11 @@
 //! Which reply of a next hop settles a recipient.
 ghost use Rattle.std.specs.Prelude.{◌≡◌, ◌≤◌};
-ghost use Rattle.relay_log.specs.Settling.{code_at, content_place, hello_place, is_completion, is_intermediate};
-ghost use Rattle.relay_log.specs.Settling.{is_permanent, settling_place};
+ghost use Rattle.relay_log.specs.Settling.{closing_place, code_at, content_place, deferring_place, hello_place};
+ghost use Rattle.relay_log.specs.Settling.{is_completion, is_intermediate, is_no_completion, is_permanent};
+ghost use Rattle.relay_log.specs.Settling.{settling_place};
+
+/// The code by which a next hop closes the connection (RFC 5321, section 3.8).
+const CLOSING: u16 = 421;
 
 /// Returns the place, among the codes of an attempt's replies, of the one that settles a recipient: the one of this
 /// index among the `count` recipients of the attempt (RFC 5321, sections 3.1 to 3.3). There may be none at that place.
@@ -21,6 +25,31 @@ pub fn settling_place(codes: &[u16], count: u8, index: u8) -> usize
         rcpt
     } else {
         content_place(codes, count)
+    }
+}
+
+/// Returns the place, among the codes of an attempt's replies, of the one for which a recipient may be tried again, if
+/// one came: the one that settles it, or else a last one by which the next hop closes the connection.
+pub(crate) fn deferring_place(codes: &[u16], count: u8, index: u8) -> Option<usize>
+    ensures { result ≡ deferring_place codes.now count index }
+{
+    let place = settling_place(codes, count, index);
+    if is_no_completion(code_at(codes, place)) {
+        Some(place)
+    } else {
+        closing_place(codes)
+    }
+}
+
+/// Returns the place of the last reply, if the next hop closes the connection by it.
+fn closing_place(codes: &[u16]) -> Option<usize>
+    ensures { result ≡ closing_place codes.now }
+{
+    let last = codes.len().saturating_sub(1);
+    if code_at(codes, last) == CLOSING {
+        Some(last)
+    } else {
+        None
     }
 }
 
@@ -71,4 +100,10 @@ fn is_permanent(code: u16) -> bool
     ensures { result ≡ is_permanent code }
 {
     500 <= code && code <= 599
+}
+
+fn is_no_completion(code: u16) -> bool
+    ensures { result ≡ is_no_completion code }
+{
+    300 <= code && code <= 599
 }

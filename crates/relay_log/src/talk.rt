@@ -1,7 +1,7 @@
 //! The recipients of an attempt, and the replies of its next hop, for the log.
 ghost use Rattle.std.specs.Prelude.{◌≤◌, length};
 
-use crate::settling::settling_place;
+use crate::settling::{deferring_place, settling_place};
 use relay_book::Message;
 use relay_lines::{Reply, ReplyFault, ReplyReader};
 use std::alloc::{AllocError, Global};
@@ -138,7 +138,20 @@ impl Talk {
         let (Ok(count), Ok(index)) = (u8::try_from(count), u8::try_from(index)) else {
             return None;
         };
-        let place = settling_place(self.codes.as_slice(), count, index);
+        self.reply_at(settling_place(self.codes.as_slice(), count, index))
+    }
+
+    /// Returns the code and the text of the reply for which the recipient of this index, among this many of the
+    /// attempt, may be tried again, if one came.
+    pub(crate) fn deferring_reply(&self, count: usize, index: usize) -> Option<(u16, &[u8])> {
+        let (Ok(count), Ok(index)) = (u8::try_from(count), u8::try_from(index)) else {
+            return None;
+        };
+        self.reply_at(deferring_place(self.codes.as_slice(), count, index)?)
+    }
+
+    /// Returns the code and the text of the reply at a place, if there is one.
+    fn reply_at(&self, place: usize) -> Option<(u16, &[u8])> {
         match (
             self.codes.as_slice().get(place),
             self.texts.as_slice().get(place),

@@ -121,9 +121,10 @@ pub(crate) fn lose<D: Disk>(
     if errand.attempt.is_none() && lanes.is_held(errand.aim.lane, now) {
         return Ok(());
     }
-    let talk = log.talk_of(relay.node().message(errand.message));
+    let unheard = log.talk_of(relay.node().message(errand.message));
     let (_, noted) = record_and_note(relay, &errand, now)?;
-    tell(&errand, Some(loss), noted, &talk, now, log);
+    let talk = talk_of(&errand, &unheard);
+    tell(&errand, Some(loss), noted, talk, now, log);
     if !errand.has_spoken {
         hold(lanes, &errand, loss, log, now);
     }
@@ -220,6 +221,14 @@ fn lose_attempt<D: Disk>(relay: &mut Relay<D>, attempt: usize, now: &Now) -> Res
         Ok(_) => Ok(true),
         Err(NodeFault::Stopped) => Err(Fault::Device),
         Err(_) => Ok(false),
+    }
+}
+
+/// Returns what is known of an attempt for the log: what its next hop replied, if it has begun; else this.
+fn talk_of<'a>(errand: &'a Errand, unheard: &'a Talk) -> &'a Talk {
+    match &errand.talk {
+        Some(talk) if errand.attempt.is_some() => talk,
+        _ => unheard,
     }
 }
 

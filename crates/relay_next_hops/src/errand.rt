@@ -1,5 +1,5 @@
 //! What the connections to next hops are made for, and what becomes of them.
-ghost use Rattle.std.specs.Prelude.{◌≡◌};
+ghost use Rattle.std.specs.Prelude.{◌≡◌, ◌-◌, option_map};
 
 use crate::lane::Task;
 use relay_connections::Now;
@@ -25,11 +25,20 @@ pub(crate) struct Aim {
 
 impl Aim {
     /// Returns how many seconds ago the message was accepted, where that is known.
-    pub(crate) fn age(&self, now: &Now) -> Option<u64> {
-        match self.accepted {
-            Some(moment) => Some(now.moment.seconds().saturating_sub(moment.seconds())),
-            None => None,
-        }
+    pub(crate) fn age(&self, now: &Now) -> Option<u64>
+        ensures { result ≡ option_map (λ accepted. now.now.moment - accepted) self.now.accepted }
+    {
+        age_since(self.accepted, now)
+    }
+}
+
+/// Returns how many seconds ago a message was accepted, where it is known when that was.
+pub(crate) fn age_since(accepted: Option<Moment>, now: &Now) -> Option<u64>
+    ensures { result ≡ option_map (λ accepted. now.now.moment - accepted) accepted }
+{
+    match accepted {
+        Some(moment) => Some(now.moment.seconds().saturating_sub(moment.seconds())),
+        None => None,
     }
 }
 

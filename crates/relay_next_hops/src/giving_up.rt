@@ -3,7 +3,9 @@ ghost use Rattle.std.specs.Prelude.{◌≡◌, ◌∷◌, [], ℕ, List, IfOk, O
 ghost use Rattle.relay_next_hops.specs.Lanes.{KeepsCounts};
 ghost use Rattle.relay_next_hops.specs.Starting.{IsGivenUp};
 
+use crate::errand::age_since;
 use crate::lanes::Lanes;
+use crate::starting::accepted_at;
 use relay_connections::Now;
 use relay_disk::Disk;
 use relay_files::Fault;
@@ -46,10 +48,11 @@ fn give_up<D: Disk>(
     ensures config { relay.new.node.config ≡ relay.old.node.config }
 {
     let talk = log.talk_of(relay.node().message(message));
+    let age = age_since(accepted_at(relay, message), now);
     match relay.give_up_unroutable(message, now.moment) {
         Ok(_) => {
             let noted = relay.take_noted();
-            tell_given_up(message, &talk, noted, log);
+            tell_given_up(message, age, &talk, noted, log);
             Ok(true)
         }
         Err(NodeFault::Stopped) => Err(Fault::Device),
@@ -63,13 +66,19 @@ fn give_up<D: Disk>(
     }
 }
 
-/// Tells that a message was given up that has no hop.
-fn tell_given_up(message: u64, talk: &Talk, noted: Option<Noted>, log: &mut Log<'_, Vec<u8>>) {
+/// Tells that a message of this age was given up that has no hop.
+fn tell_given_up(
+    message: u64,
+    age: Option<u64>,
+    talk: &Talk,
+    noted: Option<Noted>,
+    log: &mut Log<'_, Vec<u8>>,
+) {
     let attempt = Attempt {
         number: message,
         hop: None,
         at: None,
-        age: None,
+        age,
         loss: None,
         noted,
     };

@@ -283,7 +283,7 @@ pub(crate) fn aim_of<D: Disk>(
 }
 
 /// Returns when a message was accepted, if it is queued.
-fn accepted_at<D: Disk>(relay: &Relay<D>, message: u64) -> Option<Moment>
+pub(crate) fn accepted_at<D: Disk>(relay: &Relay<D>, message: u64) -> Option<Moment>
     ensures { result ≡ option_map (λ message. message.accept.at)
         (message_of relay.now.node.records.queue.messages message) }
 {

@@ -2,3 +2,4 @@ mod JoinLemmas
 mod RowLemmas
 mod ScreenLemmas
 mod TextLemmas
+mod WidthLemmas

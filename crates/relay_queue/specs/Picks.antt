@@ -1,6 +1,9 @@
 -- What is listed: the recipients that are queued and pass the filter, by when their messages were accepted.
 use Rattle.std.specs.Prelude.{ℕ, Bool, List, [], ◌∷◌, Option, None, Some, if◌then◌else◌}
 use Rattle.std.specs.List.{flat_map}
+use Rattle.std.specs.List.Sorted.{IsPermutation, IsSorted}
+use Rattle.std.specs.Ordering.{nat_cmp, ordering_then}
+use Rattle.std.specs.declared.cmp.Ordering.{Ordering}
 use Rattle.relay_routes.specs.Routes.{RouteTable}
 use Rattle.relay_book.specs.Queue.{Queue, held_of}
 use Rattle.relay_queue.specs.declared.filter.Filter.{Filter}
@@ -22,3 +25,14 @@ keys_at filter now table queue mark = keys_if (passes filter now) (queued_at tab
 -- the keys of all held places
 abbrev pub keys_of : Filter → ℕ → RouteTable → Queue → List (ℕ × ℕ × ℕ)
 keys_of filter now table queue = flat_map (keys_at filter now table queue) (held_of queue)
+
+-- how two of them are ordered: by when the messages were accepted, then by their numbers, then by the places
+abbrev pub key_order : ℕ × ℕ × ℕ → ℕ × ℕ × ℕ → Ordering
+key_order one other =
+    ordering_then (ordering_then (nat_cmp one.0 other.0) (nat_cmp one.1 other.1)) (nat_cmp one.2 other.2)
+
+-- the keys of the queued recipients that pass the filter, in the order of the list
+pub record AreListed (filter : Filter) (now : ℕ) (table : RouteTable) (queue : Queue) (keys : List (ℕ × ℕ × ℕ)) : Type 0
+  where
+    pub all : IsPermutation (keys_of filter now table queue) keys
+    pub sorted : IsSorted key_order keys

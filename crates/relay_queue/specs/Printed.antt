@@ -1,12 +1,13 @@
 -- What `list`, `show` and `status` print: it is of the queue that files were opened to, and a terminal may see it.
 use Rattle.std.specs.Prelude.{◌≡◌, ℕ, ◌*◌, ◌/◌, ◌-◌, ◌^◌, min, max, List, [], ◌++◌, map, codes, decimal}
-use Rattle.std.specs.Prelude.{Option, None, Some}
+use Rattle.std.specs.Prelude.{Option, None, Some, Ok}
 use Rattle.std.specs.List.{flat_map}
-use Rattle.std.specs.List.Sorted.{IsPermutation}
 use Rattle.std.specs.Option.{option_map_or}
 use Rattle.std.specs.Io.KnownBytes.{Appends}
 use Rattle.relay_disk.specs.declared.file.FileDisk.{FileDisk}
+use Rattle.relay_routes.specs.Config.{ReadsConfig}
 use Rattle.relay_routes.specs.Routes.{RouteTable}
+use Rattle.relay_routes.specs.declared.config.Config.{Config}
 use Rattle.relay_book.specs.declared.message.Message.{Message}
 use Rattle.relay_book.specs.Queue.{Queue, message_of}
 use Rattle.relay_records.specs.Records.{Kept}
@@ -19,7 +20,7 @@ use Rattle.relay_queue.specs.declared.calls.StatusForm.{StatusForm}
 use Rattle.relay_queue.specs.declared.calls.StatusForm.TheVariants.{Table as StatusTable, Metrics}
 use Rattle.relay_queue.specs.declared.filter.Filter.{Filter}
 use Rattle.relay_queue.specs.Amounts.{size_text}
-use Rattle.relay_queue.specs.Picks.{keys_of}
+use Rattle.relay_queue.specs.Picks.{AreListed}
 use Rattle.relay_queue.specs.Row.{queued_at}
 use Rattle.relay_queue.specs.Screen.{AreSafe, IsShownText, shown_line}
 use Rattle.relay_queue.specs.Table.{IsTable}
@@ -40,16 +41,19 @@ abbrev pub IsList : ListForm → ℕ → RouteTable → Queue → List (ℕ × �
 IsList Table now table queue keys text = IsTable now table queue keys text
 IsList Json now table queue keys text = AreObjects table queue keys text
 
--- the queued recipients that pass the filter were printed, by some routes and at some time
+-- the queued recipients that pass the filter were printed, in the order of the list, by the routes of a configuration;
+-- the time is what the clock has said, of which nothing is known
 pub record IsListPrinted (filter : Filter) (form : ListForm) (old new : Option (List ℕ)) : Type 0 where
   pub records : Kept FileDisk
   pub opened : IsOpened records
-  pub table : RouteTable
+  pub document : List ℕ
+  pub config : Config
+  pub reads : ReadsConfig document (Ok config)
   pub now : ℕ
   pub keys : List (ℕ × ℕ × ℕ)
-  pub picked : IsPermutation (keys_of filter now table records.queue) keys
+  pub picked : AreListed filter now config.routes records.queue keys
   pub text : List ℕ
-  pub listed : IsList form now table records.queue keys text
+  pub listed : IsList form now config.routes records.queue keys text
   pub safe : AreSafe text
   pub written : Appends old new text
 

@@ -1,10 +1,11 @@
 -- The table of queued recipients: a heading, a line for each, and their sums.
-use Rattle.std.specs.Prelude.{◌≡◌, ℕ, ◌-◌, nat_le, List, [], length, ◌++◌, codes, decimal, map, unwrap_or}
-use Rattle.std.specs.Prelude.{if◌then◌else◌}
-use Rattle.std.specs.List.{flat_map}
+use Rattle.std.specs.Prelude.{◌≡◌, ◌==◌, ℕ, ◌-◌, nat_le, min, max, List, [], ◌∷◌, length, ◌++◌, codes, decimal, fold, map}
+use Rattle.std.specs.Prelude.{Option, None, Some, option_map, slice_get, unwrap_or, if◌then◌else◌}
+use Rattle.std.specs.List.{filter_map, flat_map}
 use Rattle.std.specs.Option.{option_map_or}
 use Rattle.relay_routes.specs.Routes.{RouteTable}
 use Rattle.relay_book.specs.Queue.{Queue}
+use Rattle.relay_queue.specs.declared.table.Totals.{Totals}
 use Rattle.relay_queue.specs.declared.table.Widths.{Widths}
 use Rattle.relay_queue.specs.Amounts.{age_text, size_text}
 use Rattle.relay_queue.specs.Screen.{padding, shown}
@@ -21,17 +22,25 @@ right_cell width text = padding (width - length text) ++ shown text
 abbrev pub tries_text : ℕ → List ℕ
 tries_text tries = if nat_le 4 tries then codes "4+" else decimal tries
 
+-- the same in words, one try or several
+abbrev pub tries_in_words : ℕ → List ℕ
+tries_in_words tries = tries_text tries ++ (if tries == 1 then codes " try" else codes " tries")
+
 -- the number of the message, its age and its size
 abbrev pub numbers_text : ℕ → Queued → List ℕ
 numbers_text now queued =
     right_cell 8 (decimal queued.number) ++ right_cell 8 (age_text (now - queued.accepted))
     ++ right_cell 12 (size_text queued.size)
 
+-- the name of the next hop, or what stands for none
+abbrev pub hop_text : Queued → List ℕ
+hop_text queued = unwrap_or queued.hop (codes "-")
+
 -- the reverse path, the path, and the next hop, each after two spaces
 abbrev pub names_text : Widths → Queued → List ℕ
 names_text widths queued =
     padding 2 ++ left_cell widths.reverse_path queued.reverse_path ++ padding 2 ++ left_cell widths.path queued.path
-    ++ padding 2 ++ left_cell widths.hop (unwrap_or queued.hop (codes "-"))
+    ++ padding 2 ++ left_cell widths.hop (hop_text queued)
 
 -- how often the recipient was deferred, and when it is due, as this text shows that time
 abbrev pub tries_and_time : List ℕ → Queued → List ℕ
@@ -50,12 +59,70 @@ row_line widths now table queue row =
 abbrev pub rows_text : Widths → ℕ → RouteTable → Queue → List ((ℕ × ℕ × ℕ) × List ℕ) → List ℕ
 rows_text widths now table queue rows = flat_map (row_line widths now table queue) rows
 
+-- the recipients with these keys that are queued
+abbrev pub queued_of : RouteTable → Queue → List (ℕ × ℕ × ℕ) → List Queued
+queued_of table queue keys = filter_map (λ key. queued_at table queue (key.1, key.2)) keys
+
+-- profile: a column of texts is as wide as its heading, or as the longest of its texts, of which 40 octets count
+abbrev pub column_width : List ℕ → List (List ℕ) → ℕ
+column_width heading texts = fold (λ width text. max width (min (length text) 40)) (length heading) texts
+
+-- the widths of the columns of texts, for these recipients
+abbrev pub widths_for : List Queued → Widths
+widths_for all = record {
+  reverse_path = column_width (codes "REVERSE PATH") (map (λ queued. queued.reverse_path) all);
+  path = column_width (codes "RECIPIENT") (map (λ queued. queued.path) all);
+  hop = column_width (codes "HOP") (map hop_text all);
+}
+
+-- the headings of the columns of numbers, and those of the other columns
+abbrev pub number_headings : List ℕ
+number_headings = right_cell 8 (codes "NUMBER") ++ right_cell 8 (codes "AGE") ++ right_cell 12 (codes "SIZE")
+
+abbrev pub name_headings : Widths → List ℕ
+name_headings widths =
+    padding 2 ++ left_cell widths.reverse_path (codes "REVERSE PATH") ++ padding 2
+    ++ left_cell widths.path (codes "RECIPIENT") ++ padding 2 ++ left_cell widths.hop (codes "HOP")
+
+abbrev pub try_headings : List ℕ
+try_headings = right_cell 7 (codes "TRIES") ++ codes "  NEXT TRY\n"
+
+-- the line of headings
+abbrev pub heading_line : Widths → List ℕ
+heading_line widths = number_headings ++ name_headings widths ++ try_headings
+
+-- no recipients have no headings
+abbrev pub heading_of : Widths → List (ℕ × ℕ × ℕ) → List ℕ
+heading_of widths [] = []
+heading_of widths (key ∷ keys) = heading_line widths
+
+-- a number and a noun, in the plural unless there is one
+abbrev pub counted : ℕ → List ℕ → List ℕ
+counted count noun = decimal count ++ codes " " ++ noun ++ (if count == 1 then [] else codes "s")
+
+-- how old the oldest message is, if there is one
+abbrev pub oldest_text : Option ℕ → List ℕ
+oldest_text None = []
+oldest_text (Some age) = codes "; oldest " ++ age_text age
+
+-- the last line: how many messages and recipients there are, how large the messages are, and how old the oldest is
+abbrev pub totals_text : Totals → List ℕ
+totals_text totals =
+    counted totals.messages (codes "message") ++ codes ", " ++ counted totals.recipients (codes "recipient")
+    ++ codes ", " ++ size_text totals.octets ++ oldest_text totals.oldest ++ codes "\n"
+
+-- the sums of the recipients with these keys, of which the first is the oldest
+pub record AreTotals (now : ℕ) (keys : List (ℕ × ℕ × ℕ)) (totals : Totals) : Type 0 where
+  pub recipients : totals.recipients ≡ length keys
+  pub oldest : totals.oldest ≡ option_map (λ key. now - key.0) (slice_get keys 0)
+
 -- a table of the recipients with these keys, in their order
 pub record IsTable (now : ℕ) (table : RouteTable) (queue : Queue) (keys : List (ℕ × ℕ × ℕ)) (text : List ℕ) : Type 0
   where
-    pub widths : Widths
-    pub heading : List ℕ
     pub rows : List ((ℕ × ℕ × ℕ) × List ℕ)
-    pub sums : List ℕ
+    pub totals : Totals
     pub keys_are : map (λ row. row.0) rows ≡ keys
-    pub text_is : text ≡ heading ++ rows_text widths now table queue rows ++ sums
+    pub sums : AreTotals now keys totals
+    pub text_is :
+      let widths : Widths = widths_for (queued_of table queue keys) in
+      text ≡ heading_of widths keys ++ rows_text widths now table queue rows ++ totals_text totals

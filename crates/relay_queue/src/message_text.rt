@@ -4,7 +4,7 @@ ghost use Rattle.relay_queue.specs.Screen.{IsShownText};
 
 use crate::amounts::{push_age, push_size};
 use crate::screen::Screen;
-use crate::table::tries_text;
+use crate::table::push_tries_in_words;
 use crate::zone::Zone;
 use relay_book::{Message, Place};
 use relay_envelope::{Envelope, Notify, Outcomes, Recipient, Ret};
@@ -149,8 +149,8 @@ fn push_state(
             screen.push(b"queued for ")?;
             push_hop(alloc, screen, hop)?;
             screen.push(b"; ")?;
-            screen.push(tries_text(place.laters))?;
-            screen.push(b" tries, next ")?;
+            push_tries_in_words(screen, place.laters)?;
+            screen.push(b", next ")?;
             screen.push(&zone.time(place.due))?;
         }
         _ => screen.push(b"relayed, refused or expired")?,

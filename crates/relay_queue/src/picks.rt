@@ -1,7 +1,6 @@
 //! Which recipients are listed, and in which order.
 ghost use Rattle.std.specs.Prelude.{◌≡◌, ◌++◌, IfOk, OnOk};
-ghost use Rattle.std.specs.List.Sorted.{IsPermutation, IsSorted};
-ghost use Rattle.relay_queue.specs.Picks.{keys_at, keys_of};
+ghost use Rattle.relay_queue.specs.Picks.{AreListed, keys_at, keys_of};
 
 use crate::filter::Filter;
 use crate::row::row_at;
@@ -23,7 +22,7 @@ pub fn listed_keys<D: Disk>(
     filter: &Filter<'_>,
     now: Moment,
 ) -> Result<Vec<Key>, AllocError>
-    ensures { IfOk result (λ keys. IsPermutation (keys_of filter.now now table.now records.now.queue) keys.items) }
+    ensures { IfOk result (λ keys. AreListed filter.now now table.now records.now.queue keys.items) }
 {
     let mut keys = keys_of(alloc, records, table, filter, now)?;
     keys.sort()?;

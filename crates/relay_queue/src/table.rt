@@ -1,8 +1,10 @@
 //! The queue as a table for people.
-ghost use Rattle.std.specs.Prelude.{◌≡◌, ℕ, List, ◌++◌, ◌-◌, IfOk, OnOk};
+ghost use Rattle.std.specs.Prelude.{◌≡◌, ℕ, List, ◌++◌, ◌-◌, IfOk, OnOk, length, max, min, option_map, slice_get};
 ghost use Rattle.relay_queue.specs.Row.{said_by};
-ghost use Rattle.relay_queue.specs.Table.{IsTable, names_text, numbers_text, row_line, row_text, tries_and_time};
-ghost use Rattle.relay_queue.specs.Table.{tries_text};
+ghost use Rattle.relay_queue.specs.Screen.{shown};
+ghost use Rattle.relay_queue.specs.Table.{AreTotals, IsTable, counted, heading_line, heading_of, name_headings, names_text};
+ghost use Rattle.relay_queue.specs.Table.{number_headings, numbers_text, oldest_text, queued_of, row_line, row_text};
+ghost use Rattle.relay_queue.specs.Table.{totals_text, tries_and_time, tries_in_words, tries_text, try_headings, widths_for};
 
 use crate::amounts::{push_age, push_size};
 use crate::columns::{push_left, push_right};
@@ -63,9 +65,7 @@ pub(crate) fn table_text<D: Disk>(
     let mut screen = Screen::new(alloc);
     let mut cell = Screen::new(alloc);
     let widths = widths_of(records, table, keys);
-    if !keys.is_empty() {
-        push_heading(&mut screen, widths)?;
-    }
+    push_heading_of(&mut screen, widths, keys)?;
     for key in keys {
         push_row_at(
             &mut screen,
@@ -83,7 +83,9 @@ pub(crate) fn table_text<D: Disk>(
 }
 
 /// How wide the columns of texts must be.
-fn widths_of<D: Disk>(records: &Records<D>, table: &Table, keys: &[Key]) -> Widths {
+fn widths_of<D: Disk>(records: &Records<D>, table: &Table, keys: &[Key]) -> Widths
+    ensures { result ≡ widths_for (queued_of table.now records.now.queue keys.now) }
+{
     let mut widths = Widths {
         reverse_path: 12,
         path: 9,
@@ -101,20 +103,52 @@ fn widths_of<D: Disk>(records: &Records<D>, table: &Table, keys: &[Key]) -> Widt
     widths
 }
 
-fn wider(width: usize, text: &[u8]) -> usize {
+fn wider(width: usize, text: &[u8]) -> usize
+    ensures { result ≡ max width (min (length text.now) 40) }
+{
     width.max(text.len().min(WIDEST))
 }
 
-fn push_heading(screen: &mut Screen, widths: Widths) -> Result<(), AllocError> {
+/// Adds the line of headings, unless there are no recipients.
+fn push_heading_of(screen: &mut Screen, widths: Widths, keys: &[Key]) -> Result<(), AllocError>
+    ensures { OnOk result (screen.new ≡ screen.old ++ heading_of widths keys.now) }
+{
+    if keys.is_empty() {
+        return Ok(());
+    }
+    push_heading(screen, widths)
+}
+
+fn push_heading(screen: &mut Screen, widths: Widths) -> Result<(), AllocError>
+    ensures { OnOk result (screen.new ≡ screen.old ++ heading_line widths) }
+{
+    push_number_headings(screen)?;
+    push_name_headings(screen, widths)?;
+    push_try_headings(screen)
+}
+
+fn push_number_headings(screen: &mut Screen) -> Result<(), AllocError>
+    ensures { OnOk result (screen.new ≡ screen.old ++ number_headings) }
+{
     push_right(screen, b"NUMBER", NUMBER_WIDTH)?;
     push_right(screen, b"AGE", AGE_WIDTH + 2)?;
-    push_right(screen, b"SIZE", SIZE_WIDTH + 2)?;
+    push_right(screen, b"SIZE", SIZE_WIDTH + 2)
+}
+
+fn push_name_headings(screen: &mut Screen, widths: Widths) -> Result<(), AllocError>
+    ensures { OnOk result (screen.new ≡ screen.old ++ name_headings widths) }
+{
     screen.push_spaces(2)?;
     push_left(screen, b"REVERSE PATH", widths.reverse_path)?;
     screen.push_spaces(2)?;
     push_left(screen, b"RECIPIENT", widths.path)?;
     screen.push_spaces(2)?;
-    push_left(screen, b"HOP", widths.hop)?;
+    push_left(screen, b"HOP", widths.hop)
+}
+
+fn push_try_headings(screen: &mut Screen) -> Result<(), AllocError>
+    ensures { OnOk result (screen.new ≡ screen.old ++ try_headings) }
+{
     push_right(screen, b"TRIES", TRIES_WIDTH + 2)?;
     screen.push(b"  NEXT TRY")?;
     screen.end_line()
@@ -220,27 +254,44 @@ pub(crate) fn tries_text(tries: u8) -> &'static [u8]
     }
 }
 
+/// Adds how often a recipient was deferred, in words: `1 try`, `2 tries`.
+pub(crate) fn push_tries_in_words(screen: &mut Screen, tries: u8) -> Result<(), AllocError>
+    ensures { OnOk result (screen.new ≡ screen.old ++ shown (tries_in_words tries)) }
+{
+    screen.push(tries_text(tries))?;
+    screen.push(if tries == 1 { b" try" } else { b" tries" })
+}
+
 /// Returns the sums of these recipients, of which those of one message stand together.
-fn totals_of<D: Disk>(records: &Records<D>, keys: &[Key], now: Moment) -> Totals {
-    let mut totals = Totals {
-        messages: 0,
-        recipients: 0,
-        octets: 0,
-        oldest: None,
-    };
+fn totals_of<D: Disk>(records: &Records<D>, keys: &[Key], now: Moment) -> Totals
+    ensures { AreTotals now keys.now result }
+{
+    let mut messages: u64 = 0;
+    let mut octets: u64 = 0;
     let mut last = None;
-    for (accepted, number, _) in keys {
-        totals.recipients = totals.recipients.saturating_add(1);
-        if totals.oldest.is_none() {
-            totals.oldest = Some(now.seconds().saturating_sub(*accepted));
-        }
+    for (_, number, _) in keys {
         if last != Some(*number) {
             last = Some(*number);
-            totals.messages = totals.messages.saturating_add(1);
-            totals.octets = totals.octets.saturating_add(size_of(records, *number));
+            messages = messages.saturating_add(1);
+            octets = octets.saturating_add(size_of(records, *number));
         }
     }
-    totals
+    Totals {
+        messages,
+        recipients: keys.len() as u64,
+        octets,
+        oldest: age_of_first(keys, now),
+    }
+}
+
+/// Returns how many seconds ago the message of the first of these recipients was accepted.
+fn age_of_first(keys: &[Key], now: Moment) -> Option<u64>
+    ensures { result ≡ option_map (λ key. now - key.0) (slice_get keys.now 0) }
+{
+    match keys.first() {
+        Some((accepted, _, _)) => Some(now.seconds().saturating_sub(*accepted)),
+        None => None,
+    }
 }
 
 /// Returns how many octets a message has.
@@ -253,29 +304,39 @@ fn size_of<D: Disk>(records: &Records<D>, number: u64) -> u64 {
 
 /// Adds the last line: `12 messages, 15 recipients, 1.2 MiB; oldest 3 h`.
 fn push_totals(screen: &mut Screen, totals: Totals) -> Result<(), AllocError>
-    ensures { OnOk result ((sums : List ℕ) × (screen.new ≡ screen.old ++ sums)) }
+    ensures { OnOk result (screen.new ≡ screen.old ++ totals_text totals) }
 {
     push_count(screen, totals.messages, b"message")?;
     screen.push(b", ")?;
     push_count(screen, totals.recipients, b"recipient")?;
     screen.push(b", ")?;
     push_size(screen, totals.octets)?;
-    if let Some(age) = totals.oldest {
-        screen.push(b"; oldest ")?;
-        push_age(screen, age)?;
-    }
+    push_oldest(screen, totals.oldest)?;
     screen.end_line()
+}
+
+/// Adds the age of the oldest message, if there is one.
+fn push_oldest(screen: &mut Screen, oldest: Option<u64>) -> Result<(), AllocError>
+    ensures { OnOk result (screen.new ≡ screen.old ++ oldest_text oldest) }
+{
+    match oldest {
+        Some(age) => {
+            screen.push(b"; oldest ")?;
+            push_age(screen, age)
+        }
+        None => Ok(()),
+    }
 }
 
 /// Adds a number and a noun, in the plural unless there is one.
 fn push_count(screen: &mut Screen, count: u64, noun: &[u8]) -> Result<(), AllocError>
-    ensures { OnOk result ((text : List ℕ) × (screen.new ≡ screen.old ++ text)) }
+    ensures { OnOk result (screen.new ≡ screen.old ++ counted count (shown noun.now)) }
 {
     screen.push_number(count)?;
     screen.push(b" ")?;
     screen.push(noun)?;
-    if count != 1 {
-        screen.push(b"s")?;
+    if count == 1 {
+        return Ok(());
     }
-    Ok(())
+    screen.push(b"s")
 }

@@ -128,7 +128,7 @@ impl<S: Stream + Drop> Door<S> {
     }
 
     /// Takes the clients that are waiting, while the descriptors are kept that are for attempts, and then those whose
-    /// headers are whole. One that isn't served is told so and closed.
+    /// headers are whole. One that isn't served is told so and closed; a balancer is told nothing.
     pub(crate) fn admit<L: Listen<Stream = S>, N: Dial, D: Disk>(
         &mut self,
         listener: &mut L,
@@ -189,8 +189,8 @@ impl<S: Stream + Drop> Door<S> {
         if !self.balancers.contains(*peer.ip()) {
             return self.welcome(registry, relay, clients, leaving, stream, peer, now, log);
         }
-        if !self.arrivals.take(registry, stream, peer, now) {
-            self.refusals.note(peer, now, log);
+        if let Err(fault) = self.arrivals.take(registry, stream, peer, now) {
+            log.header_refused(peer, fault);
         }
         Ok(())
     }

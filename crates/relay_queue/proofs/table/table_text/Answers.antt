@@ -19,12 +19,11 @@ pub returns : goal.returns
 returns g c =
     let all : length c.args.keys.now ≤ c.loop-key.key-index = search rules in
     let rows = c.loop-key.invariant in
-    let sums = c.in_ok-push_totals.ensures in
+    let totals : Totals = c.totals_of.result in
     record {
-      widths = c.widths_of-widths.result;
-      heading = _;
       rows = rows.0;
-      sums = sums.0;
+      totals = totals;
       keys_are = rows.1 ∙ take_all c.loop-key.key-index c.args.keys.now all;
-      text_is = sums.1 ∙ ap (λ l. l ++ sums.0) rows.2;
+      sums = c.totals_of.ensures;
+      text_is = ?;
     }
