@@ -124,5 +124,5 @@ pub record IsTable (now : ℕ) (table : RouteTable) (queue : Queue) (keys : List
     pub keys_are : map (λ row. row.0) rows ≡ keys
     pub sums : AreTotals now keys totals
     pub text_is :
-      let widths : Widths = widths_for (queued_of table queue keys) in
-      text ≡ heading_of widths keys ++ rows_text widths now table queue rows ++ totals_text totals
+        let widths : Widths = widths_for (queued_of table queue keys) in
+        text ≡ heading_of widths keys ++ rows_text widths now table queue rows ++ totals_text totals
