@@ -1,13 +1,13 @@
 #!/usr/bin/env python3
-"""Kills `relayd serve` (SIGKILL) at 30 moments of a fixed seed while messages come in and go on, and opens the spool
-again each time: every message whose 250 a client has read is in `list`, or the sink has been given it. At last a
-push takes all that is left to the sink.
+"""Kills `relayd serve` (SIGKILL) at 30 times of a fixed seed while messages arrive and are relayed, and opens the spool
+again each time: every message whose 250 a client has read must be in `list`, or at the sink. At the end a push relays
+all that is left to the sink.
 
     bench/crashes.py build/relayd [WORKERS]
 
-With WORKERS so many clients hand in at once, and the relay serves so many side by side.
+With WORKERS, so many clients submit at once, and the relay serves so many side by side.
 
-The system goes on, and keeps what was written and not synced: what a loss of power leaves isn't seen here.
+The system stays up, and keeps what was written and not synced: the effect of a power cut isn't shown here.
 """
 import os
 import pathlib
@@ -36,15 +36,14 @@ SHARE = 1000000
 
 
 class Feeder:
-    """Hands in messages, each with a number of its own as its subject, and writes down which were answered 250, and
-    as which number they were queued."""
+    """Submits messages with their numbers as subjects, and notes which got a 250, with their queue numbers."""
 
     def __init__(self, port, place, most):
         self.port, self.place, self.most, self.chance = port, place, most, random.Random(place)
         self.given, self.answered = 0, {}
 
     def feed(self):
-        """Messages until the relay is gone, up to so many at a connection."""
+        """Submits messages until the relay is gone, up to so many on a connection."""
         try:
             while True:
                 with smtplib.SMTP("127.0.0.1", self.port, "client.example", PATIENCE) as client:
@@ -66,7 +65,7 @@ class Feeder:
 
 
 def tokens_at(sink):
-    """How often each message has come there."""
+    """Returns how often each message has arrived there."""
     counts = {}
     for message in list(sink.messages):
         token = int(TOKEN.search(message.content)[1])
@@ -75,7 +74,7 @@ def tokens_at(sink):
 
 
 def look(relay, sink, answered, moment):
-    """Nothing that was answered is lost."""
+    """Checks that no acknowledged message is lost."""
     held, gone = {row[0] for row in relay.held()}, tokens_at(sink)
     lost = [token for token, number in answered.items() if number not in held and token not in gone]
     same(f"messages lost after kill {moment}", lost, [])
@@ -83,14 +82,14 @@ def look(relay, sink, answered, moment):
 
 
 def push_rest(relay, sink, folder):
-    """Pushes with the clock a day further on, since what was tried once is due later."""
+    """Pushes with the clock a day ahead, since what was tried once is due later."""
     preload(relay, folder, "later_clock", LATER="86400")
     same("the end of the push", relay.ended(900, "push").returncode, 0)
     same("list at last", relay.held(), [])
 
 
 def feed_all(feeders):
-    """Messages of all clients until the relay is gone."""
+    """Submits messages of all clients until the relay is gone."""
     threads = [threading.Thread(target=feeder.feed) for feeder in feeders]
     for thread in threads:
         thread.start()

@@ -1,11 +1,12 @@
 #!/usr/bin/env python3
-"""Measures what others cost a client of `relayd run`: one line a crowd, the median and the longest wait for a 250.
+"""Measures what others cost a client of `relayd run`: one line per crowd, with the median and the longest wait for a
+250.
 
     bench/delays.py build/relayd [CROWD ..]
 
-The crowds are those of CROWDS below, or those that are named. MESSAGES (200) is how many messages a figure is of, DUE
-(100000) how many are due where a listing is measured. What the client waits for is the 250 that follows its text, one
-message after another at one connection; beside a crowd of next hops it is a message's way to a next hop that answers.
+The crowds are those of CROWDS below, or the named ones. MESSAGES (200) is how many messages each figure is of, DUE
+(100000) how many are due for the measured listing. The client waits for the 250 that follows its mail data, one message
+after another on one connection; beside a crowd of next hops a message's way to a next hop that answers is measured.
 """
 import contextlib
 import os
@@ -34,7 +35,7 @@ SILENT = 63
 
 
 def waits_of(client, count=MESSAGES):
-    """How long each of so many messages waits for its 250, in seconds."""
+    """Returns how long each of so many messages waits for its 250, in seconds."""
     waits = []
     for _ in range(count):
         client.ask_for_text()
@@ -50,7 +51,7 @@ def tell(crowd, waits):
 
 
 def pipelining(count, octets):
-    """Clients that send these octets over and over, and read what comes."""
+    """Clients that send these octets over and over, and read the replies."""
 
     def measure(field, crowd):
         relay = field.relay(sessions_per_client=64)
@@ -66,7 +67,7 @@ def pipelining(count, octets):
 
 
 def listings(field, crowd):
-    """All that is due at next hops that are away is listed, each second by a clock that goes sixty times as fast."""
+    """All mail that is due at next hops that are down is listed, each second with a clock sixty times as fast."""
     away = {f"away-{number}.example": (f"hop-{number}.example", free_port()) for number in range(4)}
     relay = field.relay(more=away, spool_limit=1 << 30, client_timeout=3600)
     shim(field, "run_clocks", relay, FASTER="60")
@@ -77,7 +78,7 @@ def listings(field, crowd):
 
 
 def compactions(field, crowd):
-    """The spool is written anew as long messages go through it, while others wait."""
+    """The spool is compacted while long messages pass through it and others wait."""
     away = {"away.example": ("hop.example", free_port())}
     relay = field.relay(more=away, spool_limit=1 << 30, max_content=1 << 21)
     with relay.running(), clients_of(relay, 2) as [client, other]:
@@ -91,7 +92,7 @@ def compactions(field, crowd):
 
 
 def silent_hops(field, crowd):
-    """A message's way to a next hop that has answered before, beside next hops that say nothing."""
+    """A message's way to a next hop that has answered before, beside silent next hops."""
     with contextlib.ExitStack() as stack:
         # The system makes the connections, and nobody takes them.
         listeners = [stack.enter_context(socket.create_server(("127.0.0.1", 0))) for _ in range(SILENT)]

@@ -1,6 +1,6 @@
 #!/usr/bin/env python3
-"""Measures relayd over 127.0.0.1: one line a figure, medians of interleaved runs, beside bare syncs on the same disk
-in the same runs, and beside Postfix where tests/interop.sh has unpacked it.
+"""Measures relayd over 127.0.0.1: one line per figure, medians of interleaved runs, beside bare syncs on the same disk
+in the same runs, and beside Postfix if tests/interop.sh has unpacked it.
 
     bench/load.py build/relayd [FIGURE ..]
 
@@ -39,7 +39,7 @@ ACCEPT, OUTCOME = 1196, 43
 
 
 def built(name, folder):
-    """A program of this folder in C, which is built once."""
+    """Builds a C program of this folder, once. Returns its path."""
     program = folder / name
     if not program.exists():
         subprocess.run(["cc", "-O2", "-pthread", "-o", program, HERE / f"{name}.c"], check=True)
@@ -47,7 +47,7 @@ def built(name, folder):
 
 
 class Client:
-    """bench/client.c, which hands in so many messages of so many octets, at one connection or one each."""
+    """bench/client.c, which submits so many messages of so many octets, on one connection or one each."""
 
     def __init__(self, folder, port, count, size, way):
         words = [built("client", folder), str(port), str(count), str(size), way]
@@ -64,12 +64,12 @@ class Client:
         self.process.stdin.flush()
 
     def moments(self):
-        """When its messages began, and when the last was answered 250. The connection stays open."""
+        """Returns when its messages began, and when the last got its 250. The connection stays open."""
         begun, ended = map(float, self.line().split())
         return begun, ended
 
     def seconds(self):
-        """How long the messages take."""
+        """Returns how long the messages take."""
         [(begun, ended)] = hand_in([self])
         return ended - begun
 
@@ -78,7 +78,7 @@ class Client:
 
 
 def bare_pairs(folder, sizes):
-    """Seconds for two syncs each after writes at the end of a bare file, as a spool's append makes them."""
+    """Returns the seconds for pairs of syncs after writes at the end of a bare file, as a spool's append makes them."""
     file = folder / "bare"
     handle = os.open(file, os.O_CREAT | os.O_TRUNC | os.O_WRONLY, 0o600)
     begun, place = time.perf_counter(), 0
@@ -95,7 +95,7 @@ def bare_pairs(folder, sizes):
 
 
 class Sink:
-    """bench/sink.c, built and started. It ends when so many contents have come."""
+    """bench/sink.c, built and started. It ends after so many messages."""
 
     def __init__(self, folder, count):
         self.process = subprocess.Popen([built("sink", folder), str(count)], stdout=subprocess.PIPE)
@@ -107,7 +107,7 @@ class Sink:
 
 
 class Floor(Relay):
-    """bench/floor.c in the place of a relay."""
+    """bench/floor.c in place of a relay."""
 
     def route(self, routes):
         super().route(routes)
@@ -118,7 +118,7 @@ class Floor(Relay):
 
 
 class HoldingPostfix(Postfix):
-    """Postfix that puts what it takes on hold, and so tries no delivery."""
+    """Postfix that puts accepted mail on hold, and so tries no delivery."""
 
     def files(self):
         files = super().files()
@@ -128,7 +128,7 @@ class HoldingPostfix(Postfix):
 
 
 class ReleasingPostfix(Postfix):
-    """Postfix that takes what is on hold, and delivers it."""
+    """Postfix that takes mail off hold, and delivers it."""
 
     def files(self):
         files = super().files()
@@ -139,7 +139,7 @@ class ReleasingPostfix(Postfix):
 
 
 def hand_in(clients):
-    """Lets clients begin, once each is ready, and tells the moments of each."""
+    """Starts clients once each is ready, and returns the times of each."""
     for client in clients:
         client.line()
     for client in clients:
@@ -148,8 +148,8 @@ def hand_in(clients):
 
 
 def hand_in_side_by_side(folder, port, clients, count, size):
-    """When the first of so many messages at each of so many connections side by side began, the seconds from there to
-    the last reply of them all, and how much longer the slowest connection took than the median."""
+    """Returns when the first of so many messages on each of so many parallel connections began, the seconds from there
+    to the last reply of all, and how much longer the slowest connection took than the median."""
     handing = [Client(folder, port, count, size, "kept") for _ in range(clients)]
     moments = hand_in(handing)
     for client in handing:
@@ -159,13 +159,13 @@ def hand_in_side_by_side(folder, port, clients, count, size):
 
 
 class Bench:
-    """A folder on the measured disk, and the relay that is measured there: our own, or the floor."""
+    """A folder on the measured disk, and the relay that is measured there: relayd, or the floor."""
 
     def __init__(self, program, folder, make=Relay):
         self.program, self.folder, self.make, self.count, self.floor = program, folder, make, 0, None
 
     def add_floor(self):
-        """The floor beside the relay, in a folder on the same disk."""
+        """Makes the floor beside the relay, in a folder on the same disk."""
         folder = self.folder / "floors"
         folder.mkdir()
         self.floor = Bench(built("floor", folder), folder, Floor)
@@ -178,7 +178,8 @@ class Bench:
         return relay
 
     def kept(self, count, size):
-        """Seconds of so many messages at one connection. The relay is killed then, before it sends them on."""
+        """Returns the seconds of so many messages on one connection. The relay is killed then, before it relays them.
+        """
         relay = self.new_relay(9)
         process = relay.start()
         client = Client(self.folder, relay.port, count, size, "kept")
@@ -190,18 +191,18 @@ class Bench:
         return seconds, relay
 
     def side_by_side(self, workers, count, size):
-        """Seconds of so many messages at each of so many connections, which are served side by side, to the last reply
-        of them all; and how much longer the slowest of them took than the median. The relay is killed then."""
+        """Returns the seconds of so many messages on each of so many parallel connections, to the last reply of all,
+        and how much longer the slowest of them took than the median. The relay is killed then."""
         relay = self.new_relay(9)
         return self.handed_in(relay, relay.start("--workers", str(workers)), workers, count, size)
 
     def run_side_by_side(self, sessions, count, size):
-        """What `side_by_side` measures, of `run`, which holds what it takes: nobody listens at its next hop."""
+        """The measure of `side_by_side`, for `run`, which keeps what it accepts: nobody listens at its next hop."""
         relay = self.new_relay(9, sessions_per_client=64)
         return self.handed_in(relay, relay.begin("--quiet"), sessions, count, size)
 
     def handed_in(self, relay, process, sessions, count, size):
-        """The seconds and the spread of `side_by_side`, of a process of a relay, which is killed then."""
+        """Returns the seconds and the spread of `side_by_side`, for a process of a relay, which is killed then."""
         _, seconds, spread = hand_in_side_by_side(self.folder, relay.port, sessions, count, size)
         process.kill()
         process.communicate()
@@ -209,8 +210,8 @@ class Bench:
         return seconds, spread
 
     def run_passing_on(self, sessions, count, size):
-        """Seconds of so many messages at each of so many connections, from the first octet to where `run` has handed
-        all of them on to a sink, at as many connections at a time as Postfix makes."""
+        """Returns the seconds of so many messages on each of so many connections, from the first octet until `run` has
+        relayed all of them to a sink, on as many connections at a time as Postfix makes."""
         amount = sessions * count
         sink = Sink(self.folder, amount)
         relay = self.new_relay(sink.port, sessions_per_client=64, attempts_per_hop=20)
@@ -223,7 +224,7 @@ class Bench:
         return ended - begun
 
     def one_a_connection(self, count, size):
-        """Seconds of so many connections with a message each, and of handing each message on after it."""
+        """Returns the seconds of so many connections with a message each, and of relaying each message after it."""
         sink = Sink(self.folder, count)
         relay = self.new_relay(sink.port)
         with relay.serving("--rounds", str(count)) as lines:
@@ -237,7 +238,7 @@ class Bench:
         return ended - begun
 
     def pushed(self, count, size):
-        """Seconds of a push of so many queued messages."""
+        """Returns the seconds of a push of so many queued messages."""
         relay = self.kept(count, size)[1]
         sink = Sink(self.folder, count)
         relay.route({"out.example": ("next.example", sink.port)})
@@ -249,8 +250,8 @@ class Bench:
         return ended - begun
 
     def bounded(self, size):
-        """Seconds of MANY messages that come AT_ONCE at a connection and are handed on after it, and the most octets
-        that both files of the spool had meanwhile."""
+        """Returns the seconds of MANY messages that come AT_ONCE on a connection and are relayed after it, and the
+        greatest size of both files of the spool meanwhile."""
         sink = Sink(self.folder, MANY)
         relay, rounds, most, ended = self.new_relay(sink.port), MANY // AT_ONCE, 0, threading.Event()
 
@@ -278,14 +279,14 @@ class Bench:
         return seconds, most
 
     def postfix_spool(self):
-        """A folder for a queue of Postfix."""
+        """Returns a folder for a queue of Postfix."""
         self.count += 1
         spool = self.folder / f"postfix{self.count}"
         spool.mkdir()
         return spool
 
     def postfix_kept(self, packages, count, size, spool):
-        """What `kept` measures, of Postfix, whose queue is on the measured disk."""
+        """The measure of `kept`, for Postfix, whose queue is on the measured disk."""
         with contextlib.closing(HoldingPostfix(packages, 9, 9, spool)) as server:
             client = Client(self.folder, server.port, count, size, "kept")
             seconds = client.seconds()
@@ -293,12 +294,12 @@ class Bench:
         return seconds
 
     def postfix_side_by_side(self, packages, clients, count, size):
-        """What `side_by_side` measures, of Postfix, but for the spread."""
+        """The measure of `side_by_side`, for Postfix, without the spread."""
         with contextlib.closing(HoldingPostfix(packages, 9, 9, self.postfix_spool())) as server:
             return hand_in_side_by_side(self.folder, server.port, clients, count, size)[1]
 
     def postfix_passing_on(self, packages, clients, count, size):
-        """What `run_passing_on` measures, of Postfix."""
+        """The measure of `run_passing_on`, for Postfix."""
         sink = Sink(self.folder, clients * count)
         with contextlib.closing(Postfix(packages, sink.port, 9, self.postfix_spool())) as server:
             begun, _, _ = hand_in_side_by_side(self.folder, server.port, clients, count, size)
@@ -306,8 +307,8 @@ class Bench:
             return time.monotonic() - begun
 
     def postfix_pushed(self, packages, count, size):
-        """Seconds from where Postfix listens to the end of its delivery of so many queued messages, at connections
-        side by side."""
+        """Returns the seconds from when Postfix listens to the end of its delivery of so many queued messages, on
+        parallel connections."""
         spool = self.postfix_spool()
         self.postfix_kept(packages, count, size, spool)
         sink = Sink(self.folder, count)
@@ -319,7 +320,7 @@ class Bench:
 
 
 def interleaved(*measures):
-    """The seconds of each in each run: a list a run."""
+    """Returns the seconds of each in each run: a list per run."""
     return [[measure() for measure in measures] for _ in range(RUNS)]
 
 
@@ -333,8 +334,8 @@ def tell(name, figure, unit, *ratios):
 
 
 def tell_beside(bench, name, amount, unit, measure, bare, label, postfix=None):
-    """Measures the relay, bare syncs, and the floor and Postfix where they are to be had, in interleaved runs. A ratio
-    is the median of the runs' own: a disk that is slower for a while is so for both."""
+    """Measures the relay, bare syncs, and the floor and Postfix if they are available, in interleaved runs. A ratio is
+    the median of the runs' own ratios, since a disk that is slow for a while is so for both."""
     floor = bench.floor
     measures = [lambda: measure(bench), bare]
     measures += [lambda: measure(floor)] if floor else []
@@ -359,7 +360,7 @@ def tell_kept(bench, packages):
 
 
 def tell_side_by_side(name, amount, ours, measures):
-    """So many messages by ours, which gives seconds and spread, beside each of these measures."""
+    """Measures so many messages by relayd, with seconds and spread, beside each of these measures."""
     spreads = []
 
     def seconds_of_ours():
@@ -374,7 +375,8 @@ def tell_side_by_side(name, amount, ours, measures):
 
 
 def measures_beside(bench, packages, sessions, count):
-    """Bare syncs, and Postfix where it is to be had; at one session the floor too, which serves one at a time."""
+    """Returns the measures to compare with: bare syncs, Postfix if it is available, and at one session the floor, which
+    serves one at a time."""
     amount = sessions * count
     measures = {"two bare syncs": lambda: bare_pairs(bench.folder, [ACCEPT] * amount)}
     if sessions == 1 and bench.floor:
@@ -394,7 +396,7 @@ def tell_workers(bench, packages):
 
 
 def tell_run(bench, packages):
-    """What `run` takes beside `serve` with as many workers and the others; and what it hands on meanwhile."""
+    """Measures `run` beside `serve` with as many workers, and the others; and what it relays meanwhile."""
     for sessions, count in ((1, 2000), (8, 100), (64, 25)):
         serve = {f"serve --workers {sessions}": lambda: bench.side_by_side(sessions, count, 1024)[0]}
         tell_side_by_side(f"run: messages of 1 KiB at {sessions} kept sessions", sessions * count,
@@ -435,7 +437,7 @@ def tell_push(bench, packages):
 
 
 def tell_bounded(bench, _packages):
-    """One run: what counts is how large the files get."""
+    """Measures one run: what counts is how large the files get."""
     seconds, most = bench.bounded(100)
     tell(f"serve: {MANY:,} messages of 100 octets, sent on", MANY / seconds, "messages/s")
     print(f"  the most octets of both files of the spool meanwhile {most:12d} octets", flush=True)
@@ -453,7 +455,7 @@ FIGURES = {
 
 
 def begin_again(folder):
-    """Starts this program anew, with bench/slow_syncs.c before the C library of all that it starts."""
+    """Starts this program again, with bench/slow_syncs.c loaded into everything that it starts."""
     shim = folder / "slow_syncs.so"
     subprocess.run(["cc", "-O2", "-shared", "-fPIC", "-o", shim, HERE / "slow_syncs.c"], check=True)
     os.environ["LD_PRELOAD"] = str(shim)
@@ -461,7 +463,7 @@ def begin_again(folder):
 
 
 def postfix_packages():
-    """Where Postfix stands, if its time can be told. It starts its own programs without our shim."""
+    """Returns where Postfix is, if its time can be measured. It starts its own programs without our shim."""
     packages = pathlib.Path(os.environ.get("PACKAGES", "build/interop")).resolve()
     if "SYNC_WAIT" in os.environ:
         print("load: without Postfix, whose syncs can't be made to wait")

@@ -1,9 +1,8 @@
 #!/usr/bin/env python3
-"""Plays each attempt that is written down beside the client's end, each row of the table of verdicts among them, by a
-node over memory: mail that a client hands in, to a next hop that says what the row says, whole, cut in two after each
-octet, octet by octet, and among so many other clients that 64 are there. What the node writes to the hop is to be what
-the row writes, with the time stamp line before the content; which places are held after it follows from the row's
-verdicts; and no call may want for memory.
+"""Plays the attempts of the client's own tests, which include each row of the verdict table, with a node over memory: a
+client submits mail, and the next hop's replies arrive whole, cut in two after each octet, octet by octet, and with so
+many other sessions that 64 are open. The node must write the same commands, with the time stamp line before the mail
+data; the row's verdicts determine which places are held afterwards; and no call may run out of memory.
 
     tests/attempts_of_a_node.py crates/relay_node_tests/out/relay_node_tests
 """
@@ -54,7 +53,7 @@ class Row:
         self.content = text[len(trace(self.protocol)):] if self.protocol else text
 
     def handed_in(self):
-        """What the client says and hears that hands the message in."""
+        """Returns the lines with which a client submits the message, and the replies."""
         yield from ("> HELO x", "< 250 relay.example") if self.protocol == "SMTP" else (
             "> EHLO x", "< 250-relay.example", "< 250-PIPELINING", "< 250-CHUNKING", "< 250 DSN")
         yield from (f"> MAIL FROM:{self.mail}", "< 250 sender OK")
@@ -67,7 +66,8 @@ class Row:
         yield from ("< 250 queued as 1", "= change 1")
 
     def said(self):
-        """What the hop says, and the node writes: as in the row, with the node's time stamp line before the content."""
+        """Returns what the hop writes, and what the node writes: as in the row, with the node's time stamp line before
+        the mail data."""
         written = (trace(self.protocol) if self.protocol else b"") + self.content
         stamped = trace(self.protocol or "ESMTP") + self.content
         ours = {dotted(written) + b".\r\n": dotted(stamped) + b".\r\n", written: stamped,
@@ -87,7 +87,7 @@ class Row:
         return not self.mail.startswith("<>") and word in wanted
 
     def held(self):
-        """The places that are held in the end: of the message, and of a report."""
+        """Returns the places that are held at the end: of the message, and of a report."""
         if self.end == "none":
             return [f"1 {place}" for place in range(len(self.recipients))]
         ruled = dict(zip(self.places, self.verdicts))

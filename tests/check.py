@@ -1,7 +1,7 @@
 #!/usr/bin/env python3
-"""Runs `relayd check` over configurations, good and bad: each finding with its line and column, and the status. What
-`check` passes `init` takes, and what it doesn't pass `init` refuses, but for keys that no relay reads. It ends at the
-first difference.
+"""Runs `relayd check` on good and bad configurations, and compares each finding, with its line and column, and the
+status. `init` must accept what `check` accepts, and refuse what it refuses, except for unknown keys. Ends at the first
+difference.
 
     tests/check.py build/relayd
 """
@@ -38,7 +38,7 @@ def run(program, *words):
 
 
 def check(program, text, findings, status):
-    """The findings of a configuration, without the file's name, and the status."""
+    """Returns the findings in a configuration, without the file's name, and the status."""
     pathlib.Path("relayd.toml").write_text(text)
     ran = run(program, "check", "--config", "relayd.toml")
     same(f"findings of {text!r}", ran.stdout.splitlines(), [f"relayd.toml:{it}" for it in findings])
@@ -54,13 +54,13 @@ def agrees_with_init(program, text, takes):
 
 
 def refused(program, text, findings):
-    """A configuration that no relay runs by."""
+    """Checks a configuration with which no relay runs."""
     check(program, text, findings, 1)
     agrees_with_init(program, text, False)
 
 
 def passed(program, text, findings, status=0):
-    """A configuration that a relay runs by."""
+    """Checks a configuration with which a relay runs."""
     check(program, text, findings, status)
     agrees_with_init(program, text, True)
 

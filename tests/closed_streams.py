@@ -1,7 +1,7 @@
 #!/usr/bin/env python3
-"""Runs each subcommand of `relayd` with each set of its standard streams closed: its status, its fault, and that the
-spool is octet for octet what it is with all of them open, where one message waits and one work is due. It ends at the
-first difference.
+"""Runs each subcommand of `relayd` with each set of its standard streams closed, over a spool with one queued message
+and one due work. Compares the status, the fault, and that the spool is octet for octet the same as with all streams
+open. Ends at the first difference.
 
     tests/closed_streams.py build/relayd
 """
@@ -26,7 +26,7 @@ MOMENT = 1_800_000_000
 
 
 class Field:
-    """A relay whose clock is held, and a sink that takes what it hands on."""
+    """A relay whose clock is stopped, and a sink as its next hop."""
 
     def __init__(self, program, folder):
         self.folder, self.sink = folder, Sink()
@@ -34,8 +34,7 @@ class Field:
         preload(self.relay, folder, "later_clock", HELD=str(MOMENT))
 
     def waiting(self):
-        """A spool with a message of two recipients, one of which is due, since its hop comes back, and one of which
-        waits."""
+        """Makes a spool with a message of two recipients: one is due because its hop is back, and one waits."""
         self.relay.forget()
         self.relay.run("init")
         self.relay.environment["HELD"] = str(MOMENT - 3600)
@@ -53,7 +52,7 @@ class Field:
 
 
 def ended(field, closed, words, given=b"", beside=None):
-    """The status, what was written to standard output and to standard error; an empty text for one that is closed."""
+    """Returns the status, and what was written to standard output and to standard error; empty for a closed stream."""
 
     def close_streams():
         for stream in closed:
@@ -72,7 +71,7 @@ def ended(field, closed, words, given=b"", beside=None):
 
 
 def wanted(closed, status, out, fault=""):
-    """What is seen of a run: of a stream that is closed, nothing."""
+    """Returns what a run is expected to show: nothing on a closed stream."""
     return status, b"" if 1 in closed else out, b"" if 2 in closed or not fault else f"relayd: {fault}\n".encode()
 
 
@@ -114,7 +113,7 @@ def push(field, closed):
 
 
 def served(field, closed, *words):
-    """What `serve` ends with, to which a client hands in a message."""
+    """Returns the result of `serve` after a client has submitted a message."""
     field.waiting()
 
     def client(process):
@@ -151,7 +150,7 @@ def compacted(field, closed):
 
 
 def with_each_set(field, run):
-    """Runs a subcommand with each set of streams closed. The spool that it leaves is that of all open; where standard
+    """Runs a subcommand with each set of streams closed. The spool must be the same as with all open; if standard
     output is closed, `serve` and `push` end after their first work."""
     spools = {}
     for closed in SETS:

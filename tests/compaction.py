@@ -1,7 +1,7 @@
 #!/usr/bin/env python3
-"""Writes spools anew by `relayd compact`, and has `relayd serve` and `relayd run` do so: the octets of both files,
-which of them is read, what is refused, and that nothing which was acknowledged is lost where the program is killed. It
-ends at the first difference.
+"""Compacts spools with `relayd compact`, `relayd serve` and `relayd run`. Checks the octets of both files, which of
+them is read, what is refused, and that no acknowledged mail is lost when the program is killed. Ends at the first
+difference.
 
     tests/compaction.py build/relayd
 """
@@ -52,7 +52,7 @@ class Field:
         self.relay.second.write_bytes(second)
 
     def hold(self, *recipients):
-        """Takes a message for these, of which the sink takes those that don't begin with `l`."""
+        """Submits a message for these recipients, of which the sink refuses those that begin with `l`."""
         self.sink.manners = Manners(refusals={f"<{it}>": "450 later" for it in recipients if it[0] == "l"})
         with self.relay.serving():
             same("refused", hand_in(self.relay, recipients=recipients), {})
@@ -75,7 +75,8 @@ def init_makes_both_files(field):
 
 
 def one_file_under_two_names_is_no_spool(field):
-    """By a hard and by a symbolic link, at each subcommand that opens the spool to write; nothing is written."""
+    """With a hard and with a symbolic link, for each subcommand that opens the spool for writing; nothing is written.
+    """
     for link in (pathlib.Path.hardlink_to, pathlib.Path.symlink_to):
         field.relay.forget()
         field.relay.spool.touch()
@@ -167,7 +168,7 @@ def the_newer_file_with_an_open_head_is_read(field):
 
 
 def broken(octets):
-    """The file with its head closed."""
+    """Returns the file with its head closed."""
     return octets[:8] + b"\0" + octets[9:]
 
 
@@ -203,7 +204,7 @@ def a_file_that_takes_no_more_loses_nothing(field):
 
 
 def each_allocation_that_is_refused_loses_nothing(field):
-    """`compact` without memory leaves the files as they are, and says so."""
+    """`compact` without memory leaves the files unchanged, and reports that."""
     field.hold("l@example.org")
     held, before = field.relay.held(), field.files()
     for run in runs_without(field.relay.words("compact"), field.folder):
@@ -220,7 +221,7 @@ def each_allocation_that_is_refused_loses_nothing(field):
 
 
 def list_beside_a_serve_that_compacts(field):
-    """`list`, which asks for no lock, is answered by what stands in the files, and touches none of them."""
+    """`list`, which takes no lock, prints what the files hold, and doesn't change them."""
     field.relay = field.new_relay("listed", spool_limit=20000)
     process, done = field.relay.start("--rounds", "120"), threading.Event()
     answers = []
@@ -247,8 +248,8 @@ def list_beside_a_serve_that_compacts(field):
 
 
 def list_beside_a_run_that_compacts(field):
-    """The same beside `run`, by a clock that goes forty times as fast: it writes a spool anew once a second at most.
-    What is listed was handed in."""
+    """The same beside `run`, with a clock forty times as fast, so that it compacts the spool at most once a second.
+    Everything listed must have been submitted."""
     field.relay = field.new_relay("running", spool_limit=20000, client_timeout=3600)
     shim(field, "run_clocks", field.relay, FASTER="40")
     done, answers, accepted = threading.Event(), [], []
@@ -285,7 +286,7 @@ def list_beside_a_run_that_compacts(field):
 
 
 def serve_writes_its_spool_anew(field):
-    """Of mail that goes on at once a spool with a limit of 100,000 octets never keeps half."""
+    """With mail that is relayed at once, a spool with a limit of 100,000 octets never holds half of it."""
     field.relay = field.new_relay("bounded", spool_limit=100000)
     content, lines, most = b"x" * 9000 + b"\r\n", [], 0
     with field.relay.serving("--rounds", "40", log=lines):
@@ -302,7 +303,8 @@ def serve_writes_its_spool_anew(field):
 
 
 def a_full_spool_makes_room_at_once(field):
-    """With less than half of the spool gone, mail that was refused for want of room finds it at the next connection."""
+    """With less than half of the spool free, mail that was refused for lack of room is accepted at the next connection.
+    """
     field.relay = field.new_relay("full", spool_limit=10000)
     content = b"x" * 2500 + b"\r\n"
     for recipients in [["l@example.org"], ["l@example.org"], ["b@example.org"]]:
@@ -323,7 +325,7 @@ def a_full_spool_makes_room_at_once(field):
 
 
 def refusal(relay, content):
-    """The reply to a content."""
+    """Returns the reply to mail data."""
     with smtplib.SMTP("127.0.0.1", relay.port, "client.example", 20) as client:
         client.ehlo()
         client.mail("a@example.org")
@@ -348,7 +350,7 @@ def a_kill_in_compact_loses_nothing(field):
 
 
 def a_kill_in_serve_loses_nothing(field):
-    """`serve`, whose spool has so small a limit that it is written anew after every few messages."""
+    """`serve`, with a spool limit so small that it compacts after every few messages."""
     field.relay = field.new_relay("killed", spool_limit=20000)
     chance, answered, number = random.Random(11), {}, 0
     for kill in range(KILLS):
@@ -368,7 +370,8 @@ def a_kill_in_serve_loses_nothing(field):
 
 
 def feed(relay, answered, number):
-    """Messages with a number of their own as subject, until the relay is gone. Which were answered 250, and as what."""
+    """Submits messages with their numbers as subjects until the relay is gone. Returns which got a 250, and their queue
+    numbers."""
     try:
         while True:
             with smtplib.SMTP("127.0.0.1", relay.port, "client.example", 20) as client:

@@ -1,8 +1,8 @@
 #!/usr/bin/env python3
-"""The dialogues of a session, each row of the table of replies among them, held by a node over memory: with one client,
-and among so many others that 64 are there. Each reply is to come as it is written down beside the session's own
-program, and no call may want for memory. Left out are the two in which a caller has no room for a content, which a
-node tells by its spool alone; and one that is wrong on purpose must come otherwise.
+"""Plays the dialogues of the session's own tests, which include each row of the reply table, with a node over memory:
+with one client, and with so many others that 64 sessions are open. Each reply must be the one of those tests, and no
+call may run out of memory. Two dialogues are left out, in which a caller has no room for mail data, since only a node's
+spool can say that; and one that is wrong on purpose must differ.
 
     tests/dialogues_of_a_node.py crates/relay_node_tests/out/relay_node_tests
 """
@@ -38,7 +38,8 @@ def names():
 
 
 def scenarios_of(name):
-    """A dialogue with its client alone, and in a crowd: all that the client says, and all that is written to it."""
+    """Returns a dialogue of a client alone, and in a crowd: all that the client writes, and all that is written to it.
+    """
     said = (FOLDER / f"{name}.in").read_bytes()
     greeting, end, replies = (FOLDER / f"{name}.ref").read_bytes().partition(b"\r\n")
     for crowd in [], ["crowd"]:
@@ -49,7 +50,7 @@ def scenarios_of(name):
 
 
 def play(program, folder, dialogues):
-    """The program's lines of those dialogues that came otherwise than they are written down."""
+    """Returns the program's lines for the dialogues that differ."""
     path = pathlib.Path(folder) / "dialogues.in"
     path.write_text("".join(text for name in dialogues for text in scenarios_of(name)))
     run = subprocess.run([program, "file", path], capture_output=True, text=True)
@@ -68,7 +69,7 @@ def main():
         if otherwise := play(program, folder, dialogues):
             sys.exit(f"dialogues_of_a_node: {otherwise[0][:300]}")
         if not play(program, folder, [WRONG]):
-            sys.exit("dialogues_of_a_node: a reply that is wrong was taken")
+            sys.exit("dialogues_of_a_node: a wrong reply was accepted")
     print(f"dialogues_of_a_node: {len(dialogues)} dialogues, each with one session and with 64: as written down")
 
 

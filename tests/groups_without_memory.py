@@ -1,8 +1,8 @@
 #!/usr/bin/env python3
-"""Gives a relay three messages at once, once for each allocation of the program, which is refused. Memory ran out before
-that or after it; or there was no memory for the answers; or the disk in memory couldn't grow, and the node is
-stopped; or each message was queued, and its client told so, or its connection is gone, and as many changes were made as
-were queued, each with its note.
+"""Gives a relay three messages at once, once for each allocation of the program, which is refused. Allowed outcomes:
+memory ran out before or after that; there was no memory for the results; the disk in memory couldn't grow, and the node
+is stopped; or each message was queued and its client got a 250, or its connection is gone, and each queued message has
+its change and its note.
 
     tests/groups_without_memory.py crates/relay_node_tests/out/relay_node_tests
 """
@@ -25,7 +25,7 @@ SCENE = ["relay 1048576", *BEFORE, GROUP, *[f"end {client}" for client in CLIENT
 
 
 def told_in(text):
-    """What was told of each step, in order, as far as it was told."""
+    """Returns what was printed for each step, in order."""
     told = []
     for step, line in zip(SCENE[1:], text.splitlines()):
         front, end, rest = line.partition(f"{step}: ")
@@ -36,7 +36,7 @@ def told_in(text):
 
 
 def outcome_of(told, whole):
-    """What has come of the messages."""
+    """Returns the outcome for the messages."""
     if told[:len(BEFORE)] != whole[:len(BEFORE)]:
         return "none"
     group, *ends, count = told[len(BEFORE):]
@@ -53,7 +53,7 @@ def outcome_of(told, whole):
             if answer != f"used 3, change {queued}":
                 raise Difference(f"an answer is {answer}")
         if end != wanted:
-            raise Difference(f"after {answer} a client is told {end}")
+            raise Difference(f"after {answer} a client got {end}")
     if notes != f"notes {queued}" or not re.fullmatch(rf"changes {queued}(, held {queued}|no memory)", count):
         raise Difference(f"{queued} were queued, and there are {notes} and {count}")
     return "none" if "no memory" in count else f"{queued} of 3 queued"

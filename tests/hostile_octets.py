@@ -1,7 +1,7 @@
 #!/usr/bin/env python3
-"""Octets that nobody ought to send: ten million without a line end to a session, whose memory stays small; replies of a
-next hop that are too long, have too many lines, or are none; and a spool's file that is cut at each octet, or says a
-length past its end. It ends at the first difference.
+"""Sends octets that nobody should send: ten million without a line end to a session, whose memory must stay small;
+replies of a next hop that are too long, have too many lines, or aren't replies; and opens a spool file cut at each
+octet, or with a length beyond its end. Ends at the first difference.
 
     tests/hostile_octets.py build/relayd
 """
@@ -26,7 +26,7 @@ NOOP = b"NOOP\r\n"
 
 
 def session(program, pieces):
-    """What a session writes to these pieces, and the most memory that it took, in octets."""
+    """Returns what a session writes in reply to these pieces, and the most memory that it used, in octets."""
     process = subprocess.Popen([program, "session"], stdin=subprocess.PIPE, stdout=subprocess.PIPE)
 
     def write():
@@ -56,7 +56,7 @@ def a_line_without_end(program):
 
 
 def a_hop(replies, heard):
-    """A next hop on a port of its own that says each of these after what comes, and then waits for the end."""
+    """A next hop on its own port that writes each of these after some input, and then waits for the end."""
     listener = socket.create_server(("127.0.0.1", 0))
 
     def talk():
@@ -78,7 +78,7 @@ def a_hop(replies, heard):
 
 
 def replies_that_are_none(program, folder):
-    """After each of them the attempt has ended, wrote nothing more, and its recipient waits for half an hour."""
+    """After each of them the attempt has ended, has written nothing more, and its recipient waits for half an hour."""
     wrong = {
         "a line of 2,049 octets": b"250 " + b"x" * 2043 + b"\r\n",
         "a line without end": b"250 " + b"x" * 100_000,
@@ -108,8 +108,8 @@ def replies_that_are_none(program, folder):
 
 
 def a_spool_that_is_cut(program, folder):
-    """A spool with one message is damaged at each size below its own, and no spool at all below the size of an empty
-    one."""
+    """A spool with one message is reported as damaged at each size below its own, and as no spool below the size of an
+    empty one."""
     relay = Relay(program, folder / "cut", {"example.org": ("next.example", 1)})
     relay.run("init")
     with relay.serving():

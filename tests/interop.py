@@ -1,6 +1,6 @@
 #!/usr/bin/env python3
-"""The rows of tests/interop.sh, which gives the packages that it has: relayd with other mail programs as its clients
-and as its next hops, by `serve` and by `run`. After them all stands a sink in Python.
+"""The rows of tests/interop.sh, which unpacks the packages: relayd with other mail programs as its clients and as its
+next hops, by `serve` and by `run`. A sink in Python is the last hop of each.
 
     tests/interop.py build/relayd build/interop postfix exim4-daemon-light opensmtpd swaks haproxy
 """
@@ -38,12 +38,12 @@ def recipients_of(domain, count):
 
 
 def ends_of(lines):
-    """The lines of a push without their numbers."""
+    """Returns the lines of a push without their numbers."""
     return [line.split(" ", 1)[1] for line in lines]
 
 
 def recipients_alone(message):
-    """The paths of a message's recipients, without parameters."""
+    """Returns the paths of a message's recipients, without parameters."""
     return [told.split(b" ")[0] for told in message.recipients]
 
 
@@ -52,7 +52,7 @@ def body_of(content):
 
 
 def all_taken(sink, recipients, content):
-    """Waits until each of the recipients has been given what has this content's body; the messages."""
+    """Waits until each of the recipients has got a message with this body; returns the messages."""
     wanted = sorted(f"<{path}>".encode() for path in recipients)
     ends, messages = time.monotonic() + PATIENCE, []
     while True:
@@ -84,7 +84,7 @@ class Field:
 
     @contextlib.contextmanager
     def serving(self):
-        """The relay for as many connections as a client likes, until everything has gone on. One that is ended between
+        """Runs the relay for as many connections as a client makes, until everything is relayed. Stopping it between
         the sink's reply and its own record of it would send a message twice."""
         if self.runs:
             process = self.relay.begin("--quiet", stderr=subprocess.PIPE)
@@ -103,7 +103,7 @@ class Field:
 
     @contextlib.contextmanager
     def serving_one(self, end):
-        """The relay for one connection, after which its mail goes on: `serve` says that it has ended so."""
+        """Runs the relay for one connection, and relays its mail afterwards: `serve` ends then."""
         if self.runs:
             with self.serving():
                 yield
@@ -113,12 +113,12 @@ class Field:
             same("the lines of serve", ends_of(lines), [end])
 
     def hand_on(self, end):
-        """What is due after that goes on, as `run` does by itself."""
+        """Relays what is due after that; `run` does so by itself."""
         if not self.runs:
             same("push", ends_of(self.relay.run("push")), [end])
 
     def is_empty(self):
-        """Whether nothing waits in the spool. A `list` beside `serve` may take a record that is just being added for
+        """Returns whether the spool is empty. A `list` beside `serve` may take a record that is just being added for
         damage (docs/relayd.8)."""
         ended = self.relay.ended(PATIENCE, "list")
         return ended.returncode == 0 and not ended.stdout
@@ -133,7 +133,7 @@ SIZES = [("one recipient", 1, SMALL), ("100 recipients", 100, SMALL), ("1 MiB", 
 
 
 def through_a_client(field, server):
-    """A server hands relayd what it was handed."""
+    """A server relays to relayd what was submitted to it."""
     # One relay for all: a server may keep its connection to it for the next message.
     with field.serving():
         for what, count, content in SIZES:
@@ -146,7 +146,7 @@ def through_a_client(field, server):
 
 
 def through_a_hop(field, server):
-    """relayd hands a server what it was handed."""
+    """relayd relays to a server what was submitted to it."""
     to_sink = ("sink.example", field.sink.port)
     field.relay.route({"in.example": ("next.example", server.port), "out.example": to_sink})
     for what, count, content in SIZES:
@@ -160,8 +160,8 @@ def through_a_hop(field, server):
 
 
 def a_stranger(field, server):
-    """A client that isn't trusted may send to a domain with a line of its own, and neither by a routed address nor by
-    the line of every other domain. The configuration of later rows has neither key."""
+    """A client that isn't trusted may send to a domain with a line of its own, but not by a routed address, nor by the
+    route of all other domains. Neither key is set in the configuration of later rows."""
     rules = {"trusted_clients": '["192.0.2.0/24"]', "routed_paths": '"refuse"'}
     wanted = {"b@elsewhere.example": 550, "b%elsewhere.example@in.example": 553, "elsewhere.example!b@in.example": 553,
               '"b@elsewhere.example"@in.example': 553}
@@ -204,7 +204,7 @@ def parameters_through_a_hop(field, server):
 
 
 def chunks_of_exim(field, server):
-    """Exim handed all its contents to relayd in chunks, which its log says by a K, after the reply to each."""
+    """Exim sent all mail data to relayd in chunks: its log has a K after each reply."""
     end = time.monotonic() + PATIENCE
     while True:
         lines = [line for line in server.said().splitlines() if "out.example R=out" in line]
@@ -217,7 +217,7 @@ def chunks_of_exim(field, server):
 
 
 def a_chunk_through_exim(field, server):
-    """A content that doesn't end in CR LF goes to Exim in a chunk."""
+    """Mail data that doesn't end in CR LF is sent to Exim in a chunk."""
     content = HEAD + b".\r\n..\r\nno end"
     with field.serving_one("next.example ended"):
         link = socket.create_connection(("127.0.0.1", field.relay.port), PATIENCE)
@@ -230,7 +230,7 @@ def a_chunk_through_exim(field, server):
 
 
 def swaks(field, packages):
-    """swaks hands relayd a content from a file."""
+    """swaks submits a message from a file."""
     unpacked = packages / "swaks/usr/bin/swaks"
     command = ["perl", unpacked] if unpacked.exists() else ["swaks"]
     for what, count, content in SIZES:
@@ -247,7 +247,7 @@ def swaks(field, packages):
 
 
 def python(field, packages):
-    """So does Python's smtplib."""
+    """Python's smtplib submits the same message."""
     for what, count, content in SIZES:
         recipients = recipients_of("out.example", count)
         with field.serving():
@@ -279,7 +279,7 @@ def run_server(program, packages, package, folder, runs):
 
 
 def run_balanced(program, packages, _balancer, folder, runs):
-    """Two relays behind a balancer, which gives each the next connection: to both all clients are at one address."""
+    """Two relays behind a balancer, which gives them connections in turn: all clients seem to have one address."""
     count = 10
     fields = [Field(program, packages, pathlib.Path(folder) / name, runs) for name in ("one", "two")]
     with contextlib.ExitStack() as stack:
@@ -295,13 +295,13 @@ def run_balanced(program, packages, _balancer, folder, runs):
     same("recipients at both sinks", sorted(taken[0] + taken[1]),
          sorted(b"<b%d@out.example>" % number for number in range(count)))
     if not all(taken):
-        raise Difference("one relay was handed nothing")
+        raise Difference("one relay got no mail")
     return f"{HaProxy.name}: two relays behind it"
 
 
 def run_proxied(program, packages, header, folder, runs):
-    """A relay behind a balancer that says by this header whose each connection is, and that asks by one of its own
-    whether the relay answers."""
+    """A relay behind a balancer that names each connection's client in this header, and that checks with a header of
+    its own whether the relay answers."""
     with contextlib.ExitStack() as stack:
         field = stack.enter_context(contextlib.closing(Field(program, packages, folder, runs, balancers='["127.0.0.1"]')))
         stack.enter_context(field.serving())
@@ -316,7 +316,7 @@ def run_proxied(program, packages, header, folder, runs):
 
 
 def run_source(program, packages, _source, folder, runs):
-    """Postfix's smtp-source: 64 sessions at once, and 640 messages."""
+    """Postfix's smtp-source, with 64 sessions at once and 640 messages."""
     room = packages / "postfix"
     unpacked = room / "usr/sbin/smtp-source"
     folders = [str(room / name) for name in ("usr/lib/postfix", "usr/lib/x86_64-linux-gnu")]

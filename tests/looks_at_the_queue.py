@@ -1,7 +1,7 @@
 #!/usr/bin/env python3
-"""Looks at queues by `relayd list --long`, `list --json`, `show` and `status`: at spools that are written here by the
-layout of docs/ alone, at octets that a terminal must not see, at 100,000 messages, and beside a relay that runs. It
-ends at the first difference.
+"""Prints queues with `relayd list --long`, `list --json`, `show` and `status`: spools that are written here from the
+layout in docs/ alone, octets that a terminal must not get, 100,000 messages, and the spool of a running relay. Ends at
+the first difference.
 
     tests/looks_at_the_queue.py build/relayd
 """
@@ -45,7 +45,7 @@ def accept(moment, reverse_path, recipients, text, ret=0, envid=b""):
 
 
 def deferral(number, moment, places):
-    """The record of an attempt that put off these places of a message."""
+    """Returns the record of an attempt that deferred these places of a message."""
     rulings = b"".join(bytes([place, 4]) for place in places)
     front = b"\4" + struct.pack(">QQ", number, moment) + sized(b"next.example")
     return front + bytes([len(places)]) + rulings + bytes(4)
@@ -67,20 +67,20 @@ class Queue:
         self.relay.second.write_bytes(b"")
 
     def look(self, *words):
-        """What a subcommand prints, which a terminal may see."""
+        """Returns the output of a subcommand, which must be safe for a terminal."""
         ended = self.relay.ended(120, *words)
         same(f"relayd {' '.join(words)}", (ended.returncode, ended.stderr), (0, b""))
         if not SAFE.fullmatch(ended.stdout):
-            raise Difference(f"relayd {' '.join(words)} prints what a terminal may not see")
+            raise Difference(f"relayd {' '.join(words)} prints octets that a terminal must not get")
         return ended.stdout.decode()
 
     def numbers(self, *words):
-        """The numbers of the messages that a list has, in its order."""
+        """Returns the numbers of the listed messages, in their order."""
         return [json.loads(line)["message"] for line in self.look("list", "--json", *words).splitlines()]
 
 
 def three_messages(queue):
-    """Three messages, of 5 minutes, 3 hours and 2 days; one recipient of the first has been put off twice."""
+    """Three messages, 5 minutes, 3 hours and 2 days old; one recipient of the first was deferred twice."""
     now = int(time.time()) - 10
     queue.write(
         accept(now - 3 * HOUR, b"<a@example.org>", [recipient(b"<b@example.org>"), recipient(b"<c@example.net>")],

@@ -1,4 +1,4 @@
-"""Mail as a client hands it to relayd, and what has to be in it where it arrives: time stamp lines and reports."""
+"""Submits mail to relayd, and checks what must be in it at the other end: time stamp lines and reports."""
 import email
 import email.policy
 import email.utils
@@ -20,14 +20,14 @@ CONTENTS = [CONTENT, b"\r\n", bytes(range(256)) + b"\n.\r\n", b"x" * 5000 + b"\r
 
 
 def hand_in(relay, content=CONTENT, recipients=("b@example.org",), mail=(), rcpt=()):
-    """A message by smtplib, at one connection. The recipients that were refused, with their replies."""
+    """Submits a message with smtplib, on one connection. Returns the refused recipients, with their replies."""
     with smtplib.SMTP("127.0.0.1", relay.port, local_hostname="client.example", timeout=PATIENCE) as client:
         return client.sendmail("a@example.org", list(recipients), content, mail, rcpt)
 
 
 def behind_mark(stored, host, number, word="client.example", address="127.0.0.1"):
-    """What stands after the time stamp line, which has to be of this host and number, of a client of this word and
-    address, and of these minutes."""
+    """Returns what follows the time stamp line, which must name this host and number, this client and address, and a
+    time of these minutes."""
     mark = MARK.match(stored)
     if not mark:
         raise Difference(f"no time stamp line begins {stored[:120]!r}")
@@ -40,7 +40,7 @@ def behind_mark(stored, host, number, word="client.example", address="127.0.0.1"
 
 
 def one_message(sink):
-    """The only message that the sink has taken since the last look."""
+    """Returns the only message that the sink has got since the last call."""
     messages = sink.take_all()
     same("messages at the sink", len(messages), 1)
     return messages[0]
@@ -51,7 +51,7 @@ def connected(relay):
 
 
 def talk(link, *parts):
-    """Sends each part when the replies to those before have come; the last reply."""
+    """Sends each part after the replies to the earlier ones have come. Returns the last reply."""
     with link.makefile("rb") as replies:
         line = replies.readline()
         for part in parts:
@@ -63,7 +63,7 @@ def talk(link, *parts):
 
 
 def converse(relay, *parts):
-    """Sends each part at a connection of its own when the replies to those before have come; the last reply."""
+    """Sends each part, on a new connection, after the replies to the earlier ones have come. Returns the last reply."""
     with connected(relay) as link:
         return talk(link, *parts)
 
@@ -73,7 +73,7 @@ FAILED = {"Final-Recipient": "rfc822; b@example.org", "Action": "failed"}
 
 
 def read_report(message, number, of, sender="a@example.org"):
-    """A report's three parts as Python's email reads them; its envelope and its head have to be right."""
+    """Returns a report's three parts as Python's email package reads them; checks its envelope and header section."""
     same("MAIL of a report", message.mail, b"<>")
     same("RCPT of a report", message.recipients, [f"<{sender}>".encode()])
     read = email.message_from_bytes(message.content, policy=email.policy.default)
@@ -91,8 +91,8 @@ def read_report(message, number, of, sender="a@example.org"):
 
 
 def fields(report, place):
-    """The fields of the message (0) or of a reported place (from 1), without dates, of which the zone alone is
-    looked at."""
+    """Returns the fields of the message (0) or of a reported place (from 1), without dates, of which only the zone is
+    checked."""
     found = dict(report[1].get_payload()[place].items())
     for name in ("Arrival-Date", "Last-Attempt-Date"):
         if name in found:

@@ -1,7 +1,7 @@
-"""Postfix, Exim and OpenSMTPD, and HAProxy before other servers, each in a root of its own that ends with it: an
-overlay of an unpacked package over this machine's files, in name spaces of its own for mounts and processes.
+"""Postfix, Exim and OpenSMTPD, and HAProxy before other servers, each in a temporary root of its own: an overlay of an
+unpacked package over this machine's files, in mount and process namespaces of its own.
 
-Each takes mail from 127.0.0.1, sends mail for out.example to one port and mail for in.example to another, and refuses
+Each accepts mail from 127.0.0.1, sends mail for out.example to one port and mail for in.example to another, and refuses
 the recipient refused@in.example.
 """
 import os
@@ -50,13 +50,13 @@ mount -t overlay overlay -o lowerdir=/,upperdir=upper,workdir=work root
 
 
 def can_make_rooms():
-    """Whether this user may make such name spaces, and mount there."""
+    """Returns whether this user may make such namespaces, and mount in them."""
     command = ["unshare", "--mount", "--pid", "--fork", "bash", "-c", PROBE]
     return subprocess.run(command, capture_output=True).returncode == 0
 
 
 class Server:
-    """One of the three. It listens when it is made. Its queue is in memory, or in a folder that is given."""
+    """One of the three servers. It listens when it is made. Its queue is in memory, or in a given folder."""
 
     users = ()
 
@@ -94,11 +94,11 @@ class Server:
             time.sleep(0.02)
 
     def said(self):
-        """What the server and its log say, all of which goes to one file."""
+        """Returns the output and the log of the server, which go to one file."""
         return (pathlib.Path(self.room.name) / "log").read_text(errors="replace")
 
     def first(self):
-        """The first process of the name space, with which all others in it end."""
+        """Returns the first process of the namespace, which ends with it."""
         children = pathlib.Path(f"/proc/{self.process.pid}/task/{self.process.pid}/children")
         return int(children.read_text().split()[0])
 
@@ -228,8 +228,8 @@ exec smtpd -d
 
 
 class HaProxy(Server):
-    """A balancer before two relays: it hands on connections, in turn, and knows nothing of mail but its greeting. It may
-    begin each by a header of the PROXY protocol."""
+    """A balancer before two relays: it forwards connections in turn, and knows nothing of mail but the greeting. It may
+    begin each connection with a PROXY protocol header."""
 
     name, package, users = "HAProxy", "haproxy", ("haproxy",)
 

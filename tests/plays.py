@@ -1,9 +1,9 @@
 #!/usr/bin/env python3
-"""Plays scripts of relays with `relayd play`: those of docs/plays/, whose output stands beside each, those of two nodes
-also with `nodes 2` and `nodes 3` before them; each refusal, in its order; faults of a script and of the streams; a
-message that goes round in a circle of two and of three nodes until it has too many Received fields; a stop whose
-telling stops the other node; spools that are written anew between any two lines; and how long circles, 10,000 carries,
-and 1,000 messages among sixteen nodes take. It ends at the first difference.
+"""Plays scripts of relays with `relayd play`: those of docs/plays/, with the expected output beside each, and those of
+two nodes also after a line `nodes 2` or `nodes 3`; each refusal, in its order; faults of a script and of the streams; a
+mail loop of two and of three nodes, which ends with too many Received fields; a stop whose notification stops the other
+node; compactions between any two lines; and the time for loops, 10,000 carries, and 1,000 messages among sixteen nodes.
+Ends at the first difference.
 
     tests/plays.py build/relayd
 """
@@ -27,13 +27,13 @@ QUEUED = r"250-{0}.example\r\n250-PIPELINING\r\n250-CHUNKING\r\n250 DSN\r\n250 s
 
 
 def run(program, script):
-    """The status, output and fault line of a play."""
+    """Returns the status, the output and the fault line of a play."""
     done = subprocess.run([program, "play"], input=script, capture_output=True, timeout=PATIENCE)
     return done.returncode, done.stdout, done.stderr
 
 
 def played(program, rows):
-    """Plays lines, each with what is to be seen of it: a line, several, or nothing."""
+    """Plays lines, and compares the output of each: a line, several, or nothing."""
     script = "".join(f"{line}\n" for line, _ in rows).encode()
     status, out, errors = run(program, script)
     wanted = [one for _, seen in rows for one in ([seen] if isinstance(seen, str) else seen)]
@@ -45,7 +45,7 @@ def played(program, rows):
 
 
 def lines_of(play, question):
-    """The lines that answer a question, up to that of a tick after it."""
+    """Returns the lines that answer a question, up to the result of the tick after it."""
     play.tell(question)
     play.tell("tick 0")
     found = []
@@ -119,9 +119,8 @@ def refusals(program):
 
 
 def undone(program, first=""):
-    """The stop of the play of a crash, by the pick that leaves the append out: the message is at its sender alone until
-    it is tried again, and then there is one copy, though a reply was lost. The script begins with the line that is
-    given, if any."""
+    """Stops the crash play with the pick that leaves the append out: only the sender has the message until it is tried
+    again, and then there is one copy, although a reply was lost. The script begins with the given line, if any."""
     script = first + (PLAYS / "crash.play").read_text()
     changed = script.replace("stop b 4 1\n", "stop b 4 0\n")
     same("whether the script has the stop", changed != script, True)
@@ -148,7 +147,7 @@ def too_many(program):
 
 
 def too_many_attempts(program):
-    """Where 64 attempts of a node run, no link is opened for one more; one that is over leaves room for it."""
+    """While a node runs 64 attempts, no link is opened for another; one that ends makes room."""
     rows = [("connect b", GREETED.format(1, "b"))]
     for number in range(1, 65):
         rows += [
@@ -167,8 +166,7 @@ def too_many_attempts(program):
 
 
 def no_route(program):
-    """A place whose domain only the other node has a route for isn't taken; a report whose domain none has is given
-    up."""
+    """A place is refused if only the other node has a route for its domain; a report without a route is given up."""
     played(program, [
         ("connect a", GREETED.format(1, "a")),
         (r"send 1 EHLO x\r\nMAIL FROM:<s@nowhere.example>\r\nRCPT TO:<r@nowhere.example>\r\n"
@@ -191,7 +189,7 @@ def no_route(program):
 
 
 def cascade(program):
-    """Node b is armed; node a stops; b's attempt on the link is told of the loss, and b stops in that call."""
+    """Node b has a pending fault; node a stops; b's attempt on the link is lost, and b stops in that call."""
     played(program, [
         ("connect b", GREETED.format(1, "b")),
         ("send 1 " + MAIL.format("a.example"), "ok"),
@@ -239,8 +237,7 @@ def faults(program):
 
 
 def compactions(program):
-    """A spool that is written anew between any two lines changes nothing else of what is seen; each new spool has 36
-    octets."""
+    """A compaction between any two lines changes nothing else in the output; each new spool has 36 octets."""
     line = "compact {0}\n"
     same("new nodes", run(program, b"compact a\ncompact b\ncompact a\n"),
          (0, b"compact a size 36\ncompact b size 36\ncompact a size 36\n", b""))
@@ -258,8 +255,8 @@ def shown(script):
 
 
 def networks(program):
-    """The plays of two nodes, by two or three that `nodes` tells of: a third node changes nothing of what is seen; and
-    the greeting of each of sixteen."""
+    """The plays of two nodes, with two or three nodes: a third node changes nothing in the output; and the greeting of
+    each of sixteen."""
     for count in (2, 3):
         for name in ("lost_reply.play", "crash.play", "late.play"):
             script = PLAYS / name
@@ -271,8 +268,8 @@ def networks(program):
 
 
 def attempt(play, node, other):
-    """The first attempt of a node, whose hop is another node, to its end: the node that refused the content, if it did,
-    and how many carries it took."""
+    """Plays the first attempt of a node, whose hop is another node, to its end. Returns the node that refused the mail
+    data, if one did, and the number of carries."""
     link, refused, carries = play.say(f"give {node}").split()[-1], None, 0
     for turn in range(40):
         reader = (node, other)[turn % 2]
@@ -286,8 +283,8 @@ def attempt(play, node, other):
 
 
 def circle(program, nodes):
-    """A message for `loop.example`: 100 accepts by the nodes in turn, then 554 by the next one, the end and its
-    report."""
+    """Plays a message for `loop.example`: 100 accepts by the nodes in turn, then a 554 from the next one, the end and
+    its report."""
     began = time.monotonic()
     with Play(program) as play:
         if nodes != 2:
@@ -311,7 +308,7 @@ def circle(program, nodes):
 
 
 def crowd(program):
-    """1,008 messages among sixteen nodes, 63 from each to the next."""
+    """Plays 1,008 messages among sixteen nodes, 63 from each to the next."""
     began = time.monotonic()
     with Play(program) as play:
         play.tell("nodes 16")
@@ -329,7 +326,7 @@ def crowd(program):
 
 
 def carries(program):
-    """10,000 carries of 1,000 octets."""
+    """Plays 10,000 carries of 1,000 octets."""
     noops = r"NOOP\r\n" * 166 + r"RSET"
     script = ["connect a"]
     for _ in range(100):

@@ -1,10 +1,10 @@
 #!/usr/bin/env python3
 """Plays the scripts of docs/plays/ once for each allocation of the program, which is refused. The play goes on after it
-or says that there was no memory; and each recipient that a node acknowledged is held in the end, or was handed on, or
-has ended, once all nodes were stopped and opened again. Then a node that can't be opened, for want of memory: each
-event that it refuses, in its order, and what it says once it is opened. And a carry for which there is no memory:
-before the node's call nothing changes, and in it or after it, where what the node wrote can't be put on the link, that
-link breaks, and what the node recorded stands in the ledger. It ends at the first difference.
+or reports that memory ran out; and at the end, after all nodes were stopped and opened again, each recipient that a
+node acknowledged is held, was relayed, or has ended. Then a node that can't be opened for lack of memory: each event
+that it refuses, in its order, and what it has after it is opened. And a carry without memory: before the node's call
+nothing changes; in it or after it, if what the node wrote can't be put on the link, the link breaks, and what the node
+recorded is in the ledger. Ends at the first difference.
 
     tests/plays_without_memory.py build/relayd
 """
@@ -70,7 +70,7 @@ def plays_of(program, folder, script):
 
 
 def look(what, run):
-    """Checks what one play with a refused allocation printed."""
+    """Checks the output of one play with a refused allocation."""
     if run.status != 0:
         same(what, (run.status, run.errors), (1, "relayd: no memory\n"))
         return
@@ -88,7 +88,7 @@ def seen(rows):
 
 
 def a_node_that_is_down(program, folder):
-    """Refuses each allocation in turn, and holds those plays to the rows in which node a stays down after its stop."""
+    """Refuses each allocation in turn, and checks the plays in which node a stays down after its stop."""
     script = "".join(f"{line}\n" for line, _ in BEFORE + STOP + DOWN + AGAIN).encode()
     down, found = seen(BEFORE + STOP + DOWN[:1]), 0
     for run in plays_of(program, folder, script):
@@ -101,8 +101,7 @@ def a_node_that_is_down(program, folder):
 
 
 def a_carry_without_memory(program, folder):
-    """Refuses each allocation in turn, and holds the plays in which a carry of a whole message met it to what may
-    come."""
+    """Refuses each allocation in turn, and checks the plays in which a carry of a whole message met it."""
     lines = [*(line for line, _ in BEFORE[:2]), "carry 1 b 1000", "marks", "ledger", "carry 1 b 1000", "connect b"]
     script, opened, greeted = "".join(f"{line}\n" for line in lines).encode(), seen(BEFORE[:2]), GREETED.format(2, "b")
     whole, none = BEFORE[2][1], "refused NoLink"

@@ -1,12 +1,11 @@
 #!/usr/bin/env python3
-"""Makes random plays of two relays, and judges each by what is printed alone: whether mail that a node acknowledged is
-held, was handed on or has ended; whether what was handed on was accepted; whether there are no more copies than lost
-replies allow; and whether the ledger only grows. A play that fails is printed, with each line left out that it doesn't
-take.
+"""Makes random plays of two relays, and judges each by its output alone: whether mail that a node acknowledged is held,
+was relayed or has ended; whether relayed mail was accepted; whether there are no more copies than lost replies allow;
+and whether the ledger only grows. Prints a play that fails, without the lines that the failure doesn't need.
 
     tests/random_plays.py build/relayd [COUNT [FIRST]]
 
-COUNT plays (50) of 60 events are made from the seeds FIRST (1) and on.
+Makes COUNT plays (50) of 60 events each, from the seed FIRST (1) on.
 """
 import functools
 import pathlib
@@ -38,7 +37,7 @@ PRINTED = re.compile(
 
 
 def nodes_of(lines):
-    """The letters of the nodes of a script: two, or as many as its first line that says something tells."""
+    """Returns the letters of a script's nodes: two, or as many as its first significant line says."""
     said = [line for line in lines if line and not line.startswith("#")]
     count = re.fullmatch(r"nodes (\d+)", said[0]) if said else None
     return LETTERS[:int(count[1])] if count else "ab"
@@ -50,7 +49,7 @@ def escaped(octets):
 
 
 def lines_after(play, line):
-    """The lines that an event or a question prints."""
+    """Returns the lines that an event or a question prints."""
     play.tell(line)
     play.tell(END_OF_LINES)
     lines = []
@@ -64,8 +63,8 @@ def lines_after(play, line):
 
 
 def told_at_once(program, events, messages, places):
-    """What each event prints, and what answers a question after them, of a play whose lines are all told at once, in
-    which a node has so many messages at most, of so many places."""
+    """Returns the output of each event, and of a question after them, for a play in which a node has at most so many
+    messages of so many places."""
     questions = ["ledger", "marks"]
     questions += [f"{word} {node} {number} {place}" for word in ("copies", "lost") for node in nodes_of(events)
                   for number in range(1, messages + 1) for place in range(places)]
@@ -84,8 +83,8 @@ def told_at_once(program, events, messages, places):
 
 
 class Link:
-    """A link as its lines showed it: its ends (outside is None), the work that it was opened for, and what is still to
-    be written at its outer end."""
+    """A link, according to its lines: its ends (None for outside), the work that it was opened for, and what is still
+    to be written at its outer end."""
 
     def __init__(self, client, server, work=None):
         self.client, self.server, self.work = client, server, work
@@ -96,7 +95,7 @@ class Link:
 
 
 class Judge:
-    """What the printed lines say of links, attempts and mail, and whether it holds together."""
+    """What the printed lines say of links, attempts and mail, and whether it is consistent."""
 
     def __init__(self):
         self.links, self.acknowledged, self.ledger = {}, {}, []
@@ -132,7 +131,7 @@ class Judge:
             raise Difference(what)
 
     def settle(self, ask):
-        """Asks for the ledger, the marks and the copies, and holds them beside each other."""
+        """Asks for the ledger, the held places and the copies, and compares them."""
         ledger = ask("ledger")
         self.require(ledger[:len(self.ledger)] == self.ledger, "the ledger has forgotten a line")
         self.ledger = ledger
@@ -157,8 +156,8 @@ class Judge:
                 self.few_copies(node, number, place, copies, lost)
 
     def read(self, ledger):
-        """The messages of a ledger, reports among them, each with its places and its link; and the places that left. A
-        place is told as delayed once, and before it leaves."""
+        """Returns the messages of a ledger, reports included, each with its places and its link, and the places that
+        left. A place is reported as delayed once, and before it leaves."""
         taken, left, delayed = {}, {}, set()
         for line in ledger:
             accept, gone, late = ACCEPT.fullmatch(line), LEFT.fullmatch(line), DELAYED.fullmatch(line)
@@ -194,8 +193,7 @@ class Judge:
             self.require("250" in link.codes, f"{one} was handed on, on link {number}, and outside said {link.codes}")
 
     def few_copies(self, node, number, place, copies, lost):
-        """There is one copy, and one more for each reply that was lost, at most; and only a link that has ended loses
-        one."""
+        """There is at most one copy, and one more for each lost reply; and only a link that has ended loses a reply."""
         tried = [link for link in self.links.values() if link.work == (node, number)]
         broken = sum(link.ended != "by a reply" and not (link.whole and not link.ended) for link in tried)
         self.require(copies <= min(1 + lost, len(tried)) and lost <= broken,
@@ -204,7 +202,7 @@ class Judge:
 
 
 class Driver:
-    """Chooses events by chance: most of them go on on the last link, so that mail gets on, and the others are any."""
+    """Chooses events by chance: most of them on the last link, so that mail is relayed, and the others anywhere."""
 
     def __init__(self, seed):
         self.chance, self.clock, self.turn, self.armed = random.Random(seed), 0, 0, []
@@ -219,7 +217,7 @@ class Driver:
         return getattr(self, self.chance.choices([*kinds], [*kinds.values()])[0])(links)
 
     def go_on(self, links, number):
-        """The one end writes, and then the other reads."""
+        """Returns the next event on a link: one end writes, and then the other reads."""
         link, self.turn = links[number], self.turn + 1
         if not link.whole or link.ended or self.turn > (14 if link.client else 2):
             self.turn = 0
@@ -234,7 +232,7 @@ class Driver:
         return f"carry {number} {link.server if self.turn % 2 == 0 else link.client} {count}"
 
     def one(self, links, fits):
-        """A link that fits, mostly one of the last, or some number."""
+        """Returns a link that fits, mostly one of the last, or any number."""
         found = [number for number, link in links.items() if fits(link)]
         if not found or self.chance.random() < 0.02:
             return self.chance.randint(0, len(links) + 1)
@@ -247,12 +245,12 @@ class Driver:
         return f"connect {self.node()}"
 
     def write(self, links):
-        """A client outside writes some of a message."""
+        """Returns an event in which a client outside writes some of a message."""
         number = self.one(links, lambda link: link.whole and link.client is None)
         return self.send(links, number, self.message)
 
     def reply(self, links):
-        """A next hop outside writes a reply."""
+        """Returns an event in which a next hop outside writes a reply."""
         number = self.one(links, lambda link: link.whole and link.server is None)
         return self.send(links, number, lambda: self.chance.choices(
             [b"220 x\r\n", b"250 x\r\n", b"250-x\r\n250-PIPELINING\r\n250-CHUNKING\r\n250 DSN\r\n",
@@ -260,7 +258,7 @@ class Driver:
              b"550 x\r\n", b"2x0 a\r\n"], [3, 8, 3, 4, 1, 2, 0.2])[0])
 
     def next_reply(self, link):
-        """What a next hop says to one command after another where it takes all that it is given."""
+        """Returns the reply of a next hop that accepts everything to one command after another."""
         taken = [b"220 x\r\n", b"250 x\r\n", b"250 x\r\n", b"250 x\r\n", b"354 x\r\n", b"250 x\r\n"]
         return taken[min(len(link.codes), 5)] if self.chance.random() < 0.95 else b"550 x\r\n"
 
@@ -321,13 +319,14 @@ class Driver:
         return f"compact {self.armed.pop() if self.armed else self.node()}"
 
     def arm_compact(self, links):
-        """A stop at one of the seven device calls of a compaction, which is the next event."""
+        """Returns an event that sets a fault at one of the seven device calls of a compaction, which is the event after
+        it."""
         self.armed = [self.node()]
         return f"stop {self.armed[0]} {self.chance.randint(1, 7)} {self.pick()}"
 
 
 def made(program, seed):
-    """The events of a play that was made from this seed, and what didn't hold of it, if anything."""
+    """Returns the events of a play made from this seed, and what failed, if anything."""
     driver, judge, events = Driver(seed), Judge(), []
     with Play(program) as play:
         try:
@@ -346,7 +345,7 @@ def made(program, seed):
 
 
 def judged(program, events, messages, places):
-    """What these events print, which has to hold together."""
+    """Returns the output of these events, which must be consistent."""
     judge = Judge()
     printed, ask = told_at_once(program, events, messages, places)
     for event, lines in zip(events, printed):
@@ -360,7 +359,7 @@ def judged(program, events, messages, places):
 
 
 def failure(program, events):
-    """What doesn't hold of these events, if anything."""
+    """Returns what fails for these events, if anything."""
     try:
         judged(program, events, EVENTS, 3)
     except Difference as difference:
@@ -369,7 +368,7 @@ def failure(program, events):
 
 
 def shortened(program, events):
-    """The events without those that the failure doesn't take."""
+    """Returns the events without those that the failure doesn't need."""
     at = len(events)
     while at > 0:
         at -= 1
@@ -389,7 +388,7 @@ def main(program, count="50", first="1"):
         messages += sum(line.startswith("accept") for line in judge.ledger)
         left += sum(not line.startswith("accept") for line in judge.ledger)
     if int(count) >= 20 and not (messages and left):
-        raise Difference("no message was taken, or none left its node: these plays show nothing")
+        raise Difference("no message was accepted, or none left its node: these plays show nothing")
     print(f"ok: {count} random plays: {messages} messages were taken, {left} recipients were handed on or ended")
 
 

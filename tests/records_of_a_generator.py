@@ -1,6 +1,6 @@
 #!/usr/bin/env python3
-"""Makes 1,000 records by a fixed generator, about half of them accepts and half outcomes, with up to 100 recipients or
-rulings each. The program decodes each record and encodes its change again, and is to find the same octets.
+"""Makes 1,000 records with a fixed generator, about half of them accepts and half outcomes, with up to 100 recipients
+or rulings each. The program decodes each record and encodes its change again, and must get the same octets.
 
     tests/records_of_a_generator.py crates/relay_rows_tests/out/relay_rows_tests
 """
@@ -16,7 +16,7 @@ NOTIFY = bytes([0, 1, 2, 4, 6, 8, 10, 12, 14])
 
 
 class Draw:
-    """Numbers that look like chance, and are the same in each run."""
+    """Pseudo-random numbers, the same in each run."""
 
     def __init__(self):
         self.state = 1
@@ -32,12 +32,12 @@ class Draw:
         return self.octets(self.below(most) + 1, 26, ord("a"))
 
     def mailbox(self):
-        """One in four has a quoted string as its local part."""
+        """Returns a mailbox; one in four has a quoted string as its local part."""
         before, behind = (b'<"', b' x"@') if self.below(4) == 0 else (b"<", b"@")
         return before + self.letters(20) + behind + self.letters(20) + b".example>"
 
     def path(self, times, other):
-        """One time in so many the other path, and else a mailbox."""
+        """Returns the other path once in so many times, else a mailbox."""
         return sized(other if self.below(times) == 0 else self.mailbox())
 
     def xtext(self):

@@ -1,4 +1,4 @@
-"""A program that is run once for each of its allocations, or threads, which the system refuses."""
+"""Runs a program once for each of its allocations, or threads, which the system refuses."""
 import collections
 import os
 import pathlib
@@ -15,7 +15,7 @@ Run = collections.namedtuple("Run", "number was_refused status out errors")
 
 def runs_without(words, folder, shim="refuse_memory", given=b"", cwd=None):
     """Runs a program with its first allocation refused, then with its second, and so on; at last with none refused,
-    since it asks for no more. The shim is built in the folder, and says there that it refused one."""
+    because it makes no more. The shim is built in the folder, and notes there that it has refused one."""
     library, mark = built(shim, folder), pathlib.Path(folder) / "refused"
     for number in range(1, MOST):
         mark.unlink(missing_ok=True)

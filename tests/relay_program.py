@@ -1,5 +1,5 @@
-"""A relayd in a folder of its own, for tests: its configuration, its subcommands, and `serve` or `run` beside them; a
-`relayd play` that goes on; shims of the C library's calls."""
+"""A relayd in a folder of its own, for tests: its configuration, its subcommands, and `serve` or `run` in the
+background; a running `relayd play`; shims for calls of the C library."""
 import contextlib
 import os
 import pathlib
@@ -21,11 +21,11 @@ LOCKED = (1, "relayd: device\nrelayd: another relayd holds the spool: stop it, o
 
 
 class Difference(Exception):
-    """Something is otherwise than it has to be."""
+    """Something differs from what is expected."""
 
 
 def shown(value):
-    """A value, with the middle left out where it is long."""
+    """Returns a value as text, without its middle if it is long."""
     text = repr(value)
     return text if len(text) < 1000 else f"{text[:500]} [...] {text[-400:]}"
 
@@ -36,7 +36,7 @@ def same(what, found, wanted):
 
 
 def until(what, holds, seconds=PATIENCE):
-    """Waits until it holds."""
+    """Waits until a condition holds."""
     ends = time.monotonic() + seconds
     while not holds():
         if time.monotonic() > ends:
@@ -45,7 +45,7 @@ def until(what, holds, seconds=PATIENCE):
 
 
 def run_main(name, main):
-    """Calls a test's main function with the words of the command line. A difference ends it, by the test's name."""
+    """Calls a test's main function with the command line's arguments. Prints a difference with the test's name."""
     try:
         main(*sys.argv[1:])
     except Difference as difference:
@@ -53,7 +53,8 @@ def run_main(name, main):
 
 
 def built(name, folder):
-    """Builds a shim of the C library's calls from its source beside this file, once in a folder: its library."""
+    """Builds a shim for calls of the C library, once in a folder, from its source beside this file. Returns its path.
+    """
     library = pathlib.Path(folder) / f"{name}.so"
     if not library.exists():
         subprocess.run(["cc", "-shared", "-fPIC", "-O1", "-o", library, HERE / f"{name}.c"], check=True)
@@ -61,13 +62,13 @@ def built(name, folder):
 
 
 def preload(relay, folder, name, **environment):
-    """Runs a relay's programs with a shim before the C library from now on, which is built in this folder."""
+    """Runs a relay's programs with a shim, built in this folder, from now on."""
     relay.environment.update(LD_PRELOAD=str(built(name, folder)), **environment)
 
 
 def free_port():
-    """A port of 127.0.0.1 that nobody listened on a moment ago, of those that the system doesn't choose by itself: so
-    neither a connection nor a listener of another test has it a moment later."""
+    """Returns a port of 127.0.0.1 that nobody listens on, of those that the system doesn't assign by itself, so that
+    neither a connection nor a listener of another test takes it soon after."""
     while True:
         port = random.randrange(10_000, 32_768)
         with socket.socket() as probe, contextlib.suppress(OSError):
@@ -76,14 +77,14 @@ def free_port():
 
 
 def is_listening(port):
-    """Whether somebody listens there. No connection is made: a round of `serve` would be used up by it."""
+    """Returns whether somebody listens there. Makes no connection, which would use up a round of `serve`."""
     wanted = f"0100007F:{port:04X}"
     lines = pathlib.Path("/proc/net/tcp").read_text().splitlines()[1:]
     return any(line.split()[1] == wanted and line.split()[3] == "0A" for line in lines)
 
 
 class Play:
-    """A `relayd play` that goes on: each line is answered before the next is written."""
+    """A running `relayd play`: each line is answered before the next is written."""
 
     def __init__(self, program):
         self.process = subprocess.Popen(
@@ -102,19 +103,19 @@ class Play:
         self.process.stdin.write(line + "\n")
 
     def answer(self):
-        """The next line that it prints, with its end; nothing if it has ended."""
+        """Returns the next line of output, with its end; empty if the play has ended."""
         self.process.stdin.flush()
         return self.process.stdout.readline()
 
     def say(self, line):
-        """Writes a line that is answered by one: the answer."""
+        """Writes a line and returns the one line of its answer."""
         self.tell(line)
         return self.answer().rstrip("\n")
 
 
 class Relay:
-    """A relay whose spool stands in a folder. Its routes go from a domain to a next hop's name and port, and to its
-    address where that isn't 127.0.0.1."""
+    """A relay with its spool in a folder. Its routes lead from a domain to a next hop's name and port, and to its
+    address if that isn't 127.0.0.1."""
 
     def __init__(self, program, folder, routes, host="relay.example", **limits):
         self.program, self.folder = str(pathlib.Path(program).resolve()), pathlib.Path(folder)
@@ -136,7 +137,7 @@ class Relay:
         self.file.write_text("\n".join(lines) + "\n")
 
     def forget(self):
-        """Takes the spool's files away."""
+        """Removes the spool's files."""
         self.spool.unlink(missing_ok=True)
         self.second.unlink(missing_ok=True)
 
@@ -147,32 +148,32 @@ class Relay:
         return subprocess.run(self.words(*words), capture_output=True, timeout=seconds, env=self.environment)
 
     def run(self, *words):
-        """The lines that a subcommand prints. It has to end well, and say nothing else."""
+        """Returns the lines that a subcommand prints. It must succeed, and print nothing else."""
         ended = self.ended(120, *words)
         same(f"relayd {' '.join(words)}", (ended.returncode, ended.stderr), (0, b""))
         return ended.stdout.decode().splitlines()
 
     def logged(self, *words):
-        """The lines that a subcommand prints, and those of its log. It has to end well."""
+        """Returns the lines that a subcommand prints, and those of its log. It must succeed."""
         ended = self.ended(120, *words, "--log")
         same(f"relayd {' '.join(words)} --log", ended.returncode, 0)
         return ended.stdout.decode().splitlines(), ended.stderr.decode().splitlines()
 
     def refused(self, *words):
-        """The status and the fault line of a subcommand, which prints nothing but findings in its configuration
-        else."""
+        """Returns the status and the fault line of a subcommand, which prints nothing else but findings in its
+        configuration."""
         ended = self.ended(PATIENCE, *words)
         same(f"relayd {' '.join(words)} prints", ended.stdout, b"")
         lines = [line for line in ended.stderr.decode().splitlines() if not line.startswith(f"{self.file}:")]
         return ended.returncode, "\n".join(lines)
 
     def held(self):
-        """What `list` prints, as tuples of number, place, path and due moment."""
+        """Returns the output of `list`, as tuples of number, place, path and due time."""
         rows = [line.split(" ") for line in self.run("list")]
         return [(int(row[0]), int(row[1]), " ".join(row[2:-1]), int(row[-1])) for row in rows]
 
     def start(self, *words):
-        """A process of `serve` that listens."""
+        """Starts `serve`, and waits until it listens."""
         command, pipe = self.words("serve", *words), subprocess.PIPE
         process = subprocess.Popen(command, stdout=pipe, stderr=pipe, env=self.environment)
         ends = time.monotonic() + PATIENCE
@@ -185,8 +186,8 @@ class Relay:
 
     @contextlib.contextmanager
     def serving(self, *words, log=None):
-        """`serve` beside what is done within, which has to use up its rounds. The list has its lines then, and
-        `log`, where that is given, those of its log."""
+        """Runs `serve` in the background; its rounds must be used up within the block. The list has its lines then, and
+        `log`, if it is given, those of its log."""
         process, lines = self.start(*words, *[] if log is None else ["--log"]), []
         try:
             yield lines
@@ -203,7 +204,7 @@ class Relay:
             process.stderr.close()
 
     def begin(self, *words, **options):
-        """A process of `run` that is ready; its log goes to a file, or where the options say."""
+        """Starts `run`, and waits until it is ready; its log goes to a file, or where the options say."""
         with self.log.open("ab") as log:
             options = {"stdout": subprocess.PIPE, "stderr": log, "env": self.environment, **options}
             process = subprocess.Popen(self.words("run", *words), **options)
@@ -216,7 +217,7 @@ class Relay:
 
     @contextlib.contextmanager
     def running(self, *words, **options):
-        """`run` beside what is done within. It has to run on up to the end, where a signal ends it at once."""
+        """Runs `run` in the background. It must run to the end of the block, where a signal ends it at once."""
         process = self.begin(*words, **options)
         try:
             yield process

@@ -1,7 +1,7 @@
 #!/usr/bin/env python3
 """Reads each report that the program writes, plain or rich, with Python's email package: a multipart/report of three
-parts without defects, with the fields that the records of its row fill in, and the parts that the program itself takes
-it apart to.
+parts without defects, with the fields that its row's records give, and the same parts into which the program itself
+splits it.
 
     tests/reports_read_by_python.py crates/relay_rows_tests/out/relay_rows_tests
 """
@@ -24,7 +24,7 @@ ESCAPE = re.compile(rb"\\(r|n|x[0-9A-F]{2})")
 
 
 def octets_of(line):
-    """The octets that a printed line stands for."""
+    """Returns the octets that a printed line stands for."""
     named = {b"r": b"\r", b"n": b"\n"}
     return ESCAPE.sub(lambda found: named.get(found[1]) or bytes([int(found[1][1:], 16)]), line.encode())
 
@@ -70,9 +70,9 @@ def plain(text):
 
 
 def action_of(kind, notify, waited):
-    """What is reported of a place that has waited so long: a failure, also of what the postmaster returned, unless
-    NOTIFY leaves it out, what was taken without DSN where NOTIFY has SUCCESS, and what is late and stays where it has
-    DELAY."""
+    """Returns what is reported of a place that has waited so long: a failure, also of what the postmaster returned,
+    unless NOTIFY excludes it; relayed mail without DSN if NOTIFY has SUCCESS; and a late place that stays queued if
+    NOTIFY has DELAY."""
     if kind == 2:
         return "relayed" if notify & 2 else None
     if kind == 4 and waited < PATIENCE:
@@ -86,7 +86,7 @@ def date_of(moment):
 
 
 def status_of(refusal, rich):
-    """The code that a reply begins with, if it is one of a permanent failure, as the reply is."""
+    """Returns the status code with which a reply begins, if it is that of a permanent failure, as the reply is."""
     found = STATUS_CODE.match(refusal[1]) if rich and refusal[0] >= 500 else None
     return found[0] if found else "5.0.0"
 
@@ -112,7 +112,7 @@ def fields_of(hop, place, kind, refusal, action, until, rich):
 
 
 def check_people(lines, told, rich):
-    """The part for people: a line for each place, or sentences with the hop's own words."""
+    """Checks the part for people: a line for each place, or sentences with the hop's own words."""
     if not rich:
         assert lines[0] == f"Delivery report of {HOST} for message 1." and len(lines) == 1 + len(told)
         assert lines[1:] == [f"{fields['Action']} <{fields['Final-Recipient'][8:]}>" for fields in told]
@@ -131,7 +131,7 @@ def check_people(lines, told, rich):
 
 
 def check_header(message, moment, told, eight_bit, rich):
-    """What a rich report's header section has, and a plain one's hasn't."""
+    """Checks what the header section of a rich report has, and that of a plain one hasn't."""
     assert message["Message-ID"] == (f"<{moment}.2@{HOST}>" if rich else f"<2@{HOST}>")
     assert message["Auto-Submitted"] == ("auto-replied" if rich else None)
     assert message["Content-Transfer-Encoding"] == ("8bit" if rich and eight_bit else None)
@@ -142,7 +142,7 @@ def check_header(message, moment, told, eight_bit, rich):
 
 
 def check_defects(text):
-    """A report and its parts have no defects; what is returned is what the sender wrote, and may have some."""
+    """A report and its parts have no defects; what is returned is the sender's, and may have some."""
     for policy in (email.policy.compat32, email.policy.default):
         report = email.message_from_bytes(text, policy=policy)
         for part in (report, *report.get_payload()):

@@ -1,11 +1,11 @@
 #!/usr/bin/env python3
-"""Runs `relayd run` over 127.0.0.1: many clients at once, some of which are slow, silent or flood, kills, and few
-descriptors. It ends at the first difference.
+"""Runs `relayd run` over 127.0.0.1 with many clients at once, some of which are slow, silent or flood it, with kills,
+and with few file descriptors. Ends at the first difference.
 
     tests/run.py build/relayd [ROW..]
 
-With the names of rows it runs these alone. What has to be prompt may take as many times as long as TIMES says in the
-environment (2 where it says nothing); KILLS and SESSIONS (8) say how often it is killed, and under how many sessions.
+Runs the named rows, or all. Time limits are multiplied by the environment variable TIMES (2); KILLS and SESSIONS (8)
+say how often it is killed, and with how many sessions.
 """
 import contextlib
 import os
@@ -70,7 +70,7 @@ def its_log_says_when_and_quiet_says_nothing(field):
             if not words:
                 until("three lines of its log", lambda: relay.log.read_bytes().count(b"\n") == 3)
         lines = relay.log.read_bytes().splitlines()
-        same("lines without a moment", [line for line in lines if not MOMENT.fullmatch(line)], [])
+        same("lines without a time", [line for line in lines if not MOMENT.fullmatch(line)], [])
         same(f"run {words} has a log", len(lines), 0 if words else 3)
         if lines:
             said = sorted(line.split(b" ", 1)[1].decode() for line in lines)
@@ -80,7 +80,7 @@ def its_log_says_when_and_quiet_says_nothing(field):
 
 
 def what_a_client_says_is_no_line_of_the_log(field):
-    """A value with a space or a quote in it stands in quotes."""
+    """A value with a space or a quote in it is quoted."""
     relay = field.relay()
     path = '"x relayd: accepted message=9"@example.org'
     with relay.running(), Client(relay) as client:
@@ -118,7 +118,7 @@ def sixty_four_sessions_stand_side_by_side(field):
 
 
 def the_next_of_one_address_is_sent_away(field):
-    """Of one address 32 are taken where the configuration says nothing; others are taken even so."""
+    """By default 32 connections of one address are accepted; other addresses are served all the same."""
     relay = field.relay()
     with relay.running(), clients_of(relay, 32) as clients:
         with Client(relay) as client:
@@ -204,7 +204,7 @@ def commands_and_chunks_come_in_one_piece(field):
 
 
 def a_bare_line_end_is_refused_where_that_is_asked(field):
-    """As a text and as a last chunk; the session goes on."""
+    """In mail data by DATA and in a last chunk; the session goes on."""
     relay, bare = field.relay(bare_newlines='"refuse"'), b"Subject: bare\r\n\r\nx\n.\r\n"
     with relay.running(), Client(relay) as client:
         client.begin()
@@ -219,7 +219,7 @@ def a_bare_line_end_is_refused_where_that_is_asked(field):
 
 
 def a_routed_address_is_refused_where_that_is_asked(field):
-    """But not of a client in a network that is named."""
+    """But not from a client in a network that is named."""
     refusal = "553 routed address refused"
     for name, trusted, answer in (("bound", {}, refusal), ("other", {"trusted_clients": '["192.0.2.0/24"]'}, refusal),
                                   ("exempt", {"trusted_clients": '["127.0.0.0/8"]'}, "250 recipient OK")):
@@ -262,7 +262,7 @@ def a_silent_client_is_told_and_left(field):
         clients[2].ask_for_text()
         clients[2].link.sendall(TEXT[:-3])
         begun = time.monotonic()
-        same("what they are told", [client.rest() for client in clients], [TIMEOUT] * 3)
+        same("what they got", [client.rest() for client in clients], [TIMEOUT] * 3)
         waited = time.monotonic() - begun
         if not 0.5 < waited < 2 + TIMES:
             raise Difference(f"they are waited for {waited:.1f} s")
@@ -272,7 +272,8 @@ def a_silent_client_is_told_and_left(field):
 
 
 def a_client_that_drips_is_told_and_left(field):
-    """A command line stands whole within that time, and so do 64 KiB of a text: an octet now and then is no help."""
+    """A command line must be complete within that time, and so must 64 KiB of mail data: an octet now and then doesn't
+    help."""
     relay = field.relay(client_timeout=1)
     with relay.running(), clients_of(relay, 2) as clients:
         clients[1].ask_for_text()
@@ -283,12 +284,12 @@ def a_client_that_drips_is_told_and_left(field):
             told = select.select(waiting, [], [], 0.2)[0]
             waiting = [link for link in waiting if link not in told]
             if time.monotonic() > begun + 1 + 2 * TIMES:
-                raise Difference(f"{len(waiting)} are waited for still")
-        same("what they are told", [client.rest() for client in clients], [TIMEOUT] * 2)
+                raise Difference(f"{len(waiting)} are still waited for")
+        same("what they got", [client.rest() for client in clients], [TIMEOUT] * 2)
 
 
 def a_line_without_an_end_is_cut_off(field):
-    """However fast its octets come; a text that comes as fast is taken, though it takes longer than that time."""
+    """However fast its octets come; mail data that comes as fast is accepted, though it takes longer than that time."""
     relay = field.relay(client_timeout=1)
     with relay.running(), clients_of(relay, 2) as [line, text]:
         text.ask_for_text()
@@ -301,7 +302,7 @@ def a_line_without_an_end_is_cut_off(field):
             time.sleep(0.3)
         if rounds == 10:
             raise Difference("it isn't cut off")
-        same("what it is told", line.rest(), TIMEOUT)
+        same("what it got", line.rest(), TIMEOUT)
         number_of(text.say(b".\r\n"))
         field.arrived(1)
 
@@ -328,8 +329,8 @@ def a_client_that_reads_nothing_is_cut_off(field):
 
 
 def replies_that_wait_stay_whole_and_in_order(field):
-    """A client that reads late, once the relay reads no more of it, gets each reply: those to messages too, which are
-    held back for what stands behind them in a block."""
+    """A client that reads late, after the relay has stopped reading from it, gets each reply; also those to messages,
+    which are held back for what follows them in a block."""
     relay, units = field.relay(), 100
     group, taken = b"MAIL FROM:<a@example.org>\r\nRCPT TO:<b@example.org>\r\n", b"250 sender OK\r\n250 recipient OK\r\n"
     offers = b"250-relay.example\r\n250-PIPELINING\r\n250-CHUNKING\r\n250 DSN\r\n"
@@ -355,7 +356,7 @@ def replies_that_wait_stay_whole_and_in_order(field):
 
 
 def a_flood_that_nobody_reads_costs_nothing(field):
-    """The flood's client reads none of its replies, so the relay reads none of its octets in the end."""
+    """The client of the flood reads none of its replies, so the relay stops reading its octets."""
     relay = field.relay()
 
     def flood(done):
@@ -381,7 +382,7 @@ def a_flood_that_nobody_reads_costs_nothing(field):
 
 
 def the_reply_to_quit_arrives_whole(field):
-    """What stands behind QUIT is never looked at, and yet no reset eats the reply."""
+    """What follows QUIT is never looked at, and yet no reset destroys the reply."""
     relay = field.relay()
     with relay.running():
         for size in [0, 6, 60000] * 10:
@@ -413,7 +414,7 @@ def two_runs_send_to_each_other(field):
 
 
 def room_is_made_without_a_restart(field):
-    """Four times as much as the spool may have, whose mail goes on at once."""
+    """Four times as much as the spool may hold, as mail is relayed at once."""
     relay = field.relay(spool_limit=100000)
 
     def is_taken():
@@ -431,8 +432,8 @@ def room_is_made_without_a_restart(field):
 
 
 def a_kill_loses_nothing(field):
-    """Under SESSIONS sessions, with passing on and, by the spool's limit and a clock that goes twenty times as fast,
-    with compaction up to twenty times a second. No message is handed on again whose reply was heard."""
+    """With SESSIONS sessions, with relaying and, because of the spool's limit and a clock twenty times as fast, with up
+    to twenty compactions per second. No message is relayed again whose reply was read."""
     relay = field.relay(spool_limit=200000, sessions_per_client=64, client_timeout=3600)
     shim(field, "run_clocks", relay, FASTER="20")
     chance, answered = random.Random(43), {}
@@ -465,7 +466,7 @@ def a_kill_loses_nothing(field):
 
 
 def few_descriptors_keep_clients_waiting_alone(field):
-    """200 connections, 40 at a time, where there are 32 descriptors for all."""
+    """200 connections, 40 at a time, with 32 file descriptors in all."""
     relay, firsts = field.relay(sessions_per_client=64), []
 
     def visit():
@@ -525,7 +526,7 @@ def its_faults_end_it_before_it_is_ready(field):
 
 
 def what_is_risky_is_told_before_it_is_ready(field):
-    """As `check` tells it, and what `run` ignores as a warning. What is wrong is told after the fault's line."""
+    """With the lines of `check`, where parts that `run` ignores are warnings. Errors follow the fault's line."""
     relay = field.relay(tls="true")
     findings = ["4:1: warning: unknown key tls: it has no effect; remove it",
                 "5:1: warning: no route for the relay's own name: mail to its postmaster is refused "

@@ -1,13 +1,13 @@
 #!/usr/bin/env python3
-"""Runs the test scripts, all or those named, side by side, and prints a line for each with its seconds. The output of
-each stands in build/tests/; that of one that fails is printed too.
+"""Runs the test scripts, all or those named, in parallel, and prints a line for each with its seconds. The output of
+each is in build/tests/; that of a script that fails is printed too.
 
     tests/run_all.py [--lanes N] [--junit FILE] [--list] [NAME ..]
 
-A NAME is that of a script without its ending, with or without its words, as --list prints them. Each script listens
-where it finds a free port, and works in a folder of its own. Those that compare how long clients wait run one at a
-time, and the rest beside them at a lower priority: in N lanes, by default one for every two processors. TIMES (10) is
-how much longer such a wait may take. Ends with 1 if a script fails.
+A NAME is a script's name without its suffix, with or without its arguments, as --list prints them. Each script listens
+at a free port, and works in a folder of its own. Scripts that compare how long clients wait run one at a time, and the
+others beside them at a lower priority, in N lanes, by default one for every two processors. TIMES (10) is how much
+longer such a wait may take. Exits with 1 if a script fails.
 """
 import argparse
 import collections
@@ -83,7 +83,7 @@ def stem_of(script):
 
 
 def name_of(script):
-    """A script's name and the words that it is given, without those that name a program."""
+    """Returns a script's name and its arguments, without those that name a program."""
     return " ".join([stem_of(script), *(word for word in script.words[1:] if "/" not in word)])
 
 
@@ -92,7 +92,7 @@ def is_named(script, names):
 
 
 class Running:
-    """The scripts that are left, and those that run, which end with this program."""
+    """The scripts that are left, and those that are running, which end with this program."""
 
     def __init__(self, scripts):
         self.left, self.processes, self.results = list(scripts), set(), []
@@ -100,7 +100,7 @@ class Running:
         self.changed = threading.Condition()
 
     def next(self):
-        """Takes the next script that may run now, waiting for one if there is none; nothing if none is left."""
+        """Takes the next script that may run now, waiting for one if there is none; returns None if none is left."""
         with self.changed:
             while self.left and not self.has_stopped:
                 for script in self.left:
@@ -122,7 +122,7 @@ class Running:
             self.changed.notify_all()
 
     def run(self, script):
-        """Runs a script to its end: its result."""
+        """Runs a script to its end. Returns its result."""
         begun, fault = time.monotonic(), ""
         log = LOGS / f"{name_of(script).replace(' ', '_')}.log"
         with log.open("wb") as out:
@@ -160,7 +160,7 @@ def words_of(script):
 
 
 def kill(process):
-    """Ends a script and what it has started, if that is still there."""
+    """Kills a script and the processes that it has started."""
     try:
         os.killpg(process.pid, signal.SIGKILL)
     except ProcessLookupError:
@@ -169,7 +169,7 @@ def kill(process):
 
 
 def run_scripts(scripts, lanes):
-    """Runs scripts in so many lanes: their results, in the order in which they ended."""
+    """Runs scripts in so many lanes. Returns their results, in the order in which they ended."""
     LOGS.mkdir(parents=True, exist_ok=True)
     running = Running(scripts)
     threads = [threading.Thread(target=running.work) for _ in range(lanes)]
@@ -185,7 +185,7 @@ def run_scripts(scripts, lanes):
 
 
 def printable(text):
-    """A text without what may not stand in XML."""
+    """Returns a text without characters that XML doesn't allow."""
     return "".join(it if it in "\t\n\r" or it >= " " and it not in "\ufffe\uffff" else "\ufffd" for it in text)
 
 

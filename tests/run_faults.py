@@ -1,11 +1,10 @@
 #!/usr/bin/env python3
-"""Runs `relayd run` over 127.0.0.1 where a device fails, a clock is set, or descriptors are few: what it drops, when it
-goes on, and what it says. It ends at the first difference.
+"""Runs `relayd run` over 127.0.0.1 with failing devices, clocks that are set, or few file descriptors, and checks what
+it drops, when it goes on, and what it logs. Ends at the first difference.
 
     tests/run_faults.py build/relayd [ROW..]
 
-With the names of rows it runs these alone. What has to be prompt may take as many times as long as TIMES says in the
-environment (2 where it says nothing).
+Runs the named rows, or all. Time limits are multiplied by the environment variable TIMES (2).
 """
 import contextlib
 import errno
@@ -32,7 +31,7 @@ LONG = b"Subject: long\r\n\r\n" + b"x" * 70 * 300 + b"\r\n.\r\n"
 
 
 def refused_or_lost(client):
-    """Hands a message in; whether it wasn't answered 250."""
+    """Submits a message. Returns whether it didn't get a 250."""
     try:
         client.ask_for_text()
         return not client.say(TEXT).startswith("250 ")
@@ -83,7 +82,7 @@ def a_full_device_closes_all_and_goes_on_with_room(field):
 
 
 def the_spool_stays_closed_while_there_is_no_room(field):
-    """Its room is tested after 1, 2 and 4 seconds, and nothing is begun until there is some."""
+    """The room is tested after 1, 2 and 4 seconds, and nothing begins until there is some."""
     relay = field.relay()
     with relay.running(preexec_fn=without_signals) as process:
         hand_in(relay, LONG)
@@ -109,8 +108,8 @@ def the_spool_stays_closed_while_there_is_no_room(field):
 
 @contextlib.contextmanager
 def small_disk(field, kilobytes, name="small"):
-    """A relay whose spool is on a disk of its own, of this size, and the file that takes its room; none where nobody
-    may mount one."""
+    """Makes a relay with its spool on a disk of its own, of this size, and the file that uses up its room; None if this
+    user may not mount one."""
     folder = field.folder / name
     folder.mkdir()
     mounted = subprocess.run(["mount", "-t", "tmpfs", "-o", f"size={kilobytes}k", "none", folder], capture_output=True)
@@ -127,7 +126,7 @@ def small_disk(field, kilobytes, name="small"):
 
 
 def take_room(others, left):
-    """Lets a file of others take all room of a disk but so many octets."""
+    """Fills a disk with a foreign file, except for so many octets."""
     with others.open("ab", buffering=0) as file, contextlib.suppress(OSError):
         while True:
             file.write(bytes(4096))
@@ -135,7 +134,7 @@ def take_room(others, left):
 
 
 def copies_at(sink):
-    """How often each number was taken by the sink."""
+    """Returns how often the sink has got each number."""
     numbers = [int(re.search(rb" id (\d+);", message.content)[1]) for message in list(sink.messages)]
     return {number: numbers.count(number) for number in numbers}
 
@@ -145,8 +144,8 @@ def came_thrice(field):
 
 
 def feed_beside(relay, seconds, big):
-    """Hands in small messages, one behind another on a connection, for so long, beside a client that offers what
-    doesn't fit, where that is asked for: the numbers of those that were answered 250."""
+    """Submits small messages for so long, one after another on a connection, and on request beside a client that offers
+    what doesn't fit. Returns the numbers of those that got a 250."""
     numbers = []
 
     def offer(done):
@@ -173,8 +172,8 @@ def feed_beside(relay, seconds, big):
 
 
 def what_doesnt_fit_costs_others_nothing(field):
-    """On a disk of 300 KB with 190 KB free, of which a client offers more than there are: no message is copied without
-    end, and the others go on."""
+    """On a disk of 300 KB with 190 KB free, of which a client offers more: no message is copied again and again, and
+    the others go on."""
     with small_disk(field, 300) as (relay, others):
         if relay is None:
             return
@@ -197,7 +196,7 @@ def what_doesnt_fit_costs_others_nothing(field):
 
 
 def takes(relay, kilobytes):
-    """Whether a message of this size is accepted."""
+    """Returns whether a message of this size is accepted."""
     with contextlib.suppress(Difference, OSError), Client(relay) as client:
         client.begin()
         client.ask_for_text()
@@ -207,8 +206,8 @@ def takes(relay, kilobytes):
 
 
 def a_disk_that_stays_full_for_ten_minutes_copies_nothing_twice_over(field):
-    """By a clock that goes sixty times as fast: with the room that was kept queued mail leaves, and when others have
-    taken that too nothing begins; everything flows again with room."""
+    """With a clock sixty times as fast: the reserved room lets queued mail leave; when that is used up by others,
+    nothing begins; mail flows again when there is room."""
     with small_disk(field, 16 * 1024) as (relay, others):
         if relay is None:
             return
@@ -242,8 +241,8 @@ def a_disk_that_stays_full_for_ten_minutes_copies_nothing_twice_over(field):
 
 
 def while_no_attempt_may_begin_it_sleeps(field):
-    """By a clock that goes twenty times as fast: queued mail wakes nobody while attempts are held off for want of room,
-    but the test of the room every 5 seconds does."""
+    """With a clock twenty times as fast: queued mail wakes nobody while attempts wait for room, but the test of the
+    room every 5 seconds does."""
     with small_disk(field, 16 * 1024) as (relay, others):
         if relay is None:
             return
@@ -270,7 +269,7 @@ def while_no_attempt_may_begin_it_sleeps(field):
 
 
 def what_was_answered_stays_behind_a_full_device(field):
-    """Four clients hand in messages while the device fills up and has room again, many times."""
+    """Four clients submit messages while the device fills up and has room again, many times."""
     relay, answered, done = field.relay(), [], threading.Event()
 
     def feed():
@@ -305,12 +304,12 @@ def what_was_answered_stays_behind_a_full_device(field):
 
 
 def told(relay, text):
-    """What the lines of the log say in which a text stands, behind their moments."""
+    """Returns the lines of the log that contain a text, without their times."""
     return [line.split(" relayd: ", 1)[1] for line in lines_of(relay, text)]
 
 
 def a_failure_has_one_line_with_its_reason_and_file(field):
-    """The reason is the system's, as a test write beside the spool has met it; one line tells when there is room."""
+    """The reason is the system's error of a test write beside the spool; one line says when there is room."""
     with small_disk(field, 16 * 1024) as (relay, others):
         if relay is None:
             return
@@ -371,7 +370,7 @@ def a_file_that_keeps_room_and_fails_ends_nothing(field):
 
 
 def a_compaction_whose_last_write_is_said_to_have_failed_ends_nothing(field):
-    """It was done, or it wasn't: either way the spool opens again and holds what it did."""
+    """The write was done or it wasn't; either way the spool opens again and holds what it did."""
     for write in ("done", "lost"):
         relay = field.relay(write, spool_limit=10000, more={"example.net": ("away.example", free_port())})
         shim(field, "device_calls", relay, CALLS=str(field.folder / f"{write}-calls"), HEAD_WRITE=write)
@@ -413,8 +412,7 @@ def a_sync_that_fails_ends_it(field):
 
 
 def a_clock_that_is_set_holds_up_nothing_else(field):
-    """What was put off is tried when the clock is past its moment, however it came there, and what comes meanwhile at
-    once."""
+    """Deferred mail is tried when the clock has passed its time, in whatever way, and new mail at once."""
     relay, shift = field.relay(), field.folder / "shift"
     shim(field, "run_clocks", relay, SHIFT=str(shift), FASTER="60")
     busy = {"<b@example.org>": "450 mailbox busy"}
@@ -439,7 +437,7 @@ def a_clock_that_is_set_holds_up_nothing_else(field):
 
 
 def what_was_put_off_is_tried_at_its_moment(field):
-    """And not up to a minute late: the clocks go on, and the node tells the moment."""
+    """And not up to a minute late: the clocks go on, and the node says when."""
     relay, shift = field.relay(), field.folder / "shift"
     shim(field, "run_clocks", relay, SHIFT=str(shift))
     shift.write_text("0")
@@ -460,8 +458,8 @@ def what_was_put_off_is_tried_at_its_moment(field):
 
 
 def a_next_hop_is_waited_for_by_what_it_was_told(field):
-    """Five minutes for its greeting and its reply to MAIL, two for the one to DATA, three where it takes nothing of a
-    text, and ten for the reply to that (RFC 5321, section 4.5.3.2), by clocks that go a hundred times as fast."""
+    """Five minutes for the greeting and the reply to MAIL, two for the reply to DATA, three if it takes no mail data,
+    and ten for the reply to that (RFC 5321, section 4.5.3.2), with clocks a hundred times as fast."""
     greeted, agreed = [b"220 hop.example", b"250 hop.example"], [b"250 ok"] * 2
     asked = greeted + agreed + [b"354 go on"]
     # The long one first, so that the others don't wait for it.
@@ -496,7 +494,7 @@ def a_next_hop_is_waited_for_by_what_it_was_told(field):
 
 
 def a_thousand_connections_find_few_descriptors(field):
-    """In ten seconds, with 32 descriptors for all: each is greeted or sent away, and mail goes on meanwhile."""
+    """In ten seconds, with 32 file descriptors in all: each is greeted or refused, and mail goes on meanwhile."""
     relay, firsts = field.relay(sessions_per_client=64), []
 
     def visit():
@@ -542,8 +540,8 @@ def clients_leave_four_descriptors_for_attempts(field):
 
 
 def idle_clients_leave_places_to_others(field):
-    """By a clock that goes twenty times as fast: 48 that are idle for 20 seconds stay; beside one more they go, but for
-    the one whose mail was accepted."""
+    """With a clock twenty times as fast: 48 clients that are idle for 20 seconds stay; with one more they are cut off,
+    except the one whose mail was accepted."""
     relay = field.relay(sessions_per_client=64)
     shim(field, "run_clocks", relay, FASTER="20")
     with relay.running(), clients_of(relay, 48) as clients:

@@ -1,11 +1,10 @@
 #!/usr/bin/env python3
-"""Runs `relayd run` over 127.0.0.1 beside next hops that are away, hang, are slow, flood or cut connections, and
-clients that are reset: how long others wait meanwhile. It ends at the first difference.
+"""Runs `relayd run` over 127.0.0.1 with next hops that are down, hang, are slow, flood or cut connections, and with
+clients that are reset, and measures how long others wait. Ends at the first difference.
 
     tests/run_hops.py build/relayd [ROW..]
 
-With the names of rows it runs these alone. What has to be prompt may take as many times as long as TIMES says in the
-environment (2 where it says nothing).
+Runs the named rows, or all. Time limits are multiplied by the environment variable TIMES (2).
 """
 import contextlib
 import re
@@ -26,7 +25,7 @@ MOST_SILENT = 48
 
 
 def drips(link):
-    """Takes mail, and says each reply octet by octet."""
+    """Accepts mail, and writes each reply octet by octet."""
     link.setsockopt(socket.IPPROTO_TCP, socket.TCP_NODELAY, 1)
 
     def say(reply):
@@ -45,27 +44,27 @@ def drips(link):
 
 
 def cuts(link):
-    """Is gone in the middle of its reply to EHLO."""
+    """Closes the connection in the middle of its reply to EHLO."""
     link.sendall(b"220 hop.example\r\n")
     link.recv(1 << 10)
     link.sendall(b"250-hop.exam")
 
 
 def floods(link):
-    """Says one reply after the other, unasked."""
+    """Writes one reply after another, unasked."""
     link.sendall(b"220 hop.example\r\n")
     while True:
         link.sendall(b"250 ok\r\n" * 10000)
 
 
 def never_ends(link):
-    """Says a reply whose lines have no end."""
+    """Writes a reply with endless lines."""
     while True:
         link.sendall(b"220-hop.example\r\n" * 10000)
 
 
 def says_one_line(link):
-    """Says ten million octets without a line end, and waits."""
+    """Writes ten million octets without a line end, and waits."""
     link.sendall(b"2" * 10_000_000)
     link.recv(1 << 10)
 
@@ -81,8 +80,8 @@ BAD = {
 
 
 class Narrow:
-    """A next hop that serves a number of connections at a time. Each further one it greets by 421, or closes without a
-    word."""
+    """A next hop that serves a number of connections at a time. It greets each further one with 421, or closes it
+    silently."""
 
     def __init__(self, most, has_words):
         self.most, self.has_words, self.lock = most, has_words, threading.Lock()
@@ -120,7 +119,7 @@ class Narrow:
 
 @contextlib.contextmanager
 def hop_that_takes_no_connection():
-    """A listener with a full queue: the system neither takes a connection to it nor refuses one. Its port."""
+    """A listener with a full queue: the system neither accepts nor refuses a connection to it. Returns its port."""
     with contextlib.ExitStack() as stack:
         listener = stack.enter_context(socket.socket())
         listener.bind(("127.0.0.1", 0))
@@ -146,7 +145,7 @@ def a_hop_that_is_away_holds_up_no_other(field):
 
 
 def a_hop_that_hangs_holds_up_no_other(field):
-    """It has one connection up to its greeting, and after that as many as the configuration says."""
+    """It has one connection until its greeting, and then as many as the configuration says."""
     for greeting, count in ((b"", 1), (b"220 hop.example\r\n", 3)):
         with hop_that_hangs(greeting) as (port, taken):
             relay = field.relay(f"relay-{count}", more={"example.net": ("hangs.example", port)}, attempts_per_hop=3)
@@ -161,8 +160,8 @@ def a_hop_that_hangs_holds_up_no_other(field):
 
 
 def silent_hops_leave_room_for_others(field):
-    """Each of them has one connection, whatever is queued for it, and of the 64 that there may be all of them have 48:
-    the others are for next hops that have answered."""
+    """Each of them has one connection, whatever is queued for it, and together they have 48 of the 64: the others are
+    for next hops that have answered."""
     with contextlib.ExitStack() as stack:
         hops = [stack.enter_context(hop_that_hangs()) for _ in range(SILENT)]
         more = {f"silent-{at}.example": (f"hop-{at}.example", port) for at, (port, _) in enumerate(hops)}
@@ -187,7 +186,7 @@ def silent_hops_leave_room_for_others(field):
 
 
 def a_hop_of_few_connections_puts_nothing_off(field):
-    """Whether it says so by 421 or closes the connection: what it turns away is tried as soon as another has ended."""
+    """Whether it says so by 421 or closes the connection: what it refuses is tried as soon as another has ended."""
     for has_words in (True, False):
         hop = Narrow(2, has_words)
         with hop_that(hop) as port:
@@ -203,7 +202,7 @@ def a_hop_of_few_connections_puts_nothing_off(field):
 
 
 def a_hop_that_takes_no_connection_is_lost_after_half_a_minute(field):
-    """Of a clock that goes twenty times as fast; then it is left alone."""
+    """With a clock twenty times as fast; then it is on hold."""
     with hop_that_takes_no_connection() as port:
         relay = field.relay(more={"example.net": ("hop.example", port)}, client_timeout=3600)
         shim(field, "run_clocks", relay, FASTER="20")
@@ -224,7 +223,7 @@ def a_hop_that_takes_no_connection_is_lost_after_half_a_minute(field):
 
 
 def bad_next_hops_delay_no_reply(field):
-    """A client's 250 comes as soon as alone beside mail for each of them, and other mail goes on."""
+    """A client's 250 comes as fast as without mail for each of them, and other mail goes on."""
     with contextlib.ExitStack() as stack:
         more = {f"{bad.__name__.replace('_', '-')}.example": (f"{bad.__name__.replace('_', '-')}.hop",
                                                               stack.enter_context(hop_that(bad))) for bad in BAD}
@@ -251,7 +250,7 @@ def bad_next_hops_delay_no_reply(field):
 
 
 def clients_that_are_reset_delay_no_reply(field):
-    """In the middle of a command, a text and a chunk; none of that is held or handed on."""
+    """In the middle of a command, of mail data and of a chunk; none of that is held or relayed."""
     relay, times = field.relay(), []
     group = b"MAIL FROM:<a@example.org>\r\nRCPT TO:<c@example.org>\r\n"
 
@@ -274,7 +273,7 @@ def clients_that_are_reset_delay_no_reply(field):
             until("many that are reset", lambda: len(times) >= 30)
         comes_to_rest(process, "after clients that are reset")
         until("an empty list", lambda: relay.held() == [])
-        same("who was handed mail", {message.recipients[0].split(b" ")[0] for message in field.arrived(80)},
+        same("who got mail", {message.recipients[0].split(b" ")[0] for message in field.arrived(80)},
              {b"<b@example.org>"})
 
 

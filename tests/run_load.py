@@ -1,12 +1,12 @@
 #!/usr/bin/env python3
-"""Runs `relayd run` over 127.0.0.1 with much mail: for next hops that are away, through and through, and large. What it
-costs then stays, and where nothing is to be done it sleeps. It ends at the first difference.
+"""Runs `relayd run` over 127.0.0.1 with much mail: for next hops that are down, for one that is up, and large. Its
+costs must stay bounded, and it must sleep when nothing is to be done. Ends at the first difference.
 
     tests/run_load.py build/relayd [ROW..]
 
-With the names of rows it runs these alone. DUE (6300) says how many messages are due at next hops that are away,
-THROUGH (2000) how many go through a relay, and CONTENT (1048576) how many octets each of 64 messages at once has; what
-has to be prompt may take as many times as long as TIMES says in the environment (2 where it says nothing).
+Runs the named rows, or all. DUE (6300) is how many messages are due at next hops that are down, THROUGH (2000) how many
+pass through a relay, CONTENT (1048576) the size of each of 64 messages at once in octets; time limits are multiplied by
+TIMES (2).
 """
 import contextlib
 import os
@@ -39,13 +39,13 @@ MOST_GROWN = 4 << 20
 
 
 def batch(domain, count, octets=b"Subject: much mail\r\n\r\ntext\r\n"):
-    """So many messages for a domain, each in one chunk: no reply has to be waited for."""
+    """Returns so many messages for a domain, each in one chunk, so that no reply has to be waited for."""
     one = b"MAIL FROM:<a@example.org>\r\nRCPT TO:<b@%b>\r\nBDAT %d LAST\r\n%b"
     return one % (domain.encode(), len(octets), octets) * count
 
 
 def pour(relay, domains, count, address="127.0.0.1"):
-    """Hands in so many messages for these domains in turn, at one connection."""
+    """Submits so many messages for these domains in turn, on one connection."""
     with Client(relay, address) as client:
         client.begin()
         for number in range(count // AT_ONCE):
@@ -55,7 +55,7 @@ def pour(relay, domains, count, address="127.0.0.1"):
 
 
 def pour_through(field, relay, count):
-    """Hands in about so many messages at eight connections, and waits until all have come to the next hop."""
+    """Submits about so many messages on eight connections, and waits until all have reached the next hop."""
     each = count // 8 // AT_ONCE * AT_ONCE
     threads = [threading.Thread(target=pour, args=(relay, ["example.org"], each)) for _ in range(8)]
     for thread in threads:
@@ -75,7 +75,7 @@ def descriptors(process):
 
 
 def mail_for_63_hops_that_are_away_holds_up_no_other(field):
-    """A new message for a hop that is there leaves within a second, whatever is due elsewhere."""
+    """A new message for a hop that is up leaves within a second, whatever is due elsewhere."""
     # At an address where no relay of another test listens either.
     away = {f"away-{number}.example": (f"hop-{number}.example", free_port(), "127.0.0.9") for number in range(AWAY)}
     relay = field.relay(more=away, spool_limit=1 << 30)
@@ -97,7 +97,7 @@ def mail_for_63_hops_that_are_away_holds_up_no_other(field):
 
 
 def what_is_due_is_listed_beside_prompt_replies(field):
-    """Once in a minute of its clock, which is a second here, in parts: a 250 waits for none of it."""
+    """Once per minute of its clock, which is a second here, in parts: no 250 waits for it."""
     away = {f"away-{number}.example": (f"hop-{number}.example", free_port()) for number in range(4)}
     relay = field.relay(more=away, spool_limit=1 << 30, client_timeout=3600)
     shim(field, "run_clocks", relay, FASTER="60")
@@ -118,7 +118,8 @@ def what_is_due_is_listed_beside_prompt_replies(field):
 
 
 def what_is_listed_in_parts_is_tried_once(field):
-    """Four parts at least, again in each minute of its clock, which is four seconds here, as messages come and go."""
+    """In at least four parts, once per minute of its clock, which is four seconds here, while messages arrive and
+    leave."""
     relay = field.relay(spool_limit=1 << 30, client_timeout=3600)
     shim(field, "run_clocks", relay, FASTER="15")
     field.sink.manners.holds_greeting = True
@@ -143,7 +144,7 @@ def what_is_listed_in_parts_is_tried_once(field):
 
 
 def listing(relay):
-    """How long `list` takes, in seconds, and the numbers of the messages that it prints."""
+    """Returns how long `list` takes, in seconds, and the numbers of the messages that it prints."""
     begun = time.monotonic()
     numbers = [row[0] for row in relay.held()]
     return time.monotonic() - begun, numbers
@@ -175,7 +176,7 @@ def list_takes_no_longer_beside_a_flood(field):
 
 
 def list_ends_beside_compactions(field):
-    """One each second, as mail goes through a small spool, which is full at times."""
+    """One compaction per second, while mail passes through a small spool, which is full at times."""
     relay = field.relay(spool_limit=200_000, sessions_per_client=64)
 
     def feed(done):
@@ -193,7 +194,7 @@ def list_ends_beside_compactions(field):
 
 
 def pipeline(relay, count, octets, done):
-    """Sends these octets over and over at this many connections, and reads what comes; nothing waits for the other."""
+    """Sends these octets over and over on this many connections, and reads the replies; neither waits for the other."""
     with contextlib.ExitStack() as stack:
         selector = stack.enter_context(selectors.DefaultSelector())
         for _ in range(count):
@@ -247,7 +248,7 @@ def memory_and_descriptors_stay_as_mail_goes_through(field):
 
 
 def sixty_four_texts_at_once_cost_what_they_have(field):
-    """And a block for each of them, and 8 MiB; then each is answered 250."""
+    """And a block for each of them, and 8 MiB; then each gets a 250."""
     limits = {"sessions_per_client": 64, "client_timeout": 3600, "max_content": CONTENT, "spool_limit": 1 << 31}
     relay = field.relay(more={"example.net": ("away.example", free_port())}, **limits)
     content = b"x" * (CONTENT - 2)

@@ -1,12 +1,11 @@
 #!/usr/bin/env python3
-"""Runs `relayd run` over 127.0.0.1 and reads its log: the lines of next hops that are away, of clients that are cut off
-or sent away, of a spool that is full or written anew, and of what came of each recipient; and lets nobody read it. It
-ends at the first difference.
+"""Runs `relayd run` over 127.0.0.1 and reads its log: the lines for next hops that are down, for clients that are cut
+off or refused, for a spool that is full or compacted, and for the outcome of each recipient; also with a log that
+nobody reads. Ends at the first difference.
 
     tests/run_log.py build/relayd [ROW..]
 
-With the names of rows it runs these alone. What has to be prompt may take as many times as long as TIMES says in the
-environment (2 where it says nothing).
+Runs the named rows, or all. Time limits are multiplied by the environment variable TIMES (2).
 """
 import contextlib
 import json
@@ -32,10 +31,10 @@ FASTER = 60
 
 
 def told(relay, text):
-    """What the lines of the log say in which a text stands, after their times and without the ages of messages and of
+    """Returns the lines of the log that contain a text, without their times and without the ages of messages and
     connections."""
     lines = lines_of(relay, text)
-    same("lines without a moment", [line for line in lines if not MOMENT.match(line)], [])
+    same("lines without a time", [line for line in lines if not MOMENT.match(line)], [])
     return [re.sub(r" (delay|duration)=\d+s", "", MOMENT.sub("", line)) for line in lines]
 
 
@@ -45,7 +44,7 @@ def own_route(field):
 
 
 def text_of(size):
-    """A text of somewhat more than so many octets."""
+    """Returns mail data of somewhat more than so many octets."""
     return b"Subject: long\r\n\r\n" + b"x" * size + b"\r\n.\r\n"
 
 
@@ -76,7 +75,7 @@ def a_next_hop_that_is_away_is_left_alone_for_longer_each_time(field):
 
 
 def a_next_hop_that_is_back_has_a_line(field):
-    """At its first octet, whatever that says: how long ago it was left alone first, and how often it was."""
+    """At its first octet, whatever that is: how long ago it was first put on hold, and how many failures there were."""
     away = free_port()
     relay = field.relay(more={"example.net": ("away.example", away)}, client_timeout=3600)
     shim(field, "run_clocks", relay, FASTER=str(FASTER))
@@ -94,14 +93,14 @@ def a_next_hop_that_is_back_has_a_line(field):
 
 
 def client_of(client):
-    """How a line names a client."""
+    """Returns how a line names a client."""
     return "client={}:{}".format(*client.link.getsockname())
 
 
 def a_client_that_is_cut_off_has_a_line(field):
     relay = field.relay(client_timeout=1)
     with relay.running(), clients_of(relay, 1) as [client]:
-        same("what it is told", client.rest(), TIMEOUT)
+        same("what it got", client.rest(), TIMEOUT)
         octets = len(b"EHLO client.example\r\n")
         line = f"relayd: client-end {client_of(client)} messages=0 rejected=0 octets={octets} reason=timeout"
         until("its line", lambda: told(relay, "client-end") == [line])
@@ -110,7 +109,7 @@ def a_client_that_is_cut_off_has_a_line(field):
 def a_client_that_is_sent_away_has_a_line(field):
     relay = field.relay(sessions_per_client=1)
     with relay.running(), clients_of(relay, 1), Client(relay) as client:
-        same("what it is told", client.rest(), TOO_MANY)
+        same("what it got", client.rest(), TOO_MANY)
         line = f"relayd: client-end {client_of(client)} reason=too-many count=1"
         until("its line", lambda: told(relay, "client-end") == [line])
 
@@ -138,7 +137,7 @@ def sent_away(relay, address="127.0.0.1", line=TOO_MANY):
 
 
 def refused_clients_have_a_line_a_minute(field):
-    """Each address has its own, which says for how many it stands where it stands for several."""
+    """Each address has its own line, with the number of refusals if there are several."""
     relay = field.relay(sessions_per_client=1, client_timeout=3600)
     shim(field, "run_clocks", relay, FASTER="15")
     with relay.running(), clients_of(relay, 1), clients_of(relay, 1, "127.0.0.2"):
@@ -183,7 +182,7 @@ def each_refusal_is_told_of_where_many_addresses_are_refused(field):
 
 
 def what_came_of_each_recipient_has_a_line(field):
-    """With the reply that settles it: that to its RCPT if this isn't 2yz, and else that to the mail data. The report
+    """With the reply that settles it: the one to its RCPT if that isn't 2yz, else the one to the mail data. The report
     has a line with its number."""
     relay = field.relay()
     field.sink.manners.refusals = {"<r@example.org>": "550 no such user", "<l@example.org>": "450 mailbox busy"}
@@ -201,8 +200,8 @@ def what_came_of_each_recipient_has_a_line(field):
 
 
 def each_recipient_has_the_reply_that_settles_it(field):
-    """Where a next hop greets, answers EHLO, MAIL, a RCPT, DATA or the mail data by something else than it should, that
-    reply is each recipient's, but for a RCPT's own (RFC 5321, sections 3.1 to 3.3)."""
+    """If a next hop greets, or replies to EHLO, MAIL, a RCPT, DATA or the mail data, with something else than it
+    should, each recipient gets that reply, except for a RCPT's own (RFC 5321, sections 3.1 to 3.3)."""
     good = [b"220 hop.example", b"250 hop.example", b"250 ok", b"250 ok", b"250 ok", b"354 go on"]
     for count, last in enumerate([b"421 busy", b"450 not now", b"451 later", None, None, b"452 no room", b"471 full"]):
         if last is None:
@@ -287,7 +286,7 @@ def lines_of_json_have_the_same_fields(field):
 
 
 def what_clients_are_refused_has_ten_lines_a_minute(field):
-    """And then a line says how many more; so does the line of the client's end."""
+    """Then a line says how many more; so does the line for the client's end."""
     relay = field.relay()
     with relay.running(), Client(relay) as client:
         client.begin()
@@ -341,12 +340,12 @@ def a_full_spool_has_a_line_once_a_minute(field):
 
 
 def of_spool(relay):
-    """The lines that tell of the spool."""
+    """Returns the lines about the spool."""
     return [line for line in told(relay, "relayd: ") if line.split()[1] in ("spool-full", "compacted")]
 
 
 def a_full_spool_is_noted_where_quit_stands_after_the_mail(field):
-    """The 452 is among the last replies of its session: that is told, and room is made by what has left."""
+    """The 452 is among the last replies of its session: it is logged, and room is made from what has left."""
     relay = field.relay(spool_limit=20000)
     field.sink.manners.refusals = {"<l@example.org>": "450 later"}
     with relay.running(), clients_of(relay, 1) as [client]:
@@ -368,7 +367,7 @@ def a_full_spool_is_noted_where_quit_stands_after_the_mail(field):
 
 
 def a_spool_that_is_written_anew_has_a_line(field):
-    """With its octets before and after that."""
+    """With its sizes before and after, in octets."""
     relay = field.relay(spool_limit=10000)
     field.sink.manners.holds_greeting = True
     with relay.running(), clients_of(relay, 1) as [client]:
@@ -389,7 +388,7 @@ def a_spool_that_is_written_anew_has_a_line(field):
 
 @contextlib.contextmanager
 def unread_log(relay):
-    """A relay whose log goes to a pipe that nobody reads, and the end of it for who will."""
+    """A relay whose log goes to a pipe that nobody reads, and the pipe's end for a later reader."""
     end, log = os.pipe()
     try:
         process = relay.begin(stderr=log)
@@ -404,7 +403,7 @@ def unread_log(relay):
 
 
 def flood(client, messages):
-    """Hands in so many messages for a hundred recipients each, which makes their lines long."""
+    """Submits so many messages for a hundred recipients each, which makes their lines long."""
     paths = [f"{'x' * 60}{number}@example.org" for number in range(100)]
     asks = b"".join(f"RCPT TO:<{path}>\r\n".encode() for path in paths)
     for _ in range(messages):
@@ -414,8 +413,8 @@ def flood(client, messages):
 
 
 def lines_of_paths(paths):
-    """How many lines a message of these recipients has that was accepted: the first has 320 octets for the client's
-    word, the reverse path and recipients, and each further one as many for recipients."""
+    """Returns how many lines an accepted message of these recipients has: the first has 320 octets for the client's
+    name, the reverse path and recipients, and each further one as many for recipients."""
     count, size = 1, len("client.example") + len("<a@example.org>")
     for path in paths:
         if size + len(path) >= 320:
@@ -425,7 +424,7 @@ def lines_of_paths(paths):
 
 
 def a_log_that_nobody_reads_stops_no_mail(field):
-    """More than a pipe and 1 MiB hold: lines are dropped, mail goes on as fast, and a line tells how many they are as
+    """More than a pipe and 1 MiB hold: lines are dropped, mail goes on as fast, and a line says how many they are as
     soon as somebody reads."""
     relay, messages = field.relay(more=own_route(field), spool_limit=1 << 30), 200
     with unread_log(relay) as (process, lines), clients_of(relay, 1) as [client]:
@@ -442,7 +441,7 @@ def a_log_that_nobody_reads_stops_no_mail(field):
         until("what came of the last", lambda: f"sent message={last} " in read[-1])
         process.kill()
         reader.join()
-    same("lines without a moment", [line for line in read if not MOMENT.match(line)], [])
+    same("lines without a time", [line for line in read if not MOMENT.match(line)], [])
     [place] = [place for place, line in enumerate(read) if "log-dropped" in line]
     dropped = int(re.fullmatch(r"relayd: log-dropped lines=(\d+)", MOMENT.sub("", read[place]))[1])
     # Of each of the flood 100 recipients in lines of 320 octets, and a line for each; of each of the others two lines.
@@ -472,7 +471,7 @@ def dropped_lines_of_json_have_a_line_of_json(field):
 
 
 def who_reads_the_log_misses_no_line(field):
-    """Of thousands of messages of eight clients at once."""
+    """With thousands of messages from eight clients at once."""
     relay, each = field.relay(more=own_route(field), spool_limit=1 << 30), 400
     with relay.running(), clients_of(relay, 8) as clients:
         numbers = []
@@ -493,7 +492,7 @@ def who_reads_the_log_misses_no_line(field):
 
 
 def a_log_that_nobody_reads_stops_no_end(field):
-    """A relay whose device has lost a sync ends, though its last line finds no reader, and a little later."""
+    """A relay whose device has failed to sync ends, a little later, though nobody reads its last line."""
     relay = field.relay(spool_limit=1 << 30)
     shim(field, "device_calls", relay, CALLS=str(field.folder / "calls"), FAILED_SYNC="25")
     with unread_log(relay) as (process, _), clients_of(relay, 1) as [client]:

@@ -1,12 +1,10 @@
 #!/usr/bin/env python3
-"""Runs `relayd run` over sockets of this machine and checks what becomes of each message: which next hop it goes to,
-with which octets, what its sender hears, and that it stays queued until a next hop has taken it. It ends at the first
-difference.
+"""Runs `relayd run` over local sockets and checks the fate of each message: which next hop gets it, with which octets,
+what its sender is told, and that it stays queued until a next hop has accepted it. Ends at the first difference.
 
     tests/run_mail.py build/relayd [ROW..]
 
-With the names of rows it runs these alone. What must be prompt may take TIMES times as long (2 where the environment
-doesn't say).
+Runs the named rows, or all. Time limits are multiplied by the environment variable TIMES (2).
 """
 import contextlib
 import re
@@ -28,12 +26,12 @@ LARGE = b"Subject: large\r\n\r\n" + b"".join(b"%07d %s\r\n" % (number, b"x" * 54
 
 
 def paths_of(messages):
-    """The recipients of these messages, in order, without parameters."""
+    """Returns the recipients of these messages, in order, without parameters."""
     return sorted(path.split(b" ")[0].decode() for message in messages for path in message.recipients)
 
 
 class Hop:
-    """A next hop that treats its first connections each in a way of its own, and takes the mail of all others."""
+    """A next hop that treats each of its first connections in a way of its own, and accepts the mail of all others."""
 
     def __init__(self, *ways):
         self.ways, self.lock = list(ways), threading.Lock()
@@ -46,7 +44,8 @@ class Hop:
         way(link)
 
     def take(self, link, answer=lambda: b"250 taken\r\n"):
-        """Takes mail. Each text is kept, and answered by what this gives; the connection ends where that is nothing."""
+        """Accepts mail. Keeps the data of each message, and replies with what `answer` returns; closes the connection
+        if that is None."""
         with link.makefile("rb") as lines:
             link.sendall(b"220 hop.example\r\n")
             for line in lines:
@@ -64,7 +63,7 @@ class Hop:
 
 
 def resets_after(*replies):
-    """Gives these replies, the first at once and each further one when octets have come, and resets the connection."""
+    """Gives these replies, the first at once and each further one after octets have come, and resets the connection."""
 
     def way(link):
         for number, reply in enumerate(replies):
@@ -77,7 +76,7 @@ def resets_after(*replies):
 
 
 def says(reply):
-    """Says this and closes the connection."""
+    """Writes this and closes the connection."""
     return lambda link: link.sendall(reply)
 
 
@@ -94,7 +93,7 @@ ENDS = {
 
 
 class Late:
-    """Messages for a next hop that is away, whose senders asked to be told of a delay; and the reports of them."""
+    """Messages for a next hop that is down, whose senders asked for delay reports, and those reports."""
 
     def __init__(self, field, count):
         self.count, self.sink, self.reports = count, field.sink, {}
@@ -116,7 +115,7 @@ class Late:
         return [row[0] for row in self.queued_to(path)]
 
     def reports_that_arrived(self):
-        """By the number of the message, and then by their own."""
+        """Returns the reports that arrived, by the number of the message, and then by their own."""
         for message in self.sink.take_all():
             [of] = re.findall(rb"Delivery report of relay\.example for message (\d+)\.", message.content)
             number = int(re.search(rb"Message-ID: <(\d+)@", message.content)[1])
@@ -124,12 +123,12 @@ class Late:
         return self.reports
 
     def reports_made(self):
-        """The numbers of all reports, those that are queued too."""
+        """Returns the numbers of all reports, also of those that are queued."""
         queued = set(self.numbers_to("<a@example.org>"))
         return queued.union(*self.reports_that_arrived().values())
 
     def pass_time(self, seconds, step):
-        """Lets time pass in steps. A report that is on its way when the clock moves may be put off."""
+        """Advances the clock in steps. A report that is on its way meanwhile may be deferred."""
         for _ in range(seconds // step):
             self.clocks.advance(step)
             time.sleep(0.03)
@@ -139,7 +138,7 @@ class Late:
                 time.sleep(0.01)
 
     def never_tried(self):
-        """The numbers of those that are due since they were handed in."""
+        """Returns the numbers of the messages that have been due since they were submitted."""
         return {row[0] for row in self.queued_to("<c@example.net>") if row[3] <= self.handed_in}
 
     def deliver_reports(self):
@@ -151,7 +150,7 @@ class Late:
         until("a report of each", lambda: numbers <= set(self.reports_that_arrived()))
 
     def check_reports(self):
-        """Each message is queued, and has one report of a delay and no other."""
+        """Checks that each message is queued, and has one delay report and no other."""
         arrived = self.reports_that_arrived()
         same("reports of each message", {of: len(found) for of, found in arrived.items()},
              dict.fromkeys(self.numbers, 1))
@@ -169,8 +168,8 @@ class Late:
 
 
 def next_hops_at_one_port_get_each_its_own(field):
-    """What goes to a next hop depends on its address and its port. Mail for one of two next hops, whose ports are the
-    same, reaches that one and no other, and the log names it; one that is away puts off no mail for the other."""
+    """Where mail goes depends on the next hop's address and port. Mail for one of two next hops with the same port
+    reaches that one and no other, and the log names it; one that is down delays no mail for the other."""
     with Sink(field.sink.port, address="127.0.0.2") as other:
         more = {"example.net": ("other.example", field.sink.port, "127.0.0.2")}
         relay = field.relay(more=more)
@@ -201,8 +200,8 @@ def next_hops_at_one_port_get_each_its_own(field):
 
 
 def a_trace_header_names_the_client_s_address(field):
-    """The first line of each message names the address that its client has (RFC 5321, section 4.4), also where clients
-    of several addresses bring mail at the same time; so does the log."""
+    """The first line of each message names the address of its client (RFC 5321, section 4.4), also if clients of
+    several addresses submit mail at the same time; so does the log."""
     relay, addresses = field.relay(), ["127.0.0.1", "127.0.0.2", "127.1.2.3"]
     with relay.running(), contextlib.ExitStack() as stack:
         clients = [stack.enter_context(Client(relay, address)) for address in addresses]
@@ -220,8 +219,8 @@ def a_trace_header_names_the_client_s_address(field):
 
 
 def a_large_text_reaches_a_slow_next_hop_whole(field):
-    """8 MiB to two next hops that read little at a time, of small receive buffers: so most writes take a part of what
-    they are given. The one is sent it as a text, and the other in a chunk, since it doesn't end with a line end."""
+    """8 MiB to two next hops that read little at a time, with small receive buffers, so that most writes take only a
+    part. One gets it by DATA, and the other as a chunk, since it doesn't end with a line end."""
     slow = {"pause": 0.002, "read_size": 1 << 16, "receive_buffer": 1 << 16}
     with Sink(manners=Manners(**slow)) as text, Sink(manners=Manners(**slow)) as chunk:
         more = {"example.net": ("text.example", text.port), "example.com": ("chunk.example", chunk.port)}
@@ -243,7 +242,7 @@ def a_large_text_reaches_a_slow_next_hop_whole(field):
 
 def mail_whose_route_is_gone_is_reported(field):
     """Queued mail for which the configuration has no route any more ends when `run` begins, with the report that its
-    sender is owed: not one for a null reverse path (RFC 5321, section 4.5.5). What has a route is sent even so."""
+    sender is owed, but none to a null reverse path (RFC 5321, section 4.5.5). Mail with a route is still sent."""
     away = {"example.net": ("away.example", free_port())}
     relay = field.relay(more={**away, "example.com": ("also-away.example", free_port())})
     with relay.running(), clients_of(relay, 1) as [client]:
@@ -280,8 +279,8 @@ def mail_whose_route_is_gone_is_reported(field):
 
 
 def late_mail_has_one_delayed_report(field):
-    """A message waits for five hours of the clock for a next hop that is away. Its sender, who asked, is told once that
-    it's late, and not again in the hours that follow; the message stays queued."""
+    """A message waits for five hours of the clock for a next hop that is down. Its sender, who asked for it, gets one
+    delay report, and no other in the hours that follow; the message stays queued."""
     late = Late(field, 1)
     with late.relay.running():
         late.hand_in_all()
@@ -293,9 +292,9 @@ def late_mail_has_one_delayed_report(field):
 
 
 def late_mail_that_is_never_tried_has_one_delayed_report_each(field):
-    """Of 20 messages for a next hop that is away, some wait for hours without being tried, since the next hop is left
-    alone for longer each time. Each sender who asked is told once that the mail is late, whether it was tried or not,
-    and none before four hours; the messages stay queued."""
+    """Of 20 messages for a next hop that is down, some wait for hours without being tried, because the next hop is on
+    hold for longer each time. Each sender who asked gets one delay report, whether the message was tried or not, and
+    none before four hours; the messages stay queued."""
     late = Late(field, 20)
     with late.relay.running():
         late.hand_in_all()
@@ -310,8 +309,8 @@ def late_mail_that_is_never_tried_has_one_delayed_report_each(field):
 
 
 def late_mail_is_told_of_after_four_hours_whatever_stands_before_it(field):
-    """Of 20 messages for a next hop that is away the first ones are tried again and again. Each sender of the others is
-    told that the mail is late as soon as four hours are over, although messages before it are due for less long."""
+    """Of 20 messages for a next hop that is down the first ones are tried again and again. Each sender of the others
+    gets a delay report as soon as four hours have passed, although earlier messages are due for less long."""
     late = Late(field, 20)
     with late.relay.running():
         late.hand_in_all()
@@ -326,8 +325,8 @@ def late_mail_is_told_of_after_four_hours_whatever_stands_before_it(field):
 
 
 def mail_flows_after_attempts_without_an_outcome(field):
-    """Four attempts at one next hop end without an outcome, one after another, in each of the ways in which they may.
-    Each puts the message off; then it arrives, once, and so does what comes after it, at once."""
+    """Four attempts at one next hop end without an outcome, one after another, in each of the possible ways. Each
+    defers the message; then it arrives, once, and so does later mail, at once."""
     for name, way in ENDS.items():
         hop = Hop(*[way] * 4)
         with hop_that(hop) as port:
@@ -351,8 +350,8 @@ def mail_flows_after_attempts_without_an_outcome(field):
 
 
 def mail_flows_after_attempts_that_came_too_late(field):
-    """Four connections are made for mail that isn't due any more when the next hop greets, since the clock was set
-    back. So they come to nothing, and the mail stays queued: it arrives, once, when the clock says so again."""
+    """Four connections are made for mail that isn't due any more when the next hop greets, because the clock was set
+    back. They have no effect, and the mail stays queued: it arrives, once, when it is due again."""
     greets, late = threading.Event(), []
 
     def greets_late(link):
@@ -384,9 +383,9 @@ def mail_flows_after_attempts_that_came_too_late(field):
 
 
 def a_reply_from_before_a_reopening_ends_no_attempt(field):
-    """The device fails while a next hop is about to answer a text, and the spool is opened again. What that next hop
-    then says at the old connection is nobody's reply: it doesn't end the attempt for another message, at another next
-    hop, that has the old one's number. Both messages arrive, none more than twice."""
+    """The device fails while a next hop is about to reply to mail data, and the spool is opened again. What that next
+    hop then writes on the old connection is nobody's reply: it doesn't end the attempt for another message, at another
+    next hop, with the same number. Both messages arrive, none more than twice."""
     answers, ends = threading.Event(), threading.Event()
 
     def old_answer():

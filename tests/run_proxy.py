@@ -1,6 +1,6 @@
 #!/usr/bin/env python3
 """Runs `relayd run` behind a balancer that speaks the PROXY protocol (HAProxy's specification, versions 1 and 2): the
-balancer is 127.0.0.2, and all other addresses are clients of their own. It ends at the first difference.
+balancer is 127.0.0.2, and all other addresses are clients. Ends at the first difference.
 
     tests/run_proxy.py build/relayd [ROW..]
 
@@ -57,7 +57,7 @@ def relay_of(field, **limits):
 
 
 def client_in_trace(field):
-    """The address literal in the trace header of the one message that has come."""
+    """Returns the address literal in the trace header of the one message that has come."""
     [message] = field.arrived(1)
     stamp = message.content.split(b"\r\n")[0]
     return stamp.split(b"[")[-1].split(b"]")[0].decode()
@@ -71,7 +71,7 @@ def handed_in(field, relay, address, *parts, pause=0.0):
 
 
 def is_closed(relay, *parts):
-    """The relay closes the connection, and says nothing."""
+    """Checks that the relay closes the connection without a reply."""
     with Behind(relay, *parts) as client:
         begun = time.monotonic()
         with contextlib.suppress(ConnectionResetError):

@@ -1,6 +1,7 @@
 #!/usr/bin/env python3
-"""Runs `relayd run` over 127.0.0.1 with one of its allocations refused, ever another: it ends before it is ready, or
-ends one connection and goes on, and what it has answered 250 is held or handed on. It ends at the first difference.
+"""Runs `relayd run` over 127.0.0.1 with one of its allocations refused, a different one each time: it ends before it is
+ready, or ends one connection and goes on, and each message with a 250 is held or was relayed. Ends at the first
+difference.
 
     tests/run_without_memory.py build/relayd [ROW..]
 """
@@ -21,7 +22,7 @@ PART = 50
 
 
 def begun(relay, environment):
-    """A process of `run`; none where it has ended before it was ready, as it has to without memory."""
+    """Starts `run`. Returns None if it has ended before it was ready, as it must without memory."""
     relay.log.unlink(missing_ok=True)
     with relay.log.open("wb") as log:
         process = subprocess.Popen(relay.words("run"), stdout=subprocess.PIPE, stderr=log, env=environment)
@@ -34,7 +35,7 @@ def begun(relay, environment):
 
 
 def queued(relay, token):
-    """Hands in a message with this subject. As which number it was queued; none where the connection was ended."""
+    """Submits a message with this subject. Returns its queue number, or None if the connection was closed."""
     says = [(b"EHLO client.example\r\n", "250 "), (b"MAIL FROM:<a@example.org>\r\n", "250 "),
             (b"RCPT TO:<b@example.org>\r\n", "250 "), (b"DATA\r\n", "354 ")]
     try:
@@ -54,18 +55,18 @@ def queued(relay, token):
 
 
 def is_done(relay):
-    """Whether nothing is due."""
+    """Returns whether nothing is due."""
     return all(row[3] > time.time() for row in relay.held())
 
 
 def has_gone_on(relay, mark):
-    """Whether nothing is due, or an allocation was refused a moment ago: what has no outcome then is tried again
+    """Returns whether nothing is due, or an allocation was just refused: an attempt without an outcome is tried again
     later."""
     return is_done(relay) or (mark.exists() and time.time() > mark.stat().st_mtime + 0.2)
 
 
 def lost_of(relay, sink, answered):
-    """What was answered 250, and neither waits nor has left."""
+    """Returns the messages that got a 250, and are neither queued nor relayed."""
     held, gone = {row[0] for row in relay.held()}, tokens_at(sink)
     return [token for token, number in answered.items() if number not in held and token not in gone]
 
@@ -74,7 +75,7 @@ def lost_of(relay, sink, answered):
 
 
 def an_allocation_that_is_refused_ends_one_connection_at_most(field):
-    """Once it is ready, it goes on, and the next client is answered 250."""
+    """Once it is ready, it goes on, and the next client gets a 250."""
     mark, refuse = field.folder / "refused", built("refuse_memory", field.folder)
     relay = field.relay(more={"relay.example": ("next.example", field.sink.port)})
     environment = {**os.environ, "REFUSED": str(mark), "LD_PRELOAD": str(refuse)}

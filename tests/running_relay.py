@@ -1,4 +1,4 @@
-"""Clients, next hops and figures of a process for the rows that run `relayd run` (tests/run.py)."""
+"""Clients, next hops and process statistics for the rows that run `relayd run` (tests/run.py)."""
 import contextlib
 import os
 import pathlib
@@ -27,20 +27,20 @@ TEXT = b"Subject: side by side\r\n\r\ntext\r\n.\r\n"
 
 
 class Field:
-    """A folder, a sink, and relays whose mail for example.org goes to it."""
+    """A folder, a sink, and relays whose mail for example.org goes to the sink."""
 
     def __init__(self, program, folder):
         self.program, self.folder, self.sink = program, folder, Sink()
 
     def relay(self, name="relay", host="relay.example", more=None, **limits):
-        """A relay with a new spool, and with these routes and limits beside."""
+        """Makes a relay with a new spool, and with these routes and limits."""
         routes = {"example.org": ("next.example", self.sink.port), **(more or {})}
         relay = Relay(self.program, self.folder / name, routes, host, **limits)
         relay.run("init")
         return relay
 
     def arrived(self, count, seconds=PATIENCE):
-        """So many messages, which have to come in that time."""
+        """Returns so many messages, which must arrive in that time."""
         self.sink.wait_for(count, seconds)
         messages = self.sink.take_all()
         same("messages at the sink", len(messages), count)
@@ -52,12 +52,12 @@ class Field:
 
 
 def shim(field, name, relay, **environment):
-    """Runs the relay's programs with a shim before the C library from now on."""
+    """Runs the relay's programs with a shim from now on."""
     preload(relay, field.folder, name, **environment)
 
 
 class Clocks:
-    """The clocks of a relay, which a test moves."""
+    """The clocks of a relay, which a test sets."""
 
     def __init__(self, field, relay):
         self.files = {name: field.folder / f"{relay.folder.name}-{name}" for name in ("SHIFT", "ADVANCE")}
@@ -65,11 +65,11 @@ class Clocks:
         shim(field, "run_clocks", relay, **{name: str(file) for name, file in self.files.items()})
 
     def advance(self, seconds):
-        """Lets time pass: both clocks go forward."""
+        """Advances both clocks."""
         self.add("ADVANCE", seconds)
 
     def set_by(self, seconds):
-        """Sets the wall clock alone, forward or back."""
+        """Sets the wall clock only, forward or back."""
         self.add("SHIFT", seconds)
 
     def add(self, name, seconds):
@@ -80,18 +80,18 @@ class Clocks:
         os.replace(written, self.files[name])
 
     def now(self):
-        """The relay's wall clock, in seconds."""
+        """Returns the relay's wall clock, in seconds."""
         return time.time() + sum(self.seconds.values())
 
 
 def lines_of(relay, text):
-    """The lines of the log in which a text stands, without findings in the relay's configuration."""
+    """Returns the lines of the log that contain a text, without findings in the configuration."""
     lines = relay.log.read_text().splitlines()
     return [line for line in lines if text in line and not line.startswith(f"{relay.file}:")]
 
 
 class Client:
-    """A client at a connection of its own, from an address of this machine, that reads reply behind reply."""
+    """A client on a connection of its own, from a local address, that reads one reply after another."""
 
     def __init__(self, relay, address="127.0.0.1"):
         self.link = socket.create_connection(("127.0.0.1", relay.port), PATIENCE, (address, 0))
@@ -105,14 +105,14 @@ class Client:
         self.link.close()
 
     def reply_lines(self):
-        """The lines of a reply, without their ends."""
+        """Returns the lines of a reply, without their ends."""
         lines = [self.replies.readline()]
         while lines[-1][3:4] == b"-":
             lines.append(self.replies.readline())
         return [line.decode().rstrip("\r\n") for line in lines]
 
     def reply(self):
-        """The last line of a reply."""
+        """Returns the last line of a reply."""
         return self.reply_lines()[-1]
 
     def say(self, octets):
@@ -120,7 +120,7 @@ class Client:
         return self.reply()
 
     def begin(self):
-        """The greeting, and EHLO."""
+        """Reads the greeting, and sends EHLO."""
         same("the greeting", self.reply()[:4], "220 ")
         same("the reply to EHLO", self.say(b"EHLO client.example\r\n")[:4], "250 ")
 
@@ -130,16 +130,16 @@ class Client:
         same("the reply to DATA", self.say(b"DATA\r\n")[:4], "354 ")
 
     def offer(self, path="b@example.org", text=TEXT):
-        """A message, and the reply to it."""
+        """Offers a message. Returns the reply to it."""
         self.ask_for_text(path)
         return self.say(text)
 
     def hand_in(self, path="b@example.org", text=TEXT):
-        """A message; the number that it was queued as."""
+        """Submits a message. Returns its queue number."""
         return number_of(self.offer(path, text))
 
     def rest(self):
-        """What is still to come up to the connection's end, which may be no reset."""
+        """Returns what is still to come until the connection ends, which may be no reset."""
         return self.replies.read()
 
 
@@ -151,7 +151,7 @@ def number_of(reply):
 
 @contextlib.contextmanager
 def clients_of(relay, count, address="127.0.0.1"):
-    """So many clients that were greeted, in order."""
+    """Returns so many clients that were greeted, in order."""
     with contextlib.ExitStack() as stack:
         clients = []
         for _ in range(count):
@@ -162,7 +162,7 @@ def clients_of(relay, count, address="127.0.0.1"):
 
 @contextlib.contextmanager
 def beside(work):
-    """Something that goes on beside what is done within, told by an event when to end."""
+    """Runs something in the background of the block; an event tells it when to end."""
     done = threading.Event()
     thread = threading.Thread(target=work, args=(done,))
     thread.start()
@@ -175,8 +175,8 @@ def beside(work):
 
 @contextlib.contextmanager
 def hop_that_hangs(greeting=b""):
-    """A listener that takes connections and says nothing, or nothing behind its greeting: its port, and what it took
-    so far."""
+    """A listener that accepts connections and writes nothing, or nothing after its greeting. Returns its port, and what
+    it has accepted so far."""
     with contextlib.ExitStack() as stack:
         listener, taken = stack.enter_context(socket.create_server(("127.0.0.1", 0), backlog=128)), []
         listener.settimeout(0.05)
@@ -193,8 +193,8 @@ def hop_that_hangs(greeting=b""):
 
 @contextlib.contextmanager
 def hop_that_falls_silent(*replies):
-    """A listener that gives these replies at each connection, the first at once and each further one when octets have
-    come, and then says nothing and takes nothing: its port."""
+    """A listener that gives these replies on each connection, the first at once and each further one after octets have
+    come, and then writes and reads nothing. Returns its port."""
     with contextlib.ExitStack() as stack:
         listener = stack.enter_context(socket.socket())
         # So the system takes little for it.
@@ -221,7 +221,7 @@ def hop_that_falls_silent(*replies):
 
 
 class Answering(socketserver.BaseRequestHandler):
-    """A connection to a next hop of these rows."""
+    """A next hop's connection in these rows."""
 
     def handle(self):
         with contextlib.suppress(OSError):
@@ -230,7 +230,8 @@ class Answering(socketserver.BaseRequestHandler):
 
 @contextlib.contextmanager
 def hop_that(answer, port=0):
-    """A next hop that gives this its connections, side by side, at this port or at a free one: its port."""
+    """A next hop that serves its connections with this function, side by side, at this port or a free one. Returns its
+    port."""
     with Listener(("127.0.0.1", port), Answering) as listener:
         listener.answer = answer
         thread = threading.Thread(target=listener.serve_forever, args=(0.02,))
@@ -249,7 +250,7 @@ def reset(link):
 
 
 def slowest(client, count, path="b@example.org"):
-    """The longest that one of so many messages waits for its 250, in seconds."""
+    """Returns the longest wait for a 250 among so many messages, in seconds."""
     waits = []
     for _ in range(count):
         client.ask_for_text(path)
@@ -260,37 +261,37 @@ def slowest(client, count, path="b@example.org"):
 
 
 def no_later(client, alone, count, what):
-    """A client's replies, which come no later than without the others by more than what is prompt."""
+    """Reads a client's replies, and checks that they come no later than without the others, within the limit."""
     wait = slowest(client, count)
     if wait > alone + PROMPT:
         raise Difference(f"a message waits {wait:.3f} s for its 250 beside {what}, and {alone:.3f} s without")
 
 
 def resident(process):
-    """The memory of a process, in octets (VmRSS)."""
+    """Returns the memory of a process, in octets (VmRSS)."""
     text = pathlib.Path(f"/proc/{process.pid}/status").read_text()
     return int(re.search(r"VmRSS:\s+(\d+) kB", text)[1]) * 1024
 
 
 def worked(process):
-    """The processor time of a process so far, in seconds."""
+    """Returns the processor time of a process so far, in seconds."""
     fields = pathlib.Path(f"/proc/{process.pid}/stat").read_text().rsplit(")", 1)[1].split()
     return (int(fields[11]) + int(fields[12])) / os.sysconf("SC_CLK_TCK")
 
 
 def switches(process):
-    """How often a process has gone to sleep so far."""
+    """Returns how often a process has gone to sleep so far."""
     text = pathlib.Path(f"/proc/{process.pid}/status").read_text()
     return int(re.search(r"^voluntary_ctxt_switches:\s+(\d+)", text, re.M)[1])
 
 
 def comes_to_rest(process, what):
-    """It does next to nothing in a second, once it has done what there is to do."""
+    """Checks that a process does next to nothing for a second, once its work is done."""
     ends = time.monotonic() + PATIENCE
     spent = 1
     while spent > 0.1:
         if time.monotonic() > ends:
-            raise Difference(f"relayd run works {spent:.2f} s of a second {what}")
+            raise Difference(f"relayd run uses {spent:.2f} s of a second {what}")
         before = worked(process)
         time.sleep(1)
         spent = worked(process) - before
@@ -302,8 +303,8 @@ def greeted(relay):
 
 
 class Feeder(threading.Thread):
-    """Hands in messages, each with a number of its own as its subject, until the relay is gone: those that were
-    answered 250, and as which number they were queued."""
+    """Submits messages with their numbers as subjects, until the relay is gone. Keeps those that got a 250, with their
+    queue numbers."""
 
     def __init__(self, relay, place):
         super().__init__()
@@ -330,8 +331,8 @@ def tokens_at(sink):
 
 
 def repeats_at(sink):
-    """How many messages came again, and of which the sink had heard before that its reply had come: those that no
-    relay may hand on once more."""
+    """Returns how many messages came again although the sink knew that its reply had arrived: no relay may relay these
+    again."""
     repeats, unasked, heard, seen = 0, [], set(), set()
     for message in list(sink.messages):
         token = token_of(message)
@@ -345,8 +346,8 @@ def repeats_at(sink):
 
 
 def play_rows(name, rows):
-    """Plays the rows that the command line names behind the program, or all, each in a folder of its own. It ends at
-    the first difference."""
+    """Runs the rows that the command line names after the program, or all, each in a folder of its own. Ends at the
+    first difference."""
     program, *names = sys.argv[1:]
     rows = [row for row in rows if not names or row.__name__ in names]
     for row in rows:

@@ -1,5 +1,5 @@
-"""An SMTP server in Python that keeps what it is given, octet for octet, for tests of a client. Its manners say what
-it offers, what it refuses and where it hangs up; what a client may not do it writes down as a breach.
+"""An SMTP server in Python that keeps what it gets, octet for octet, for tests of a client. Its manners say what it
+offers, what it refuses and where it hangs up; it notes each violation of the protocol by the client as a breach.
 """
 import dataclasses
 import socket
@@ -11,12 +11,12 @@ CRLF = b"\r\n"
 
 
 class HungUp(Exception):
-    """The connection ended, from whichever side."""
+    """The connection has ended, from either side."""
 
 
 @dataclasses.dataclass
 class Manners:
-    """How a sink behaves; as it stands here, it takes everything."""
+    """How a sink behaves; by default it accepts everything."""
 
     # The words of the EHLO reply. With none of them in it, EHLO itself is still taken.
     offers: tuple = ("PIPELINING", "CHUNKING", "DSN")
@@ -38,7 +38,7 @@ class Manners:
 
 @dataclasses.dataclass
 class Taken:
-    """One transaction whose content came whole."""
+    """A transaction whose mail data came whole."""
 
     # What stood after `MAIL FROM:` and after each `RCPT TO:` that was answered 250.
     mail: bytes
@@ -50,7 +50,7 @@ class Taken:
 
 
 class Reader:
-    """Lines and octets of a socket."""
+    """Reads lines and octets from a socket."""
 
     def __init__(self, link, manners):
         self.socket, self.manners, self.held = link, manners, bytearray()
@@ -70,7 +70,7 @@ class Reader:
         return octets
 
     def up_to(self, end):
-        """What comes before these octets, which are taken off too."""
+        """Returns what comes before these octets, and removes both."""
         looked = 0
         while (place := self.held.find(end, looked)) < 0:
             looked = max(0, len(self.held) - len(end))
@@ -80,7 +80,7 @@ class Reader:
         return octets
 
     def dot_text(self):
-        """The content of a dot text: only CR LF ends a line, and the first period of each is taken off."""
+        """Returns the mail data of a DATA command: only CR LF ends a line, and the first period of each is removed."""
         while len(self.held) < 3:
             self.more()
         if self.held.startswith(b".\r\n"):
@@ -116,7 +116,7 @@ class Conversation(socketserver.BaseRequestHandler):
         self.request.sendall(text.encode() + CRLF)
 
     def command(self, line):
-        """Answers a command; whether the connection goes on."""
+        """Answers a command. Returns whether the connection goes on."""
         verb = line.split(b" ")[0].split(b":")[0].upper().decode()
         self.sink.heard(line)
         if verb not in ("BDAT", "QUIT") and "PIPELINING" not in self.manners.offers and self.reader.held:
@@ -186,7 +186,7 @@ class Conversation(socketserver.BaseRequestHandler):
         self.reply("NOOP", "250 ok")
 
     def taken(self, content, by_chunks):
-        """The message counts as taken before its reply, which may be lost on its way."""
+        """The message counts as accepted before its reply, which may be lost on its way."""
         self.last = Taken(self.mail, self.recipients, content, by_chunks)
         self.sink.keep(self.last, self.manners.content_reply)
         self.reply("content", self.manners.content_reply)
@@ -245,7 +245,7 @@ class Sink:
         self.breaches.append(text)
 
     def keep(self, message, answer):
-        """A content that is refused isn't the sink's."""
+        """Keeps mail data, unless it is refused."""
         if answer.startswith("2"):
             with self.changed:
                 self.messages.append(message)
@@ -257,12 +257,12 @@ class Sink:
             self.changed.notify_all()
 
     def wait_for(self, count, seconds):
-        """Whether so many messages have come in that time."""
+        """Returns whether so many messages have come in that time."""
         with self.changed:
             return self.changed.wait_for(lambda: len(self.messages) >= count, seconds)
 
     def take_all(self):
-        """The messages since the last call."""
+        """Returns the messages since the last call."""
         with self.changed:
             messages, self.messages = self.messages, []
         return messages

@@ -1,5 +1,5 @@
-"""The two files of a spool, read by the layout of docs/ alone, and the snapshot of what they hold: written anew here,
-so that what the program writes is compared with something that isn't its own.
+"""The two files of a spool, read from the layout in docs/ alone, and the snapshot of what they hold: a second
+implementation, so that the program's output isn't compared with itself.
 
 A file is the octets `RELAYQ01`, a gate, a generation of 8 octets and a chain: a gate, a length of 4 octets, a body, and
 so on, up to the first gate that isn't 1.
@@ -36,7 +36,7 @@ class Reader:
 
 @dataclasses.dataclass
 class Place:
-    """A recipient as its record spells it, and what is known of it."""
+    """A recipient as its record has it, and what is known of it."""
 
     spelled: bytes
     due: int
@@ -46,7 +46,7 @@ class Place:
 
 @dataclasses.dataclass
 class Message:
-    """The fields of a message in front of its recipients, these, and its text."""
+    """The fields of a message before its recipients, these, and its text."""
 
     front: bytes
     places: list
@@ -54,14 +54,15 @@ class Message:
 
 
 def head_of(octets):
-    """Whether the head is open, and the generation; None where there is no head."""
+    """Returns whether the head is open, and the generation; None if there is no head."""
     if len(octets) < 18 or octets[:8] != MAGIC:
         return None
     return octets[8] == 1, int.from_bytes(octets[9:17], "big")
 
 
 def taken_of(first, second):
-    """The file that is read: of those with an open head, that of the greater generation, at equal ones the first."""
+    """Returns the file that is read: of those with an open head, the one with the greater generation, at equal ones the
+    first."""
     heads = [(head_of(octets), octets) for octets in (first, second)]
     opened = [(head[1], octets) for head, octets in heads if head is not None and head[0]]
     if not opened:
@@ -70,7 +71,7 @@ def taken_of(first, second):
 
 
 def bodies_of(octets):
-    """The bodies of a file with an open head, and its size up to the last gate."""
+    """Returns the bodies of a file with an open head, and its size up to the last gate."""
     bodies, place = [], 17
     while octets[place] == 1:
         size = int.from_bytes(octets[place + 1:place + 5], "big")
@@ -114,7 +115,7 @@ def follow_outcome(reader, held):
 
 
 def snapshot_of(bodies):
-    """The snapshot of what a chain of accepts and outcomes holds, and nothing else."""
+    """Returns the snapshot of what a chain of accepts and outcomes holds, and nothing else."""
     held = {}
     for number, body in enumerate(bodies, 1):
         reader = Reader(body)
@@ -137,6 +138,6 @@ def snapshot_of(bodies):
 
 
 def file_of(generation, *bodies):
-    """A file with an open head, of this generation, with these bodies."""
+    """Returns a file with an open head, of this generation, with these bodies."""
     links = b"".join(b"\1" + struct.pack(">I", len(body)) + body for body in bodies)
     return MAGIC + b"\1" + struct.pack(">Q", generation) + links + b"\0"

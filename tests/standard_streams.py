@@ -1,6 +1,6 @@
 #!/usr/bin/env python3
-"""Runs `relayd` on standard streams that give little and take little, and that fail after each octet in turn; and by
-words that are wrong, or ask for help. It ends at the first difference.
+"""Runs `relayd` on standard streams that read and write little at a time, and that fail after each octet in turn; and
+with arguments that are wrong, or ask for help. Ends at the first difference.
 
     tests/standard_streams.py build/relayd
 """
@@ -21,13 +21,13 @@ COMMANDS, REPLIES = (STORED / "stdin").read_bytes(), (STORED / "stdout").read_by
 
 
 class Program:
-    """The program, whose standard streams are narrow where that is asked for."""
+    """The program, with narrow standard streams on request."""
 
     def __init__(self, relayd, folder):
         self.relayd, self.shim, self.input = relayd, built("narrow_streams", folder), folder / "input"
 
     def run(self, words, octets, **environment):
-        """The status, what was written to either stream, and what of the input was left."""
+        """Returns the status, what was written to either stream, and what was left of the input."""
         self.input.write_bytes(octets)
         with self.input.open("rb", buffering=0) as given:
             ended = subprocess.run([self.relayd, *words], stdin=given, capture_output=True, timeout=PATIENCE,
@@ -92,7 +92,7 @@ def wrong_words_have_status_2(program):
         status, written, errors, left = program.run(words, b"NOOP\r\n")
         same(f"{words}", (status, written, left), (2, b"", b"NOOP\r\n"))
         if not errors:
-            raise Difference(f"{words}: nothing on standard error")
+            raise Difference(f"{words}: standard error is empty")
 
 
 def help_is_written_and_done(program):

@@ -1,12 +1,12 @@
 #!/usr/bin/env python3
-"""Asks `relayd run` for its page, its metrics and its list over 127.0.0.1, as browsers do and as they don't, and looks
-at what they are told and at the mail meanwhile. Where `promtool` and `chromium` are there, they read the answers too.
-It ends at the first difference.
+"""Requests the page, the metrics and the list of `relayd run` over 127.0.0.1, as browsers do and as they don't, and
+checks the responses, and the mail meanwhile. If `promtool` and `chromium` are installed, they read the responses too.
+Ends at the first difference.
 
     tests/status_page.py build/relayd [ROW..]
 
-With the names of rows it runs these alone. What has to be prompt may take as many times as long as TIMES says in the
-environment (2 where it says nothing). Where SCREENSHOTS names a folder, it puts pictures of pages there.
+Runs the named rows, or all. Time limits are multiplied by the environment variable TIMES (2). If SCREENSHOTS names a
+folder, pictures of pages are saved there.
 """
 import contextlib
 import html
@@ -81,7 +81,7 @@ class Page:
         return socket.create_connection(("127.0.0.1", self.port), PATIENCE)
 
     def raw(self, request):
-        """What is answered to these octets, up to the end, with its status and its fields by name."""
+        """Returns the response to these octets, up to the end, with its status and its fields by name."""
         with self.visit() as link:
             link.sendall(request)
             answer = b"".join(iter(lambda: link.recv(1 << 16), b""))
@@ -94,18 +94,18 @@ class Page:
         return int(first.split(" ")[1]), fields, body
 
     def get(self, target, method="GET"):
-        """What is found at a target, and of which type it says it is."""
+        """Returns the body at a target, and its media type."""
         code, fields, body = self.raw(f"{method} {target} HTTP/1.1\r\nHost: localhost\r\n\r\n".encode())
         same(f"the status of {target}", code, 200)
         return fields["content-type"], body.decode("ascii")
 
     def values(self):
-        """The metrics, by name and labels."""
+        """Returns the metrics, by name and labels."""
         lines = self.get("/metrics")[1].splitlines()
         return {line.rpartition(" ")[0]: int(line.rpartition(" ")[2]) for line in lines if not line.startswith("#")}
 
     def browse(self, *words):
-        """What a browser prints that is shown the page; None where there is no browser."""
+        """Returns what a browser prints for the page; None if there is no browser."""
         browser = shutil.which("chromium")
         if browser is None:
             return None
@@ -261,8 +261,8 @@ def markup_in_a_path_is_text(field):
 
 
 def a_long_queue_stops_no_mail(field):
-    """5,000 messages for three next hops that are away: the page sums them up, the list is cut, and mail stays prompt
-    while both are asked for again and again."""
+    """5,000 messages for three next hops that are down: the page sums them up, the list is cut, and mail stays prompt
+    while both are requested again and again."""
     hops = {f"{name}.example": (f"{name}.example", free_port()) for name in ("first", "second", "third")}
     page = Page(field, more=hops, spool_limit=1 << 30)
     with page.relay.running(), clients_of(page.relay, 1) as [client]:
@@ -306,7 +306,7 @@ def eight_visitors_have_five_seconds_each(field):
         same("the ninth", page.get("/")[0], "text/html; charset=utf-8")
         waited = time.monotonic() - begun
         for link in silent:
-            same("what a silent one is told", link.recv(1), b"")
+            same("what a silent one got", link.recv(1), b"")
         if not 4.9 < waited < 5 + 2 * TIMES:
             raise Difference(f"the ninth waits for {waited:.1f} s")
 

@@ -1,9 +1,8 @@
 #!/usr/bin/env python3
 """Plays a script of docs/plays/ with a stop before each of its events in turn: of each node, at its first device call
 after that, its second, and so on until no stop is met; and the same with a compaction of that node after the stop. A
-script that doesn't say how many nodes there are is played with two and with three. Each play is judged by what it
-prints, as tests/random_plays.py judges: no acknowledged mail is lost, and there are no more copies than lost replies
-allow.
+script that doesn't set the number of nodes is played with two and with three. Each play is judged by its output, as in
+tests/random_plays.py: no acknowledged mail is lost, and there are no more copies than lost replies allow.
 
     tests/stops_in_plays.py build/relayd [all]
 
@@ -35,14 +34,14 @@ def events_of(script):
 
 
 def is_met(program, events):
-    """Plays the events, and says whether a node has stopped; the nodes are opened anew at the end."""
+    """Plays the events, and returns whether a node has stopped; the nodes are opened again at the end."""
     ends = [f"stop {node} 0 0" for node in nodes_of(events)]
     printed = judged(program, [*events, *ends], 4, 2)
     return any(line.startswith("stopped") for lines in printed[:-len(ends)] for line in lines)
 
 
 def stops_before(program, events, at, node, pick, compacts):
-    """The number of plays with a stop of this node before this event, and with a compaction after it or without, in
+    """Returns the number of plays with a stop of this node before this event, with or without a compaction after it, in
     which a node has stopped."""
     compaction = [f"compact {node}"] if compacts else []
     for call in range(1, 100):
@@ -56,7 +55,7 @@ def stops_before(program, events, at, node, pick, compacts):
 
 
 def kinds_of(events, picks, picks_before_compaction):
-    """Where stops are put, of which node and pick, and whether a compaction follows."""
+    """Yields where to stop, which node, with which pick, and whether a compaction follows."""
     for at in range(1 if events[0].startswith("nodes") else 0, len(events)):
         for node in nodes_of(events):
             yield from ((at, node, pick, False) for pick in picks)

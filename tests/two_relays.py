@@ -1,6 +1,6 @@
 #!/usr/bin/env python3
-"""Runs `relayd serve` and `relayd push` over 127.0.0.1 between Python's smtplib and a sink, and between two relays:
-what arrives, what is reported, what waits for another attempt, and which faults are told. It ends at the first
+"""Runs `relayd serve` and `relayd push` over 127.0.0.1 between Python's smtplib and a sink, and between two relays, and
+checks what arrives, what is reported, what waits for another attempt, and which faults come. Ends at the first
 difference.
 
     tests/two_relays.py build/relayd
@@ -30,7 +30,7 @@ HERE = pathlib.Path(__file__).resolve().parent
 
 
 class Field:
-    """What each row is given: a folder, a sink, and a relay whose mail for example.org goes to the sink."""
+    """What each row gets: a folder, a sink, and a relay whose mail for example.org goes to the sink."""
 
     def __init__(self, program, folder):
         self.program, self.folder = program, folder
@@ -42,7 +42,7 @@ class Field:
         return Relay(self.program, self.folder / name, routes, **more)
 
     def later(self, relay, seconds):
-        """Sets the relay's clock forward; not for `list`, which knows no clock."""
+        """Sets the relay's clock forward; not for `list`, which reads no clock."""
         preload(relay, self.folder, "later_clock", LATER=str(seconds))
 
     def close(self):
@@ -193,7 +193,7 @@ def a_refused_content_is_reported_and_one_that_is_to_come_later_waits(field):
 
 
 def is_due(relay, begun, seconds):
-    """One place waits, until so long after a moment between the beginning and now."""
+    """Checks that one place waits, until so long after a time between the beginning and now."""
     held = relay.held()
     same("list", [row[:3] for row in held], [(1, 0, "<b@example.org>")])
     if not int(begun) <= held[0][3] - seconds <= time.time():
@@ -288,14 +288,14 @@ def serve_takes_so_many_connections(field):
     with field.relay.serving() as lines:
         try:
             hand_in(field.relay)
-            raise Difference("a message was taken into a full spool")
+            raise Difference("a message was accepted into a full spool")
         except smtplib.SMTPDataError as refused:
             same("the reply", (refused.smtp_code, refused.smtp_error), (452, b"spool full"))
     same("the lines of serve", lines, [])
 
 
 def recipient(field, message, name, status, why, port=None):
-    """The line of a recipient at example.org."""
+    """Returns the line of a recipient at example.org."""
     addr = f"127.0.0.1:{port or field.sink.port}"
     attempt = f"message={message} hop=next.example addr={addr}"
     return f"relayd: {status} {attempt} to=<{name}@example.org> status={status} {why}"
@@ -329,7 +329,7 @@ def a_log_says_what_was_done_and_nothing_of_a_content(field):
 
 
 def visit(relay, *lines):
-    """Sends each line when the reply to the one before has come; the port that it came from."""
+    """Sends each line after the reply to the one before has come. Returns the client's port."""
     with connected(relay) as link:
         talk(link, *[line + b"\r\n" for line in lines])
         return link.getsockname()[1]

@@ -1,6 +1,6 @@
 #!/usr/bin/env python3
-"""Runs `relayd serve` and `relayd push` where descriptors are short, as under `ulimit -n`: no round is used up by it,
-no work is put off by it, and what is served is served on when there are some again. It ends at the first difference.
+"""Runs `relayd serve` and `relayd push` with too few file descriptors, as under `ulimit -n`: that uses up no round and
+defers no work, and serving goes on when there are some again. Ends at the first difference.
 
     tests/want_of_descriptors.py build/relayd
 """

@@ -1,6 +1,6 @@
 #!/usr/bin/env python3
-"""Runs `relayd serve --workers` over 127.0.0.1: clients side by side, some of which are cut off or say nothing, and
-threads that aren't given. It ends at the first difference.
+"""Runs `relayd serve --workers` over 127.0.0.1 with clients side by side, some of which are cut off or silent, and with
+threads that can't be started. Ends at the first difference.
 
     tests/workers.py build/relayd
 """
@@ -30,18 +30,18 @@ def new_relay(program, folder, sink, **limits):
 
 @contextlib.contextmanager
 def clients_of(relay, count):
-    """So many connections, in order."""
+    """Returns so many connections, in order."""
     with contextlib.ExitStack() as stack:
         yield [stack.enter_context(connected(relay)) for _ in range(count)]
 
 
 def is_silent(link, seconds=0):
-    """Whether nothing has come on a connection, and it is open."""
+    """Returns whether nothing has come on a connection, and it is open."""
     return not select.select([link], [], [], seconds)[0]
 
 
 def said_last(link, part):
-    """The reply to a part that is sent on a connection whose other replies were read."""
+    """Returns the reply to a part that is sent on a connection whose other replies were read."""
     link.sendall(part)
     return link.makefile("rb").readline().decode().rstrip("\r\n")
 
@@ -53,7 +53,7 @@ def number_of(reply):
 
 
 def ended_as(link):
-    """What is still to be read on a connection up to its end."""
+    """Returns what is still to be read on a connection up to its end."""
     with contextlib.suppress(ConnectionResetError):
         return link.makefile("rb").read()
     return b""
@@ -64,12 +64,12 @@ def log_line(link_name, octets, messages, reason="closed"):
 
 
 def mail_of(count):
-    """What a client says without waiting that gives so many messages."""
+    """Returns what a client that submits so many messages writes without waiting."""
     return b"HELO x\r\n" + b"".join([*GROUP[1:], TEXT]) * count + b"QUIT\r\n"
 
 
 def numbers_in(replies):
-    """The numbers that these replies to a client say, in order."""
+    """Returns the numbers in these replies to a client, in order."""
     return [int(it) for it in re.findall(rb"(?m)^250 queued as (\d+)\r$", replies)]
 
 
@@ -111,7 +111,7 @@ ROUNDS = [
 
 
 def rounds_take_what_there_is_room_for(program, folder, sink):
-    """Each message has a number of its own, from 1 on; those of each client rise. After its round each is handed on,
+    """Each message has a number of its own, from 1 on; those of each client rise. After its round each is relayed,
     which takes a number too."""
     for place, (rounds, workers, messages, limits, queued, full) in enumerate(ROUNDS):
         relay = new_relay(program, folder / str(place), sink, **limits)
@@ -153,7 +153,7 @@ def a_device_that_fails_ends_the_service(program, folder, sink):
 
 
 def each_of_64_has_its_reply_whatever_the_others_do(program, folder, sink):
-    """32 give mail, 31 are cut off in their text, and one says nothing."""
+    """32 submit mail, 31 are cut off in their mail data, and one is silent."""
     relay = new_relay(program, folder, sink)
     preload(relay, folder, "shorter_waits", SHORTER="25")
     log = []
@@ -169,7 +169,7 @@ def each_of_64_has_its_reply_whatever_the_others_do(program, folder, sink):
         for link in whole:
             link.sendall(b"QUIT\r\n")
         # It is given up after 300 seconds divided by 25.
-        same("what the silent one is told", ended_as(silent), b"220 relay.example ESMTP relay ready\r\n")
+        same("what the silent one got", ended_as(silent), b"220 relay.example ESMTP relay ready\r\n")
         for link in whole:
             same("after QUIT", ended_as(link), b"221 relay.example closing\r\n")
     same("the lines of serve", lines, [f"{number} next.example ended" for number in range(1, 33)])
@@ -182,7 +182,7 @@ def each_of_64_has_its_reply_whatever_the_others_do(program, folder, sink):
 
 
 def a_full_spool_takes_one_of_two(program, folder, sink):
-    """Room for one message alone: 18 octets, and 160 of it and more."""
+    """There is room for one message only: 18 octets, and 160 of it and more."""
     relay = new_relay(program, folder, sink, max_content=1024, spool_limit=300)
     replies = []
     with relay.serving("--workers", "2") as lines, clients_of(relay, 2) as links:

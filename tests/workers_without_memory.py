@@ -1,8 +1,8 @@
 #!/usr/bin/env python3
-"""Runs a round of `relayd serve` with two workers, whose clients give two messages each, once for each allocation that
-comes once it listens, which is refused, and once for each of its threads, which isn't given. What a client is told is
-a beginning of what it is told with ample memory; what it is told to be queued is held, and of a client that is cut off
-one message more at most; and the receipts agree with what the node has taken, or `serve` would end by that fault.
+"""Runs a round of `relayd serve` with two workers, whose clients submit two messages each, once for each allocation
+after it listens, which is refused, and once for each of its threads, which can't be started. What a client reads is a
+prefix of what it reads with ample memory; each message with a 250 is held, and at most one more of a client that was
+cut off; and the receipts agree with what the node has accepted, or `serve` would end by that fault.
 
     tests/workers_without_memory.py build/relayd
 """
@@ -28,7 +28,7 @@ LINKS = 2
 
 
 class Round:
-    """One round, over a spool without mail. Nobody listens at the next hop, so what is queued stays there."""
+    """One round, over a spool without mail. Nobody listens at the next hop, so queued mail stays there."""
 
     def __init__(self, program, folder):
         self.relay = Relay(program, folder, {"example.org": ("next.example", free_port())})
@@ -36,7 +36,7 @@ class Round:
         self.plain = self.relay.environment
 
     def begun(self, shim, number):
-        """A process that listens, of which the call of this number is refused; none where it has ended before."""
+        """Starts a process that listens, with the call of this number refused. Returns None if it has ended before."""
         self.relay.forget()
         self.mark.unlink(missing_ok=True)
         self.relay.environment = self.plain
@@ -56,7 +56,7 @@ class Round:
         return process
 
     def outcome(self, shim, number):
-        """How many links ended well, and how many were cut off unheard; none where nobody listened, and where memory
+        """Returns how many links ended well, and how many were cut off unserved; None if it didn't listen, or memory
         ran out before or after the round."""
         process = self.begun(shim, number)
         if process is None:
@@ -64,12 +64,13 @@ class Round:
         told = [told_to(link) for link in self.links()]
         _, errors = process.communicate(timeout=PATIENCE)
         if errors.strip() not in (b"", b"relayd: no memory"):
-            raise Difference(f"serve ends by {errors}")
+            raise Difference(f"serve ended with {errors}")
         self.look_at(told)
         return sum(it.endswith(b" closing\r\n") for it in told), told.count(b"")
 
     def links(self):
-        """Two connections, on which all is said. One that the relay has closed already says nothing."""
+        """Makes two connections, on which everything is written. One that the relay has closed already yields nothing.
+        """
         links = []
         with contextlib.suppress(ConnectionError):
             for _ in range(LINKS):
@@ -83,7 +84,7 @@ class Round:
         numbers = [[int(it) for it in re.findall(rb"queued as (\d+)", one)] for one in told]
         for one, rising in zip(told, numbers):
             if not TOLD.startswith(re.sub(rb"queued as \d+", b"queued as N", one)) or rising != sorted(rising):
-                raise Difference(f"a client is told {one}")
+                raise Difference(f"a client got {one}")
         held, said = {row[0] for row in self.relay.held()}, sum(numbers, [])
         cut_off = LINKS - sum(it.endswith(b" closing\r\n") for it in told)
         if len(set(said)) != len(said) or not set(said) <= held or len(held) - len(said) > cut_off:
@@ -91,7 +92,7 @@ class Round:
 
 
 def told_to(link):
-    """All that comes on a connection up to its end."""
+    """Returns all that comes on a connection up to its end."""
     told = b""
     with link, contextlib.suppress(ConnectionError):
         while octets := link.recv(65536):
@@ -100,7 +101,7 @@ def told_to(link):
 
 
 def first_that_listens(it, shim):
-    """The number of the first allocation that comes once a relay listens: those before end it."""
+    """Returns the number of the first allocation after a relay listens: those before end it."""
     low, high = 0, 1
     while (process := it.begun(shim, high)) is None:
         low, high = high, high * 2

@@ -17,7 +17,7 @@ from unproved import compiled
 
 def main():
     begun = time.monotonic()
-    print("relayd is a mail relay. This compiles it and sends one message through it, over sockets of this machine.\n"
+    print("relayd is a mail relay. This compiles it and sends one message through it, over local sockets.\n"
           "Compiling takes one to two minutes on two processors, and longer on busy ones. Nothing is proved in it: the "
           "program checks itself as it runs.")
     with tempfile.TemporaryDirectory(prefix="relayd-demo-") as folder:
@@ -25,7 +25,7 @@ def main():
         program = compiled(folder, lambda line: show([line]))
         print(f"Compiled in {time.monotonic() - begun:.0f} s.")
         tour(program, folder)
-    print(f"\nDone in {time.monotonic() - begun:.0f} s. What each heading says was also checked; no file is left.\n"
+    print(f"\nDone in {time.monotonic() - begun:.0f} s. Each heading was also checked; no file is left.\n"
           "This program was compiled with run-time checks and isn't proved yet:\n"
           "   make relayd   proves and builds it, in 40 to 50 minutes on four processors\n"
           "   make test     runs the whole gate, all proofs and tests, in one to two hours on four processors")

@@ -1,12 +1,12 @@
 #!/usr/bin/env python3
-"""Measures what a gate costs while it runs. When it has ended, prints the minutes and units of each crate, for the table
-of docs/GATE.md.
+"""Measures the cost of a gate (a full run of proofs and tests) while it runs. At its end prints the minutes and units
+of each crate, for the table of docs/GATE.md.
 
     RT_JOBS=4 rt ci > build/gate.log & tools/gate_times.py $!
 
 It adds up the processor time of each run of the prover, by crate, with the must-fail edits apart: those are the runs in
-a folder of rt's edits, the check that they begin with and the check after them included. It looks only at processes
-that the given one has started. What a run takes between the last look and its end is missed, half a second at most.
+a folder of rt's edits, including the check that they begin with and the check after them. It looks only at descendants
+of the given process. What a run takes between the last look and its end is missed, half a second at most.
 
 A unit is the processor time of one `rt lib --jobs 1` of relay_octets from nothing. It is taken every ten minutes in the
 place of one lane, whose prover stands still meanwhile, since machines differ by more than two and drift within minutes.
@@ -33,7 +33,7 @@ GATE_UNIT = 12
 
 
 def fields_of(process):
-    """The fields of a process that follow its name: its state first, then its parent."""
+    """Returns the fields of a process that follow its name: its state first, then its parent."""
     return (process / "stat").read_text().rpartition(")")[2].split()
 
 
@@ -43,7 +43,7 @@ def crate_of(process):
 
 
 def is_below(process, number):
-    """Whether a process was started by the one of this number, or by one that was."""
+    """Returns whether a process is a descendant of another."""
     while process.name not in ("0", "1", number):
         process = pathlib.Path("/proc") / fields_of(process)[1]
     return process.name == number
@@ -54,8 +54,8 @@ def processes():
 
 
 def look(process, number):
-    """Of a run of the prover what names it, its crate, when it began, whether it tries an edit, and its seconds with
-    those of all that it has started and waited for."""
+    """Returns what identifies a run of the prover, its crate, when it began, whether it tries an edit, and its seconds,
+    including those of its ended children."""
     crate, fields = crate_of(process), fields_of(process)
     if not crate or crate_of(pathlib.Path("/proc") / fields[1]) or not is_below(process, number):
         return None
@@ -64,7 +64,7 @@ def look(process, number):
 
 
 def look_at_all(found, number):
-    """Takes note of each run of the prover; the numbers of those that run."""
+    """Notes each run of the prover; returns the numbers of those that are running."""
     running = []
     for process in processes():
         try:
@@ -85,7 +85,7 @@ def is_running(number):
 
 
 def signal_all(number, what):
-    """Stops, or continues, a process and all that it has started."""
+    """Stops, or continues, a process and its descendants."""
     for process in processes():
         try:
             if is_below(process, number):
@@ -95,7 +95,7 @@ def signal_all(number, what):
 
 
 def begin_unit(count):
-    """Begins one unit: the lowest crate under a name of its own, of which nothing is kept."""
+    """Begins one unit: the lowest crate under a name of its own, without kept results."""
     name, folder = f"relay_unit_{os.getpid()}_{count}", pathlib.Path(tempfile.mkdtemp())
     crate = folder / "crates" / name
     for part in ("src", "specs", "proofs"):
@@ -116,7 +116,7 @@ class Units:
         self.taken, self.next, self.unit, self.lane, self.before = [], time.monotonic() + 60, None, None, 0
 
     def attend(self, running):
-        """Begins a unit where it is time, and ends one that is done."""
+        """Begins a unit when it is time, and ends one that is done."""
         if self.unit and self.unit[1].poll() is not None:
             self.end()
         elif not self.unit and running and self.next <= time.monotonic():
@@ -136,7 +136,7 @@ class Units:
 
 
 def spent():
-    """The processor time of the commands that have ended here, in seconds."""
+    """Returns the processor time of the commands that have ended here, in seconds."""
     used = resource.getrusage(resource.RUSAGE_CHILDREN)
     return used.ru_utime + used.ru_stime
 
@@ -146,7 +146,7 @@ def count_edits(crate):
 
 
 def tell(found, units):
-    """Prints the whole and the table: minutes of one processor, units, and the seconds of a crate's edits in the order
+    """Prints the sums and the table: minutes of one processor, units, and the seconds of a crate's edits in the order
     in which they ran."""
     sums, edits_of = {}, {}
     for crate, _begun, is_edit, seconds in sorted(found.values(), key=lambda it: it[1]):

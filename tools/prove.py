@@ -1,7 +1,7 @@
 #!/usr/bin/env python3
-"""Proves the libraries that a program stands on, side by side, and then the program, which it builds and runs once on
-its stored input. A line a crate says how many functions were proved, how long that took, and about how long the rest
-takes.
+"""Proves the libraries that a program uses, in parallel, and then the program, which it builds and runs once on its
+stored input. One line per crate says how many functions were proved, how long that took, and about how long the rest
+will take.
 
     tools/prove.py PROGRAM [WORD ..]
 
@@ -35,23 +35,23 @@ RUNNING = set()
 
 
 class Failed(Exception):
-    """A crate that wasn't proved, with what the prover said."""
+    """A crate that wasn't proved, with the prover's output."""
 
 
 def listed():
-    """The line of each crate in crates.txt."""
+    """Returns the line of each crate in crates.txt."""
     lines = [line.split("#")[0].strip() for line in (TOP / "crates.txt").read_text().splitlines()]
     return {re.split(r"[ :]", line)[0]: line for line in lines if line}
 
 
 def edges():
-    """What each crate of this repository stands on directly, of this repository."""
+    """Returns the crates of this repository that each crate uses directly."""
     lines = listed()
     return {name: [it for it in line.partition(":")[2].split() if it in lines] for name, line in lines.items()}
 
 
 def closure(below, name):
-    """All that a crate stands on, each after those that it stands on itself."""
+    """Returns all crates that a crate uses, each after those that it uses itself."""
     found = []
     for it in below[name]:
         found += [one for one in [*closure(below, it), it] if one not in found]
@@ -59,15 +59,15 @@ def closure(below, name):
 
 
 def work_of(below, name):
-    """A guess of a crate's work, in functions: each of its own is one, and to read a crate that it stands on costs as
-    much as three. By the minutes in docs/GATE.md that is off by a quarter in the mean."""
+    """Estimates a crate's work, in functions: each of its own counts as one, and reading a crate that it uses as three.
+    Compared with the minutes in docs/GATE.md that is off by a quarter on average."""
     files = (TOP / "crates" / name / "src").rglob("*.rt")
     return sum(len(FUNCTION.findall(it.read_text())) for it in files) + 3 * len(closure(below, name))
 
 
 def longest_rows(below, work):
-    """For each of these crates, in their order, the work of the longest row of them that begins with it, each of which
-    stands on the one before."""
+    """Returns for each of these crates, in their order, the work of the longest chain of them that begins with it, in
+    which each uses the one before."""
     found = {}
     for name in reversed(list(work)):
         above = [found[it] for it in found if name in below[it]]
@@ -76,8 +76,8 @@ def longest_rows(below, work):
 
 
 class Progress:
-    """Which crates are done, and about how long the others take: by the pace so far, on all lanes, but no less than the
-    longest row of crates that wait for each other."""
+    """Which crates are done, and about how long the others will take: by the pace so far, on all lanes, but no less
+    than the longest chain of crates that wait for each other."""
 
     def __init__(self, below, names, lanes):
         self.below, self.lanes, self.count = below, lanes, len(names)
@@ -101,7 +101,7 @@ class Progress:
 
 
 def link(source, target, parts):
-    """Makes a crate's folder of links to the files of another."""
+    """Makes links in a crate's folder to the files of another."""
     target.mkdir(parents=True)
     for it in source.iterdir():
         if it.is_file():
@@ -112,7 +112,8 @@ def link(source, target, parts):
 
 @contextlib.contextmanager
 def lane(below, name):
-    """The folder in which a crate is proved. What was kept of it is there, and goes back to the crate at the end."""
+    """The folder in which a crate is proved. Kept results of the crate are there, and go back to the crate at the end.
+    """
     root, crate = LANES / name, TOP / "crates" / name
     place = root / "crates" / name
     held = os.open(crate, os.O_RDONLY)
@@ -136,7 +137,7 @@ def lane(below, name):
 
 
 def bring_back(root):
-    """Ends a lane: what was kept of its crate goes back."""
+    """Ends a lane: moves the crate's results back."""
     kept, crate = root / "crates" / root.name / "out", TOP / "crates" / root.name
     if kept.is_dir() and not (crate / "out").exists():
         kept.rename(crate / "out")
@@ -144,7 +145,7 @@ def bring_back(root):
 
 
 def run(name, place, *words):
-    """Runs rt in a crate's folder; how many functions it proved, where it says so."""
+    """Runs rt in a crate's folder; returns how many functions it proved, if it says so."""
     log, stored = TOP / "build" / f"{name}.log", place / "stdin"
     with open(stored if stored.exists() else os.devnull, "rb") as given, open(log, "wb") as out, \
             subprocess.Popen(["rt", *words], cwd=place, stdin=given, stdout=out, stderr=subprocess.STDOUT) as rt:
@@ -164,7 +165,7 @@ def prove(below, name, jobs):
 
 
 def prove_all(below, names, lanes, progress):
-    """Proves libraries, each after those that it stands on. At the first that fails the others are told to end."""
+    """Proves libraries, each after those that it uses. At the first failure the others are stopped."""
     rows, left, running, done = longest_rows(below, progress.left), list(names), {}, set()
     with concurrent.futures.ThreadPoolExecutor(lanes) as pool:
         try:
@@ -199,8 +200,8 @@ def main(program, *words):
     lanes = int(subprocess.run([TOP / "tools" / "lanes.sh"], stdout=subprocess.PIPE, check=True).stdout)
     libraries = closure(below, program)
     progress = Progress(below, [*libraries, program], lanes)
-    print(f"Proving {program} and the {len(libraries)} crates that it stands on, up to {lanes} side by side. What an "
-          "earlier run has proved is kept, and takes seconds.", flush=True)
+    print(f"Proving {program} and the {len(libraries)} crates that it uses, up to {lanes} in parallel. Crates that an "
+          "earlier run has proved take seconds.", flush=True)
     try:
         prove_all(below, libraries, lanes, progress)
         progress.begins(program)

@@ -1,7 +1,7 @@
 #!/usr/bin/env python3
-"""A tour of the relay's main job, over sockets of this machine: a client sends a message to two recipients, the next
-hop takes it for one and refuses the other, and the sender gets a delivery status notification. All that is shown is
-checked too. The relay's files stand in a folder that is removed at the end.
+"""A tour of the relay's main job, over local sockets: a client sends a message to two recipients, the next hop accepts
+one and refuses the other, and the sender gets a delivery status notification. All that is shown is checked too. The
+relay's files are in a folder that is removed at the end.
 
     tools/tour.py PROGRAM
 """
@@ -55,8 +55,8 @@ def tour(program, folder):
 
 @contextlib.contextmanager
 def running(relay):
-    """`run` beside what is done within. If another program has taken its port since that was chosen, the fault says
-    so."""
+    """Runs `run` in the background of the block. If another program has taken its port since that was chosen, the fault
+    says so."""
     try:
         with relay.running():
             yield
@@ -67,7 +67,7 @@ def running(relay):
 
 
 def show_submission(relay):
-    """A client's dialogue; the number that its message has in the queue."""
+    """Shows a client's dialogue. Returns the queue number of its message."""
     heading(1, "The client gets 250 for its message: from now on the relay answers for both recipients.")
     with Client(relay) as client:
         exchange(client, b"", "220")
@@ -82,7 +82,7 @@ def show_submission(relay):
 
 
 def exchange(client, octets, code):
-    """Sends these octets and shows them with the reply, which must have this code; the reply's last line."""
+    """Sends these octets and shows them with the reply, which must have this code. Returns the reply's last line."""
     show(octets.decode().splitlines(), "C: ")
     client.link.sendall(octets)
     lines = client.reply_lines()
@@ -92,7 +92,7 @@ def exchange(client, octets, code):
 
 
 def show_queue(relay):
-    """The queue as the program itself lists it, and the spool's files, while the next hop doesn't greet."""
+    """Shows the queue as the program lists it, and the spool's files, before the next hop greets."""
     heading(2, "The message is on disk and in the queue; the next hop says nothing yet.")
     lines = relay.run("list")
     same("recipients in the queue", [line.split(" ")[2] for line in lines], [f"<{TAKEN}>", f"<{REFUSED}>"])
@@ -108,7 +108,7 @@ def show_queue(relay):
 
 
 def show_delivery(next_hop, number):
-    """What the next hop was sent: its commands, and the one message that it took."""
+    """Shows what the next hop got: its commands, and the one message that it accepted."""
     message = only_message(next_hop)
     until("QUIT at the next hop", lambda: b"QUIT" in next_hop.commands)
     heading(3, "The next hop gets every octet as the client sent it, after one new trace header; it refuses Cora.")
@@ -140,7 +140,7 @@ def show_notification(home, number):
 
 
 def show_log(relay):
-    """The relay's log, and the queue once more."""
+    """Shows the relay's log, and the queue once more."""
     heading(5, "The relay's own log has a line for each message and each attempt, and the queue is empty again.")
     log = relay.log.read_text()
     for word in (f"<{SENDER}>", f"<{TAKEN}>", f"<{REFUSED}>", "next.example", "550", "home.example"):
@@ -150,7 +150,7 @@ def show_log(relay):
 
 
 def only_message(sink):
-    """The one message that a sink gets."""
+    """Returns the one message that a sink gets."""
     sink.wait_for(1, PATIENCE)
     messages = sink.take_all()
     same("messages that came", len(messages), 1)
