@@ -1,6 +1,6 @@
-// Lets one call that the program it is preloaded into makes of a spool's files fail, and no further one: the call of the
-// number in FAILED_CALL, counted from 0. Sizes that are asked for, reads, writes, cuts and syncs count. Where LONGER is set,
-// each file is said to have so many octets more than it has.
+// Lets one call that the program it is preloaded into makes of a spool's files fail, and no further one: the call of
+// the number in FAILED_CALL, counted from 0. Sizes that are asked for, reads, writes, cuts and syncs count. Where
+// LONGER is set, each file is said to have so many octets more than it has.
 #define _GNU_SOURCE
 #include <errno.h>
 #include <fcntl.h>

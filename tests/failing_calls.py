@@ -2,8 +2,8 @@
 """Lets one call of a spool's files fail, each in turn, and all others go on: in `init`, in an opening, in an accept of
 `serve`, in the outcome of an attempt of `push`, and in `compact`. Each row says what the relay says, and what the same
 files are opened to after that: the next number, how many recipients are held, and how many octets the spool has. A row
-is wrong on purpose, and must come otherwise. Then the same of a spool alone, by the steps that the program of rows takes
-on one. It ends at the first difference.
+is wrong on purpose, and must come otherwise. Then the same of a spool alone, by the steps that the program of rows
+takes on one. It ends at the first difference.
 
     tests/failing_calls.py build/relayd crates/relay_rows_tests/out/relay_rows_tests
 """
@@ -18,6 +18,7 @@ import tempfile
 
 sys.dont_write_bytecode = True
 
+from links import COMMANDS, HOP_REPLIES
 from mail_checks import connected
 from relay_program import PATIENCE, Difference, Relay, built, free_port, run_main, same
 
@@ -69,9 +70,6 @@ SPOOLS = [
     (16, 20, TWO, OPEN_HEAD, ["open", "compact def"], True, "1 bodies"),
 ]
 
-COMMANDS = b"HELO x\r\nMAIL FROM:<a@example.org>\r\nRCPT TO:<b@example.org>\r\nDATA\r\n.\r\n"
-HOP_REPLIES = b"220 n\r\n250 n\r\n250 ok\r\n250 ok\r\n354 go\r\n250 ok\r\n221 ok\r\n"
-
 
 def told_on(link, wanted=None):
     """What comes on a connection up to its end, or up to these octets."""
@@ -110,7 +108,7 @@ class Calls:
         process = self.relay.start()
         try:
             with connected(self.relay) as link:
-                link.sendall(COMMANDS)
+                link.sendall(COMMANDS.removesuffix(b"QUIT\r\n"))
                 told = told_on(link, b"queued as ")
                 yield process, told
         finally:
@@ -127,7 +125,8 @@ class Calls:
 
     def fail(self, number, *more):
         libraries = " ".join(str(it) for it in (self.failing, *more))
-        self.relay.environment = {**self.plain, "LD_PRELOAD": libraries, "FAILED_CALL": str(number + BEFORE), "HELD": "0"}
+        self.relay.environment = {**self.plain, "LD_PRELOAD": libraries, "FAILED_CALL": str(number + BEFORE),
+                                  "HELD": "0"}
 
     def answer(self, name, number):
         """What the relay says to a call of which the device fails so."""

@@ -1,8 +1,9 @@
 #!/usr/bin/env python3
-"""Serves a client by `relayd serve`, alone and as the first of two workers, and hands a message on by `relayd push`, over
-connections that give and take little, and that end or fail after each octet that is read or written. Each row says how
-the link ends, what it has written, how many recipients are held then, and how many changes the spool has. It ends at
-the first difference.
+"""Serves a client by `relayd serve`, alone and as the first of two workers, and hands a message on by `relayd push`,
+over connections that give and take little, and that end or fail after each octet that is read or written. Each row says
+how the link ends, what it has written, how many recipients are held then, and how many changes the spool has. Then it
+serves clients by `relayd run`, over connections that give and take in parts, and that would block. It ends at the first
+difference.
 
     tests/links.py build/relayd
 """
@@ -76,13 +77,19 @@ WORKERS = [
 ]
 
 # The same over a node that has no number for a change any more: its spool is a snapshot alone, with no message, and
-# after 2^62 the next number. The last one is counted as if the first were there.
+# after 2^62 the next number.
 FULL = [("size", 100, 100, "spool Full", 124, 0, 0)]
 LAST = b"RELAYQ01\x01\0\0\0\0\0\0\0\x01\x01\0\0\0\x0d\x05\x40\0\0\0\0\0\0\x01\0\0\0\0\0"
 
-# How many octets the first writes and reads of a client's connection of `run` take and give, 0 for one that would block.
-# It is written and read on when something comes, and each octet goes once.
-PARTS = [("3 0 2", "4"), ("3 0 2", "4 0 1"), ("1 1 0 0 5", "0 1 0 2"), ("0 36 0 1 0 8", "5 0 1"), ("37 0 3", "6 0 6 0 1")]
+# How many octets the first writes and reads of a client's connection of `run` take and give, 0 for one that would
+# block. It is written and read on when something comes, and each octet goes once.
+PARTS = [
+    ("3 0 2", "4"),
+    ("3 0 2", "4 0 1"),
+    ("1 1 0 0 5", "0 1 0 2"),
+    ("0 36 0 1 0 8", "5 0 1"),
+    ("37 0 3", "6 0 6 0 1"),
+]
 
 # The same of a push. One whose QUIT can't be written has ended all the same.
 PUSH = [
@@ -217,8 +224,8 @@ class Links:
 
 
 def in_parts(links, writes, reads):
-    """A client of `run` says NOOP until all has come that is to, of a connection that takes and gives these parts, and then
-    ends: its octets and no others came."""
+    """A client of `run` says NOOP until all has come that is to, of a connection that takes and gives these parts, and
+    then ends: its octets and no others came."""
     links.narrow("parts", 0, WRITES=writes, READS=reads)
     with links.relay.running(), connected(links.relay) as link:
         name, said, told = "{}:{}".format(*link.getsockname()), 0, b""

@@ -1,8 +1,8 @@
 // Lets the program that it is preloaded into read little from a connection, the first that it takes or makes, and write
-// three octets at most to it at a call. A read gives READ_SIZE octets at most, and those of one line where READ_LINES is
-// set. After as many octets as READ_CUT or WRITE_CUT says such a call fails once. READS and WRITES say how many octets
-// the first calls give or take, a number and a space each; 0 stands for one that would block. The calls after those give
-// and take all.
+// three octets at most to it at a call. A read gives READ_SIZE octets at most, and those of one line where READ_LINES
+// is set. After as many octets as READ_CUT or WRITE_CUT says such a call fails once. READS and WRITES say how many
+// octets the first calls give or take, a number and a space each; 0 stands for one that would block. The calls after
+// those give and take all.
 #define _GNU_SOURCE
 #include <errno.h>
 #include <netinet/in.h>

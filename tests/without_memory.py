@@ -86,8 +86,8 @@ def books(program, folder):
 
 
 # Plays of one node, line by line, with what is seen of each; none stands where that follows from the rest. A session's
-# mail has one recipient, and that of the report three, of which a next hop with DSN takes the first, refuses the second,
-# and may take the third later.
+# mail has one recipient, and that of the report three, of which a next hop with DSN takes the first, refuses the
+# second, and may take the third later.
 
 SESSION = r"HELO x\r\nMAIL FROM:<a@out.example>\r\nRCPT TO:<b@out.example>\r\n"
 LINES = SESSION + r"DATA\r\n.\r\n"
@@ -118,7 +118,8 @@ def leaving(link):
 
 
 def two_sessions(text):
-    return [*connect(1), *connect(2), *mail(1, 1, text), *mail(2, 2, text), *leaving(1), *leaving(2)], "a 1 0\na 2 0\n"
+    rows = [*connect(1), *connect(2), *mail(1, 1, text), *mail(2, 2, text), *leaving(1), *leaving(2)]
+    return rows, "a 1 0\na 2 0\n"
 
 
 def attempt_with_a_report():
@@ -209,7 +210,8 @@ def nodes(program, folder):
         seen, end = plays.of(lines)
         same(f"{word} with all its memory", [it for it, (_, wanted) in zip(seen, rows) if wanted],
              [wanted for _, wanted in rows if wanted])
-        same(f"{word}: what is held in the end", "".join(f"{it}\n" for it in end).startswith(f"stopped a\n{held}"), True)
+        shown = "".join(f"{it}\n" for it in end)
+        same(f"{word}: what is held in the end", shown[:10 + len(held)], f"stopped a\n{held}")
         whole = [*seen, *end]
 
         def name_of(run):

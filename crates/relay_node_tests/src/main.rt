@@ -1,11 +1,11 @@
 //! Plays each scenario of data/ on a node over memory: in one piece, with what the other sides say cut in two at each
 //! octet, octet by octet, and in one piece among this many other clients that 64 are there; or, where a device fails,
 //! for each call and each stop. The outcome of each event is compared with what is written down. Then it shows the
-//! scenes of a relay without a socket, a run of a network and which configurations make one, and runs each measurement of
-//! bench/ on a few octets.
+//! scenes of a relay without a socket, a run of a network and which configurations make one, and runs each measurement
+//! of bench/ on a few octets.
 //!
-//! By the word `scenes` and a path it plays the steps of that file, as tests/groups_without_memory.py does, by `file` and
-//! a path the scenarios of that file alone, and by `bench` the measurement that the next words name.
+//! By the word `scenes` and a path it plays the steps of that file, as tests/groups_without_memory.py does, by `file`
+//! and a path the scenarios of that file alone, and by `bench` the measurement that the next words name.
 #![tactic(auto)]
 
 mod answers;
