@@ -1,7 +1,6 @@
 //! Snapshots: of what one or two records leave, read back, and cut short.
 use crate::answer::Answer;
 use crate::books::hex::octets_of;
-use crate::books::subject::Subject;
 use relay_book::{Book, BookFault};
 use relay_pieces::Pieces;
 use std::alloc::{AllocError, Global};
@@ -23,29 +22,10 @@ pub fn tell_snapshot(answer: &mut Answer, row: &str) {
 
 /// Returns the snapshot that a record leaves, and a second one, where that isn't empty.
 fn snapshot_of(alloc: Global, first: Vec<u8>, second: Vec<u8>) -> Result<Vec<u8>, BookFault> {
-    let mut subject = first_of(alloc, first)?;
-    read_next(alloc, &mut subject.book, second)?;
-    write_snapshot(alloc, &subject.book)
-}
-
-/// Returns the book that a record leaves.
-fn first_of(alloc: Global, record: Vec<u8>) -> Result<Subject, BookFault> {
-    match Book::read_first(alloc, Pieces::of_one(alloc, record)) {
-        Ok(book) => Ok(Subject::of(alloc, book)),
-        Err(fault) => Err(fault),
+    let mut book = Book::read_first(alloc, Pieces::of_one(alloc, first))?;
+    if !second.is_empty() {
+        book.read_next(alloc, second)?;
     }
-}
-
-/// Reads a further record, where it isn't empty.
-fn read_next(alloc: Global, book: &mut Book, record: Vec<u8>) -> Result<(), BookFault> {
-    if record.is_empty() {
-        return Ok(());
-    }
-    book.read_next(alloc, record)
-}
-
-/// Returns the snapshot of a book.
-fn write_snapshot(alloc: Global, book: &Book) -> Result<Vec<u8>, BookFault> {
     Ok(book.encode_snapshot(alloc, 0)?)
 }
 
@@ -66,23 +46,22 @@ fn in_pieces(alloc: Global, octets: &[u8]) -> Result<Pieces, AllocError> {
     Ok(pieces)
 }
 
-/// Returns the book of a snapshot.
-pub fn book_of(alloc: Global, octets: &[u8]) -> Result<Subject, BookFault> {
-    match Book::decode_snapshot(alloc, in_pieces(alloc, octets)?) {
-        Ok(book) => Ok(Subject::of(alloc, book)),
-        Err(fault) => Err(fault),
-    }
-}
-
-/// Returns whether the snapshot of a book is these octets.
-pub fn is_written_as(alloc: Global, book: &Book, octets: &[u8]) -> Result<bool, BookFault> {
-    Ok(write_snapshot(alloc, book)?.as_slice() == octets)
+/// Returns the book of a snapshot, and whether it is written as these octets again.
+pub fn book_of(alloc: Global, octets: &[u8]) -> Result<(Book, bool), BookFault> {
+    let book = Book::decode_snapshot(alloc, in_pieces(alloc, octets)?)?;
+    let is_same = book.encode_snapshot(alloc, 0)?.as_slice() == octets;
+    Ok((book, is_same))
 }
 
 /// Returns whether the octets are a snapshot.
 pub fn is_snapshot(answer: &mut Answer, octets: &[u8]) -> bool {
-    let book = book_of(answer.alloc, octets);
-    answer.is_taken(book)
+    match in_pieces(answer.alloc, octets) {
+        Ok(pieces) => {
+            let book = Book::decode_snapshot(answer.alloc, pieces);
+            answer.is_taken(book)
+        }
+        Err(_) => answer.refuses(BookFault::NoMemory),
+    }
 }
 
 /// Tells at how many of its octets a snapshot is refused when it is cut there.

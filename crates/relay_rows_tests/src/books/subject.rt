@@ -2,15 +2,14 @@
 use crate::answer::{Answer, RowsFault};
 use crate::books::hex::octets_of;
 use crate::books::octets::{fits, tell_values};
-use crate::books::snapshot::{book_of, is_written_as, tell_cuts, tell_fault, tell_snapshot};
+use crate::books::snapshot::{book_of, tell_cuts, tell_fault, tell_snapshot};
 use relay_book::{Book, BookFault, decode_change, encode_change};
 use relay_trace::Moment;
 use std::alloc::{AllocError, Global};
-use std::mem;
 
 /// What rows are about: a book, and a record at hand.
 pub struct Subject {
-    pub book: Book,
+    book: Book,
     record: Vec<u8>,
 }
 
@@ -27,13 +26,8 @@ impl Drop for Subject {
 impl Subject {
     /// Makes an empty book, and no record.
     pub fn new(alloc: Global) -> Self {
-        Subject::of(alloc, Book::new(alloc))
-    }
-
-    /// Makes this book, and no record.
-    pub fn of(alloc: Global, book: Book) -> Self {
         Subject {
-            book,
+            book: Book::new(alloc),
             record: Vec::new(alloc),
         }
     }
@@ -117,12 +111,11 @@ impl Subject {
     fn read(&mut self, octets: &[u8], answer: &mut Answer) {
         match book_of(answer.alloc, octets) {
             Err(fault) => tell_fault(answer, fault),
-            Ok(mut read) => {
-                mem::swap(&mut self.book, &mut read.book);
-                let is_same = is_written_as(answer.alloc, &self.book, octets);
+            Ok((book, is_same)) => {
+                self.book = book;
                 tell_again(
                     answer,
-                    is_same,
+                    Ok(is_same),
                     "a snapshot of ",
                     octets.len(),
                     "another snapshot",
