@@ -193,6 +193,21 @@ def a_recipient_refused_by_a_hop(field, server):
     same("list", field.relay.held(), [])
 
 
+def many_recipients_refused_by_a_hop(field, server):
+    """Postfix closes a connection after 20 of them (smtpd_hard_error_limit): so many are in no attempt, and the one that
+    it takes is in the second."""
+    refused = [f"refused+{number}@in.example" for number in range(25)]
+    with field.serving():
+        hand_in(field.relay.port, [*refused, "b@in.example"], SMALL)
+    field.sink.wait_for(3, PATIENCE)
+    messages = field.sink.take_all()
+    taken = [recipients_alone(message) for message in messages]
+    same("recipients", sorted(taken), [[b"<a@out.example>"], [b"<a@out.example>"], [b"<b@in.example>"]])
+    reports = [message.content for message in messages if recipients_alone(message) != [b"<b@in.example>"]]
+    told = [report.count(b"\r\nAction: failed\r\n") for report in reports]
+    same("recipients in each report", told, [15, 10])
+
+
 def parameters_through_a_hop(field, server):
     with field.serving_one("next.example ended"):
         hand_in(field.relay.port, ["b@in.example"], SMALL, ["RET=HDRS", "ENVID=q+2B1"],
@@ -255,9 +270,12 @@ def python(field, packages):
             all_taken(field.sink, recipients, content)
 
 
+# Rows of which `push` and `serve` have nothing: an attempt of theirs is for all recipients of a message.
+OF_RUN = [many_recipients_refused_by_a_hop]
 SERVERS = {
     "postfix": (Postfix, [
-        through_a_client, a_stranger, through_a_hop, a_recipient_refused_by_a_hop, parameters_through_a_hop]),
+        through_a_client, a_stranger, through_a_hop, a_recipient_refused_by_a_hop, parameters_through_a_hop,
+        many_recipients_refused_by_a_hop]),
     "exim4-daemon-light": (Exim, [
         through_a_client, chunks_of_exim, a_stranger, through_a_hop, a_recipient_refused_by_a_hop,
         parameters_through_a_hop, a_chunk_through_exim]),
@@ -268,6 +286,7 @@ SERVERS = {
 
 def run_server(program, packages, package, folder, runs):
     make, rows = SERVERS[package]
+    rows = [row for row in rows if runs or row not in OF_RUN]
     with contextlib.closing(Field(program, packages, folder, runs)) as field:
         with contextlib.closing(make(packages, field.relay.port, field.sink.port)) as server:
             for row in rows:

@@ -137,6 +137,8 @@ smtpd_recipient_restrictions =
     check_recipient_access inline:{{ {{ refused@in.example = 550 no such user }} }},
     permit_mynetworks, reject
 smtpd_peername_lookup = no
+# Any number of paths are refused: refused+1@in.example is too.
+recipient_delimiter = +
 # One transaction for all recipients.
 default_destination_recipient_limit = 1000
 message_size_limit = 20000000

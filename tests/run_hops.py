@@ -16,8 +16,8 @@ import time
 sys.dont_write_bytecode = True
 
 from relay_program import Difference, free_port, same, until
-from running_relay import SOON, Client, beside, clients_of, comes_to_rest, hop_that, hop_that_hangs, lines_of, no_later
-from running_relay import play_rows, reset, shim, slowest
+from running_relay import SOON, TEXT, Client, Clocks, beside, clients_of, comes_to_rest, hop_that, hop_that_hangs
+from running_relay import lines_of, no_later, number_of, play_rows, reset, shim, slowest
 
 # How many next hops say nothing at once, and how many of these have a connection at most.
 SILENT = 63
@@ -117,6 +117,59 @@ class Narrow:
                     return
 
 
+class Strict:
+    """A next hop that refuses each recipient whose path begins with `no`, and answers 421 after so many of them and
+    closes the connection, as Postfix does. It keeps how many recipients each connection was to have, and which of them
+    it has taken mail for."""
+
+    def __init__(self, most):
+        self.most, self.lock, self.asked, self.taken = most, threading.Lock(), [], []
+
+    def __call__(self, link):
+        link.sendall(b"220 hop.example\r\n")
+        same("the first command", link.recv(1 << 10)[:5], b"EHLO ")
+        link.sendall(b"250-hop.example\r\n250 PIPELINING\r\n")
+        # MAIL and each RCPT, which come in one write.
+        mail, *recipients = link.recv(1 << 16).splitlines()
+        same("the second command", mail[:5], b"MAIL ")
+        paths = [line[len(b"RCPT TO:<"):].split(b">")[0].decode() for line in recipients]
+        with self.lock:
+            self.asked.append(len(paths))
+        link.sendall(b"250 ok\r\n")
+        self.answer(link, paths)
+
+    def answer(self, link, paths):
+        """The RCPTs of these, and what follows them."""
+        good, refused = [], 0
+        for path in paths:
+            is_refused = path.startswith("no")
+            link.sendall(b"550 no such user\r\n" if is_refused else b"250 ok\r\n")
+            good += [] if is_refused else [path]
+            refused += is_refused
+            if refused == self.most:
+                link.sendall(b"421 hop.example too many errors\r\n")
+                return
+        with link.makefile("rb") as lines:
+            if good:
+                same("what follows", lines.readline(), b"DATA\r\n")
+                link.sendall(b"354 go on\r\n")
+                while lines.readline() not in (b".\r\n", b""):
+                    pass
+                with self.lock:
+                    self.taken += good
+                link.sendall(b"250 ok\r\n")
+            same("what comes last", lines.readline(), b"QUIT\r\n")
+            link.sendall(b"221 bye\r\n")
+
+
+def hand_in_to(client, paths):
+    """A message to these; the number that it was queued as."""
+    for command in ("MAIL FROM:<a@example.org>", *[f"RCPT TO:<{path}>" for path in paths]):
+        same(f"the reply to {command}", client.say(f"{command}\r\n".encode())[:4], "250 ")
+    same("the reply to DATA", client.say(b"DATA\r\n")[:4], "354 ")
+    return number_of(client.say(TEXT))
+
+
 @contextlib.contextmanager
 def hop_that_takes_no_connection():
     """A listener with a full queue: the system neither accepts nor refuses a connection to it. Returns its port."""
@@ -201,6 +254,55 @@ def a_hop_of_few_connections_puts_nothing_off(field):
             same("whether it turned any away", 0 < hop.turned_away, True)
 
 
+def refused_recipients_cost_no_other(field):
+    """A next hop closes the connection after 20 of them: an attempt has fewer, and the next one the others."""
+    hop = Strict(20)
+    with hop_that(hop) as port:
+        relay = field.relay(more={"example.net": ("strict.example", port)})
+        with relay.running() as process, clients_of(relay, 1) as [client]:
+            hand_in_to(client, [*[f"no{number}@example.net" for number in range(25)], "yes@example.net"])
+            until("the one that isn't refused", lambda: hop.taken == ["yes@example.net"])
+            until("an empty list", lambda: relay.held() == [])
+            comes_to_rest(process, "after refused recipients")
+        same("recipients of each attempt", hop.asked, [15, 11])
+        same("recipients that were put off", lines_of(relay, "status=deferred"), [])
+        field.arrived(2)
+
+
+def recipients_of_one_message_wait_for_no_listing(field):
+    """Attempts for them follow one another, in the order of the recipients, also while other mail waits."""
+    hop, paths = Strict(20), [f"b{number}@example.net" for number in range(100)]
+    with hop_that(hop) as port:
+        more = {"example.net": ("strict.example", port), "example.com": ("away.example", free_port())}
+        relay = field.relay(more=more, recipients_per_attempt=5)
+        with relay.running() as process, clients_of(relay, 1) as [client]:
+            client.hand_in("c@example.com")
+            until("mail that waits", lambda: lines_of(relay, "hop-held "))
+            client.hand_in("c@example.com")
+            hand_in_to(client, paths)
+            until("all recipients", lambda: len(hop.taken) == 100)
+            comes_to_rest(process, "after a message with many recipients")
+        same("recipients of each attempt", hop.asked, [5] * 20)
+        same("recipients", hop.taken, paths)
+
+
+def an_attempt_that_is_cut_off_leaves_half_as_many_for_the_next(field):
+    """Those of an attempt that was cut off are put off, and the other recipients of the message are tried at once."""
+    hop = Strict(5)
+    with hop_that(hop) as port:
+        relay = field.relay(more={"example.net": ("strict.example", port)}, recipients_per_attempt=16)
+        clocks = Clocks(field, relay)
+        with relay.running() as process, clients_of(relay, 1) as [client]:
+            hand_in_to(client, [f"no{number}@example.net" for number in range(40)])
+            until("an attempt for each recipient", lambda: len(hop.asked) == 6)
+            until("those that were put off", lambda: {row[1] for row in relay.held()} == set(range(24)))
+            comes_to_rest(process, "after attempts that were cut off")
+            clocks.advance(3600)
+            until("an empty list", lambda: relay.held() == [])
+        same("recipients of each attempt", hop.asked, [16, 8, *[4] * 4, *[4] * 6])
+        same("recipients that were put off", len(lines_of(relay, "status=deferred")), 24)
+
+
 def a_hop_that_takes_no_connection_is_lost_after_half_a_minute(field):
     """With a clock twenty times as fast; then it is on hold."""
     with hop_that_takes_no_connection() as port:
@@ -282,6 +384,9 @@ ROWS = [
     a_hop_that_hangs_holds_up_no_other,
     silent_hops_leave_room_for_others,
     a_hop_of_few_connections_puts_nothing_off,
+    refused_recipients_cost_no_other,
+    recipients_of_one_message_wait_for_no_listing,
+    an_attempt_that_is_cut_off_leaves_half_as_many_for_the_next,
     a_hop_that_takes_no_connection_is_lost_after_half_a_minute,
     bad_next_hops_delay_no_reply,
     clients_that_are_reset_delay_no_reply,

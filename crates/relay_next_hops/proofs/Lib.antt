@@ -9,3 +9,5 @@ mod StartLemmas
 mod TurnLemmas
 mod CountLemmas
 mod RoundLemmas
+mod GoingOnLemmas
+mod BegunLemmas

@@ -3,11 +3,14 @@ use Rattle.std.specs.Prelude.{◌≡◌, ℕ, false, List, [], Option, None, Som
 use Rattle.std.specs.declared.net.socket_addr.SocketAddrV4.{SocketAddrV4}
 use Rattle.relay_slots.specs.Slots.{slot_at}
 use Rattle.relay_routes.specs.Routes.{Route, place_of}
-use Rattle.relay_attempts.specs.Attempts.{Starts}
+use Rattle.relay_attempts.specs.Attempts.{StartsAtMost}
 use Rattle.relay_attempts.specs.declared.start.Started.{Started}
 use Rattle.relay_loop.specs.Relay.{OnlyHop, RelayState}
+use Rattle.relay_log.specs.declared.hop_link.Loss.{Loss}
+use Rattle.relay_log.specs.declared.hop_link.Loss.TheVariants.{Refused, Unreachable, Silent, Cut}
 use Rattle.relay_connections.specs.Channel.{held_of, is_shut, unread_of}
 use Rattle.relay_connections.specs.declared.channel.Channel.{Channel}
+use Rattle.relay_next_hops.specs.Portions.{Shares, halved_for}
 use Rattle.relay_next_hops.specs.declared.errand.Aim.{Aim}
 use Rattle.relay_next_hops.specs.declared.errand.Course.{Course}
 use Rattle.relay_next_hops.specs.declared.errand.Course.TheVariants.{Stays, Ended, Lost, TurnedAway, Void}
@@ -35,12 +38,30 @@ left_of (Lost loss) hop = None
 left_of TurnedAway hop = None
 left_of Void hop = None
 
--- this attempt has begun at a time for a message and a next hop
-pub record StartsFor {D : Type 0} (at message : ℕ) (name : List ℕ) (attempt : Option ℕ) (old new : RelayState D)
+-- half as many recipients of a message in further attempts, where one that had begun was cut off; as many as before
+-- after any other loss of a connection
+abbrev pub portions_after_loss : Loss → Option ℕ → ℕ → Shares → Shares
+portions_after_loss Refused attempt message portions = portions
+portions_after_loss Unreachable attempt message portions = portions
+portions_after_loss Silent attempt message portions = portions
+portions_after_loss Cut None message portions = portions
+portions_after_loss Cut (Some attempt) message portions = halved_for message portions
+
+-- the most recipients of each message in an attempt, after a connection for a message that has come to this
+abbrev pub portions_after : Course → Option ℕ → ℕ → Shares → Shares
+portions_after Stays attempt message portions = portions
+portions_after (Ended outbox noted) attempt message portions = portions
+portions_after (Lost loss) attempt message portions = portions_after_loss loss attempt message portions
+portions_after TurnedAway attempt message portions = portions
+portions_after Void attempt message portions = portions
+
+-- this attempt has begun at a time for a message and a next hop, for the first of the places that are due there: this
+-- many, or all of them if there are fewer
+pub record StartsFor {D : Type 0} (at most message : ℕ) (name : List ℕ) (attempt : Option ℕ) (old new : RelayState D)
     : Type 0 where
   pub started : Started
-  pub begins : Starts old.node.config.host old.node.config.routes message name at old.node.records.queue
-      old.node.attempts new.node.attempts started
+  pub begins : StartsAtMost old.node.config.host old.node.config.routes message name (Some most) at
+      old.node.records.queue old.node.attempts new.node.attempts started
   pub attempt_is : attempt ≡ Some started.attempt
   pub records : new.node.records ≡ old.node.records
   pub only : OnlyHop old new started.attempt

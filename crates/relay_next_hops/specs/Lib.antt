@@ -1,11 +1,13 @@
 pub mod Places
 pub mod Paces
+pub mod Portions
 pub mod Lanes
 pub mod Listing
 pub mod Errands
 pub mod Counts
 pub mod Hearing
 pub mod Losses
+pub mod GoingOn
 pub mod Starting
 pub mod Turns
 pub mod Overdue

@@ -1,12 +1,18 @@
 //! What is left to be done where the connection to a next hop has ended.
-ghost use Rattle.std.specs.Prelude.{◌≡◌, None, Ok, OnOk, false, true};
+ghost use Rattle.std.specs.Prelude.{◌≡◌, None, Ok, OnOk, Option, false, true};
+ghost use Rattle.relay_loop.specs.declared.outbox.Outbox.{Outbox};
+ghost use Rattle.relay_records.specs.declared.noted.Noted.{Noted};
+ghost use Rattle.relay_next_hops.specs.Errands.{portions_after};
+ghost use Rattle.relay_next_hops.specs.GoingOn.{ComesNext};
 ghost use Rattle.relay_next_hops.specs.Lanes.{KeepsCounts, KeepsPlaces, OnlyLane};
 ghost use Rattle.relay_next_hops.specs.Losses.{EndsLost, IsRecordedOrRefused, Loses, LosesAttempt, LosesNot};
 ghost use Rattle.relay_next_hops.specs.Losses.{RefusesLoss, StartsAndLoses, StartsNothing};
 ghost use Rattle.relay_next_hops.specs.Paces.{RunsOneLess};
 
 use crate::errand::{Course, Errand};
+use crate::going_on::go_on;
 use crate::lanes::Lanes;
+use crate::portions::Portions;
 use relay_connections::{Channel, Leaving, Now, Stream};
 use relay_disk::Disk;
 use relay_files::Fault;
@@ -21,6 +27,7 @@ pub(crate) fn conclude<S: Stream + Drop, D: Disk>(
     registry: &S::Registry,
     relay: &mut Relay<D>,
     lanes: &mut Lanes,
+    portions: &mut Portions,
     leaving: &mut Leaving<S>,
     ended: (Channel<S>, Errand),
     course: Course,
@@ -29,13 +36,35 @@ pub(crate) fn conclude<S: Stream + Drop, D: Disk>(
 ) -> Result<(), Fault>
     ensures runs { RunsOneLess ended.1.aim.lane lanes.old.paces lanes.new.paces }
     ensures places { KeepsPlaces lanes.old lanes.new }
+    ensures portions { portions.new ≡ portions_after course ended.1.attempt ended.1.message portions.old }
+    ensures next { (outbox : Outbox) (noted : Option Noted) → course ≡ Course.Ended outbox noted
+        → ComesNext now.now.moment ended.1 relay.new lanes.new }
 {
     let (channel, errand) = ended;
     let is_shared = lanes.is_shared(&errand.aim);
     lanes.ended(errand.aim.lane);
+    note_cut(portions, &errand, &course);
     finish(
         registry, relay, lanes, leaving, channel, errand, is_shared, course, now, log,
     )
+}
+
+/// Takes note of an attempt that was cut off: the next ones for its message have half as many recipients.
+fn note_cut(portions: &mut Portions, errand: &Errand, course: &Course)
+    ensures { portions.new ≡ portions_after course.now errand.now.attempt errand.now.message portions.old }
+{
+    match course {
+        Course::Lost(Loss::Cut) => {
+            if errand.attempt.is_some() {
+                portions.halve(errand.message);
+            }
+        }
+        Course::Lost(Loss::Refused | Loss::Unreachable | Loss::Silent)
+        | Course::Stays
+        | Course::Ended(_, _)
+        | Course::TurnedAway
+        | Course::Void => {}
+    }
 }
 
 /// Does what is left to be done for an errand that counts no more among its lane's.
@@ -52,14 +81,17 @@ fn finish<S: Stream + Drop, D: Disk>(
     log: &mut Log<'_, Vec<u8>>,
 ) -> Result<(), Fault>
     ensures counts { KeepsCounts lanes.old lanes.new }
+    ensures next { (outbox : Outbox) (noted : Option Noted) → course ≡ Course.Ended outbox noted
+        → ComesNext now.now.moment errand relay.new lanes.new }
 {
     let lane = errand.aim.lane;
     match course {
         Course::Stays => Ok(()),
         Course::Ended(outbox, noted) => {
             end_well(
-                registry, lanes, leaving, channel, errand, outbox, noted, now, log,
+                registry, lanes, leaving, channel, &errand, outbox, noted, now, log,
             );
+            go_on(relay, lanes, errand, now);
             Ok(())
         }
         Course::TurnedAway => {
@@ -71,7 +103,7 @@ fn finish<S: Stream + Drop, D: Disk>(
             lanes.turn_away(lane, errand.into_task());
             Ok(())
         }
-        Course::Lost(loss) => lose(relay, lanes, errand, loss, now, log),
+        Course::Lost(loss) => end_badly(relay, lanes, errand, loss, now, log),
         Course::Void => {
             tell_void(&errand, now, log);
             Ok(())
@@ -85,7 +117,7 @@ fn end_well<S: Stream + Drop>(
     lanes: &mut Lanes,
     leaving: &mut Leaving<S>,
     channel: Channel<S>,
-    errand: Errand,
+    errand: &Errand,
     outbox: Outbox,
     noted: Option<Noted>,
     now: &Now,
@@ -97,14 +129,14 @@ fn end_well<S: Stream + Drop>(
     if errand.is_welcome {
         lanes.ended_well(lane);
     }
-    tell_outcome(&errand, noted, now, log);
+    tell_outcome(errand, noted, now, log);
     leaving.take(registry, channel, outbox, Some(lane), now);
     lanes.note_leaving_of(lane, leaving);
 }
 
-/// Records that the attempt of an errand is lost. A next hop that has said nothing is on hold then; and where it is
-/// already, an attempt that hasn't begun is none.
-pub(crate) fn lose<D: Disk>(
+/// Records that the attempt of an errand is lost. Once that is recorded, an attempt for the recipients that it left is
+/// the next of its lane; otherwise these wait with those of the lost one.
+fn end_badly<D: Disk>(
     relay: &mut Relay<D>,
     lanes: &mut Lanes,
     errand: Errand,
@@ -112,23 +144,42 @@ pub(crate) fn lose<D: Disk>(
     now: &Now,
     log: &mut Log<'_, Vec<u8>>,
 ) -> Result<(), Fault>
-    ensures lost { OnOk result (EndsLost D.words now.now errand lanes.old.paces relay.old relay.new) }
     ensures counts { KeepsCounts lanes.old lanes.new }
-    ensures only { OnlyLane errand.aim.lane lanes.old lanes.new }
+{
+    let is_recorded = lose(relay, lanes, &errand, loss, now, log)?;
+    if is_recorded && errand.attempt.is_some() {
+        go_on(relay, lanes, errand, now);
+    }
+    Ok(())
+}
+
+/// Records that the attempt of an errand is lost. A next hop that has said nothing is on hold then; and where it is
+/// already, an attempt that hasn't begun is none. Returns whether it is recorded.
+pub(crate) fn lose<D: Disk>(
+    relay: &mut Relay<D>,
+    lanes: &mut Lanes,
+    errand: &Errand,
+    loss: Loss,
+    now: &Now,
+    log: &mut Log<'_, Vec<u8>>,
+) -> Result<bool, Fault>
+    ensures lost { OnOk result (EndsLost D.words now.now errand.now lanes.old.paces relay.old relay.new) }
+    ensures counts { KeepsCounts lanes.old lanes.new }
+    ensures only { OnlyLane errand.now.aim.lane lanes.old lanes.new }
     ensures tasks { lanes.new.lanes ≡ lanes.old.lanes }
     ensures config { relay.new.node.config ≡ relay.old.node.config }
 {
     if errand.attempt.is_none() && lanes.is_held(errand.aim.lane, now) {
-        return Ok(());
+        return Ok(false);
     }
     let unheard = log.talk_of(relay.node().message(errand.message));
-    let (_, noted) = record_and_note(relay, &errand, now)?;
-    let talk = talk_of(&errand, &unheard);
-    tell(&errand, Some(loss), noted, talk, now, log);
+    let (is_recorded, noted) = record_and_note(relay, errand, now)?;
+    let talk = talk_of(errand, &unheard);
+    tell(errand, Some(loss), noted, talk, now, log);
     if !errand.has_spoken {
-        hold(lanes, &errand, loss, log, now);
+        hold(lanes, errand, loss, log, now);
     }
-    Ok(())
+    Ok(is_recorded)
 }
 
 /// Records that an errand is lost because its next hop is on hold.

@@ -146,20 +146,22 @@ impl<S: Stream> Hop<S> {
     }
 
     /// Does one thing more: makes the connection, awaits the greeting, writes what waits, or reads what its attempt may
-    /// hear then. The next hop is shared where other connections to it stand, or stood when this one was begun.
+    /// hear then. An attempt that begins has `most` recipients at most. The next hop is shared where other connections
+    /// to it stand, or stood when this one was begun.
     pub(crate) fn attend<D: Disk>(
         &mut self,
         relay: &mut Relay<D>,
+        most: usize,
         is_shared: bool,
         now: &Now,
     ) -> Result<Course, Fault>
         ensures errand { KeepsErrand self.old self.new }
         ensures keeps { self.old.attempt ≢ None → self.new.attempt ≡ self.old.attempt }
         ensures starts { self.old.attempt ≡ None → self.new.attempt ≢ None
-            → StartsFor now.now.moment self.old.message self.old.name self.new.attempt relay.old relay.new }
+            → StartsFor now.now.moment most self.old.message self.old.name self.new.attempt relay.old relay.new }
     {
         self.hears = false;
-        let course = self.go_on(relay, is_shared, now)?;
+        let course = self.go_on(relay, most, is_shared, now)?;
         if self.hears {
             return Ok(course);
         }
@@ -170,18 +172,19 @@ impl<S: Stream> Hop<S> {
     fn go_on<D: Disk>(
         &mut self,
         relay: &mut Relay<D>,
+        most: usize,
         is_shared: bool,
         now: &Now,
     ) -> Result<Course, Fault>
         ensures errand { KeepsErrand self.old self.new }
         ensures keeps { self.old.attempt ≢ None → self.new.attempt ≡ self.old.attempt }
         ensures starts { self.old.attempt ≡ None → self.new.attempt ≢ None
-            → StartsFor now.now.moment self.old.message self.old.name self.new.attempt relay.old relay.new }
+            → StartsFor now.now.moment most self.old.message self.old.name self.new.attempt relay.old relay.new }
     {
         match self.attempt {
             Some(attempt) => Ok(self.exchange(relay, attempt, now)),
             None if self.phase == Phase::Connecting => Ok(self.connect(now)),
-            None => self.await_greeting(relay, is_shared, now),
+            None => self.await_greeting(relay, most, is_shared, now),
         }
     }
 
@@ -244,12 +247,13 @@ impl<S: Stream> Hop<S> {
     fn await_greeting<D: Disk>(
         &mut self,
         relay: &mut Relay<D>,
+        most: usize,
         is_shared: bool,
         now: &Now,
     ) -> Result<Course, Fault>
         ensures errand { KeepsErrand self.old self.new }
         ensures starts { self.old.attempt ≡ None → self.new.attempt ≢ None
-            → StartsFor now.now.moment self.old.message self.old.name self.new.attempt relay.old relay.new }
+            → StartsFor now.now.moment most self.old.message self.old.name self.new.attempt relay.old relay.new }
     {
         if !self.channel.fill() {
             return Ok(match self.channel.end() {
@@ -262,16 +266,22 @@ impl<S: Stream> Hop<S> {
         if is_shared && self.greeting == Some(b'4') {
             return Ok(Course::TurnedAway);
         }
-        self.begin(relay, now)
+        self.begin(relay, most, now)
     }
 
-    /// Begins the attempt, which may hear what was read.
-    fn begin<D: Disk>(&mut self, relay: &mut Relay<D>, now: &Now) -> Result<Course, Fault>
+    /// Begins the attempt, for the first recipients of the message that are due, `most` of them at most. It may hear
+    /// what was read.
+    fn begin<D: Disk>(
+        &mut self,
+        relay: &mut Relay<D>,
+        most: usize,
+        now: &Now,
+    ) -> Result<Course, Fault>
         ensures errand { KeepsErrand self.old self.new }
         ensures starts { self.old.attempt ≡ None → self.new.attempt ≢ None
-            → StartsFor now.now.moment self.old.message self.old.name self.new.attempt relay.old relay.new }
+            → StartsFor now.now.moment most self.old.message self.old.name self.new.attempt relay.old relay.new }
     {
-        match relay.start(self.message, &self.name, now.moment) {
+        match relay.start_some(self.message, &self.name, most, now.moment) {
             Ok(started) => {
                 self.attempt = Some(started.attempt);
                 self.wait_on(relay, started.attempt, now);

@@ -1,12 +1,14 @@
-ghost use Rattle.std.specs.Prelude.{◌≡◌, ◌<◌, ◌≤◌, ℕ, IfErr, IfOk, List, MatchOption, None, OnOk, length, true};
+ghost use Rattle.std.specs.Prelude.{◌≡◌, ◌≢◌, ◌<◌, ◌≤◌, ℕ, IfErr, IfOk, List, MatchOption, None, OnOk, Some, length, true};
 ghost use Rattle.relay_routes.specs.Routes.{Route};
 ghost use Rattle.relay_slots.specs.Slots.{AreFree, IsFull, IsLeastFree, OthersStay, slot_at};
 ghost use Rattle.relay_connections.specs.Table.{count_of, is_such};
 ghost use Rattle.relay_limits.specs.declared.pace.Pace.{Pace};
 ghost use Rattle.relay_next_hops.specs.Counts.{CountsMatch, CountsMatchWith, is_unanswered, unanswered_of};
-ghost use Rattle.relay_next_hops.specs.Errands.{AreAimed, IsAimed, IsOpenedTo, PutsFor, left_of};
+ghost use Rattle.relay_next_hops.specs.Errands.{AreAimed, IsAimed, IsOpenedTo, PutsFor, StartsFor};
+ghost use Rattle.relay_next_hops.specs.Errands.{left_of, portions_after};
 ghost use Rattle.relay_next_hops.specs.Lanes.{KeepsCounts};
 ghost use Rattle.relay_next_hops.specs.Listing.{HasConnection};
+ghost use Rattle.relay_next_hops.specs.Portions.{fresh, portion_of};
 ghost use Rattle.relay_next_hops.specs.Readiness.{IsLeftHop};
 
 use crate::dial::Dial;
@@ -15,6 +17,7 @@ use crate::errand::{Aim, Course};
 use crate::hop::Hop;
 use crate::lane::Task;
 use crate::lanes::Lanes;
+use crate::portions::Portions;
 use relay_connections::{Channel, Leaving, Now, Readiness, Stream, Table, holds, turned};
 use relay_disk::Disk;
 use relay_files::Fault;
@@ -38,6 +41,8 @@ pub(crate) struct Hops<S> {
     pub(crate) hops: Table<Hop<S>>,
     /// The number of the connection that is served first in the next turn.
     pub(crate) first: usize,
+    /// How many recipients of a message their attempts have at most.
+    pub(crate) portions: Portions,
 }
 
 // Written out, so that the proof of a caller that drops them stops at this function.
@@ -47,19 +52,22 @@ impl<S: Drop> Drop for Hops<S> {
             alloc: _,
             hops: _hops,
             first: _,
+            portions: _portions,
         } = self;
     }
 }
 
 impl<S: Stream + Drop> Hops<S> {
-    /// None. Fails if memory runs out.
-    pub(crate) fn new(alloc: Global) -> Result<Self, AllocError>
-        ensures { IfOk result (λ hops. AreFree hops.hops) }
+    /// None, whose attempts will have this many recipients at most. Fails if memory runs out.
+    pub(crate) fn new(alloc: Global, recipients: usize) -> Result<Self, AllocError>
+        ensures free { IfOk result (λ hops. AreFree hops.hops) }
+        ensures portions { IfOk result (λ hops. hops.portions ≡ fresh recipients) }
     {
         Ok(Hops {
             alloc,
             hops: Table::new(alloc)?,
             first: 0,
+            portions: Portions::new(alloc, recipients)?,
         })
     }
 
@@ -219,6 +227,10 @@ impl<S: Stream + Drop> Hops<S> {
         ensures counts { CountsMatch self.old.hops lanes.old.paces
             → OnOk result (CountsMatch self.new.hops lanes.new.paces) }
         ensures aimed { (routes : List Route) → AreAimed routes self.old.hops → AreAimed routes self.new.hops }
+        ensures starts { OnOk result ((old new : Hop S) → slot_at self.old.hops number ≡ Some old
+            → slot_at self.new.hops number ≡ Some new → old.attempt ≡ None → new.attempt ≢ None
+            → StartsFor now.now.moment (portion_of self.old.portions old.message) old.message old.name new.attempt
+            relay.old relay.new) }
     {
         let Some(taken) = self.hops.take(number) else {
             return Ok(false);
@@ -226,7 +238,8 @@ impl<S: Stream + Drop> Hops<S> {
         let mut hop = taken;
         let had_spoken = hop.has_spoken;
         let is_shared = lanes.is_shared(&hop.aim);
-        let course = hop.attend(relay, is_shared, now)?;
+        let most = self.portions.most_of(hop.message);
+        let course = hop.attend(relay, most, is_shared, now)?;
         note_spoken(&hop, had_spoken, lanes, now, log);
         self.settle(
             number, hop, course, registry, relay, lanes, leaving, now, log,
@@ -250,6 +263,9 @@ impl<S: Stream + Drop> Hops<S> {
             → slot_at self.new.hops number ≡ left_of course hop }
         ensures others { OthersStay self.old.hops self.new.hops number }
         ensures first { self.new.first ≡ self.old.first }
+        ensures stays { course ≡ Course.Stays → relay.new ≡ relay.old }
+        ensures portions { self.new.portions
+            ≡ portions_after course hop.attempt hop.message self.old.portions }
         ensures counts { CountsMatchWith hop self.old.hops lanes.old.paces → slot_at self.old.hops number ≡ None
             → number < length self.old.hops → OnOk result (CountsMatch self.new.hops lanes.new.paces) }
         ensures aimed { (routes : List Route) → IsAimed routes hop → AreAimed routes self.old.hops
@@ -262,7 +278,17 @@ impl<S: Stream + Drop> Hops<S> {
             }
             course => {
                 let ended = hop.into_parts();
-                conclude(registry, relay, lanes, leaving, ended, course, now, log)?;
+                conclude(
+                    registry,
+                    relay,
+                    lanes,
+                    &mut self.portions,
+                    leaving,
+                    ended,
+                    course,
+                    now,
+                    log,
+                )?;
                 Ok(false)
             }
         }

@@ -4,6 +4,7 @@ ghost use Rattle.relay_slots.specs.Slots.{AreFree};
 ghost use Rattle.relay_connections.specs.Table.{count_of};
 ghost use Rattle.relay_next_hops.specs.Hearing.{AnswersEach, order_of, replies_of, told_of};
 ghost use Rattle.relay_next_hops.specs.Lanes.{IsNew, next_due_of};
+ghost use Rattle.relay_next_hops.specs.Portions.{fresh};
 ghost use Rattle.relay_next_hops.specs.Readiness.{IsLeftHop, hops_of};
 ghost use Rattle.relay_next_hops.specs.Tables.{TablesMatch};
 
@@ -52,9 +53,11 @@ impl<S: Stream + Drop> NextHops<S> {
     pub fn new(alloc: Global, limits: &Limits) -> Result<Self, AllocError>
         ensures free { IfOk result (λ next_hops. AreFree (hops_of next_hops)) }
         ensures matches { IfOk result (λ next_hops. (routes : List Route) → TablesMatch routes next_hops) }
+        ensures portions { IfOk result (λ next_hops. next_hops.hops.portions
+            ≡ fresh limits.now.recipients_per_attempt) }
     {
         Ok(NextHops {
-            hops: Hops::new(alloc)?,
+            hops: Hops::new(alloc, usize::from(limits.recipients_per_attempt))?,
             lanes: Lanes::new(alloc, usize::from(limits.attempts_per_hop)),
             starts: Starts::new(),
         })

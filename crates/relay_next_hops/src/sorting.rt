@@ -200,7 +200,11 @@ impl Lanes {
 }
 
 /// Returns the next hop of a message's place, if it has one. A place without a recipient has none.
-fn hop_of_place<'a>(routes: &'a Table, recipients: &[Recipient], place: usize) -> Option<&'a Hop>
+pub(crate) fn hop_of_place<'a>(
+    routes: &'a Table,
+    recipients: &[Recipient],
+    place: usize,
+) -> Option<&'a Hop>
     ensures { option_copied result ≡ route_of routes.now recipients.now place }
 {
     match recipients.get(place) {

@@ -252,7 +252,7 @@ fn start_task<S: Stream + Drop, N: Dial<Stream = S>, D: Disk>(
         }
         Err((task, error)) => {
             let loss = Loss::of_connecting(&error);
-            lose(relay, lanes, errand_of(task, aim), loss, now, log)?;
+            lose(relay, lanes, &errand_of(task, aim), loss, now, log)?;
             Ok(Tried::Fails)
         }
     }

@@ -1,5 +1,6 @@
 -- A connection that stays is counted in the table again; of one that doesn't, its lane has one less.
-use Rattle.std.proofs.Common.{refl, sym, ◌∙◌, subst}
+use Rattle.std.proofs.Common.{refl, sym, ◌∙◌, ap, subst}
+use Rattle.relay_next_hops.specs.Errands.{portions_after}
 use Rattle.relay_next_hops.specs.Paces.{RunsOneLess}
 use Rattle.relay_next_hops.specs.declared.errand.Aim.{Aim}
 use Rattle.relay_next_hops.proofs.SlotLemmas.{counts_ended, left_none, put_aimed, put_counts}
@@ -18,6 +19,10 @@ returns-in_ok-conclude-in_default g c = record {
   own = λ free low. free ∙ sym (left_none c.args.course c.args.hop c.in_default.not-Stays);
   others = λ other apart. refl;
   first = refl;
+  stays = λ is. absurd (c.in_default.not-Stays is);
+  portions = c.conclude.ensures.portions
+      ∙ ap (λ attempt. portions_after c.args.course attempt c.into_parts-ended.result.1.message c.args.self.now.portions) c.into_parts-ended.ensures.attempt
+      ∙ ap (λ message. portions_after c.args.course c.args.hop.attempt message c.args.self.now.portions) c.into_parts-ended.ensures.errand.0;
   counts = λ match_is free low. counts_ended c.args.hop c.args.self.now.hops c.args.lanes.now.paces c.conclude.new.lanes.paces
       (subst (λ (aim : Aim). RunsOneLess aim.lane c.args.lanes.now.paces c.conclude.new.lanes.paces) c.into_parts-ended.ensures.aim c.conclude.ensures.runs) match_is;
   aimed = λ routes is aimed. aimed;

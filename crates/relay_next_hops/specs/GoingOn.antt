@@ -1,0 +1,28 @@
+-- What an attempt leaves of a message at its next hop: if more of it is due there, that is the next of its lane.
+use Rattle.std.specs.Prelude.{◌≡◌, ℕ, Bool, true, false, List}
+use Rattle.std.specs.Option.{option_map_or}
+use Rattle.relay_attempts.specs.Hops.{due_places_in, is_any}
+use Rattle.relay_book.specs.Queue.{message_of}
+use Rattle.relay_loop.specs.Relay.{RelayState}
+use Rattle.relay_next_hops.specs.Lanes.{IsPutBack}
+use Rattle.relay_next_hops.specs.declared.errand.Errand.{Errand}
+use Rattle.relay_next_hops.specs.declared.lane.Task.{Task}
+use Rattle.relay_next_hops.specs.declared.lanes.Lanes.{Lanes}
+
+-- a place of the message is due at a time, and goes to the next hop of this name
+abbrev pub is_due_there : {D : Type 0} → RelayState D → ℕ → List ℕ → ℕ → Bool
+is_due_there relay message name at =
+    option_map_or (λ message. is_any (due_places_in relay.node.config.routes name at message))
+    (message_of relay.node.records.queue.messages message) false
+
+-- the message of an errand is put before the others of its lane, for its next hop
+pub record GoesOnWith (errand : Errand) (old new : Lanes) : Type 0 where
+  pub task : Task
+  pub its_message : task.message ≡ errand.message
+  pub its_name : task.hop ≡ errand.name
+  pub back : IsPutBack errand.aim.lane task old new
+
+-- if more of it is due there at a time, it was put there
+abbrev pub ComesNext : {D : Type 0} → ℕ → Errand → RelayState D → Lanes → Type 0
+ComesNext at errand relay new =
+    is_due_there relay errand.message errand.name at ≡ true → (between : Lanes) × GoesOnWith errand between new
