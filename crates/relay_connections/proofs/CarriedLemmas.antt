@@ -151,7 +151,7 @@ nothing_before : (known : Option (List ℕ)) → prepend_known [] known ≡ know
 nothing_before None = refl
 nothing_before (Some octets) = refl
 
-pub nothing_after : (known : Option (List ℕ)) → append_known known [] ≡ known
+nothing_after : (known : Option (List ℕ)) → append_known known [] ≡ known
 nothing_after None = refl
 nothing_after (Some octets) = ap Some (append-nil octets)
 
