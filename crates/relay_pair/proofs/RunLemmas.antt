@@ -134,6 +134,14 @@ module _ {D : Type 0} (honest : Type 0) (words : DiskWords D) where
     pub by_events : AllByRecursion (IsAskedBy events) asked
     pub happened : HasHappenedAsking honest words asked old new
 
+  -- by no event nothing has happened
+  pub none_by : (world : World D) → HappenedBy [] world world
+  none_by world = record {
+    asked = [];
+    by_events = tt;
+    happened = record { count = 0; run = refl; asks = λ before. refl };
+  }
+
   -- and by one more
   pub by_one_more : (done : List Event) (event : Event) (old now new : World D) → HappenedBy done old now
       → HasHappenedFor honest words event now new → HappenedBy (done ++ event ∷ []) old new

@@ -209,7 +209,7 @@ module _ {D : Type 0} (honest : Type 0) (words : DiskWords D) where
   begins_here at number node changes told keeps tells = record {
     input = [];
     written = [];
-    host = refl;
+    reporter = refl;
     reads = tt;
     writes = tt;
     keeps = keeps;
