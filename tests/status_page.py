@@ -13,6 +13,7 @@ import html
 import json
 import os
 import pathlib
+import re
 import shutil
 import socket
 import subprocess
@@ -203,6 +204,15 @@ def counted(page):
             values['relayd_rejections_total{cause="no_service"}'])
 
 
+def one_of_a_kind_is_in_the_singular(field):
+    page = Page(field)
+    with page.relay.running(), clients_of(page.relay, 1) as [client]:
+        for day in ("1 message accepted,1 recipient sent", "2 messages accepted,2 recipients sent"):
+            client.hand_in()
+            field.arrived(1)
+            until(day, lambda: ",".join(re.findall(r'<span class="key"[^>]*>([^<]*)</span>', page.get("/")[1])) == day)
+
+
 def connections_are_counted_while_they_stand(field):
     with hop_that_hangs() as (port, taken):
         page = Page(field, more={"hangs.example": ("hangs.example", port)})
@@ -349,6 +359,7 @@ ROWS = [
     the_page_of_an_empty_queue_says_so,
     metrics_tell_of_the_mail,
     refused_connections_are_counted_by_their_reply,
+    one_of_a_kind_is_in_the_singular,
     connections_are_counted_while_they_stand,
     the_list_is_that_of_list,
     markup_in_a_path_is_text,

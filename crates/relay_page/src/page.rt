@@ -1,4 +1,6 @@
 //! The page for people.
+ghost use Rattle.std.specs.Prelude.{◌≡◌, ◌==◌, if◌then◌else◌};
+
 use crate::history::{History, MINUTES};
 use crate::pieces::{Piece, push_pieces};
 use crate::plot::push_plot;
@@ -192,13 +194,20 @@ fn push_day(text: &mut Vec<u8>, history: &History) -> Result<(), AllocError> {
                 b"<section>\n<h2>Last 24 hours</h2>\n<p><span class=\"key\" style=\"--c:var(--came)\">",
             ),
             Piece::Number(day.accepted),
-            Piece::Markup(
-                b" messages accepted</span> <span class=\"key\" style=\"--c:var(--went)\">",
-            ),
+            Piece::Markup(noun(day.accepted, b" message", b" messages")),
+            Piece::Markup(b" accepted</span> <span class=\"key\" style=\"--c:var(--went)\">"),
             Piece::Number(day.sent),
-            Piece::Markup(b" recipients sent</span></p>\n"),
+            Piece::Markup(noun(day.sent, b" recipient", b" recipients")),
+            Piece::Markup(b" sent</span></p>\n"),
         ],
     )?;
     push_plot(text, history)?;
     push_pieces(text, &[Piece::Markup(b"</section>\n")])
+}
+
+/// Returns the noun for this many: the singular for one, and else the plural.
+fn noun(count: u64, singular: &'static [u8], plural: &'static [u8]) -> &'static [u8]
+    ensures { result.now ≡ (if count == 1 then singular.now else plural.now) }
+{
+    if count == 1 { singular } else { plural }
 }

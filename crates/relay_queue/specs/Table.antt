@@ -24,7 +24,7 @@ tries_text tries = if nat_le 4 tries then codes "4+" else decimal tries
 
 -- the same in words, one try or several
 abbrev pub tries_in_words : ℕ → List ℕ
-tries_in_words tries = tries_text tries ++ (if tries == 1 then codes " try" else codes " tries")
+tries_in_words tries = shown (tries_text tries) ++ (if tries == 1 then codes " try" else codes " tries")
 
 -- the number of the message, its age and its size
 abbrev pub numbers_text : ℕ → Queued → List ℕ
@@ -73,6 +73,15 @@ widths_for all = record {
   reverse_path = column_width (codes "REVERSE PATH") (map (λ queued. queued.reverse_path) all);
   path = column_width (codes "RECIPIENT") (map (λ queued. queued.path) all);
   hop = column_width (codes "HOP") (map hop_text all);
+}
+
+-- widths that hold the texts of one recipient more, if there is one
+abbrev pub wider_for : Widths → Option Queued → Widths
+wider_for widths None = widths
+wider_for widths (Some queued) = record {
+  reverse_path = max widths.reverse_path (min (length queued.reverse_path) 40);
+  path = max widths.path (min (length queued.path) 40);
+  hop = max widths.hop (min (length (hop_text queued)) 40);
 }
 
 -- the headings of the columns of numbers, and those of the other columns

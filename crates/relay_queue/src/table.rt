@@ -1,10 +1,10 @@
 //! The queue as a table for people.
-ghost use Rattle.std.specs.Prelude.{◌≡◌, ℕ, List, ◌++◌, ◌-◌, IfOk, OnOk, length, max, min, option_map, slice_get};
-ghost use Rattle.relay_queue.specs.Row.{said_by};
+ghost use Rattle.std.specs.Prelude.{◌≡◌, ℕ, List, ◌++◌, ◌-◌, IfOk, OnOk, Some, length, max, min, option_map, slice_get};
+ghost use Rattle.relay_queue.specs.Row.{queued_at, said_by};
 ghost use Rattle.relay_queue.specs.Screen.{shown};
 ghost use Rattle.relay_queue.specs.Table.{AreTotals, IsTable, counted, heading_line, heading_of, name_headings, names_text};
 ghost use Rattle.relay_queue.specs.Table.{number_headings, numbers_text, oldest_text, queued_of, row_line, row_text};
-ghost use Rattle.relay_queue.specs.Table.{totals_text, tries_and_time, tries_in_words, tries_text, try_headings, widths_for};
+ghost use Rattle.relay_queue.specs.Table.{totals_text, tries_and_time, tries_in_words, tries_text, try_headings, wider_for, widths_for};
 
 use crate::amounts::{push_age, push_size};
 use crate::columns::{push_left, push_right};
@@ -92,15 +92,30 @@ fn widths_of<D: Disk>(records: &Records<D>, table: &Table, keys: &[Key]) -> Widt
         hop: 3,
     };
     for key in keys {
-        if let Some(row) = row_at(records, table, key.1, key.2) {
-            widths = Widths {
-                reverse_path: wider(widths.reverse_path, row.reverse_path),
-                path: wider(widths.path, row.path),
-                hop: wider(widths.hop, row.hop.unwrap_or(NO_HOP)),
-            };
-        }
+        widths = wider_at(widths, records, table, *key);
     }
     widths
+}
+
+/// Returns widths that hold the texts of the recipient with this key too, if it is queued.
+fn wider_at<D: Disk>(widths: Widths, records: &Records<D>, table: &Table, key: Key) -> Widths
+    ensures { result ≡ wider_for widths (queued_at table.now records.now.queue (key.1, key.2)) }
+{
+    match row_at(records, table, key.1, key.2) {
+        Some(row) => wider_for(widths, &row),
+        None => widths,
+    }
+}
+
+/// Returns widths that hold the texts of one recipient more.
+fn wider_for(widths: Widths, row: &Row<'_>) -> Widths
+    ensures { result ≡ wider_for widths (Some (said_by row.now)) }
+{
+    Widths {
+        reverse_path: wider(widths.reverse_path, row.reverse_path),
+        path: wider(widths.path, row.path),
+        hop: wider(widths.hop, row.hop.unwrap_or(NO_HOP)),
+    }
 }
 
 fn wider(width: usize, text: &[u8]) -> usize
@@ -256,10 +271,14 @@ pub(crate) fn tries_text(tries: u8) -> &'static [u8]
 
 /// Adds how often a recipient was deferred, in words: `1 try`, `2 tries`.
 pub(crate) fn push_tries_in_words(screen: &mut Screen, tries: u8) -> Result<(), AllocError>
-    ensures { OnOk result (screen.new ≡ screen.old ++ shown (tries_in_words tries)) }
+    ensures { OnOk result (screen.new ≡ screen.old ++ tries_in_words tries) }
 {
     screen.push(tries_text(tries))?;
-    screen.push(if tries == 1 { b" try" } else { b" tries" })
+    if tries == 1 {
+        screen.push(b" try")
+    } else {
+        screen.push(b" tries")
+    }
 }
 
 /// Returns the sums of these recipients, of which those of one message stand together.

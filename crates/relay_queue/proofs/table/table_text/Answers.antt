@@ -1,7 +1,9 @@
 -- a line for each key, after the heading and before the sums
-use Rattle.std.proofs.Common.{rules, ◌++◌, ◌<◌, ◌≤◌, [], length, refl, sym, ap, ◌∙◌, append-nil}
+use Rattle.std.proofs.Common.{rules, ◌≡◌, ℕ, ◌++◌, ◌<◌, ◌≤◌, List, [], length, refl, sym, ap, subst, ◌∙◌, append-nil}
 use Rattle.std.proofs.lemmas.List.{take_all}
-use Rattle.relay_queue.specs.Table.{row_line}
+use Rattle.relay_queue.specs.Table.{heading_of, row_line, rows_text, totals_text}
+use Rattle.relay_queue.specs.declared.table.Totals.{Totals}
+use Rattle.relay_queue.specs.declared.table.Widths.{Widths}
 use Rattle.relay_queue.proofs.RowLemmas.{rows_more}
 use Rattle.relay_queue.proofs.table.table_text.Goals as goal
 
@@ -20,10 +22,19 @@ returns g c =
     let all : length c.args.keys.now ≤ c.loop-key.key-index = search rules in
     let rows = c.loop-key.invariant in
     let totals : Totals = c.totals_of.result in
+    let widths : Widths = c.widths_of-widths.result in
+    let text : List ℕ = c.push_totals.new.screen in
+    let IsText : Widths → Type 0 =
+    λ widths. text ≡ heading_of widths c.args.keys.now ++ rows_text widths c.args.now c.args.table.now c.args.records.now.queue rows.0 ++ totals_text totals
+    in
+    let heading = c.in_ok-push_heading_of.ensures ∙ ap (λ (l : List ℕ). l ++ heading_of widths c.args.keys.now) c.new-screen.ensures in
     record {
       rows = rows.0;
       totals = totals;
       keys_are = rows.1 ∙ take_all c.loop-key.key-index c.args.keys.now all;
       sums = c.totals_of.ensures;
-      text_is = ?;
+      text_is =
+          subst IsText c.widths_of-widths.ensures
+          (c.in_ok-push_totals.ensures ∙ ap (λ (l : List ℕ). l ++ totals_text totals)
+          (rows.2 ∙ ap (λ (l : List ℕ). l ++ rows_text widths c.args.now c.args.table.now c.args.records.now.queue rows.0) heading));
     }
