@@ -1,5 +1,5 @@
 -- The connection that is taken out keeps its errand, and is counted until it is settled.
-use Rattle.std.proofs.Common.{sym, ◌∙◌}
+use Rattle.relay_slots.specs.Slots.{slot_at}
 use Rattle.relay_next_hops.proofs.BegunLemmas.{begun_there}
 use Rattle.relay_next_hops.proofs.HearingLemmas.{on_ok}
 use Rattle.relay_next_hops.proofs.SlotLemmas.{out_aim, out_aimed, out_counts, out_free, out_low}
@@ -23,12 +23,14 @@ returns-clause-aimed g c = λ routes aimed.
 pub returns-clause-starts : goal.returns-clause-starts
 returns-clause-starts g c =
     let hops = c.args.self.now.hops in
+    let number = c.args.number in
+    let taken = c.in-Some.taken in
+    let hop = c.attend.new.self in
+    let own = c.settle.ensures.own
+    (out_free hops c.take.new.self number taken hop c.in-Some.ensures.taken c.take.ensures.rest c.attend.ensures.errand)
+    (out_low hops c.take.new.self number taken hop c.in-Some.ensures.taken c.take.ensures.rest c.attend.ensures.errand) in
     on_ok _ c.settle.result
     (λ old new was is none some.
-    begun_there c.args.now.now.moment c.most_of-most.result c.args.self.now.portions c.in-Some.taken old c.attend.new.self new c.in_ok-course.course c.args.relay.now c.attend.new.relay c.settle.new.relay
-    (c.in-Some.ensures.taken ∙ was)
-    (sym (c.settle.ensures.own
-    (out_free hops c.take.new.self c.args.number c.in-Some.taken c.attend.new.self c.in-Some.ensures.taken c.take.ensures.rest c.attend.ensures.errand)
-    (out_low hops c.take.new.self c.args.number c.in-Some.taken c.attend.new.self c.in-Some.ensures.taken c.take.ensures.rest c.attend.ensures.errand)) ∙ is)
-    c.most_of-most.ensures
-    c.attend.ensures.starts c.settle.ensures.stays none some)
+    begun_there c.args.now.now.moment c.most_of-most.result c.args.self.now.portions taken old hop new c.in_ok-course.course c.args.relay.now c.attend.new.relay c.settle.new.relay
+    (slot_at hops number) (slot_at c.settle.new.self.hops number) c.in-Some.ensures.taken was own is
+    c.most_of-most.ensures c.attend.ensures.starts c.settle.ensures.stays none some)
