@@ -1,5 +1,5 @@
 //! The relays of a play, and the effect of a line on them.
-ghost use Rattle.std.specs.Prelude.{◌≡◌, ◌↔◌, IfOk, IsTrue, OnOk};
+ghost use Rattle.std.specs.Prelude.{◌≡◌, ◌↔◌, [], IfOk, IsTrue, OnOk};
 ghost use Rattle.relay_pair.specs.Promise.{KeepsItsPromise};
 ghost use Rattle.relay_play.specs.Script.{Does, HasNotBegun, IsAmong, PlaysLine, named_in};
 
