@@ -29,11 +29,18 @@ widths_more all (Some one) =
     made_is _ _ _ _ _ _ (column_more (codes "REVERSE PATH") (λ queued. queued.reverse_path) all one)
     (column_more (codes "RECIPIENT") (λ queued. queued.path) all one) (column_more (codes "HOP") hop_text all one)
 
--- the recipients of one key more
-pub widths_next : (table : RouteTable) (queue : Queue) (keys : List (ℕ × ℕ × ℕ)) (i : ℕ) (d : ℕ × ℕ × ℕ) → i < length keys
+widths_next : (table : RouteTable) (queue : Queue) (keys : List (ℕ × ℕ × ℕ)) (i : ℕ) (d : ℕ × ℕ × ℕ) → i < length keys
     → widths_for (queued_of table queue (take (i + 1) keys))
     ≡ wider_for (widths_for (queued_of table queue (take i keys))) (queued_at table queue ((get_or keys i d).1, (get_or keys i d).2))
 widths_next table queue keys i d more =
     ap (λ (all : List (ℕ × ℕ × ℕ)). widths_for (queued_of table queue all)) (take_more keys i d more)
     ∙ ap widths_for (filter_map-append (λ (key : ℕ × ℕ × ℕ). queued_at table queue (key.1, key.2)) (take i keys) (get_or keys i d ∷ []))
     ∙ widths_more (queued_of table queue (take i keys)) (queued_at table queue ((get_or keys i d).1, (get_or keys i d).2))
+
+-- the recipients of one key more
+pub widths_stand : (table : RouteTable) (queue : Queue) (keys : List (ℕ × ℕ × ℕ)) (i : ℕ) (d : ℕ × ℕ × ℕ) (widths new : Widths) → i < length keys
+    → widths ≡ widths_for (queued_of table queue (take i keys)) → new ≡ wider_for widths (queued_at table queue ((get_or keys i d).1, (get_or keys i d).2))
+    → new ≡ widths_for (queued_of table queue (take (i + 1) keys))
+widths_stand table queue keys i d widths new more before is =
+    is ∙ ap (λ (it : Widths). wider_for it (queued_at table queue ((get_or keys i d).1, (get_or keys i d).2))) before
+    ∙ sym (widths_next table queue keys i d more)

@@ -36,11 +36,15 @@ numbers_text now queued =
 abbrev pub hop_text : Queued → List ℕ
 hop_text queued = unwrap_or queued.hop (codes "-")
 
--- the reverse path, the path, and the next hop, each after two spaces
+-- the cells of the columns of texts, each after two spaces
+abbrev pub name_cells : Widths → List ℕ → List ℕ → List ℕ → List ℕ
+name_cells widths reverse_path path hop =
+    padding 2 ++ left_cell widths.reverse_path reverse_path ++ padding 2 ++ left_cell widths.path path ++ padding 2
+    ++ left_cell widths.hop hop
+
+-- the reverse path, the path, and the next hop
 abbrev pub names_text : Widths → Queued → List ℕ
-names_text widths queued =
-    padding 2 ++ left_cell widths.reverse_path queued.reverse_path ++ padding 2 ++ left_cell widths.path queued.path
-    ++ padding 2 ++ left_cell widths.hop (hop_text queued)
+names_text widths queued = name_cells widths queued.reverse_path queued.path (hop_text queued)
 
 -- how often the recipient was deferred, and when it is due, as this text shows that time
 abbrev pub tries_and_time : List ℕ → Queued → List ℕ
@@ -89,9 +93,7 @@ abbrev pub number_headings : List ℕ
 number_headings = right_cell 8 (codes "NUMBER") ++ right_cell 8 (codes "AGE") ++ right_cell 12 (codes "SIZE")
 
 abbrev pub name_headings : Widths → List ℕ
-name_headings widths =
-    padding 2 ++ left_cell widths.reverse_path (codes "REVERSE PATH") ++ padding 2
-    ++ left_cell widths.path (codes "RECIPIENT") ++ padding 2 ++ left_cell widths.hop (codes "HOP")
+name_headings widths = name_cells widths (codes "REVERSE PATH") (codes "RECIPIENT") (codes "HOP")
 
 abbrev pub try_headings : List ℕ
 try_headings = right_cell 7 (codes "TRIES") ++ codes "  NEXT TRY\n"

@@ -2,7 +2,7 @@
 ghost use Rattle.std.specs.Prelude.{◌≡◌, ℕ, List, ◌++◌, ◌-◌, IfOk, OnOk, Some, length, max, min, option_map, slice_get};
 ghost use Rattle.relay_queue.specs.Row.{queued_at, said_by};
 ghost use Rattle.relay_queue.specs.Screen.{shown};
-ghost use Rattle.relay_queue.specs.Table.{AreTotals, IsTable, counted, heading_line, heading_of, name_headings, names_text};
+ghost use Rattle.relay_queue.specs.Table.{AreTotals, IsTable, counted, heading_line, heading_of, name_cells, names_text};
 ghost use Rattle.relay_queue.specs.Table.{number_headings, numbers_text, oldest_text, queued_of, row_line, row_text};
 ghost use Rattle.relay_queue.specs.Table.{totals_text, tries_and_time, tries_in_words, tries_text, try_headings, wider_for, widths_for};
 
@@ -138,7 +138,7 @@ fn push_heading(screen: &mut Screen, widths: Widths) -> Result<(), AllocError>
     ensures { OnOk result (screen.new ≡ screen.old ++ heading_line widths) }
 {
     push_number_headings(screen)?;
-    push_name_headings(screen, widths)?;
+    push_name_cells(screen, widths, b"REVERSE PATH", b"RECIPIENT", b"HOP")?;
     push_try_headings(screen)
 }
 
@@ -148,17 +148,6 @@ fn push_number_headings(screen: &mut Screen) -> Result<(), AllocError>
     push_right(screen, b"NUMBER", NUMBER_WIDTH)?;
     push_right(screen, b"AGE", AGE_WIDTH + 2)?;
     push_right(screen, b"SIZE", SIZE_WIDTH + 2)
-}
-
-fn push_name_headings(screen: &mut Screen, widths: Widths) -> Result<(), AllocError>
-    ensures { OnOk result (screen.new ≡ screen.old ++ name_headings widths) }
-{
-    screen.push_spaces(2)?;
-    push_left(screen, b"REVERSE PATH", widths.reverse_path)?;
-    screen.push_spaces(2)?;
-    push_left(screen, b"RECIPIENT", widths.path)?;
-    screen.push_spaces(2)?;
-    push_left(screen, b"HOP", widths.hop)
 }
 
 fn push_try_headings(screen: &mut Screen) -> Result<(), AllocError>
@@ -231,12 +220,26 @@ fn push_numbers(
 fn push_names(screen: &mut Screen, row: &Row<'_>, widths: Widths) -> Result<(), AllocError>
     ensures { OnOk result (screen.new ≡ screen.old ++ names_text widths (said_by row.now)) }
 {
+    let hop = row.hop.unwrap_or(NO_HOP);
+    push_name_cells(screen, widths, row.reverse_path, row.path, hop)
+}
+
+/// Adds the cells of the columns of texts, each after two spaces.
+fn push_name_cells(
+    screen: &mut Screen,
+    widths: Widths,
+    reverse_path: &[u8],
+    path: &[u8],
+    hop: &[u8],
+) -> Result<(), AllocError>
+    ensures { OnOk result (screen.new ≡ screen.old ++ name_cells widths reverse_path.now path.now hop.now) }
+{
     screen.push_spaces(2)?;
-    push_left(screen, row.reverse_path, widths.reverse_path)?;
+    push_left(screen, reverse_path, widths.reverse_path)?;
     screen.push_spaces(2)?;
-    push_left(screen, row.path, widths.path)?;
+    push_left(screen, path, widths.path)?;
     screen.push_spaces(2)?;
-    push_left(screen, row.hop.unwrap_or(NO_HOP), widths.hop)
+    push_left(screen, hop, widths.hop)
 }
 
 /// Adds how often a recipient was deferred and when it is due, and ends its line.

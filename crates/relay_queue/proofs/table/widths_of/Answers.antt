@@ -1,9 +1,8 @@
--- one recipient more
-use Rattle.std.proofs.Common.{rules, ◌<◌, length, ap, sym, ◌∙◌}
-use Rattle.relay_queue.specs.Table.{wider_for}
-use Rattle.relay_queue.specs.declared.table.Widths.{Widths}
-use Rattle.relay_queue.proofs.WidthLemmas.{widths_next}
+-- the widths with one recipient more
+use Rattle.relay_queue.proofs.WidthLemmas.{widths_stand}
 use Rattle.relay_queue.proofs.table.widths_of.Goals as goal
 
 pub loop-key-preserved : goal.loop-key-preserved
-loop-key-preserved g c = ?
+loop-key-preserved g c =
+    widths_stand c.args.table.now c.args.records.now.queue c.args.keys.now c.loop-key.key-index _ c.loop-key.widths _ c.loop-key-test.true
+    c.loop-key.invariant c.wider_at-widths.ensures
