@@ -180,3 +180,10 @@ module _ {S : Type 0} (served : Hops S) (standing : List (Option (Hop S))) (slot
   -- where they are answered, all are
   pub round_answered : (tick : ℕ) (answers : List (Result Answered NodeFault)) (new : List (Option (Hop S))) → AnswersEach tick (turned count (start + 0) (count - 0)) answers served.hops new → AnswersEach tick (order_of served) answers served.hops new
   round_answered tick answers new each = same_answered count tick (turned count start count) (order_of served) answers served.hops new pads none_behind (subst (λ (order : List ℕ). AnswersEach tick order answers served.hops new) begins each)
+
+-- the number that is served first is one of those that stand
+pub first_low : (served count first : ℕ) → (served % 64 < count → first ≡ served % 64) → (count ≤ served % 64 → first ≡ 0) → 0 < count → first < count
+first_low served count first goes_on over some = by (cases_lt (served % 64) count) where
+  by : (served % 64 < count) ⊎ (count ≤ served % 64) → first < count
+  by (inl low) = omega (arith, goes_on low, low)
+  by (inr beyond) = omega (arith, over beyond, some)

@@ -1,12 +1,12 @@
 -- Each that has something to hear is answered by the next answer; the others are passed over.
-use Rattle.std.proofs.Common.{◌≡◌, ◌≢◌, [], length, List, ◌%◌, ◌+◌, ◌-◌, refl, sym, subst, ◌∙◌, arith, None, Option, Result}
+use Rattle.std.proofs.Common.{◌≡◌, ◌≢◌, ◌<◌, ◌≤◌, [], length, List, ◌%◌, ◌+◌, ◌-◌, refl, sym, subst, ◌∙◌, arith, None, Option, Result}
 use Rattle.std.specs.Vec.Iter.{into_iter_steps}
 use Rattle.relay_records.specs.declared.fault.NodeFault.{NodeFault}
 use Rattle.relay_loop.specs.declared.hops.Answered.{Answered}
 use Rattle.relay_connections.specs.Hearing.{turned}
 use Rattle.relay_next_hops.specs.Hearing.{AnswersEach, hearing_at, order_of}
 use Rattle.relay_next_hops.proofs.HearingLemmas.{all_over, hears, if_some, none_of, passes, stops}
-use Rattle.relay_next_hops.proofs.OrderLemmas.{round_answered}
+use Rattle.relay_next_hops.proofs.OrderLemmas.{first_low, round_answered}
 use Rattle.relay_next_hops.proofs.SlotLemmas.{is_none}
 use Rattle.relay_next_hops.proofs.hops.Hops.answer.Goals as goal
 
@@ -62,3 +62,11 @@ returns-clause-heard g c =
     let all = round_answered c.args.self.now standing c.standing-count.ensures.slots (length standing) c.first_of-first.result refl c.standing-count.ensures.within c.first_of-first.ensures.first c.first_of-first.ensures.over tick c.into_iter-answers.result.rest.items hops each in
     if_some _ c.args.replied c.in-Some.field-0 c.in-Some.is
     (subst (λ (answers : List (Result Answered NodeFault)). AnswersEach tick (order_of c.args.self.now) answers c.args.self.now.hops hops) c.into_iter-answers.ensures.rest all)
+
+-- 64 stand at most, so the sum is small
+pub overflow_add-number : goal.overflow_add-number
+overflow_add-number g c =
+    let within : length c.standing-count.result.now ≤ 64 = c.standing-count.ensures.within in
+    let some : 0 < length c.standing-count.result.now = omega (arith, c.loop-step-test.true) in
+    let low = first_low c.args.self.now.first (length c.standing-count.result.now) c.first_of-first.result c.first_of-first.ensures.first c.first_of-first.ensures.over some in
+    omega (arith, low, within, c.loop-step-test.true)

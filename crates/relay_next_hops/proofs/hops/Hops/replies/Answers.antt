@@ -1,12 +1,12 @@
 -- What the next one has to hear is told after what was told before.
-use Rattle.std.proofs.Common.{◌≡◌, ◌++◌, [], ◌∷◌, length, map, List, ◌%◌, ◌+◌, ◌-◌, refl, sym, ap, ◌∙◌, None, option_map}
+use Rattle.std.proofs.Common.{◌≡◌, ◌<◌, ◌≤◌, ◌++◌, [], ◌∷◌, length, map, List, ◌%◌, ◌+◌, ◌-◌, refl, sym, ap, ◌∙◌, None, option_map, arith}
 use Rattle.std.specs.List.{filter_map}
 use Rattle.std.proofs.lemmas.List.{map-append}
 use Rattle.relay_loop.specs.declared.replying.ReplyPiece.{ReplyPiece}
 use Rattle.relay_connections.specs.Hearing.{turned}
 use Rattle.relay_next_hops.specs.Hearing.{replies_of, reply_at, reply_of, told_of}
 use Rattle.relay_next_hops.proofs.HearingLemmas.{found_all, found_next, passed_next}
-use Rattle.relay_next_hops.proofs.OrderLemmas.{round_found}
+use Rattle.relay_next_hops.proofs.OrderLemmas.{first_low, round_found}
 use Rattle.relay_next_hops.proofs.SlotLemmas.{is_none}
 use Rattle.relay_next_hops.proofs.hops.Hops.replies.Goals as goal
 use Rattle.relay_next_hops.proofs.hops.Hops.replies.Goals.{in-Some+in_ok-push, in_default}
@@ -39,3 +39,11 @@ loop-step-preserved g c =
 
 pub returns : goal.returns
 returns g c = found_all (reply_at c.args.self.now.hops) (map told_of c.loop-step.replies.items) (replies_of c.args.self.now) (length c.standing-count.result.now) c.first_of-first.result c.loop-step.step c.loop-step-test.false c.loop-step.invariant
+
+-- 64 stand at most, so the sum is small
+pub overflow_add-first : goal.overflow_add-first
+overflow_add-first g c =
+    let within : length c.standing-count.result.now ≤ 64 = c.standing-count.ensures.within in
+    let some : 0 < length c.standing-count.result.now = omega (arith, c.loop-step-test.true) in
+    let low = first_low c.args.self.now.first (length c.standing-count.result.now) c.first_of-first.result c.first_of-first.ensures.first c.first_of-first.ensures.over some in
+    omega (arith, low, within, c.loop-step-test.true)
