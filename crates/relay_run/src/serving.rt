@@ -3,7 +3,7 @@ ghost use Rattle.std.specs.Prelude.{IfOk};
 use crate::door::Door;
 use crate::shell::{Shell, SystemShell};
 use crate::start::{
-    Settings, kept_file, locked_relay, log_form, open_listener, open_page, say_ready, settings,
+    Settings, kept_file, locked_relay, log_form, open_listener, open_page, read_settings, say_ready,
 };
 use crate::status_page::StatusPage;
 use crate::turns::{System, serve};
@@ -49,7 +49,7 @@ pub fn run<
         limits,
         balancers,
         allowed,
-    } = settings(alloc, rt, path)?;
+    } = read_settings(alloc, rt, path)?;
     let at = config.listen;
     let form = log_form(quiet, &limits);
     let (relay, room) = locked_relay(alloc, rt, config)?;

@@ -35,7 +35,7 @@ pub(crate) struct Settings {
 
 /// Returns what the file at this path says. Faults are checked in this order: the file, the configuration, the limits,
 /// the balancers, the clients that may connect.
-pub(crate) fn settings<F: Files<File = File>>(
+pub(crate) fn read_settings<F: Files<File = File>>(
     alloc: Global,
     files: &F,
     path: &str,
