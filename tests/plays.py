@@ -73,6 +73,7 @@ def refusals(program):
         ("carry 1 a 1", "refused NoLink"),
         ("break 1", "refused NoLink"),
         ("give a", "refused Nothing"),
+        ("return a 1 0", "refused Unknown"),
         ("ledger", []),
         ("marks", []),
         ("copies a 1 0", "0"),
@@ -96,6 +97,7 @@ def refusals(program):
         ("give a", "refused Nothing"),
         ("give b", "start b 1 a.example link 3"),
         ("give b", "refused Nothing"),
+        ("discard b 1 0", "refused Busy"),
         ("send 3 x", "refused NotYours"),
         ("carry 3 a 1", "refused Nothing"),
         ("carry 3 b 0", "refused Nothing"),
@@ -258,7 +260,7 @@ def networks(program):
     """The plays of two nodes, with two or three nodes: a third node changes nothing in the output; and the greeting of
     each of sixteen."""
     for count in (2, 3):
-        for name in ("lost_reply.play", "crash.play", "late.play"):
+        for name in ("lost_reply.play", "crash.play", "late.play", "withdrawn.play"):
             script = PLAYS / name
             found = run(program, f"nodes {count}\n".encode() + script.read_bytes())
             same(f"nodes {count}, {name}", found, (0, script.with_suffix(".seen").read_bytes(), b""))

@@ -1,10 +1,10 @@
 #!/usr/bin/env python3
 """Plays the scripts of docs/plays/ once for each allocation of the program, which is refused. The play goes on after it
 or reports that memory ran out; and at the end, after all nodes were stopped and opened again, each recipient that a
-node acknowledged is held, was relayed, or has ended. Then a node that can't be opened for lack of memory: each event
-that it refuses, in its order, and what it has after it is opened. And a carry without memory: before the node's call
-nothing changes; in it or after it, if what the node wrote can't be put on the link, the link breaks, and what the node
-recorded is in the ledger. Ends at the first difference.
+node acknowledged is held, was relayed, has ended, or was withdrawn. Then a node that can't be opened for lack of
+memory: each event that it refuses, in its order, and what it has after it is opened. And a carry without memory: before
+the node's call nothing changes; in it or after it, if what the node wrote can't be put on the link, the link breaks,
+and what the node recorded is in the ledger. Ends at the first difference.
 
     tests/plays_without_memory.py build/relayd
 """
@@ -38,6 +38,7 @@ DOWN = [
     ("carry 2 a 1", "refused NoLink"),
     ("carry 1 a 0", "refused NotYours"),
     ("give a", "refused Down"),
+    ("return a 1 0", "refused Down"),
     ("give b", "refused Down"),
     ("stop a 3 0", "refused Down"),
     ("marks", "b 1 0"),
@@ -78,7 +79,7 @@ def look(what, run):
     # What both endings show, and not what the script asked for before.
     end = "".join(run.out.rsplit("stopped a\n", 2)[1:])
     for node, number in ACCEPTED.findall(run.out):
-        gone = re.search(rf"^(transfer|end) {node} {number} 0 ", end, re.MULTILINE)
+        gone = re.search(rf"^(transfer|end|return|discard) {node} {number} 0 ", end, re.MULTILINE)
         if not gone and f"\n{node} {number} 0\n" not in end:
             raise Difference(f"{what}: message {number} of {node} is neither held nor gone:\n{run.out}")
 

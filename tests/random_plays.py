@@ -1,7 +1,8 @@
 #!/usr/bin/env python3
 """Makes random plays of two relays, and judges each by its output alone: whether mail that a node acknowledged is held,
-was relayed or has ended; whether relayed mail was accepted; whether there are no more copies than lost replies allow;
-and whether the ledger only grows. Prints a play that fails, without the lines that the failure doesn't need.
+was relayed, has ended, or was withdrawn as the play asks; whether relayed mail was accepted; whether there are no more
+copies than lost replies allow; and whether the ledger only grows. Prints a play that fails, without the lines that the
+failure doesn't need.
 
     tests/random_plays.py build/relayd [COUNT [FIRST]]
 
@@ -27,13 +28,14 @@ DOMAINS = ["a.example", "b.example", "c.example", "loop.example", "out.example",
 PEOPLE = ["r", "s", '"q r"', "postmaster"]
 MARKS = re.compile(r"([a-p]) (\d+) (\d+)")
 ACCEPT = re.compile(r"accept ([a-p]) (\d+) (\d+) link (\d+)")
-LEFT = re.compile(r"(transfer|end) ([a-p]) (\d+) (\d+) (?:failed )?link (\d+) report (\d+)")
+LEFT = re.compile(r"(transfer|end|return|discard) ([a-p]) (\d+) (\d+) (?:failed )?link (\d+) report (\d+)")
 DELAYED = re.compile(r"delay ([a-p]) (\d+) (\d+) link (\d+) report (\d+)")
+WITHDRAWALS = ("return ", "discard ")
 # What an event may print.
 PRINTED = re.compile(
     r"link \d+ out .*|ok|node [a-p] link \d+ used \d+ out .*?( change \d+)?( end)?|start [a-p] \d+ \S+ link \d+"
-    r"|noroute [a-p] \d+ change \d+|compact [a-p] size \d+|broken \d+|now \d+|stopped [a-p]|armed [a-p]"
-    r"|refused [A-Z][A-Za-z]+")
+    r"|noroute [a-p] \d+ change \d+|(return|discard) [a-p] \d+ \d+ change \d+|compact [a-p] size \d+|broken \d+"
+    r"|now \d+|stopped [a-p]|armed [a-p]|refused [A-Z][A-Za-z]+")
 
 
 def nodes_of(lines):
@@ -99,8 +101,13 @@ class Judge:
 
     def __init__(self):
         self.links, self.acknowledged, self.ledger = {}, {}, []
+        # What the postmaster asked for, and, by place, what the output says was done for him.
+        self.asked, self.withdrawn = set(), {}
 
     def event(self, line, printed):
+        if line.startswith(WITHDRAWALS):
+            way, node, number, place = line.split()
+            self.asked.add((way, node, int(number), int(place)))
         for one in printed:
             self.require(PRINTED.fullmatch(one), f"`{line}` printed `{one}`")
             words = one.split(" ")
@@ -115,6 +122,8 @@ class Judge:
                     link.whole = link.whole and words[1] not in (link.client, link.server)
             elif words[0] == "node":
                 self.carried(words[1], int(words[3]), one)
+            elif one.startswith(WITHDRAWALS):
+                self.withdrawn[words[1], int(words[2]), int(words[3])] = words[0]
             elif one in ("refused NoMemory", "refused Full") and line.startswith("carry"):
                 self.links[int(line.split()[1])].whole = False
 
@@ -144,12 +153,16 @@ class Judge:
         for (node, number), (places, _) in taken.items():
             for place in range(places):
                 one = (node, number, place)
-                self.require((one in held) + (one in left) == 1, f"{one} isn't held, handed on or ended, one of them")
+                self.require((one in held) + (one in left) == 1, f"{one} isn't either held or gone")
         for one in [*held, *left]:
             self.require(one[:2] in taken and one[2] < taken[one[:2]][0], f"{one} is of no message")
         for one, (way, link) in left.items():
             if way == "transfer":
                 self.handed_on(one, link, taken)
+            elif way != "end":
+                self.require((way, *one) in self.asked and link == 0, f"{one} left by a {way} that nobody asked for")
+        for one, way in self.withdrawn.items():
+            self.require(one in left and left[one][0] == way, f"{one} hasn't left by its {way}")
         for (node, number), (places, _) in taken.items():
             for place in range(places):
                 copies, lost = (int(ask(f"{word} {node} {number} {place}")[0]) for word in ("copies", "lost"))
@@ -177,6 +190,7 @@ class Judge:
             else:
                 way, node, number, place, link, report = gone[1], gone[2], *map(int, gone.groups()[2:])
                 self.require((node, number, place) not in left, f"{line}: for the second time")
+                self.require(way != "discard" or report == 0, f"{line}: with a report")
                 left[node, number, place] = way, link
                 if report:
                     taken[node, report] = 1, 0
@@ -204,8 +218,9 @@ class Judge:
 class Driver:
     """Chooses events by chance: most of them on the last link, so that mail is relayed, and the others anywhere."""
 
-    def __init__(self, seed):
-        self.chance, self.clock, self.turn, self.armed = random.Random(seed), 0, 0, []
+    def __init__(self, seed, messages):
+        """Begins with a seed. `messages` are the nodes and numbers of those that were acknowledged, and may grow."""
+        self.chance, self.clock, self.turn, self.armed, self.messages = random.Random(seed), 0, 0, [], messages
 
     def choose(self, links):
         if self.armed:
@@ -213,7 +228,7 @@ class Driver:
         if links and self.chance.random() < 0.85:
             return self.go_on(links, max(links))
         kinds = {"connect": 1, "write": 2, "carry": 4, "reply": 2, "give": 2, "break_off": 1, "tick": 3, "stop": 0.5,
-                 "arm": 2, "compact": 2, "arm_compact": 1}
+                 "arm": 2, "compact": 2, "arm_compact": 1, "withdraw": 3}
         return getattr(self, self.chance.choices([*kinds], [*kinds.values()])[0])(links)
 
     def go_on(self, links, number):
@@ -298,6 +313,13 @@ class Driver:
     def give(self, links):
         return f"give {self.node()}"
 
+    def withdraw(self, links):
+        """Returns an event in which the postmaster returns or discards a place, mostly of a message that there was."""
+        way, found = self.chance.choice(["return", "discard"]), [*self.messages][-3:]
+        any_message = self.node(), self.chance.randint(1, 9)
+        node, number = self.chance.choice(found) if found and self.chance.random() < 0.9 else any_message
+        return f"{way} {node} {number} {self.chance.choice([0, 0, 0, 1, 2])}"
+
     def break_off(self, links):
         return f"break {self.one(links, lambda link: link.whole)}"
 
@@ -327,7 +349,8 @@ class Driver:
 
 def made(program, seed):
     """Returns the events of a play made from this seed, and what failed, if anything."""
-    driver, judge, events = Driver(seed), Judge(), []
+    judge, events = Judge(), []
+    driver = Driver(seed, judge.acknowledged)
     with Play(program) as play:
         try:
             for number in range(EVENTS):
@@ -380,16 +403,18 @@ def shortened(program, events):
 
 def main(program, count="50", first="1"):
     program = str(pathlib.Path(program).resolve())
-    messages = left = stops = 0
+    messages = left = withdrawn = 0
     for seed in range(int(first), int(first) + int(count)):
         events, difference, judge = made(program, seed)
         if difference:
             raise Difference(f"seed {seed}: {difference}\n" + "\n".join(shortened(program, events)))
         messages += sum(line.startswith("accept") for line in judge.ledger)
         left += sum(not line.startswith("accept") for line in judge.ledger)
+        withdrawn += sum(line.startswith(WITHDRAWALS) for line in judge.ledger)
     if int(count) >= 20 and not (messages and left):
         raise Difference("no message was accepted, or none left its node: these plays show nothing")
-    print(f"ok: {count} random plays: {messages} messages were taken, {left} recipients were handed on or ended")
+    print(f"ok: {count} random plays: {messages} messages were taken, {left} recipients were handed on or ended, "
+          f"{withdrawn} of them as the postmaster asked")
 
 
 if __name__ == "__main__":
