@@ -10,6 +10,7 @@ takes on one. It ends at the first difference.
 import contextlib
 import os
 import pathlib
+import re
 import shutil
 import socket
 import subprocess
@@ -71,11 +72,11 @@ SPOOLS = [
 ]
 
 
-def told_on(link, wanted=None):
-    """What comes on a connection up to its end, or up to these octets."""
+def told_on(link, wanted=rb"\A\Z."):
+    """What comes on a connection up to its end, or up to what this expression finds; by default it finds nothing."""
     told = b""
     with contextlib.suppress(ConnectionError):
-        while not (wanted and wanted in told) and (part := link.recv(65536)):
+        while not re.search(wanted, told) and (part := link.recv(65536)):
             told += part
     return told
 
@@ -104,16 +105,15 @@ class Calls:
 
     @contextlib.contextmanager
     def accepting(self):
-        """A relay that serves and takes a message, and is killed before it tries that."""
+        """A relay that serves and takes a message, and is killed before it tries that: its client is still there."""
         process = self.relay.start()
-        try:
-            with connected(self.relay) as link:
+        with connected(self.relay) as link:
+            try:
                 link.sendall(COMMANDS.removesuffix(b"QUIT\r\n"))
-                told = told_on(link, b"queued as ")
-                yield process, told
-        finally:
-            process.kill()
-            process.communicate()
+                yield process, told_on(link, rb"queued as \d+\r\n")
+            finally:
+                process.kill()
+                process.communicate()
 
     def begin(self, name):
         """The files before a call of this name: none for `create`, and else those of the one message."""

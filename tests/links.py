@@ -16,6 +16,7 @@ import socket
 import subprocess
 import sys
 import tempfile
+import time
 
 sys.dont_write_bytecode = True
 
@@ -229,9 +230,9 @@ def in_parts(links, writes, reads):
     links.narrow("parts", 0, WRITES=writes, READS=reads)
     with links.relay.running(), connected(links.relay) as link:
         name, said, told = "{}:{}".format(*link.getsockname()), 0, b""
-        greeting = REPLIES[:REPLIES.index(b"\n") + 1]
+        greeting, ends = REPLIES[:REPLIES.index(b"\n") + 1], time.monotonic() + PATIENCE
         while said < 3 or told != greeting + b"250 OK\r\n" * said:
-            same("NOOPs that it takes", said < 20, True)
+            same(f"whether all comes: {told}", time.monotonic() < ends, True)
             link.sendall(b"NOOP\r\n")
             said += 1
             while select.select([link], [], [], 0.1)[0]:
