@@ -2,5 +2,5 @@
 use Rattle.relay_connections.specs.Welcome.{AreAllowed}
 use Rattle.relay_run.proofs.door.Door.admit_arrived.Given as goal
 
-abbrev pub invariant-loop-step : goal.invariant-loop-step
-invariant-loop-step g l = AreAllowed l.fn.clients l.fn.relay → AreAllowed l.clients l.relay
+abbrev pub invariant-loop : goal.invariant-loop
+invariant-loop g l = AreAllowed l.fn.clients l.fn.relay → AreAllowed l.clients l.relay
