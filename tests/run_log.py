@@ -426,7 +426,7 @@ def lines_of_paths(paths):
 def a_log_that_nobody_reads_stops_no_mail(field):
     """More than a pipe and 1 MiB hold: lines are dropped, mail goes on as fast, and a line says how many they are as
     soon as somebody reads."""
-    relay, messages = field.relay(more=own_route(field), spool_limit=1 << 30), 200
+    relay, messages = field.relay(more=own_route(field), spool_limit=1 << 30, recipients_per_attempt=100), 200
     with unread_log(relay) as (process, lines), clients_of(relay, 1) as [client]:
         alone = slowest(client, 10)
         flood(client, messages)
