@@ -1,12 +1,5 @@
 //! The listener, and the clients that connect to it.
-ghost use Rattle.std.specs.Prelude.{◌≡◌, ◌≤◌, false, true};
-ghost use Rattle.std.specs.List.{list_any};
-ghost use Rattle.std.specs.Net.Addr.{ipv4_octets};
-ghost use Rattle.std.specs.Net.Socket.{v4_ip};
-ghost use Rattle.relay_connections.specs.Leaving.{leavers_of};
-ghost use Rattle.relay_connections.specs.Welcome.{AreAllowed, LeavesWith, allowed_of, refusal_of};
-ghost use Rattle.relay_limits.specs.AllowedClients.{may_connect};
-ghost use Rattle.relay_routes.specs.Network.{is_in};
+ghost use Rattle.std.specs.Prelude.{◌≤◌};
 
 use crate::listen::{Found, Listen};
 use mio::net::TcpStream;
@@ -139,9 +132,7 @@ impl<S: Stream + Drop> Door<S> {
         leaving: &mut Leaving<S>,
         now: &Now,
         log: &mut Log<'_, Vec<u8>>,
-    ) -> Result<(), Fault>
-        ensures allowed { AreAllowed clients.old relay.old → AreAllowed clients.new relay.new }
-    {
+    ) -> Result<(), Fault> {
         self.refusals.tell(now, log);
         self.strangers.tell(now, log);
         for _ in 0..MOST_AT_ONCE {
@@ -176,16 +167,7 @@ impl<S: Stream + Drop> Door<S> {
         peer: SocketAddrV4,
         now: &Now,
         log: &mut Log<'_, Vec<u8>>,
-    ) -> Result<(), Fault>
-        ensures balancer { list_any (is_in (ipv4_octets (v4_ip peer))) self.old.balancers ≡ true
-            → (relay.new ≡ relay.old) × (clients.new ≡ clients.old) × (leaving.new ≡ leaving.old) }
-        ensures stranger { list_any (is_in (ipv4_octets (v4_ip peer))) self.old.balancers ≡ false
-            → may_connect (allowed_of clients.old) (ipv4_octets (v4_ip peer)) ≡ false
-            → (relay.new ≡ relay.old) × (clients.new ≡ clients.old)
-            × LeavesWith S.remaining S.contents stream (refusal_of relay.old.node.config.host Refusal.NoService)
-            (leavers_of leaving.old) (leavers_of leaving.new) }
-        ensures allowed { AreAllowed clients.old relay.old → AreAllowed clients.new relay.new }
-    {
+    ) -> Result<(), Fault> {
         if !self.balancers.contains(*peer.ip()) {
             return self.welcome(registry, relay, clients, leaving, stream, peer, now, log);
         }
@@ -204,9 +186,7 @@ impl<S: Stream + Drop> Door<S> {
         leaving: &mut Leaving<S>,
         now: &Now,
         log: &mut Log<'_, Vec<u8>>,
-    ) -> Result<(), Fault>
-        ensures allowed { AreAllowed clients.old relay.old → AreAllowed clients.new relay.new }
-    {
+    ) -> Result<(), Fault> {
         for _ in 0..MOST_AT_ONCE {
             match self.arrivals.next(registry, now) {
                 Some(Arrived::Client(stream, peer)) => {
@@ -233,13 +213,7 @@ impl<S: Stream + Drop> Door<S> {
         peer: SocketAddrV4,
         now: &Now,
         log: &mut Log<'_, Vec<u8>>,
-    ) -> Result<(), Fault>
-        ensures stranger { may_connect (allowed_of clients.old) (ipv4_octets (v4_ip peer)) ≡ false
-            → (relay.new ≡ relay.old) × (clients.new ≡ clients.old)
-            × LeavesWith S.remaining S.contents stream (refusal_of relay.old.node.config.host Refusal.NoService)
-            (leavers_of leaving.old) (leavers_of leaving.new) }
-        ensures allowed { AreAllowed clients.old relay.old → AreAllowed clients.new relay.new }
-    {
+    ) -> Result<(), Fault> {
         match clients.welcome(registry, relay, leaving, stream, peer, now)? {
             None => log.connected(),
             Some(Refusal::NoRoom) => self.refusals.note(peer, now, log),
