@@ -4,5 +4,4 @@ pub mod MayLeave
 pub mod Pick
 pub mod Memory
 pub mod File
-pub mod Once
 pub mod MemoryLaws

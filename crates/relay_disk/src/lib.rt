@@ -7,11 +7,9 @@ mod disks;
 mod file;
 pub mod laws;
 mod memory;
-mod once;
 mod pick;
 
 pub use disk::{Disk, DiskFault, Reboot};
 pub use disks::{Disks, Side};
 pub use file::FileDisk;
 pub use memory::MemoryDisk;
-pub use once::OnceDisk;
