@@ -1,5 +1,5 @@
 -- The line begins with the code and ends with the words.
-use Rattle.std.proofs.Common.{◌≡◌, List, ℕ, ◌++◌, ◌∷◌, ◌-◌, codes, length, take, drop, ap, sym, ◌∙◌, true, false, true≢false, Some, None}
+use Rattle.std.proofs.Common.{◌≡◌, List, ℕ, ◌++◌, ◌-◌, codes, length, take, drop, ap, sym, ◌∙◌, true≢false, Some, None}
 use Rattle.std.specs.Cmp.{unsigned_Decides}
 use Rattle.std.proofs.lemmas.Slice.Eq.{strip_prefix_is, ends_is}
 use Rattle.relay_log.proofs.RefusedLemmas.{refuses_bdat, bdat_by}

@@ -1,5 +1,5 @@
 -- It is one of the three lines, or none of them.
-use Rattle.std.proofs.Common.{◌≡◌, ◌⊎◌, inl, inr, List, ℕ, ◌∷◌, Bool, true, false, IsTrue, codes, sym, ◌∙◌, true≢false}
+use Rattle.std.proofs.Common.{◌≡◌, ◌⊎◌, inl, inr, Bool, true, false, IsTrue, codes, sym, ◌∙◌, true≢false}
 use Rattle.relay_log.specs.Refused.{Refuses}
 use Rattle.relay_log.specs.declared.refused.Refused.TheVariants.{Rcpt}
 use Rattle.relay_log.proofs.RefusedLemmas.{refuses_rcpt, rcpt_by_no_route, rcpt_by_routed_address, rcpt_by_too_many}
