@@ -73,7 +73,7 @@ def says_one_line(link):
 BAD = {
     drips: r" status=sent reply=",
     cuts: r' status=deferred reason="connection closed"$',
-    floods: r" status=deferred( |$)",
+    floods: r" status=deferred ",
     never_ends: r' status=deferred reason="reply too long"$',
     says_one_line: r' status=deferred reason="(bad line in reply|reply too long)"$',
 }

@@ -1,7 +1,7 @@
 -- Which reply of a next hop settles a recipient, by its place among the replies of an attempt (RFC 5321, sections 3.1
 -- to 3.3; RFC 2920, section 3.1; RFC 3030, section 2). A reply answers what was written earliest and isn't answered
 -- yet: the greeting comes first, then the replies to EHLO, MAIL, one RCPT for each recipient, DATA and the mail data.
-use Rattle.std.specs.Prelude.{ℕ, ◌+◌, ◌-◌, ◌==◌, Bool, List, [], ◌∷◌, length, slice_index_or, Option, Some, None, if◌then◌else◌}
+use Rattle.std.specs.Prelude.{ℕ, ◌+◌, ◌-◌, ◌==◌, nat_lt, Bool, List, [], ◌∷◌, length, slice_index_or, Option, Some, None, if◌then◌else◌}
 use Rattle.std.specs.Int.{is_in_range}
 
 -- 2yz, 3yz and 5yz (RFC 5321, section 4.2.1)
@@ -13,10 +13,6 @@ is_intermediate code = is_in_range 300 399 code
 
 abbrev pub is_permanent : ℕ → Bool
 is_permanent code = is_in_range 500 599 code
-
--- any other than 2yz
-abbrev pub is_no_completion : ℕ → Bool
-is_no_completion code = is_in_range 300 599 code
 
 -- the code of the reply at this place, 0 if there is none
 abbrev pub code_at : List ℕ → ℕ → ℕ
@@ -58,8 +54,8 @@ closing_place codes =
     let last : ℕ = length codes - 1 in if code_at codes last == 421 then Some last else None
 
 -- the place of the reply for which the recipient of this index among this many may be tried again, if one came: the one
--- that settles it, where that isn't 2yz; else the one that closes the connection
+-- that settles it, of whatever class (a 2yz to DATA puts it off too); else the one that closes the connection
 abbrev pub deferring_place : List ℕ → ℕ → ℕ → Option ℕ
 deferring_place codes count index =
     let place : ℕ = settling_place codes count index in
-    if is_no_completion (code_at codes place) then Some place else closing_place codes
+    if nat_lt place (length codes) then Some place else closing_place codes

@@ -1,7 +1,7 @@
 //! Which reply of a next hop settles a recipient.
 ghost use Rattle.std.specs.Prelude.{◌≡◌, ◌≤◌};
 ghost use Rattle.relay_log.specs.Settling.{closing_place, code_at, content_place, deferring_place, hello_place};
-ghost use Rattle.relay_log.specs.Settling.{is_completion, is_intermediate, is_no_completion, is_permanent};
+ghost use Rattle.relay_log.specs.Settling.{is_completion, is_intermediate, is_permanent};
 ghost use Rattle.relay_log.specs.Settling.{settling_place};
 
 /// The code by which a next hop closes the connection (RFC 5321, section 3.8).
@@ -34,7 +34,7 @@ pub(crate) fn deferring_place(codes: &[u16], count: u8, index: u8) -> Option<usi
     ensures { result ≡ deferring_place codes.now count index }
 {
     let place = settling_place(codes, count, index);
-    if is_no_completion(code_at(codes, place)) {
+    if place < codes.len() {
         Some(place)
     } else {
         closing_place(codes)
@@ -100,10 +100,4 @@ fn is_permanent(code: u16) -> bool
     ensures { result ≡ is_permanent code }
 {
     500 <= code && code <= 599
-}
-
-fn is_no_completion(code: u16) -> bool
-    ensures { result ≡ is_no_completion code }
-{
-    300 <= code && code <= 599
 }
