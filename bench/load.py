@@ -47,7 +47,7 @@ def built(name, folder):
 
 
 class Client:
-    """bench/client.c, which submits so many messages of so many octets, on one connection or one each."""
+    """bench/client.c, which submits `count` messages of `size` octets, on one connection or one each."""
 
     def __init__(self, folder, port, count, size, way):
         words = [built("client", folder), str(port), str(count), str(size), way]

@@ -194,8 +194,8 @@ def a_recipient_refused_by_a_hop(field, server):
 
 
 def many_recipients_refused_by_a_hop(field, server):
-    """Postfix closes a connection after 20 of them (smtpd_hard_error_limit): so many are in no attempt, and the one that
-    it takes is in the second."""
+    """Postfix closes a connection after 20 refusals (smtpd_hard_error_limit). No attempt has that many recipients, and
+    the recipient that the server takes is in the second attempt."""
     refused = [f"refused+{number}@in.example" for number in range(25)]
     with field.serving():
         hand_in(field.relay.port, [*refused, "b@in.example"], SMALL)
@@ -278,9 +278,9 @@ SERVERS = {
         many_recipients_refused_by_a_hop]),
     "exim4-daemon-light": (Exim, [
         through_a_client, chunks_of_exim, a_stranger, through_a_hop, a_recipient_refused_by_a_hop,
-        parameters_through_a_hop, a_chunk_through_exim]),
+        parameters_through_a_hop, a_chunk_through_exim, many_recipients_refused_by_a_hop]),
     "opensmtpd": (OpenSmtpd, [
-        through_a_client, a_stranger, through_a_hop, a_recipient_refused_by_a_hop]),
+        through_a_client, a_stranger, through_a_hop, a_recipient_refused_by_a_hop, many_recipients_refused_by_a_hop]),
 }
 
 

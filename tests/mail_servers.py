@@ -178,7 +178,7 @@ message_size_limit = 20000000
 acl_smtp_rcpt = check
 begin acl
 check:
-  deny recipients = refused@in.example
+  deny recipients = \\N^refused(\\+[0-9]+)?@in\\.example$\\N
        message = no such user
   accept
 begin routers
@@ -216,7 +216,7 @@ listen on 127.0.0.1 port {self.port} hostname opensmtpd.example
 smtp max-message-size 20000000
 action "out" relay host "smtp+notls://127.0.0.1:{self.to_out}"
 action "in" relay host "smtp+notls://127.0.0.1:{self.to_in}"
-match from any for rcpt-to "refused@in.example" reject
+match from any for rcpt-to regex "^refused(\\+[0-9]+)?@in\\.example$" reject
 match from any for domain "out.example" action "out"
 match from any for domain "in.example" action "in"
 """,
