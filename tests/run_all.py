@@ -69,6 +69,8 @@ SCRIPTS = [
     Script(["tests/without_memory.py", "books", ROWS]),
     Script(["tests/dialogues_of_a_node.py", NODES]),
     Script(["tests/attempts_of_a_node.py", NODES]),
+    Script(["tests/bodies_of_a_node.py", NODES]),
+    Script(["tests/errands_of_nodes.py", NODES]),
     Script(["tests/without_memory.py", "nodes", RELAYD]),
     Script(["tests/groups_without_memory.py", NODES]),
     Script(["tests/spool_on_a_file.sh", ROWS]),

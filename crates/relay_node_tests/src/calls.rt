@@ -43,14 +43,15 @@ pub struct Handed {
     pub is_closed: bool,
 }
 
-/// Returns a configuration of this host, with this line of further keys, and a route for each two words: a domain, and
-/// the name of its hop. There is none if they are no configuration.
+/// Returns a configuration of this host, with these further keys, ` ; ` between each two, and a route for each two
+/// words: a domain, and the name of its hop. There is none if they are no configuration.
 pub fn configuration(
     alloc: Global,
     host: &str,
     keys: &str,
     table: &str,
 ) -> Result<Option<Config>, AllocError> {
+    let keys = keys.replace(alloc, " ; ", "\n")?;
     let mut text = format!(in alloc;
         "host = \"{host}\"
 listen = \"127.0.0.1:2525\"

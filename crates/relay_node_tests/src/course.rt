@@ -24,18 +24,8 @@ impl Cutting {
         rest: usize::MAX,
     };
 
-    /// Returns the cutting of this number of this many octets: by 0 all at once, then in two after each octet but the
-    /// last, and then octet by octet.
-    pub fn of_number(number: usize, length: usize) -> Self {
-        if number < length {
-            Cutting {
-                first: number,
-                rest: usize::MAX,
-            }
-        } else {
-            Cutting { first: 1, rest: 1 }
-        }
-    }
+    /// Octet by octet.
+    pub const OCTETS: Self = Cutting { first: 1, rest: 1 };
 
     /// Returns where the piece ends that begins here, of this many octets.
     pub fn end_of_piece(self, start: usize, length: usize) -> usize {

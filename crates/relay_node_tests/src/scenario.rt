@@ -1,3 +1,4 @@
+use crate::course::Cutting;
 use crate::step::Step;
 use std::alloc::{AllocError, Global};
 
@@ -5,12 +6,15 @@ use std::alloc::{AllocError, Global};
 ///
 /// After `name ` stands its name, after `calls ` how many calls of the device pass before one fails, and after `picks `
 /// what a stop leaves, each from the first number to the last: then it is played for each of them, and else for each
-/// cutting of what the other sides say. `differs` says that something else comes than what is there.
+/// cutting of what the other sides say, after `sizes ` in pieces of these sizes. `differs` says that something else
+/// comes than what is there.
 pub struct Scenario<'a> {
     pub name: &'a str,
     /// It is played for each of these.
     pub calls: Option<Numbers>,
     pub picks: Numbers,
+    /// How many octets pieces have, a space between each two sizes; none where it is cut in two.
+    pub sizes: &'a str,
     /// Something else comes of it than what is there.
     pub differs: bool,
     pub steps: Vec<Step<'a>>,
@@ -29,6 +33,7 @@ impl Drop for Scenario<'_> {
             name: _,
             calls: _,
             picks: _,
+            sizes: _,
             differs: _,
             steps: _steps,
         } = self;
@@ -42,6 +47,7 @@ impl<'a> Scenario<'a> {
             name: "",
             calls: None,
             picks: Numbers { first: 0, last: 0 },
+            sizes: "",
             differs: false,
             steps: Vec::new(alloc),
         }
@@ -54,6 +60,7 @@ impl<'a> Scenario<'a> {
             "name" => self.name = text,
             "calls" => self.calls = Some(numbers_of(text)),
             "picks" => self.picks = numbers_of(text),
+            "sizes" => self.sizes = text,
             "differs" => self.differs = true,
             "#" => (),
             _ => return self.take_step(alloc, line, word, text),
@@ -78,8 +85,29 @@ impl<'a> Scenario<'a> {
         Ok(())
     }
 
+    /// Returns the ways in which what other sides say comes: all at once; in two pieces, cut at each octet, or in
+    /// pieces of each size, cut at each place first; and octet by octet.
+    pub fn cuttings(&self, alloc: Global) -> Result<Vec<Cutting>, AllocError> {
+        let mut cuttings = Vec::new(alloc);
+        cuttings.push(Cutting::WHOLE)?;
+        if self.sizes.is_empty() {
+            for first in 1..self.longest() {
+                let rest = usize::MAX;
+                cuttings.push(Cutting { first, rest })?;
+            }
+        }
+        for size in self.sizes.split(' ') {
+            let rest = size.parse::<usize>().unwrap_or(0);
+            for first in 1..=rest {
+                cuttings.push(Cutting { first, rest })?;
+            }
+        }
+        cuttings.push(Cutting::OCTETS)?;
+        Ok(cuttings)
+    }
+
     /// Returns how many octets the longest of what other sides say has.
-    pub fn longest(&self) -> usize {
+    fn longest(&self) -> usize {
         let mut longest = 0;
         for step in self.steps.as_slice() {
             longest = step.said.len().max(longest);

@@ -16,7 +16,7 @@ use std::alloc::Global;
 pub struct Stage<'a> {
     node: Option<MemoryNode>,
     disks: Option<MemoryDisks>,
-    /// A line of keys that it is made with.
+    /// Keys that it is made with, ` ; ` between each two.
     keys: &'a str,
     /// A domain and a hop for each two words.
     table: &'a str,

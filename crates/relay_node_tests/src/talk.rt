@@ -10,6 +10,8 @@ use relay_trace::Moment;
 struct Talk<'a> {
     peer: Peer,
     step: &'a Step<'a>,
+    /// What of the step comes.
+    said: &'a [u8],
     given: usize,
     written: Vec<u8>,
     is_over: bool,
@@ -20,6 +22,7 @@ impl Drop for Talk<'_> {
         let Talk {
             peer: _,
             step: _,
+            said: _,
             given: _,
             written: _written,
             is_over: _,
@@ -32,14 +35,28 @@ impl Scene {
     /// attempt. It tells each change and each fault, and where something else was written or used than is to
     /// be.
     pub fn give(&mut self, node: &mut MemoryNode, step: &Step<'_>, peer: Peer) {
+        self.give_front(node, step, peer, usize::MAX);
+    }
+
+    /// Gives a node this many octets of what this peer says, in the same way.
+    pub fn give_front(
+        &mut self,
+        node: &mut MemoryNode,
+        step: &Step<'_>,
+        peer: Peer,
+        count: usize,
+    ) {
+        let said = step.said.as_slice();
+        let said = said.get(..count).unwrap_or(said);
         let mut talk = Talk {
             peer,
             step,
+            said,
             given: 0,
             written: Vec::new(self.alloc),
             is_over: false,
         };
-        for _ in 0..step.said.len() {
+        for _ in 0..said.len() {
             if !talk.is_over {
                 self.give_piece(node, &mut talk);
             }
@@ -49,7 +66,7 @@ impl Scene {
 
     /// Gives a node the next piece.
     fn give_piece(&mut self, node: &mut MemoryNode, talk: &mut Talk<'_>) {
-        let said = talk.step.said.as_slice();
+        let said = talk.said;
         let end = self.course.cutting.end_of_piece(talk.given, said.len());
         let piece = said.get(talk.given..end).unwrap_or(&[]);
         match hand(node, talk.peer, piece, self.now) {
@@ -73,17 +90,17 @@ impl Scene {
         talk.given = talk.given.saturating_add(handed.used);
         let is_written = talk.step.has_written(talk.given, talk.written.as_slice());
         let is_used = handed.used == length || handed.change.is_some();
-        let is_all = talk.given == talk.step.said.len();
+        let is_all = talk.given == talk.said.len();
         talk.is_over = handed.is_closed || !is_written || !is_used || is_all;
         self.tell_change_of(handed);
     }
 
     /// Tells where something else was written, or used, than is to be.
     fn tell_rest(&mut self, talk: &Talk<'_>) {
-        if talk.given != talk.step.said.len() {
+        if talk.given != talk.said.len() {
             self.tell_number("used", talk.given as u64);
         }
-        if talk.written.as_slice() != talk.step.written.as_slice() {
+        if !talk.step.has_written(talk.given, talk.written.as_slice()) {
             self.tell("written:");
             self.tell_octets(talk.written.as_slice());
         }
@@ -100,17 +117,18 @@ impl Scene {
         }
     }
 
-    /// Gives a node all that this peer says, in as many calls as it takes, up to the end of the session, and
-    /// tells what is written to the peer.
+    /// Gives a node all that this peer says, in pieces as the scenario is cut, up to the end of the session, and tells
+    /// what is written to the peer.
     pub fn hold(&mut self, node: &mut MemoryNode, step: &Step<'_>, peer: Peer) {
         let said = step.said.as_slice();
         let mut given: usize = 0;
         for _ in 0..said.len() {
-            let rest = said.get(given..).unwrap_or(&[]);
-            if rest.is_empty() {
+            let end = self.course.cutting.end_of_piece(given, said.len());
+            let piece = said.get(given..end).unwrap_or(&[]);
+            if piece.is_empty() {
                 return;
             }
-            match hand(node, peer, rest, self.now) {
+            match hand(node, peer, piece, self.now) {
                 Ok(handed) => {
                     self.tell_octets(handed.out.as_slice());
                     given = given.saturating_add(handed.used);

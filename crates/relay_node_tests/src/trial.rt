@@ -44,10 +44,9 @@ fn difference_by_cutting(
     scenario: &Scenario<'_>,
 ) -> Result<Option<String>, AllocError> {
     let mut images = Vec::new(alloc);
-    let length = scenario.longest();
-    for number in 0..=length {
+    for cutting in scenario.cuttings(alloc)?.as_slice() {
         let course = Course {
-            cutting: Cutting::of_number(number, length),
+            cutting: *cutting,
             calls: 0,
             pick: 0,
             is_crowded: false,

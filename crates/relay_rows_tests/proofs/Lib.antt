@@ -1,3 +1,1 @@
 mod PlayLemmas
-mod PlayerLemmas
-mod TranscriptLemmas

@@ -2,9 +2,3 @@ pub mod Outcome
 pub mod Row
 pub mod PlayOutcome
 pub mod Steps
-pub mod Cutting
-pub mod Comparison
-pub mod Player
-pub mod OfferText
-pub mod Transcript
-pub mod Played

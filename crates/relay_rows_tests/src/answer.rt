@@ -164,13 +164,6 @@ impl Answer {
         }
     }
 
-    /// Notes why something wasn't done.
-    pub fn note_fault(&mut self, done: Result<(), RowsFault>) {
-        if let Err(fault) = done {
-            self.stop(fault);
-        }
-    }
-
     /// Notes a fault, if none was noted before.
     pub fn stop(&mut self, fault: RowsFault) {
         if self.fault.is_none() {

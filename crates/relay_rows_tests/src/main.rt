@@ -1,24 +1,18 @@
 //! Plays each row of data/lines.in over the calls on lines, commands and replies, and compares what it comes to with
-//! what is written down: once whole, and, where octets come in pieces, in pieces of every length. Then it plays each
-//! row of data/bodies.in over the readers and writers of bodies, cut into two pieces at every octet and into pieces of
-//! one octet.
+//! what is written down: once whole, and, where octets come in pieces, in pieces of every length.
 //!
 //! Of the other rows it prints the outcome of each after the row. The rows of envelopes are texts of MAIL and RCPT,
 //! xtext, paths and hosts' names; those of routes configurations, and paths whose hop is looked up; those of trace
 //! times, time stamp lines and header sections; and those of scripts lines and texts. If something else is written down
 //! than comes of a row, that too is printed.
 //!
-//! Then it holds dialogues over a session, plays transcripts over an attempt, and lets the two meet, and last it shows
-//! the rows of books, of disks and of spools. By the word `books` and a folder it shows the rows of books there alone,
+//! Then it shows the rows of books, of disks and of spools. By the word `books` and a folder it shows the rows of books there alone,
 //! and by `steps` and the first file of a spool it takes the steps of the standard input on that.
 #![tactic(auto)]
 
 mod answer;
-mod body_row;
 mod books;
 mod command_play;
-mod comparison;
-mod cutting;
 mod disks;
 mod envelope;
 mod envelopes;
@@ -26,10 +20,8 @@ mod escape;
 mod line;
 mod line_play;
 mod lines;
-mod meeting;
 mod pieces;
 mod play;
-mod player;
 mod reply_play;
 mod routes;
 mod row;
@@ -43,7 +35,6 @@ use answer::{Answer, RowsFault};
 use disks::{show_steps, take_given_steps, tell_faults};
 use envelopes::show_envelopes;
 use lines::tell_calls;
-use meeting::{show_transcripts, tell_size};
 use rows::{Topic, show_books, show_rows};
 use script::tell_nodes;
 use std::env;
@@ -85,7 +76,6 @@ fn show_asked(rt: &HostRuntime, answer: &mut Answer, word: &str, path: &str) {
 /// Shows all rows, and what no row shows.
 fn show_all(rt: &HostRuntime, answer: &mut Answer) {
     show_rows(rt, answer, ".", "lines", Topic::Lines);
-    show_rows(rt, answer, ".", "bodies", Topic::Bodies);
     tell_calls(answer);
     answer.print(rt);
     show_envelopes(rt, answer);
@@ -94,11 +84,6 @@ fn show_all(rt: &HostRuntime, answer: &mut Answer) {
     show_rows(rt, answer, ".", "script", Topic::Script);
     tell_nodes(answer);
     answer.print(rt);
-    show_rows(rt, answer, ".", "dialogues", Topic::Dialogues);
-    show_transcripts(rt, answer);
-    tell_size(answer);
-    answer.print(rt);
-    show_rows(rt, answer, ".", "meetings", Topic::Meetings);
     show_books(rt, answer, ".");
     show_rows(rt, answer, ".", "disks", Topic::Disks);
     show_steps(rt, answer);

@@ -1,11 +1,9 @@
 //! Files of rows: each row is told with its outcome, and printed.
 use crate::answer::{Answer, RowsFault};
-use crate::body_row::tell_body_row;
 use crate::books::report::tell_report_row;
 use crate::books::subject::Subject;
 use crate::disks::tell_disks_row;
 use crate::lines::tell_line_row;
-use crate::meeting::{tell_dialogue, tell_meeting};
 use crate::routes::tell_routes;
 use crate::script::tell_script;
 use crate::trace::tell_trace;
@@ -18,12 +16,9 @@ const BOOKS: [&str; 4] = ["rows", "octets", "snapshots", "delay"];
 #[derive(Clone, Copy)]
 pub enum Topic {
     Lines,
-    Bodies,
     Routes,
     Trace,
     Script,
-    Dialogues,
-    Meetings,
     Books,
     Reports,
     Disks,
@@ -70,10 +65,7 @@ pub fn read_file(rt: &HostRuntime, answer: &mut Answer, path: &str) -> String {
 fn tell_row(rt: &HostRuntime, answer: &mut Answer, subject: &mut Subject, topic: Topic, row: &str) {
     match topic {
         Topic::Lines => tell_line_row(answer, row),
-        Topic::Bodies => tell_body_row(answer, row),
         Topic::Routes | Topic::Trace | Topic::Script => tell_given(rt, answer, topic, row),
-        Topic::Dialogues => tell_dialogue(rt, answer, row),
-        Topic::Meetings => tell_meeting(answer, row),
         Topic::Books => subject.tell_row(row, answer),
         Topic::Reports => tell_report_row(answer, row),
         Topic::Disks => tell_disks_row(answer, row),

@@ -4,6 +4,7 @@ use relay_body::ends_in_line_end;
 use relay_client::{Attempt, MailObject};
 use relay_envelope::Envelope;
 use std::alloc::{AllocError, Global};
+use std::mem;
 use std::test::Fail;
 
 /// What a server says to an attempt that sends the content by DATA.
@@ -33,6 +34,9 @@ const SENDER_OK: &[u8] = b"250 sender OK\r\n";
 
 /// How many places an attempt that waits has.
 const PLACES: u8 = 100;
+
+/// How many octets an attempt may take by itself.
+const HELD_LIMIT: usize = 4096;
 
 /// Hands a text on this many times: by DATA where it ends in CR LF, and else by BDAT.
 pub fn hand_texts_on(told: &mut Told, times: u64, text: &[u8]) -> Result<(), Fail> {
@@ -85,8 +89,12 @@ fn attempt_of(alloc: Global, count: u8) -> Result<Attempt, AllocError> {
     Attempt::begin(alloc, b"relay.example", places)
 }
 
-/// Lets this many attempts with 100 places wait.
+/// Lets this many attempts with 100 places wait. One may hold 4,096 octets beside its places, the texts of refusals and
+/// the lines of a reply.
 pub fn hold_attempts(told: &mut Told, count: u64) -> Result<(), Fail> {
+    if mem::size_of::<Attempt>() > HELD_LIMIT {
+        return Err(Fail::new("an attempt holds too much"));
+    }
     let envelope = envelope_of(told.alloc, PLACES)?;
     let mut held: Vec<Attempt> = Vec::new(told.alloc);
     for _ in 0..count {
