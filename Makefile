@@ -2,14 +2,14 @@
 SHELL := bash
 .SHELLFLAGS := -eo pipefail -c
 
-.PHONY: test demo interop hostile bench load instructions relayd relay_node_tests
+.PHONY: test demo interop hostile bench load instructions relayd relay_rows_tests
 
 # The whole gate: the sample configuration and a play beside their tested copies; then every proof from nothing, the
 # edits that must fail and the tests, as many side by side as tools/lanes.sh says (RT_JOBS, where it is given); then the
 # scripts of tests/run_all.py, over the programs that these have built. The gate's own last line is the last.
 test:
 	cmp relayd.toml crates/relay_rows_tests/data/relayd.toml
-	cmp docs/plays/lost_reply.play crates/relay_node_tests/data/lost_reply.play
+	cmp docs/plays/lost_reply.play crates/relay_rows_tests/data/lost_reply.play
 	mkdir -p build
 	rm -rf build/lanes
 	RT_JOBS=$$(tools/lanes.sh) rt ci | tee build/gate.log
@@ -33,8 +33,8 @@ hostile: relayd
 	tests/stops_in_plays.py build/relayd all
 
 # Measures the program and library calls beside `wc` on the same octets (docs/PERFORMANCE.md).
-bench: relayd relay_node_tests
-	bench/run.sh build/relayd build/relay_node_tests
+bench: relayd relay_rows_tests
+	bench/run.sh build/relayd build/relay_rows_tests
 
 # Measures a relay over sockets beside bare syncs, one that stays up beside the least that a relay does with half a
 # millisecond more for each sync, and what others cost a client; kills one at thirty moments and one that stays up at a
@@ -49,8 +49,8 @@ load: relayd
 	DUE=100000 THROUGH=200000 CONTENT=16777216 tests/run_load.py build/relayd
 
 # Counts the instructions of the same with callgrind, which valgrind brings.
-instructions: relayd relay_node_tests
-	bench/instructions.sh build/relayd build/relay_node_tests
+instructions: relayd relay_rows_tests
+	bench/instructions.sh build/relayd build/relay_rows_tests
 
 # Proves and links the program, a line a crate, and then shows a message's way through it.
 relayd:
@@ -63,7 +63,7 @@ relayd:
 	@tools/tour.py build/relayd
 
 # Proves and links the program of rows, and runs its measurements once on a few octets.
-relay_node_tests:
+relay_rows_tests:
 	mkdir -p build
-	tools/prove.py relay_node_tests bench
-	cp crates/relay_node_tests/out/relay_node_tests build/relay_node_tests
+	tools/prove.py relay_rows_tests bench
+	cp crates/relay_rows_tests/out/relay_rows_tests build/relay_rows_tests

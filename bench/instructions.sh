@@ -4,7 +4,7 @@
 # between a run on MANY units and one on FEW, so that what starting the program takes isn't counted. It needs bash,
 # coreutils, awk, yes and valgrind.
 #
-#   bench/instructions.sh build/relayd build/relay_node_tests
+#   bench/instructions.sh build/relayd build/relay_rows_tests
 #
 # FUNCTIONS (0) is how many functions follow each figure, with their share of the longer run's instructions.
 set -euo pipefail

@@ -2,7 +2,7 @@
 # Measures the built program and library calls, each beside `wc` on the same octets through the same kind of pipe in
 # the same run: one line a figure, the median of RUNS runs (5). It needs bash, coreutils, awk and yes.
 #
-#   bench/run.sh build/relayd build/relay_node_tests [GROUP ..]
+#   bench/run.sh build/relayd build/relay_rows_tests [GROUP ..]
 #
 # The groups of figures are sessions, texts, attempts, reports, spools, books, nodes and queues; all where none is
 # given. DISK (build) is the folder whose device the appends of a spool are measured on, and MEMORY (/dev/shm) one in

@@ -4,7 +4,7 @@ memory ran out before or after that; there was no memory for the results; the di
 is stopped; or each message was queued and its client got a 250, or its connection is gone, and each queued message has
 its change and its note.
 
-    tests/groups_without_memory.py crates/relay_node_tests/out/relay_node_tests
+    tests/groups_without_memory.py crates/relay_rows_tests/out/relay_rows_tests
 """
 import pathlib
 import re

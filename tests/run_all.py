@@ -24,7 +24,6 @@ TOP = pathlib.Path(__file__).resolve().parent.parent
 LOGS = TOP / "build/tests"
 RELAYD = "build/relayd"
 ROWS = "crates/relay_rows_tests/out/relay_rows_tests"
-NODES = "crates/relay_node_tests/out/relay_node_tests"
 # How long a script may run, in seconds.
 LONGEST = 3600
 
@@ -67,12 +66,12 @@ SCRIPTS = [
     Script(["tests/without_memory.py", "sessions", RELAYD]),
     Script(["tests/records_of_a_generator.py", ROWS]),
     Script(["tests/without_memory.py", "books", ROWS]),
-    Script(["tests/dialogues_of_a_node.py", NODES]),
-    Script(["tests/attempts_of_a_node.py", NODES]),
-    Script(["tests/bodies_of_a_node.py", NODES]),
-    Script(["tests/errands_of_nodes.py", NODES]),
+    Script(["tests/dialogues_of_a_node.py", ROWS]),
+    Script(["tests/attempts_of_a_node.py", ROWS]),
+    Script(["tests/bodies_of_a_node.py", ROWS]),
+    Script(["tests/errands_of_nodes.py", ROWS]),
     Script(["tests/without_memory.py", "nodes", RELAYD]),
-    Script(["tests/groups_without_memory.py", NODES]),
+    Script(["tests/groups_without_memory.py", ROWS]),
     Script(["tests/spool_on_a_file.sh", ROWS]),
     Script(["tests/reports_read_by_python.py", ROWS]),
 ]

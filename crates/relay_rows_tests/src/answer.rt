@@ -2,8 +2,9 @@
 use relay_book::BookFault;
 use std::alloc::{AllocError, Global};
 use std::fmt::Display;
-use std::io::{Error, ErrorKind};
+use std::io::{Error, ErrorKind, Print};
 use std::str;
+use std::test::Fail;
 
 /// Why not every row was shown.
 #[derive(Clone, Copy)]
@@ -211,4 +212,13 @@ impl Answer {
             self.stop(RowsFault::NoMemory);
         }
     }
+}
+
+/// Prints a row, and what is told of it after these words. It fails where something is missing.
+pub fn print_told(rt: &impl Print, row: &str, between: &str, told: &Answer) -> Result<(), Fail> {
+    if let Some(fault) = told.fault {
+        return Err(Fail::new(fault.text()));
+    }
+    let text = told.text.as_str();
+    Ok(println!(rt; "{row}{between}{text}")?)
 }

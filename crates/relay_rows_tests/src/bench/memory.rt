@@ -1,9 +1,9 @@
-use crate::told::Told;
+use crate::answer::Answer;
 use std::fs;
 use std::test::Fail;
 
 /// Tells the line of this process's status that says how much memory it had at most.
-pub fn tell_peak(rt: &HostRuntime, told: &mut Told) -> Result<(), Fail> {
+pub fn tell_peak(rt: &HostRuntime, told: &mut Answer) -> Result<(), Fail> {
     let status = fs::read_to_string(rt, "/proc/self/status")?;
     for line in status.as_str().lines() {
         if line.starts_with("VmHWM:") {

@@ -1,7 +1,7 @@
 //! A relay over memory at the first second. Each call of it stands here alone, in a function without clauses: what
 //! calls these sees none of their contracts.
 use crate::calls::{CLIENT, due, empty_node_with, first_moment};
-use crate::told::Told;
+use crate::answer::Answer;
 use relay_disk::MemoryDisk;
 use relay_loop::{Answered, Group, Heard, Outbox, Piece, Relay, ReplyPiece};
 use relay_node::{NodeFault, Work};
@@ -54,7 +54,7 @@ pub(crate) fn end_client(relay: &mut MemoryRelay, session: usize) -> Result<Outb
 }
 
 /// Tells all that waits for a client, which is written to it.
-pub(crate) fn write_to_client(relay: &mut MemoryRelay, session: usize, told: &mut Told) {
+pub(crate) fn write_to_client(relay: &mut MemoryRelay, session: usize, told: &mut Answer) {
     let waiting = relay.to_client(session);
     told.escape(waiting);
     let count = waiting.len();
@@ -74,7 +74,7 @@ pub(crate) fn lose(relay: &mut MemoryRelay, attempt: usize) -> Result<u64, NodeF
 }
 
 /// Tells all that waits for a next hop, which is written to it.
-pub(crate) fn write_to_hop(relay: &mut MemoryRelay, attempt: usize, told: &mut Told) {
+pub(crate) fn write_to_hop(relay: &mut MemoryRelay, attempt: usize, told: &mut Answer) {
     let waiting = relay.to_hop(attempt);
     told.escape(waiting);
     let count = waiting.len();

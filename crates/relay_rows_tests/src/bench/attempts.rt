@@ -1,5 +1,5 @@
+use crate::answer::Answer;
 use crate::bench::mail::envelope_of;
-use crate::told::Told;
 use relay_body::ends_in_line_end;
 use relay_client::{Attempt, MailObject};
 use relay_envelope::Envelope;
@@ -39,7 +39,7 @@ const PLACES: u8 = 100;
 const HELD_LIMIT: usize = 4096;
 
 /// Hands a text on this many times: by DATA where it ends in CR LF, and else by BDAT.
-pub fn hand_texts_on(told: &mut Told, times: u64, text: &[u8]) -> Result<(), Fail> {
+pub fn hand_texts_on(told: &mut Answer, times: u64, text: &[u8]) -> Result<(), Fail> {
     let envelope = envelope_of(told.alloc, 1)?;
     let mut octets: u64 = 0;
     for _ in 0..times {
@@ -91,7 +91,7 @@ fn attempt_of(alloc: Global, count: u8) -> Result<Attempt, AllocError> {
 
 /// Lets this many attempts with 100 places wait. One may hold 4,096 octets beside its places, the texts of refusals and
 /// the lines of a reply.
-pub fn hold_attempts(told: &mut Told, count: u64) -> Result<(), Fail> {
+pub fn hold_attempts(told: &mut Answer, count: u64) -> Result<(), Fail> {
     if mem::size_of::<Attempt>() > HELD_LIMIT {
         return Err(Fail::new("an attempt holds too much"));
     }

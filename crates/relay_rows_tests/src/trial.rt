@@ -1,7 +1,7 @@
 use crate::course::{Course, Cutting};
-use crate::escape::push_escaped;
 use crate::scenario::{Numbers, Scenario};
 use crate::scene::Scene;
+use crate::spelling::push_escaped;
 use crate::stage::Stage;
 use relay_trace::Moment;
 use std::alloc::{AllocError, Global};

@@ -3,7 +3,7 @@ use crate::bench::mail::moment;
 use crate::calls::{
     HOST, compact, config_of, connect, create, first_moment, next_number, open, receive,
 };
-use crate::told::Told;
+use crate::answer::Answer;
 use relay_disk::FileDisk;
 use relay_node::Node;
 use relay_trace::Moment;
@@ -25,7 +25,7 @@ const KEYS: &str = "spool_limit = 549755813888";
 /// times on one session. The first ten come at the time 0, and the others later.
 pub fn accept_messages(
     rt: &HostRuntime,
-    told: &mut Told,
+    told: &mut Answer,
     count: u64,
     transaction: &[u8],
     path: &str,
@@ -37,7 +37,7 @@ pub fn accept_messages(
 }
 
 /// Tells a number of messages, and how large the spool of a node is.
-pub fn tell_messages(told: &mut Told, count: u64, node: &Node<FileDisk>) {
+pub fn tell_messages(told: &mut Answer, count: u64, node: &Node<FileDisk>) {
     told.count("", count);
     told.count(" messages, ", node.size() as u64);
     told.say(" octets");
@@ -61,14 +61,14 @@ fn accept_each(node: &mut Node<FileDisk>, count: u64, transaction: &[u8]) -> Res
 }
 
 /// Opens the node in these files, and tells the number of its next change.
-pub fn open_node(rt: &HostRuntime, told: &mut Told, path: &str) -> Result<(), Fail> {
+pub fn open_node(rt: &HostRuntime, told: &mut Answer, path: &str) -> Result<(), Fail> {
     let node = node_at(rt, path, false)?;
     told.count("next number ", next_number(&node));
     Ok(())
 }
 
 /// Opens the node in these files, and compacts its spool.
-pub fn compact_node(rt: &HostRuntime, told: &mut Told, path: &str) -> Result<(), Fail> {
+pub fn compact_node(rt: &HostRuntime, told: &mut Answer, path: &str) -> Result<(), Fail> {
     let mut node = node_at(rt, path, false)?;
     let (before, behind) = compact(&mut node)?;
     told.count("", before as u64);

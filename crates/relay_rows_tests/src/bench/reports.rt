@@ -1,5 +1,5 @@
 use crate::bench::mail::{AT, accept_of, moment};
-use crate::told::Told;
+use crate::answer::Answer;
 use relay_book::{Book, Message, Ruling, Rulings, Verdict};
 use relay_octets::Octets;
 use relay_report::{Report, report_if_due};
@@ -8,7 +8,7 @@ use std::alloc::{AllocError, Global};
 use std::test::Fail;
 
 /// Makes the report of a message's refusal this many times: report 2, which returns all of its stored text.
-pub fn make_reports(told: &mut Told, times: u64, stored_text: &[u8]) -> Result<(), Fail> {
+pub fn make_reports(told: &mut Answer, times: u64, stored_text: &[u8]) -> Result<(), Fail> {
     let mut book = Book::new(told.alloc);
     book.apply(told.alloc, accept_of(told.alloc, stored_text)?)?;
     match book.message(1) {

@@ -1,7 +1,7 @@
 //! One measurement a run: a library call this many times, and a line of what it counted. The time is the driver's to
 //! take (bench/).
 //!
-//!     relay_node_tests bench NAME TIMES [FILE] < TEXT
+//!     relay_rows_tests bench NAME TIMES [FILE] < TEXT
 //!
 //! FILE is the first file of a spool, and the second one's name is that with `.2` after it. Most measurements read a
 //! text; the others run on `/dev/null`. The line ends with how much memory the program had at most. Without a name each
@@ -18,8 +18,8 @@ mod reports;
 mod spools;
 mod texts;
 
-use crate::escape::push_unescaped;
-use crate::told::{Told, print_told};
+use crate::spelling::push_unescaped;
+use crate::answer::{Answer, print_told};
 use crate::word_of;
 use crate::words::Words;
 use attempts::{hand_texts_on, hold_attempts};
@@ -41,7 +41,7 @@ pub fn measure_named(rt: &HostRuntime, words: &[String]) -> Result<(), Fail> {
     let times = word_of(words, 1).parse::<u64>()?;
     let mut text: Vec<u8> = Vec::new(rt.alloc());
     rt.stdin().read_to_end(&mut text)?;
-    let mut told = Told::new(rt.alloc());
+    let mut told = Answer::new(rt.alloc());
     let (name, path) = (word_of(words, 0), word_of(words, 2));
     measure(rt, &mut told, name, times, text.as_slice(), path)?;
     told.say(", ");
@@ -66,7 +66,7 @@ fn measure_row(rt: &HostRuntime, row: &str) -> Result<(), Fail> {
     let path = words.word();
     let mut text = Vec::new(rt.alloc());
     push_unescaped(&mut text, words.rest.as_bytes())?;
-    let mut told = Told::new(rt.alloc());
+    let mut told = Answer::new(rt.alloc());
     measure(rt, &mut told, name, 3, text.as_slice(), path)?;
     print_told(rt, name, ": ", &told)
 }
@@ -81,7 +81,7 @@ fn forget_each(rt: &HostRuntime) -> Result<(), Fail> {
 /// Runs the measurement of this name this many times, and tells what it counted.
 fn measure(
     rt: &HostRuntime,
-    told: &mut Told,
+    told: &mut Answer,
     name: &str,
     times: u64,
     text: &[u8],
@@ -102,7 +102,7 @@ fn measure(
 /// Returns the same of those of a spool.
 fn measure_files(
     rt: &HostRuntime,
-    told: &mut Told,
+    told: &mut Answer,
     name: &str,
     times: u64,
     text: &[u8],

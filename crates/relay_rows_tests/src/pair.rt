@@ -2,7 +2,7 @@
 //! the message there are, and how many replies to attempts at it were lost; and for each row of networks.in why its
 //! configurations make no network, or how many nodes they make.
 use crate::calls::config_of;
-use crate::told::{Told, print_told};
+use crate::answer::{Answer, RowsFault, print_told};
 use relay_book::{PlaceStep, Way, Withdrawal};
 use relay_disk::MemoryDisk;
 use relay_pair::{Event, Pair};
@@ -18,7 +18,7 @@ pub fn show_run(rt: &HostRuntime) -> Result<(), Fail> {
     let events = events_of(rt.alloc(), script.as_str())?;
     let mut pair = Pair::new(rt.alloc())?;
     pair.run(events.as_slice());
-    let mut told = Told::new(rt.alloc());
+    let mut told = Answer::new(rt.alloc());
     tell_pair(&mut told, &pair);
     print_told(rt, "", "", &told)
 }
@@ -77,19 +77,19 @@ fn withdrawn(node: NodeIndex, number: u64, place: u64, withdrawal: Withdrawal) -
 }
 
 /// Tells the ledger, the copies of the first place of node a's message 1, and the lost replies to attempts at it.
-fn tell_pair(told: &mut Told, pair: &Pair<MemoryDisk>) {
+fn tell_pair(told: &mut Answer, pair: &Pair<MemoryDisk>) {
     for line in pair.ledger() {
         tell_line(told, *line);
     }
     match pair.copies(told.alloc, 0, 1, 0) {
         Ok(copies) => told.count("copies ", copies as u64),
-        Err(_) => told.is_short = true,
+        Err(_) => told.stop(RowsFault::NoMemory),
     }
     told.count(", lost ", pair.lost_replies(0, 1, 0) as u64);
 }
 
 /// Tells a line of the ledger, as a play prints it.
-fn tell_line(told: &mut Told, line: Line) {
+fn tell_line(told: &mut Answer, line: Line) {
     match line {
         Line::Accepted {
             node,
@@ -119,7 +119,7 @@ fn tell_line(told: &mut Told, line: Line) {
 }
 
 /// Tells a word, the letter of a node, `a` for the first, and a number.
-fn tell_node(told: &mut Told, word: &str, node: usize, number: u64) {
+fn tell_node(told: &mut Answer, word: &str, node: usize, number: u64) {
     told.say(word);
     told.show(&char::from(b'a' + node.min(15) as u8));
     told.count(" ", number);
@@ -140,7 +140,7 @@ fn word_of(step: PlaceStep) -> &'static str {
 pub fn show_networks(rt: &HostRuntime) -> Result<(), Fail> {
     let rows = fs::read_to_string(rt, "networks.in")?;
     for row in rows.as_str().lines() {
-        let mut told = Told::new(rt.alloc());
+        let mut told = Answer::new(rt.alloc());
         tell_network(&mut told, row)?;
         print_told(rt, row, ": ", &told)?;
     }
@@ -149,7 +149,7 @@ pub fn show_networks(rt: &HostRuntime) -> Result<(), Fail> {
 
 /// Tells the fault of a row's configurations, or how many nodes they make. A word is one: the name of its host, and
 /// after `>` the name of the hop of every domain.
-fn tell_network(told: &mut Told, row: &str) -> Result<(), Fail> {
+fn tell_network(told: &mut Answer, row: &str) -> Result<(), Fail> {
     let mut configs = Vec::new(told.alloc);
     for word in row.split(' ') {
         let (host, hop) = word.split_once('>').unwrap_or((word, "out.example"));

@@ -1,9 +1,9 @@
-use crate::told::Told;
+use crate::answer::Answer;
 use relay_body::{ends_in_line_end, push_dots};
 use std::test::Fail;
 
 /// Writes the dot text of a content this many times into one row of octets.
-pub fn write_texts(told: &mut Told, times: u64, content: &[u8]) -> Result<(), Fail> {
+pub fn write_texts(told: &mut Answer, times: u64, content: &[u8]) -> Result<(), Fail> {
     if !ends_in_line_end(content) {
         return Err(Fail::new("the content doesn't end in CR LF"));
     }

@@ -1,13 +1,13 @@
 //! What is said on a connection, whose peer reads all that is written to it before it says more.
 use crate::scenes::setup::{MemoryRelay, read, reply, write_to_client, write_to_hop};
-use crate::told::Told;
+use crate::answer::Answer;
 use relay_node::NodeFault;
 use std::alloc::Global;
 
 /// A client, and what it was told.
 pub(crate) struct Client {
     pub(crate) session: usize,
-    pub(crate) told: Told,
+    pub(crate) told: Answer,
 }
 
 impl Drop for Client {
@@ -24,7 +24,7 @@ impl Client {
     pub(crate) fn new(alloc: Global, session: usize) -> Self {
         Client {
             session,
-            told: Told::new(alloc),
+            told: Answer::new(alloc),
         }
     }
 
@@ -42,7 +42,7 @@ pub(crate) fn client_says(
     relay: &mut MemoryRelay,
     session: usize,
     piece: &[u8],
-    told: &mut Told,
+    told: &mut Answer,
 ) -> Result<bool, NodeFault> {
     let mut used = 0_usize;
     write_to_client(relay, session, told);
@@ -64,7 +64,7 @@ pub(crate) fn hop_says(
     relay: &mut MemoryRelay,
     attempt: usize,
     piece: &[u8],
-    told: &mut Told,
+    told: &mut Answer,
 ) -> bool {
     write_to_hop(relay, attempt, told);
     match reply(relay, attempt, piece) {

@@ -1,4 +1,4 @@
-use crate::escape::push_unescaped;
+use crate::spelling::push_unescaped;
 use std::alloc::{AllocError, Global};
 use std::mem;
 

@@ -6,7 +6,7 @@ mod setup;
 mod step;
 mod talk;
 
-use crate::told::{Told, print_told};
+use crate::answer::{Answer, print_told};
 use crate::words::Words;
 use setup::{MemoryRelay, WIDE, relay_with};
 use std::fs;
@@ -27,7 +27,7 @@ pub fn show_scenes(rt: &HostRuntime, path: &str) -> Result<(), Fail> {
 /// `relay LIMIT CALLS`, begin with a relay without mail, of a spool of this many octets, on a device that takes this
 /// many calls and no more. `\r\n` stands for CR LF in a step and in its answer.
 fn play_line(rt: &HostRuntime, relay: &mut MemoryRelay, line: &str) -> Result<(), Fail> {
-    let mut told = Told::new(rt.alloc());
+    let mut told = Answer::new(rt.alloc());
     if line.starts_with('#') {
         return print_told(rt, line, "", &told);
     }

@@ -1,12 +1,12 @@
 use crate::bench::mail::{AT, accept_of, moment};
-use crate::told::Told;
+use crate::answer::Answer;
 use relay_book::{Book, Change, Outcome, Ruling, Rulings, Verdict, Version, decode_change};
 use relay_octets::Octets;
 use std::alloc::{AllocError, Global};
 use std::test::Fail;
 
 /// Fills a book with this many messages of this text, and transfers each, if it is to be drained.
-pub fn fill_book(told: &mut Told, count: u64, text: &[u8], is_drained: bool) -> Result<(), Fail> {
+pub fn fill_book(told: &mut Answer, count: u64, text: &[u8], is_drained: bool) -> Result<(), Fail> {
     let mut book = Book::new(told.alloc);
     fill(told.alloc, &mut book, count, text)?;
     if is_drained {
@@ -51,7 +51,7 @@ fn transfer_of(alloc: Global, message: u64) -> Result<Change, AllocError> {
 }
 
 /// Decodes a record this many times.
-pub fn decode_record(told: &mut Told, times: u64, record: &[u8]) -> Result<(), Fail> {
+pub fn decode_record(told: &mut Answer, times: u64, record: &[u8]) -> Result<(), Fail> {
     let mut octets: u64 = 0;
     for _ in 0..times {
         octets = octets.saturating_add(text_of(told.alloc, record));

@@ -18,7 +18,7 @@
 use crate::calls::{count_changes, count_held};
 use crate::scenes::setup::{MemoryRelay, accept, begin, end_client, lose, read, read_all, reply};
 use crate::scenes::talk::{Client, client_says, hop_says};
-use crate::told::Told;
+use crate::answer::{Answer, RowsFault};
 use relay_loop::{Answered, Closing, Group, Heard, Outbox, Piece, ReplyPiece, closing_line};
 use relay_node::NodeFault;
 
@@ -29,7 +29,7 @@ fn numbered(text: &str) -> (usize, &str) {
 }
 
 /// Takes a step, and tells its outcome.
-pub(crate) fn take_step(relay: &mut MemoryRelay, step: &str, told: &mut Told) {
+pub(crate) fn take_step(relay: &mut MemoryRelay, step: &str, told: &mut Answer) {
     let (word, rest) = step.split_once(' ').unwrap_or((step, ""));
     let (number, text) = numbered(rest);
     match word {
@@ -51,7 +51,7 @@ fn take_plain_step(
     word: &str,
     number: usize,
     octets: &[u8],
-    told: &mut Told,
+    told: &mut Answer,
 ) {
     match word {
         "accept" => accept_each(relay, number, told),
@@ -70,7 +70,7 @@ fn take_plain_step(
     }
 }
 
-fn accept_each(relay: &mut MemoryRelay, count: usize, told: &mut Told) {
+fn accept_each(relay: &mut MemoryRelay, count: usize, told: &mut Answer) {
     for turn in 0..count {
         if turn > 0 {
             told.say(" ");
@@ -83,12 +83,12 @@ fn accept_each(relay: &mut MemoryRelay, count: usize, told: &mut Told) {
 }
 
 /// Each octet is said by each of the clients of these numbers in turn.
-fn take_turns(relay: &mut MemoryRelay, first: usize, rest: &str, told: &mut Told) {
+fn take_turns(relay: &mut MemoryRelay, first: usize, rest: &str, told: &mut Answer) {
     let (last, said) = numbered(rest);
     let mut clients = Vec::new(told.alloc);
     for session in first..=last {
         if clients.push(Client::new(told.alloc, session)).is_err() {
-            told.is_short = true;
+            told.stop(RowsFault::NoMemory);
         }
     }
     for octet in said.as_bytes() {
@@ -100,24 +100,24 @@ fn take_turns(relay: &mut MemoryRelay, first: usize, rest: &str, told: &mut Told
 }
 
 /// What each of these clients was told.
-fn tell_each(told: &mut Told, clients: &[Client]) {
+fn tell_each(told: &mut Answer, clients: &[Client]) {
     for client in clients {
         if !told.text.is_empty() {
             told.say(" | ");
         }
         told.say(client.told.text.as_str());
-        told.is_short = told.is_short || client.told.is_short;
+        told.stop_as(&client.told);
     }
 }
 
 /// Octets of several clients and next hops are heard at once. The outcome of each is told, and how many notes there
 /// are.
-fn hear_group(relay: &mut MemoryRelay, rest: &str, told: &mut Told) {
+fn hear_group(relay: &mut MemoryRelay, rest: &str, told: &mut Answer) {
     let mut pieces = Vec::new(told.alloc);
     let mut replies = Vec::new(told.alloc);
     for part in rest.split(" | ") {
         if !is_pushed(part, &mut pieces, &mut replies) {
-            told.is_short = true;
+            told.stop(RowsFault::NoMemory);
         }
     }
     match read_all(relay, pieces.as_slice(), replies.as_slice()) {
@@ -146,7 +146,7 @@ fn is_pushed<'a>(
     }
 }
 
-fn tell_group(told: &mut Told, group: &Group) {
+fn tell_group(told: &mut Answer, group: &Group) {
     for heard in group.heard.as_slice() {
         tell_heard(told, heard);
         told.say(" | ");
@@ -158,14 +158,14 @@ fn tell_group(told: &mut Told, group: &Group) {
     told.count("notes ", group.notes.len() as u64);
 }
 
-fn tell_heard(told: &mut Told, heard: &Result<Heard, NodeFault>) {
+fn tell_heard(told: &mut Answer, heard: &Result<Heard, NodeFault>) {
     match heard {
         Ok(heard) => tell_used(told, heard.used, heard.change, heard.last.as_ref()),
         Err(fault) => told.show(fault),
     }
 }
 
-fn tell_answered(told: &mut Told, answered: &Result<Answered, NodeFault>) {
+fn tell_answered(told: &mut Answer, answered: &Result<Answered, NodeFault>) {
     match answered {
         Ok(answered) => tell_used(told, answered.used, answered.change, answered.last.as_ref()),
         Err(fault) => told.show(fault),
@@ -173,7 +173,7 @@ fn tell_answered(told: &mut Told, answered: &Result<Answered, NodeFault>) {
 }
 
 /// How many octets were used, the change that was made, if one was, and the last octets where the connection is gone.
-fn tell_used(told: &mut Told, used: usize, change: Option<u64>, last: Option<&Outbox>) {
+fn tell_used(told: &mut Answer, used: usize, change: Option<u64>, last: Option<&Outbox>) {
     told.count("used ", used as u64);
     if let Some(number) = change {
         told.count(", change ", number);
@@ -185,14 +185,14 @@ fn tell_used(told: &mut Told, used: usize, change: Option<u64>, last: Option<&Ou
 }
 
 /// Tells a number after these words, or a fault.
-fn tell_number(told: &mut Told, words: &str, number: Result<u64, NodeFault>) {
+fn tell_number(told: &mut Answer, words: &str, number: Result<u64, NodeFault>) {
     match number {
         Ok(number) => told.count(words, number),
         Err(fault) => told.show(&fault),
     }
 }
 
-fn say(relay: &mut MemoryRelay, session: usize, octets: &[u8], told: &mut Told) {
+fn say(relay: &mut MemoryRelay, session: usize, octets: &[u8], told: &mut Answer) {
     match client_says(relay, session, octets, told) {
         Ok(true) => told.say(" closed"),
         Ok(false) => {}
@@ -200,7 +200,7 @@ fn say(relay: &mut MemoryRelay, session: usize, octets: &[u8], told: &mut Told) 
     }
 }
 
-fn say_to_hop(relay: &mut MemoryRelay, attempt: usize, octets: &[u8], told: &mut Told) {
+fn say_to_hop(relay: &mut MemoryRelay, attempt: usize, octets: &[u8], told: &mut Answer) {
     let mut is_ended = false;
     for octet in octets {
         is_ended = hop_says(relay, attempt, &[*octet], told);
@@ -210,7 +210,7 @@ fn say_to_hop(relay: &mut MemoryRelay, attempt: usize, octets: &[u8], told: &mut
     }
 }
 
-fn count(relay: &MemoryRelay, told: &mut Told) {
+fn count(relay: &MemoryRelay, told: &mut Answer) {
     told.count("changes ", count_changes(relay.node()));
     match count_held(told.alloc, relay.node()) {
         Ok(held) => told.count(", held ", held as u64),
@@ -218,15 +218,15 @@ fn count(relay: &MemoryRelay, told: &mut Told) {
     }
 }
 
-fn tell_closing(relay: &MemoryRelay, told: &mut Told) {
+fn tell_closing(relay: &MemoryRelay, told: &mut Answer) {
     tell_line(relay, Closing::TooMany, told);
     tell_line(relay, Closing::Timeout, told);
 }
 
 /// Tells the line by which the relay closes a connection for this reason.
-fn tell_line(relay: &MemoryRelay, closing: Closing, told: &mut Told) {
+fn tell_line(relay: &MemoryRelay, closing: Closing, told: &mut Answer) {
     match closing_line(told.alloc, &relay.node().config().host, closing) {
         Ok(line) => told.escape(line.as_slice()),
-        Err(_) => told.is_short = true,
+        Err(_) => told.stop(RowsFault::NoMemory),
     }
 }

@@ -1,5 +1,5 @@
 use crate::bench::disks::files;
-use crate::told::Told;
+use crate::answer::Answer;
 use relay_disk::FileDisk;
 use relay_spool::Spool;
 use std::fs::{File, OpenOptions};
@@ -8,7 +8,7 @@ use std::os::unix::fs::FileExt;
 use std::test::Fail;
 
 /// Opens the spool in these files, and counts its bodies and their octets.
-pub fn open_spool(rt: &HostRuntime, told: &mut Told, path: &str) -> Result<(), Fail> {
+pub fn open_spool(rt: &HostRuntime, told: &mut Answer, path: &str) -> Result<(), Fail> {
     match Spool::open(rt.alloc(), files(rt, path)?) {
         Ok(opened) => {
             told.count("", opened.bodies.len() as u64);
@@ -23,7 +23,7 @@ pub fn open_spool(rt: &HostRuntime, told: &mut Told, path: &str) -> Result<(), F
 /// Makes a spool in these files, which are to be empty, and appends a body this many times.
 pub fn append_bodies(
     rt: &HostRuntime,
-    told: &mut Told,
+    told: &mut Answer,
     times: u64,
     body: &[u8],
     path: &str,
@@ -36,7 +36,7 @@ pub fn append_bodies(
 
 /// Appends a body this many times.
 fn append_each(
-    told: &mut Told,
+    told: &mut Answer,
     mut spool: Spool<FileDisk>,
     times: u64,
     body: &[u8],
@@ -67,7 +67,7 @@ fn takes_each(spool: &mut Spool<FileDisk>, times: u64, body: &[u8]) -> bool {
 /// octets, a sync, an octet before them, a sync.
 pub fn sync_twice(
     rt: &HostRuntime,
-    told: &mut Told,
+    told: &mut Answer,
     times: u64,
     octets: &[u8],
     path: &str,

@@ -1,7 +1,7 @@
 use crate::bench::mail::moment;
 use crate::bench::nodes::{LATER, node_at, tell_messages};
 use crate::calls::{due, first_moment, lose, reply, start};
-use crate::told::Told;
+use crate::answer::Answer;
 use relay_disk::FileDisk;
 use relay_node::{Node, NodeFault, Work};
 use relay_routes::HostName;
@@ -24,7 +24,7 @@ const REPLIES: [&[u8]; 4] = [
 /// Asks the node in these files this many times what there is to do, when ten messages are due at most.
 pub fn ask_for_works(
     rt: &HostRuntime,
-    told: &mut Told,
+    told: &mut Answer,
     times: u64,
     path: &str,
 ) -> Result<(), Fail> {
@@ -42,7 +42,7 @@ pub fn ask_for_works(
 /// Begins this many times an attempt for each message of the node in these files that is due then, and loses it.
 pub fn begin_attempts(
     rt: &HostRuntime,
-    told: &mut Told,
+    told: &mut Answer,
     times: u64,
     path: &str,
 ) -> Result<(), Fail> {
@@ -58,7 +58,7 @@ pub fn begin_attempts(
 }
 
 /// Hands each message of the node in these files to a next hop that takes it, one after another.
-pub fn deliver_messages(rt: &HostRuntime, told: &mut Told, path: &str) -> Result<(), Fail> {
+pub fn deliver_messages(rt: &HostRuntime, told: &mut Answer, path: &str) -> Result<(), Fail> {
     let mut node = node_at(rt, path, false)?;
     let delivered = deliver(told.alloc, &mut node)?;
     tell_messages(told, delivered, &node);
