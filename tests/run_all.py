@@ -50,6 +50,7 @@ SCRIPTS = [
     Script(["tests/run_faults.py", RELAYD], is_timed=True),
     Script(["tests/run_load.py", RELAYD], is_timed=True),
     Script(["tests/run_without_memory.py", RELAYD], is_timed=True),
+    Script(["tests/run_groups.py", RELAYD]),
     Script(["tests/unit_file.sh", RELAYD]),
     Script(["tests/links.py", RELAYD]),
     Script(["tests/failing_calls.py", RELAYD, ROWS]),
@@ -71,7 +72,6 @@ SCRIPTS = [
     Script(["tests/bodies_of_a_node.py", ROWS]),
     Script(["tests/errands_of_nodes.py", ROWS]),
     Script(["tests/without_memory.py", "nodes", RELAYD]),
-    Script(["tests/groups_without_memory.py", ROWS]),
     Script(["tests/spool_on_a_file.sh", ROWS]),
     Script(["tests/reports_read_by_python.py", ROWS]),
 ]

@@ -87,25 +87,6 @@ pub fn config_of(alloc: Global, host: &str, keys: &str, table: &str) -> Result<C
     }
 }
 
-/// Returns a node without changes, with this limit of its spool, whose device takes this many calls and no more, if
-/// that is said.
-pub fn empty_node_with(alloc: Global, limit: u64, calls: Option<u64>) -> Result<MemoryNode, Fail> {
-    let limit = format!(in alloc; "spool_limit = {limit}")?;
-    let config = config_of(alloc, HOST, limit.as_str(), TABLE)?;
-    match create(alloc, config, empty_disks(alloc)) {
-        Ok(node) => Ok(with_fuse(node, calls)),
-        Err(_) => Err(Fail::new("not created")),
-    }
-}
-
-/// Returns a node whose device takes this many calls and no more, if that is said.
-fn with_fuse(mut node: MemoryNode, calls: Option<u64>) -> MemoryNode {
-    if let Some(calls) = calls {
-        node.fuse(calls);
-    }
-    node
-}
-
 /// Returns a node without changes, on empty disks of any kind.
 pub fn create<D: Disk>(
     alloc: Global,
@@ -246,14 +227,4 @@ pub fn take_noted(node: &mut MemoryNode) -> Option<Noted> {
 /// Returns the number of the next change.
 pub fn next_number<D: Disk>(node: &Node<D>) -> u64 {
     node.next_number()
-}
-
-/// Returns how many changes there are.
-pub fn count_changes(node: &MemoryNode) -> u64 {
-    next_number(node).saturating_sub(1)
-}
-
-/// Returns how many places a node holds.
-pub fn count_held(alloc: Global, node: &MemoryNode) -> Result<usize, NodeFault> {
-    Ok(marks(alloc, node)?.len())
 }

@@ -9,13 +9,12 @@
 //!
 //! It plays each scenario on a node over memory: in one piece, with what the other sides say cut in two at each octet,
 //! octet by octet, and in one piece among this many other clients that 64 are there; or, where a device fails, for each
-//! call and each stop. The outcome of each event is compared with what is written down. Then it shows the scenes of a
-//! relay without a socket, a run of a network and which configurations make one, and runs each measurement of bench/ on
-//! a few octets.
+//! call and each stop. The outcome of each event is compared with what is written down. Then it shows a run of a network
+//! and which configurations make one, and runs each measurement of bench/ on a few octets.
 //!
 //! By the word `books` and a folder it shows the rows of books there alone, by `steps` and the first file of a spool it
-//! takes the steps of the standard input on that, by `scenes` and a path it plays the steps of that file, by `file` and
-//! a path the scenarios of that file alone, and by `bench` the measurement that the next words name.
+//! takes the steps of the standard input on that, by `file` and a path it plays the scenarios of that file alone, and by
+//! `bench` it runs the measurement that the next words name.
 #![tactic(auto)]
 
 mod answer;
@@ -42,7 +41,6 @@ mod row;
 mod rows;
 mod scenario;
 mod scene;
-mod scenes;
 mod script;
 mod spelling;
 mod stage;
@@ -61,7 +59,6 @@ use lines::tell_calls;
 use pair::{show_networks, show_run};
 use rows::{Topic, show_books, show_rows};
 use scenario::Scenario;
-use scenes::show_scenes;
 use script::tell_nodes;
 use std::test::Fail;
 use std::{env, fs};
@@ -81,7 +78,6 @@ fn main(rt: HostRuntime) -> Result<(), Fail> {
     let path = word_of(words, 2);
     match word_of(words, 1) {
         "" => show_and_play(&rt),
-        "scenes" => show_scenes(&rt, path),
         "file" => play_files(&rt, path),
         "bench" if words.len() == 2 => measure_each(&rt),
         "bench" => measure_named(&rt, words.get(2..).unwrap_or(&[])),
@@ -101,11 +97,10 @@ fn word_of(words: &[String], place: usize) -> &str {
     }
 }
 
-/// Shows all rows, plays all scenarios and scenes, and runs each measurement on a few octets.
+/// Shows all rows, plays all scenarios, and runs each measurement on a few octets.
 fn show_and_play(rt: &HostRuntime) -> Result<(), Fail> {
     show_asked(rt, "", ".")?;
     play_files(rt, FILES)?;
-    show_scenes(rt, "scenes.in")?;
     show_run(rt)?;
     show_networks(rt)?;
     measure_each(rt)
