@@ -53,7 +53,7 @@ SCRIPTS = [
     Script(["tests/run_groups.py", RELAYD]),
     Script(["tests/unit_file.sh", RELAYD]),
     Script(["tests/links.py", RELAYD]),
-    Script(["tests/failing_calls.py", RELAYD, ROWS]),
+    Script(["tests/failing_calls.py", RELAYD]),
     Script(["tests/workers.py", RELAYD]),
     Script(["tests/workers_without_memory.py", RELAYD]),
     Script(["bench/crashes.py", RELAYD, "64"]),
@@ -72,7 +72,7 @@ SCRIPTS = [
     Script(["tests/bodies_of_a_node.py", ROWS]),
     Script(["tests/errands_of_nodes.py", ROWS]),
     Script(["tests/without_memory.py", "nodes", RELAYD]),
-    Script(["tests/spool_on_a_file.sh", ROWS]),
+    Script(["tests/spool_on_a_file.py", RELAYD]),
     Script(["tests/reports_read_by_python.py", ROWS]),
 ]
 

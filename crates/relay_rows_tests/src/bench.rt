@@ -18,8 +18,8 @@ mod reports;
 mod spools;
 mod texts;
 
-use crate::spelling::push_unescaped;
 use crate::answer::{Answer, print_told};
+use crate::spelling::push_unescaped;
 use crate::word_of;
 use crate::words::Words;
 use attempts::{hand_texts_on, hold_attempts};

@@ -12,9 +12,8 @@
 //! call and each stop. The outcome of each event is compared with what is written down. Then it shows a run of a network
 //! and which configurations make one, and runs each measurement of bench/ on a few octets.
 //!
-//! By the word `books` and a folder it shows the rows of books there alone, by `steps` and the first file of a spool it
-//! takes the steps of the standard input on that, by `file` and a path it plays the scenarios of that file alone, and by
-//! `bench` it runs the measurement that the next words name.
+//! By the word `books` and a folder it shows the rows of books there alone, by `file` and a path it plays the scenarios
+//! of that file alone, and by `bench` it runs the measurement that the next words name.
 #![tactic(auto)]
 
 mod answer;
@@ -53,7 +52,7 @@ mod words;
 
 use answer::{Answer, RowsFault};
 use bench::{measure_each, measure_named};
-use disks::{show_steps, take_given_steps, tell_faults};
+use disks::tell_faults;
 use envelopes::show_envelopes;
 use lines::tell_calls;
 use pair::{show_networks, show_run};
@@ -65,7 +64,8 @@ use std::{env, fs};
 use trial::difference_of;
 
 /// The files of scenarios.
-const FILES: &str = "receiving.in|sessions.in|stops.in|passing.in|retrying.in|moments.in|late.in|compaction.in|\
+const FILES: &str =
+    "receiving.in|sessions.in|stops.in|passing.in|retrying.in|moments.in|late.in|compaction.in|\
 compaction_refused.in|compaction_stops.in|full.in|wrong.in";
 
 /// Without a word all is shown and played that lies where the program runs.
@@ -106,11 +106,10 @@ fn show_and_play(rt: &HostRuntime) -> Result<(), Fail> {
     measure_each(rt)
 }
 
-/// Shows the rows of books in a folder, takes steps on the spool of a file, or shows all rows.
+/// Shows the rows of books in a folder, or all rows.
 fn show_asked(rt: &HostRuntime, word: &str, path: &str) -> Result<(), Fail> {
     let mut answer = Answer::new(rt.alloc());
     match word {
-        "steps" => take_given_steps(rt, &mut answer, path),
         "books" => show_books(rt, &mut answer, path),
         _ => show_all(rt, &mut answer),
     }
@@ -133,7 +132,6 @@ fn show_all(rt: &HostRuntime, answer: &mut Answer) {
     answer.print(rt);
     show_books(rt, answer, ".");
     show_rows(rt, answer, ".", "disks", Topic::Disks);
-    show_steps(rt, answer);
     tell_faults(answer);
     answer.print(rt);
 }

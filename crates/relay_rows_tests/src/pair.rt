@@ -1,8 +1,8 @@
 //! Networks of nodes: the events of lost_reply.play in one call, with the ledger as it stands then, how many copies of
 //! the message there are, and how many replies to attempts at it were lost; and for each row of networks.in why its
 //! configurations make no network, or how many nodes they make.
-use crate::calls::config_of;
 use crate::answer::{Answer, RowsFault, print_told};
+use crate::calls::config_of;
 use relay_book::{PlaceStep, Way, Withdrawal};
 use relay_disk::MemoryDisk;
 use relay_pair::{Event, Pair};

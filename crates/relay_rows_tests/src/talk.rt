@@ -39,13 +39,7 @@ impl Scene {
     }
 
     /// Gives a node this many octets of what this peer says, in the same way.
-    pub fn give_front(
-        &mut self,
-        node: &mut MemoryNode,
-        step: &Step<'_>,
-        peer: Peer,
-        count: usize,
-    ) {
+    pub fn give_front(&mut self, node: &mut MemoryNode, step: &Step<'_>, peer: Peer, count: usize) {
         let said = step.said.as_slice();
         let said = said.get(..count).unwrap_or(said);
         let mut talk = Talk {

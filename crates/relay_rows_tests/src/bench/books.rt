@@ -1,5 +1,5 @@
-use crate::bench::mail::{AT, accept_of, moment};
 use crate::answer::Answer;
+use crate::bench::mail::{AT, accept_of, moment};
 use relay_book::{Book, Change, Outcome, Ruling, Rulings, Verdict, Version, decode_change};
 use relay_octets::Octets;
 use std::alloc::{AllocError, Global};

@@ -1,9 +1,9 @@
+use crate::answer::Answer;
 use crate::bench::disks::files;
 use crate::bench::mail::moment;
 use crate::calls::{
     HOST, compact, config_of, connect, create, first_moment, next_number, open, receive,
 };
-use crate::answer::Answer;
 use relay_disk::FileDisk;
 use relay_node::Node;
 use relay_trace::Moment;

@@ -1,7 +1,7 @@
+use crate::answer::Answer;
 use crate::bench::mail::moment;
 use crate::bench::nodes::{LATER, node_at, tell_messages};
 use crate::calls::{due, first_moment, lose, reply, start};
-use crate::answer::Answer;
 use relay_disk::FileDisk;
 use relay_node::{Node, NodeFault, Work};
 use relay_routes::HostName;

@@ -1,5 +1,5 @@
-use crate::bench::mail::{AT, accept_of, moment};
 use crate::answer::Answer;
+use crate::bench::mail::{AT, accept_of, moment};
 use relay_book::{Book, Message, Ruling, Rulings, Verdict};
 use relay_octets::Octets;
 use relay_report::{Report, report_if_due};

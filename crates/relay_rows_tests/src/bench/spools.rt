@@ -1,5 +1,5 @@
-use crate::bench::disks::files;
 use crate::answer::Answer;
+use crate::bench::disks::files;
 use relay_disk::FileDisk;
 use relay_spool::Spool;
 use std::fs::{File, OpenOptions};
