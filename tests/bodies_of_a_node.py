@@ -1,7 +1,7 @@
 #!/usr/bin/env python3
 """Gives mail data to a node over memory, by DATA and by BDAT, and lets it write mail data to a next hop. What a row
 says comes whole, in two pieces cut at each octet, octet by octet, and among so many other clients that 64 sessions are
-open. The reply must come after as many octets as the row says, what is behind these is read as commands, and the
+open. The reply must come after as many octets as the row says, what follows these is read as commands, and the
 spool has the content, to the octet. Four rows are wrong on purpose.
 
     tests/bodies_of_a_node.py crates/relay_rows_tests/out/relay_rows_tests
@@ -76,13 +76,13 @@ def given(name, kind, limit, sizes, octets, wanted):
         lines += by_data(octets, used, reply)
     else:
         lines += by_chunks(octets, sizes, limit)
-    behind = octets[used:]
-    lines += [f">. {escaped(behind)}", *COMMANDS.get(behind, UNKNOWN)]
+    rest = octets[used:]
+    lines += [f">. {escaped(rest)}", *COMMANDS.get(rest, UNKNOWN)]
     # Where no chunk has begun, there is no message.
     if is_whole and (kind == "DATA" or sizes):
         spool.append(accept_of(MAIL, [RCPT], trace("x", "ESMTP", 1) + content))
         lines.append("= change 1")
-    return lines + (["= closed"] if behind == b"QUIT\r\n" else []) + spool.image()
+    return lines + (["= closed"] if rest == b"QUIT\r\n" else []) + spool.image()
 
 
 def written(name, octets, wanted):
