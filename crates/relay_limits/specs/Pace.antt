@@ -62,6 +62,15 @@ with_limit limit pace = record pace { limit = limit }
 abbrev pub answered_pace : Pace → Pace
 answered_pace pace = record pace { has_answered = true; hold = None }
 
+-- a hold ends at this tick, if it goes on that long
+abbrev pub ended_by : ℕ → Option Hold → Option Hold
+ended_by tick None = None
+ended_by tick (Some hold) = Some (record hold { until = min hold.until tick })
+
+-- it is on hold no longer from this tick on: as one whose hold has ended, it takes one attempt
+abbrev pub probed : ℕ → Pace → Pace
+probed tick pace = record pace { hold = ended_by tick pace.hold }
+
 -- it is on hold from this tick on, or up to the last that there is
 abbrev pub held_from : ℕ → Pace → Pace
 held_from tick pace = record pace {

@@ -22,10 +22,12 @@ pub enum Limit {
     Balancers,
     /// The networks of the clients that may connect.
     Clients,
+    /// The path of the control socket.
+    Control,
 }
 
 impl Limit {
-    /// The key as a document has it.
+    /// Returns the key as a document has it.
     pub fn text(self) -> &'static str
         ensures { result.now ≡ limit_text self }
     {
@@ -38,6 +40,7 @@ impl Limit {
             Limit::Log => "log",
             Limit::Balancers => "balancers",
             Limit::Clients => "clients",
+            Limit::Control => "control",
         }
     }
 
@@ -49,7 +52,8 @@ impl Limit {
             Limit::SessionsPerClient | Limit::AttemptsPerHop => 64,
             Limit::RecipientsPerAttempt => 100,
             Limit::ClientTimeout => 3_600,
-            Limit::StatusListen | Limit::Log | Limit::Balancers | Limit::Clients => 0,
+            Limit::StatusListen | Limit::Log | Limit::Balancers | Limit::Clients | Limit::Control =>
+                0,
         }
     }
 
@@ -62,7 +66,8 @@ impl Limit {
             Limit::AttemptsPerHop => 20,
             Limit::RecipientsPerAttempt => 15,
             Limit::ClientTimeout => 300,
-            Limit::StatusListen | Limit::Log | Limit::Balancers | Limit::Clients => 0,
+            Limit::StatusListen | Limit::Log | Limit::Balancers | Limit::Clients | Limit::Control =>
+                0,
         }
     }
 }

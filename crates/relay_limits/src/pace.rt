@@ -1,6 +1,6 @@
 ghost use Rattle.std.specs.Prelude.{◌≡◌, ◌↔◌, ◌<◌, ◌+◌, ◌-◌, ◌^◌, max, min, IsTrue};
 ghost use Rattle.relay_limits.specs.Pace.{IsHeld, MayBegin, answered_pace, held_from, hold_end, next_hold};
-ghost use Rattle.relay_limits.specs.Pace.{next_outage, outage_of, standing, unknown_pace, with_leaving};
+ghost use Rattle.relay_limits.specs.Pace.{next_outage, outage_of, probed, standing, unknown_pace, with_leaving};
 ghost use Rattle.relay_limits.specs.Pace.{with_limit, with_running};
 
 /// How many seconds a next hop that can't be reached is on hold the first time. After each further attempt it is twice
@@ -46,7 +46,7 @@ pub struct Pace {
 }
 
 impl Pace {
-    /// No connection stands, and the next hop has said nothing yet.
+    /// Returns the pace of a next hop that has said nothing yet: no connection stands.
     pub fn new() -> Self
         ensures { result ≡ unknown_pace }
     {
@@ -108,29 +108,29 @@ impl Pace {
         self.limit = self.limit.saturating_add(1);
     }
 
-    /// A connection is made.
+    /// Counts one more connection of an attempt.
     pub fn began(&mut self)
         ensures { self.new ≡ with_running (min (self.old.running + 1) (2 ^ 64 - 1)) self.old }
     {
         self.running = self.running.saturating_add(1);
     }
 
-    /// An attempt's connection, or what was to be one, is gone, or is leaving.
+    /// Counts one less: an attempt's connection, or what was to be one, is gone or is leaving.
     pub fn ended(&mut self)
         ensures { self.new ≡ with_running (self.old.running - 1) self.old }
     {
         self.running = self.running.saturating_sub(1);
     }
 
-    /// This many connections stand whose attempt has ended.
+    /// Notes how many connections stand whose attempt has ended.
     pub fn note_leaving(&mut self, count: usize)
         ensures { self.new ≡ with_leaving count self.old }
     {
         self.leaving = count;
     }
 
-    /// The next hop has said something: when it can't be reached the next time, it is on hold for as short as the first
-    /// time.
+    /// Notes that the next hop has said something: when it can't be reached the next time, it is on hold for as short as
+    /// the first time.
     pub fn answered(&mut self)
         ensures { self.new ≡ answered_pace self.old }
     {
@@ -148,7 +148,7 @@ impl Pace {
         }
     }
 
-    /// Leaves the next hop alone from this tick on, and tells for how many seconds.
+    /// Puts the next hop on hold from this tick on, and returns for how many seconds.
     pub fn hold(&mut self, tick: u64) -> u64
         ensures seconds { result ≡ next_hold self.old.hold }
         ensures held { self.new ≡ held_from tick self.old }
@@ -165,6 +165,18 @@ impl Pace {
             outage,
         });
         seconds
+    }
+
+    /// Ends the hold of the next hop at this tick, so that one attempt may be made.
+    pub fn probe(&mut self, tick: u64)
+        ensures { self.new ≡ probed tick self.old }
+    {
+        if let Some(hold) = self.hold {
+            self.hold = Some(Hold {
+                until: hold.until.min(tick),
+                ..hold
+            });
+        }
     }
 
     /// Returns the outage, with a connection more that has failed at this tick.
