@@ -6,7 +6,7 @@ use Rattle.relay_octets.specs.Line.{begins_with_lf, ends_in_cr, has_crlf}
 use Rattle.relay_envelope.specs.HostName.{IsHostName, is_host_octet}
 use Rattle.relay_lines.specs.Reply.{IsReply, one_line}
 use Rattle.relay_loop.specs.declared.closing.Closing.{Closing}
-use Rattle.relay_loop.specs.declared.closing.Closing.TheVariants.{TooMany, Timeout}
+use Rattle.relay_loop.specs.declared.closing.Closing.TheVariants.{TooMany, Timeout, Stopping}
 use Rattle.relay_loop.specs.Closing.{text_of}
 
 and_false : (b : Bool) → (b && false) ≡ false
@@ -17,14 +17,17 @@ and_false false = refl
 text_is_plain : (why : Closing) → has_crlf (text_of why) ≡ false
 text_is_plain TooMany = refl
 text_is_plain Timeout = refl
+text_is_plain Stopping = refl
 
 text_begins : (why : Closing) → begins_with_lf (text_of why) ≡ false
 text_begins TooMany = refl
 text_begins Timeout = refl
+text_begins Stopping = refl
 
 text_is_short : (why : Closing) → length (text_of why) ≤ 40
 text_is_short TooMany = omega arith
 text_is_short Timeout = omega arith
+text_is_short Stopping = omega arith
 
 pub closing_is_reply : (host : List ℕ) (why : Closing) → IsHostName host → IsReply (one_line 421 (host ++ text_of why))
 closing_is_reply host why name =

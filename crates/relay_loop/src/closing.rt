@@ -13,6 +13,8 @@ pub enum Closing {
     TooMany,
     /// The client was silent for too long, or took its octets too slowly.
     Timeout,
+    /// The relay takes no more clients, and stops soon.
+    Stopping,
 }
 
 /// Returns the reply that closes a connection unasked: code 421, the name of the host, and why. Fails if memory runs
@@ -33,6 +35,7 @@ impl Closing {
         match self {
             Closing::TooMany => b" too many connections, closing",
             Closing::Timeout => b" timeout, closing",
+            Closing::Stopping => b" service stopping, closing",
         }
     }
 }
