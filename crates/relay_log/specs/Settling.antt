@@ -54,7 +54,7 @@ closing_place codes =
     let last : ℕ = length codes - 1 in if code_at codes last == 421 then Some last else None
 
 -- the place of the reply for which the recipient of this index among this many may be tried again, if one came: the one
--- that settles it, of whatever class (a 2yz to DATA puts it off too); else the one that closes the connection
+-- that settles it, of whatever class, since a 2yz to DATA puts it off too; else the one that closes the connection
 abbrev pub deferring_place : List ℕ → ℕ → ℕ → Option ℕ
 deferring_place codes count index =
     let place : ℕ = settling_place codes count index in

@@ -86,7 +86,7 @@ pub enum HeaderFault {
     Late,
     /// The client comes by another protocol than TCP over IPv4.
     OtherProtocol,
-    /// As many connections as may wait for their headers are waiting.
+    /// The greatest number of connections waits for headers.
     NoRoom,
     /// There was no memory, or no place with the system, for it.
     NoMemory,
@@ -105,7 +105,7 @@ impl HeaderFault {
     }
 }
 
-/// Returns the line of a balancer's connection that was closed since its header says no client.
+/// Returns the line of a balancer's connection that was closed since its header names no client.
 pub(crate) fn header_fault_line(
     head: Head,
     balancer: SocketAddrV4,
@@ -172,12 +172,14 @@ pub(crate) fn unserved_line(head: Head, peer: SocketAddrV4) -> io::Result<LogLin
     Ok(line)
 }
 
-/// Why a client that has come is told by one line that it isn't served.
+/// Why a client that has connected isn't served: it gets one line that gives the reason.
 #[derive(Clone, Copy, Debug, Drop, PartialEq, Eq)]
 pub enum Refusal {
-    /// 421: as many connections stand as may.
+    /// 421: the greatest number of connections is open.
     NoRoom,
-    /// 554: it may not connect.
+    /// 421: the relay takes no more clients, and stops soon.
+    Stopping,
+    /// 554: the client may not connect.
     NoService,
 }
 
@@ -186,12 +188,13 @@ impl Refusal {
     fn word(self) -> &'static [u8] {
         match self {
             Refusal::NoRoom => b"too-many",
+            Refusal::Stopping => b"stopping",
             Refusal::NoService => b"no-service",
         }
     }
 }
 
-/// Returns the line of clients of an address that were told that they aren't served, with the address and port of the
+/// Returns the line of clients of an address that weren't served, with their number, and the address and port of the
 /// last.
 pub(crate) fn turned_away_line(
     head: Head,
@@ -231,8 +234,8 @@ pub(crate) fn more_rejected_line(
 }
 
 /// Returns the first line of a message that was accepted: its number, the client's address and word, the protocol, how
-/// many recipients it has, how many octets are relayed, the reverse path, and the first recipients. It returns how many
-/// of these it has.
+/// many recipients it has, how many octets are relayed, the reverse path, and the first recipients; and how many of
+/// these it has.
 pub(crate) fn accepted_line(
     head: Head,
     peer: SocketAddrV4,
@@ -269,7 +272,7 @@ pub(crate) fn more_accepted_line(
     Ok((line, count))
 }
 
-/// Adds the paths of recipients to a line, with spaces between, as many as this many octets hold. It returns how many.
+/// Adds the paths of recipients to a line, with spaces between, up to `limit` octets. Returns how many it adds.
 fn add_recipients(
     head: Head,
     line: &mut LogLine,

@@ -15,7 +15,7 @@ use crate::head::Head;
 use crate::hop_link::Loss;
 use crate::run_line::{
     DeviceFailure, address_awaited_line, compacted_line, device_failed_line, hop_back_line,
-    hop_held_line, listening_line, push_ended_line, stopping_line,
+    hop_held_line, listening_line, push_ended_line, steered_line, stopping_line,
 };
 use crate::talk::Talk;
 use memchr::memchr;
@@ -223,7 +223,7 @@ impl<'a, E: Write> Log<'a, E> {
     /// Logs that clients of an address were refused, and why: `count` of them, this one being the last.
     pub fn refused(&mut self, peer: SocketAddrV4, why: Refusal, count: u64) {
         match why {
-            Refusal::NoRoom => add(&mut self.counters.turned_away, count),
+            Refusal::NoRoom | Refusal::Stopping => add(&mut self.counters.turned_away, count),
             Refusal::NoService => add(&mut self.counters.rejected.no_service, count),
         }
         if self.speaks {
@@ -312,6 +312,13 @@ impl<'a, E: Write> Log<'a, E> {
         if self.speaks {
             let line = self.head.line(b"shortage-ended");
             self.say(line);
+        }
+    }
+
+    /// Logs a request of the control socket, as it was written.
+    pub fn steered(&mut self, request: &[u8]) {
+        if self.speaks {
+            self.say(steered_line(self.head, request));
         }
     }
 

@@ -13,6 +13,13 @@ pub(crate) fn listening_line(head: Head, at: SocketAddrV4) -> io::Result<LogLine
     Ok(line)
 }
 
+/// Returns the line of a request of the control socket: `control request=flush`.
+pub(crate) fn steered_line(head: Head, request: &[u8]) -> io::Result<LogLine> {
+    let mut line = head.line(b"control")?;
+    line.octets(b"request", request)?;
+    Ok(line)
+}
+
 /// Returns the line of a next hop that is on hold for this many seconds.
 pub(crate) fn hop_held_line(
     head: Head,

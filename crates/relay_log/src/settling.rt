@@ -1,8 +1,7 @@
 //! Which reply of a next hop settles a recipient.
 ghost use Rattle.std.specs.Prelude.{◌≡◌, ◌≤◌};
 ghost use Rattle.relay_log.specs.Settling.{closing_place, code_at, content_place, deferring_place, hello_place};
-ghost use Rattle.relay_log.specs.Settling.{is_completion, is_intermediate, is_permanent};
-ghost use Rattle.relay_log.specs.Settling.{settling_place};
+ghost use Rattle.relay_log.specs.Settling.{is_completion, is_intermediate, is_permanent, settling_place};
 
 /// The code by which a next hop closes the connection (RFC 5321, section 3.8).
 const CLOSING: u16 = 421;
@@ -29,7 +28,8 @@ pub fn settling_place(codes: &[u16], count: u8, index: u8) -> usize
 }
 
 /// Returns the place, among the codes of an attempt's replies, of the one for which a recipient may be tried again, if
-/// one came: the one that settles it, or else a last one by which the next hop closes the connection.
+/// one came: the one that settles it, of whatever class, or else a last one by which the next hop closes the
+/// connection.
 pub(crate) fn deferring_place(codes: &[u16], count: u8, index: u8) -> Option<usize>
     ensures { result ≡ deferring_place codes.now count index }
 {
