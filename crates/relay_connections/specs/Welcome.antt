@@ -7,10 +7,10 @@ use Rattle.std.specs.Net.Socket.{v4_ip}
 use Rattle.relay_lines.specs.Reply.{one_line, reply_text}
 use Rattle.relay_limits.specs.AllowedClients.{may_connect}
 use Rattle.relay_log.specs.declared.client_line.Refusal.{Refusal}
-use Rattle.relay_log.specs.declared.client_line.Refusal.TheVariants.{NoRoom, NoService}
+use Rattle.relay_log.specs.declared.client_line.Refusal.TheVariants.{NoRoom, NoService, Stopping}
 use Rattle.relay_loop.specs.Closing.{closing_of}
 use Rattle.relay_loop.specs.Relay.{RelayState}
-use Rattle.relay_loop.specs.declared.closing.Closing.TheVariants.{TooMany}
+use Rattle.relay_loop.specs.declared.closing.Closing.TheVariants.{Stopping as StoppingLine, TooMany}
 use Rattle.relay_routes.specs.declared.network.Network.{Network}
 use Rattle.relay_slots.specs.Slots.{slot_at}
 use Rattle.relay_connections.specs.Leaving.{IsOneOf}
@@ -35,16 +35,31 @@ pub record AreAllowed {S D : Type 0} (clients : Clients S) (relay : RelayState D
   pub each : (number : ℕ) (client : Box (Client S) Global) → slot_at (clients_of clients) number ≡ Some client
       → MayConnect (ipv4_octets (v4_ip client.value.peer)) clients
 
--- Why the client at this address isn't served: it may not connect; or it may, and there is no room for it. It is served
--- if it may connect and there is room.
+-- who may connect, whether clients are served, and how many of one address, stay as they were
+abbrev pub KeepsRules : {S : Type 0} → Clients S → Clients S → Type 0
+KeepsRules old new = (allowed_of new ≡ allowed_of old) × (new.stops ≡ old.stops) × (new.most ≡ old.most)
+
+-- no more clients are served
+abbrev pub stopped : {S : Type 0} → Clients S → Clients S
+stopped clients = record clients { stops = true }
+
+-- there is room for one more client at this address, and clients are served
+abbrev pub IsOpenFor : {S : Type 0} → List ℕ → Clients S → Type 0
+IsOpenFor address clients = HasRoom address clients × (clients.stops ≡ false)
+
+-- Why the client at this address isn't served: it may not connect; or it may, and the relay is stopping, or else there
+-- is no room for it. It is served if it may connect, the relay isn't stopping, and there is room.
 abbrev pub IsRefusedFor : {S : Type 0} → List ℕ → Clients S → Option Refusal → Type 0
-IsRefusedFor address clients None = MayConnect address clients × HasRoom address clients
-IsRefusedFor address clients (Some NoRoom) = MayConnect address clients × ¬ HasRoom address clients
+IsRefusedFor address clients None = MayConnect address clients × IsOpenFor address clients
+IsRefusedFor address clients (Some NoRoom) =
+    MayConnect address clients × (clients.stops ≡ false) × ¬ HasRoom address clients
+IsRefusedFor address clients (Some Stopping) = MayConnect address clients × (clients.stops ≡ true)
 IsRefusedFor address clients (Some NoService) = may_connect (allowed_of clients) address ≡ false
 
 -- the one line that such a client gets of this host: 421 (RFC 5321, section 3.8), or 554 (section 3.1)
 abbrev pub refusal_of : List ℕ → Refusal → List ℕ
 refusal_of host NoRoom = closing_of host TooMany
+refusal_of host Stopping = closing_of host StoppingLine
 refusal_of host NoService = reply_text (one_line 554 (host ++ codes " no service"))
 
 -- The words below are of what is known of the streams of connections.

@@ -1,4 +1,4 @@
-ghost use Rattle.std.specs.Prelude.{◌≡◌, ◌≢◌, ◌≤◌, ◌<◌, ◌↔◌, ℕ, List, None, IfErr, IfOk, IfSome, IsTrue, true};
+ghost use Rattle.std.specs.Prelude.{◌≡◌, ◌≢◌, ◌≤◌, ◌<◌, ◌↔◌, ℕ, List, None, IfErr, IfOk, IfSome, IsTrue, true, false};
 ghost use Rattle.std.specs.Net.Addr.{ipv4_octets};
 ghost use Rattle.std.specs.Net.Socket.{v4_ip};
 ghost use Rattle.relay_book.specs.declared.change.Change.{Change};
@@ -11,7 +11,7 @@ ghost use Rattle.relay_connections.specs.Readiness.{IsLeftClient, IsNoted, clien
 ghost use Rattle.relay_connections.specs.Room.{HasRoom, is_at};
 ghost use Rattle.relay_connections.specs.Served.{AreServed, StaysSaid, opened};
 ghost use Rattle.relay_connections.specs.Table.{count_of, count_of_such, is_such};
-ghost use Rattle.relay_connections.specs.Welcome.{IsRefusedFor, MayConnect, allowed_of};
+ghost use Rattle.relay_connections.specs.Welcome.{IsRefusedFor, KeepsRules, MayConnect, allowed_of, stopped};
 
 use crate::channel::{Channel, Readiness};
 use crate::client::Client;
@@ -46,6 +46,8 @@ pub struct Clients<S = TcpStream> {
     pub(crate) clients: Table<Box<Client<S>>>,
     /// The clients that may connect.
     allowed: AllowedClients,
+    /// Whether no more clients are served.
+    stops: bool,
     /// The most clients at one address.
     most: usize,
     /// How many seconds a client may be idle.
@@ -63,6 +65,7 @@ impl<S: Drop> Drop for Clients<S> {
             alloc: _,
             clients: _clients,
             allowed: _allowed,
+            stops: _,
             most: _,
             timeout: _,
             is_crowded: _,
@@ -76,16 +79,25 @@ impl<S: Stream + Drop> Clients<S> {
     pub fn new(alloc: Global, limits: &Limits, allowed: AllowedClients) -> Result<Self, AllocError>
         ensures free { IfOk result (λ clients. AreFree (clients_of clients)) }
         ensures allowed { IfOk result (λ clients. allowed_of clients ≡ allowed) }
+        ensures stops { IfOk result (λ clients. clients.stops ≡ false) }
     {
         Ok(Clients {
             alloc,
             clients: Table::new(alloc)?,
             allowed,
+            stops: false,
             most: usize::from(limits.sessions_per_client),
             timeout: u64::from(limits.client_timeout),
             is_crowded: false,
             first: 0,
         })
+    }
+
+    /// Serves no client that connects from now on.
+    pub fn stop(&mut self)
+        ensures { self.new ≡ stopped self.old }
+    {
+        self.stops = true;
     }
 
     /// Returns why a client at this address isn't served. `None`: it may connect, and there is room for it.
@@ -94,6 +106,8 @@ impl<S: Stream + Drop> Clients<S> {
     {
         if !self.allowed.may_connect(client) {
             Some(Refusal::NoService)
+        } else if self.stops {
+            Some(Refusal::Stopping)
         } else if self.has_room(client) {
             None
         } else {
@@ -147,7 +161,7 @@ impl<S: Stream + Drop> Clients<S> {
             → AreServed D.honest D.words S.remaining S.contents changes setting (clients_of self.old) relay.old
             → IfOk result (λ _. AreServed D.honest D.words S.remaining S.contents changes
             (opened S.remaining S.contents setting (clients_of self.old) peer stream) (clients_of self.new) relay.new) }
-        ensures networks { allowed_of self.new ≡ allowed_of self.old }
+        ensures rules { KeepsRules self.old self.new }
         ensures fault { IfErr result (λ fault. fault ≡ NodeFault.Stopped) }
     {
         let session = match relay.accept(peer.ip().octets()) {
@@ -197,6 +211,7 @@ impl<S: Stream + Drop> Clients<S> {
     /// Notes what the connection of a number may be ready for, as the system reports it.
     pub fn note(&mut self, number: usize, ready: Readiness)
         ensures noted { IsNoted number (clients_of self.old) (clients_of self.new) }
+        ensures rules { KeepsRules self.old self.new }
     {
         if let Some(taken) = self.clients.take(number) {
             let mut client = taken;
@@ -207,7 +222,8 @@ impl<S: Stream + Drop> Clients<S> {
 
     /// Closes all connections, after writing as many of the replies held back as the clients take at once.
     pub fn clear(&mut self)
-        ensures { (number : ℕ) → number < SLOT_COUNT → slot_at (clients_of self.new) number ≡ None }
+        ensures none { (number : ℕ) → number < SLOT_COUNT → slot_at (clients_of self.new) number ≡ None }
+        ensures rules { KeepsRules self.old self.new }
     {
         for number in 0..SLOT_COUNT {
             if let Some(taken) = self.clients.take(number) {

@@ -10,6 +10,7 @@ ghost use Rattle.relay_connections.specs.Readiness.{clients_of};
 ghost use Rattle.relay_connections.specs.Served.{ActsOn, AreServed, AreServedBehind, HasAnswered, HasNext};
 ghost use Rattle.relay_connections.specs.Served.{HaveAnswered, LeavesRest, Serves, WorksWith, address_of};
 ghost use Rattle.relay_connections.specs.Sessions.{EndsLate};
+ghost use Rattle.relay_connections.specs.Welcome.{KeepsRules};
 
 use crate::channel::End;
 use crate::client::{Client, Intake, Next};
@@ -49,6 +50,7 @@ impl<S: Stream + Drop> Clients<S> {
             → IfOk result (λ _. AreServedBehind D.honest D.words S.remaining S.contents changes setting
             (clients_of self.new) relay.new
             × ClientsJoin S.remaining S.contents setting (leavers_of leaving.old) (leavers_of leaving.new)) }
+        ensures rules { KeepsRules self.old self.new }
         ensures fault { IfErr result (λ fault. fault ≡ NodeFault.Stopped) }
     {
         let mut intake = Intake {
@@ -93,6 +95,7 @@ impl<S: Stream + Drop> Clients<S> {
             → IfOk result (λ _. AreServed D.honest D.words S.remaining S.contents changes setting
             (clients_of self.new) relay.new
             × ClientsJoin S.remaining S.contents setting (leavers_of leaving.old) (leavers_of leaving.new)) }
+        ensures rules { KeepsRules self.old self.new }
         ensures fault { IfErr result (λ fault. fault ≡ NodeFault.Stopped) }
     {
         let mut hears = false;
@@ -125,6 +128,7 @@ impl<S: Stream + Drop> Clients<S> {
             → IfOk result (λ _. AreServedBehind D.honest D.words S.remaining S.contents changes setting
             (clients_of self.new) relay.new
             × ClientsJoin S.remaining S.contents setting (leavers_of leaving.old) (leavers_of leaving.new)) }
+        ensures rules { KeepsRules self.old self.new }
         ensures fault { IfErr result (λ fault. fault ≡ NodeFault.Stopped) }
     {
         let clients = self.clients.standing();
@@ -165,6 +169,7 @@ impl<S: Stream + Drop> Clients<S> {
             → IfOk result (λ _. AreServed D.honest D.words S.remaining S.contents changes setting
             (clients_of self.new) relay.new
             × ClientsJoin S.remaining S.contents setting (leavers_of leaving.old) (leavers_of leaving.new)) }
+        ensures rules { KeepsRules self.old self.new }
         ensures fault { IfErr result (λ fault. fault ≡ NodeFault.Stopped) }
     {
         let mut hears = false;
@@ -194,6 +199,7 @@ impl<S: Stream + Drop> Clients<S> {
             → IfOk result (λ _. Serves S.remaining S.contents changes setting relay.new number
             (slot_at (clients_of self.new) number)
             × ClientsJoin S.remaining S.contents setting (leavers_of leaving.old) (leavers_of leaving.new)) }
+        ensures rules { KeepsRules self.old self.new }
         ensures fault { IfErr result (λ fault. fault ≡ NodeFault.Stopped) }
     {
         let Some(taken) = self.clients.take(number) else {
@@ -235,6 +241,7 @@ impl<S: Stream + Drop> Clients<S> {
             → IfOk result (λ _. Serves S.remaining S.contents changes setting relay.new number
             (slot_at (clients_of self.new) number)
             × ClientsJoin S.remaining S.contents setting (leavers_of leaving.old) (leavers_of leaving.new)) }
+        ensures rules { KeepsRules self.old self.new }
         ensures fault { IfErr result (λ fault. fault ≡ NodeFault.Stopped) }
     {
         let Some(taken) = self.clients.take(number) else {
@@ -270,6 +277,7 @@ impl<S: Stream + Drop> Clients<S> {
             → AreServed D.honest D.words S.remaining S.contents changes setting (clients_of self.old) relay.old
             → IfOk result (λ _. AreServed D.honest D.words S.remaining S.contents changes setting
             (clients_of self.new) relay.new) }
+        ensures rules { KeepsRules self.old self.new }
         ensures fault { IfErr result (λ fault. fault ≡ NodeFault.Stopped) }
     {
         let count = self.clients.standing().len();
@@ -311,6 +319,7 @@ impl<S: Stream + Drop> Clients<S> {
             → IfOk result (λ _. Serves S.remaining S.contents changes setting relay.new number
             (slot_at (clients_of self.new) number)
             × ClientsJoin S.remaining S.contents setting (leavers_of leaving.old) (leavers_of leaving.new)) }
+        ensures rules { KeepsRules self.old self.new }
         ensures fault { IfErr result (λ fault. fault ≡ NodeFault.Stopped) }
     {
         let next = self.cut_off_late(number, &client, next, relay, now, log)?;

@@ -9,7 +9,7 @@ ghost use Rattle.relay_connections.specs.Leaving.{leavers_of};
 ghost use Rattle.relay_connections.specs.Matched.{AreMatched, Opens};
 ghost use Rattle.relay_connections.specs.Readiness.{clients_of};
 ghost use Rattle.relay_connections.specs.Served.{AreServed, opened};
-ghost use Rattle.relay_connections.specs.Welcome.{AreAllowed, IsRefusedFor, LeavesWith, allowed_of, refusal_of};
+ghost use Rattle.relay_connections.specs.Welcome.{AreAllowed, IsRefusedFor, KeepsRules, LeavesWith, allowed_of, refusal_of};
 
 use crate::channel::Channel;
 use crate::clients::Clients;
@@ -26,8 +26,9 @@ use std::alloc::{AllocError, Global};
 use std::net::SocketAddrV4;
 
 impl<S: Stream + Drop> Clients<S> {
-    /// Opens a session for a client that may connect and for which there is room, and greets it. Another client gets
-    /// one line, and its connection leaves; the reason is returned. Only a device that failed is a fault.
+    /// Opens a session for a client that may connect and for which there is room, and greets it. Another client, or one
+    /// that comes after [`Clients::stop`], gets one line, and its connection leaves; the reason is returned. Only a
+    /// device that failed is a fault.
     pub fn welcome<D: Disk>(
         &mut self,
         registry: &S::Registry,
@@ -53,7 +54,7 @@ impl<S: Stream + Drop> Clients<S> {
             (opened S.remaining S.contents setting (clients_of self.old) peer stream) (clients_of self.new) relay.new) }
         ensures fault { IfErr result (λ fault. (fault ≡ NodeFault.Stopped)
             × IsRefusedFor (ipv4_octets (v4_ip peer)) self.old None) }
-        ensures networks { allowed_of self.new ≡ allowed_of self.old }
+        ensures rules { KeepsRules self.old self.new }
         ensures allowed { AreAllowed self.old relay.old → AreAllowed self.new relay.new }
     {
         if let Some(why) = self.refusal(*peer.ip()) {
@@ -102,6 +103,7 @@ fn refusal_line(alloc: Global, host: &HostName, why: Refusal) -> Result<Vec<u8>,
 {
     match why {
         Refusal::NoRoom => closing_line(alloc, host, Closing::TooMany),
+        Refusal::Stopping => closing_line(alloc, host, Closing::Stopping),
         Refusal::NoService => {
             let mut line = Vec::new(alloc);
             write_line(&mut line, 554, host.as_slice(), b" no service")?;

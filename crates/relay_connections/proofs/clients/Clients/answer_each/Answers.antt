@@ -1,5 +1,5 @@
 -- One answer more is taken.
-use Rattle.std.proofs.Common.{rules, ◌≡◌, ◌⊎◌, inl, inr, ℕ, List, [], ◌∷◌, length, Option, Some, Result, sym, ap, ◌∙◌, subst, arith}
+use Rattle.std.proofs.Common.{rules, ◌≡◌, ◌⊎◌, inl, inr, ℕ, List, [], ◌∷◌, length, Option, Some, Result, refl, sym, ap, ◌∙◌, subst, arith}
 use Rattle.std.proofs.lemmas.List.{nil_from_length}
 use Rattle.std.specs.Iterator.Adapters.{zip_first, zip_second}
 use Rattle.std.specs.List.{zip}
@@ -27,6 +27,7 @@ loop-session-init g c =
       );
       first = search rules;
       second = search rules;
+      rules = (refl, refl, refl);
     }
 
 pub loop-session-preserved : goal.loop-session-preserved
@@ -54,6 +55,7 @@ loop-session-preserved g c =
           );
       first = omega (arith, i.first, ap (λ (l : List ℕ). length l) one.0, one.1);
       second = omega (arith, i.second, ap (λ (l : List (Result Heard NodeFault)). length l) other.0, other.1);
+      rules = (c.in_ok-hears.ensures.rules.0 ∙ i.rules.0, c.in_ok-hears.ensures.rules.1 ∙ i.rules.1, c.in_ok-hears.ensures.rules.2 ∙ i.rules.2);
     }
 
 pub returns-clause-served : goal.returns-clause-served

@@ -1,4 +1,4 @@
--- the answers that were taken leave their clients served, and the others are still to be taken
+-- the answers that were taken leave their clients served, and the others are still to be taken; the rules stay
 use Rattle.std.proofs.Common.{◌≡◌, List, length}
 use Rattle.std.specs.Iterator.Adapters.{zip_first, zip_second}
 use Rattle.std.specs.List.{zip}
@@ -8,6 +8,7 @@ use Rattle.relay_connections.specs.Carried.{Setting}
 use Rattle.relay_connections.specs.Leaving.{ClientsJoin, leavers_of}
 use Rattle.relay_connections.specs.Readiness.{clients_of}
 use Rattle.relay_connections.specs.Served.{HaveAnswered}
+use Rattle.relay_connections.specs.Welcome.{KeepsRules}
 use Rattle.relay_connections.proofs.clients.Clients.answer_each.Given as goal
 
 abbrev pub invariant-loop-session : goal.invariant-loop-session
@@ -17,4 +18,5 @@ invariant-loop-session g l = record {
       × ClientsJoin g.S.Stream.remaining g.S.Stream.contents setting (leavers_of l.fn.leaving) (leavers_of l.leaving);
   first : length (into_iter_items (zip_first l.session-iterator)) ≡ into_iter_len (zip_first l.session-iterator);
   second : length (into_iter_items (zip_second l.session-iterator)) ≡ into_iter_len (zip_second l.session-iterator);
+  rules : KeepsRules l.fn.self l.self;
 }

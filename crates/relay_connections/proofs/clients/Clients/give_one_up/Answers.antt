@@ -3,21 +3,28 @@ use Rattle.std.proofs.Common.{◌≡◌, Some, sym, subst, ◌∙◌}
 use Rattle.relay_slots.specs.Slots.{slot_at}
 use Rattle.relay_connections.specs.Readiness.{clients_of}
 use Rattle.relay_connections.specs.Served.{AreServed, IsUnused, Serves, address_of}
+use Rattle.relay_connections.specs.Welcome.{KeepsRules}
 use Rattle.relay_connections.proofs.ServedLemmas.{frees, rest_of_end, served_on}
 use Rattle.relay_connections.proofs.clients.Clients.give_one_up.Goals as goal
 use Rattle.relay_connections.proofs.clients.Clients.give_one_up.Goals.{in-Some+else-deref, in-None-3}
 
 pub loop-step-preserved : goal.loop-step-preserved
-loop-step-preserved g c = λ changes setting served.
-    let so = c.loop-step.invariant changes setting served in
-    elim c.match-client_at.branch [
-      | in-Some+else-deref w ↦ subst (λ self. AreServed g.D.Disk.honest g.D.Disk.words g.S.Stream.remaining g.S.Stream.contents changes setting (clients_of self) c.loop-step.relay) (sym w.self-is) so
-      | in-None-3 w ↦ subst (λ self. AreServed g.D.Disk.honest g.D.Disk.words g.S.Stream.remaining g.S.Stream.contents changes setting (clients_of self) c.loop-step.relay) (sym w.self-is) so
-    ]
+loop-step-preserved g c = record {
+  served = λ changes setting served.
+      let so = c.loop-step.invariant.served changes setting served in
+      elim c.match-client_at.branch [
+        | in-Some+else-deref w ↦ subst (λ self. AreServed g.D.Disk.honest g.D.Disk.words g.S.Stream.remaining g.S.Stream.contents changes setting (clients_of self) c.loop-step.relay) (sym w.self-is) so
+        | in-None-3 w ↦ subst (λ self. AreServed g.D.Disk.honest g.D.Disk.words g.S.Stream.remaining g.S.Stream.contents changes setting (clients_of self) c.loop-step.relay) (sym w.self-is) so
+      ];
+  rules = elim c.match-client_at.branch [
+    | in-Some+else-deref w ↦ subst (KeepsRules c.args.self.now) (sym w.self-is) c.loop-step.invariant.rules
+    | in-None-3 w ↦ subst (KeepsRules c.args.self.now) (sym w.self-is) c.loop-step.invariant.rules
+  ];
+}
 
 pub returns-in-Some-clause-served : goal.returns-in-Some-clause-served
 returns-in-Some-clause-served g c = λ changes setting served.
-    let so = c.loop-step.invariant changes setting served in
+    let so = c.loop-step.invariant.served changes setting served in
     let number = c.turned-number.result in
     let there : slot_at c.loop-step.self.clients number ≡ Some c.in-Some.client.now = sym (c.standing.ensures.slots number) ∙ c.in-Some.ensures in
     let session = subst (λ slot. Serves g.S.Stream.remaining g.S.Stream.contents changes setting c.loop-step.relay number slot) there (so.each number) in

@@ -1,12 +1,16 @@
--- so far all are served, and clients alone have joined those that leave
+-- so far all are served, clients alone have joined those that leave, and the rules stay
 use Rattle.std.proofs.Common.{List}
 use Rattle.relay_book.specs.declared.change.Change.{Change}
 use Rattle.relay_connections.specs.Carried.{Setting}
 use Rattle.relay_connections.specs.Leaving.{ClientsJoin, leavers_of}
 use Rattle.relay_connections.specs.Readiness.{clients_of}
 use Rattle.relay_connections.specs.Served.{AreServed}
+use Rattle.relay_connections.specs.Welcome.{KeepsRules}
 use Rattle.relay_connections.proofs.clients.Clients.read_each.Given as goal
 
 abbrev pub invariant-loop-step : goal.invariant-loop-step
-invariant-loop-step g l = (changes : List Change) (setting : Setting) → AreServed g.D.Disk.honest g.D.Disk.words g.S.Stream.remaining g.S.Stream.contents changes setting (clients_of l.fn.self) l.fn.relay
-    → AreServed g.D.Disk.honest g.D.Disk.words g.S.Stream.remaining g.S.Stream.contents changes setting (clients_of l.self) l.relay × ClientsJoin g.S.Stream.remaining g.S.Stream.contents setting (leavers_of l.fn.leaving) (leavers_of l.leaving)
+invariant-loop-step g l = record {
+  served : (changes : List Change) (setting : Setting) → AreServed g.D.Disk.honest g.D.Disk.words g.S.Stream.remaining g.S.Stream.contents changes setting (clients_of l.fn.self) l.fn.relay
+      → AreServed g.D.Disk.honest g.D.Disk.words g.S.Stream.remaining g.S.Stream.contents changes setting (clients_of l.self) l.relay × ClientsJoin g.S.Stream.remaining g.S.Stream.contents setting (leavers_of l.fn.leaving) (leavers_of l.leaving);
+  rules : KeepsRules l.fn.self l.self;
+}

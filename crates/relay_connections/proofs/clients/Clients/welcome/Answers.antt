@@ -7,12 +7,12 @@ use Rattle.relay_connections.proofs.clients.Clients.welcome.Goals as goal
 
 pub returns-in_err-open-clause-allowed : goal.returns-in_err-open-clause-allowed
 returns-in_err-open-clause-allowed g c =
-    allowed_opened c.args.peer c.args.self.now c.open.new.self c.args.relay.now c.open.new.relay c.open.ensures.networks
+    allowed_opened c.args.peer c.args.self.now c.open.new.self c.args.relay.now c.open.new.relay c.open.ensures.rules.0
     (subst (λ ip. MayConnect (ipv4_octets ip) c.args.self.now) c.ip.ensures (served_connects _ c.args.self.now c.refusal.result c.refusal.ensures c.in_default.not-Some))
     c.open.ensures.opens
 
 pub returns-clause-allowed : goal.returns-clause-allowed
 returns-clause-allowed g c =
-    allowed_opened c.args.peer c.args.self.now c.open.new.self c.args.relay.now c.open.new.relay c.open.ensures.networks
+    allowed_opened c.args.peer c.args.self.now c.open.new.self c.args.relay.now c.open.new.relay c.open.ensures.rules.0
     (subst (λ ip. MayConnect (ipv4_octets ip) c.args.self.now) c.ip.ensures (served_connects _ c.args.self.now c.refusal.result c.refusal.ensures c.in_default.not-Some))
     c.open.ensures.opens
