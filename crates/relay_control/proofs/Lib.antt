@@ -1,0 +1,7 @@
+mod NumberLemmas
+mod RequestLemmas
+mod NamedLemmas
+mod AnswerLemmas
+mod HeldLemmas
+mod HeldFileLemmas
+mod LawLemmas
