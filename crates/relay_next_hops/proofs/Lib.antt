@@ -6,8 +6,10 @@ mod OrderLemmas
 mod ListingLemmas
 mod OverdueLemmas
 mod StartLemmas
+mod SteeringLemmas
 mod TurnLemmas
 mod CountLemmas
 mod RoundLemmas
+mod DueLemmas
 mod GoingOnLemmas
 mod BegunLemmas

@@ -14,9 +14,10 @@ use Rattle.relay_routes.specs.declared.hop.Hop.{Hop as NextHop}
 use Rattle.relay_book.specs.Queue.{message_of}
 use Rattle.relay_book.specs.declared.message.Message.{Message}
 use Rattle.relay_book.specs.declared.message.Place.{Place}
+use Rattle.relay_control.specs.Held.{holds}
 use Rattle.relay_node.specs.Node.{NodeState}
-use Rattle.relay_next_hops.specs.Lanes.{IsListedUnroutable, KeepsCounts, ListsMore, tasks_at}
-use Rattle.relay_next_hops.specs.Listing.{ArePlacesListed, AreListedFrom, HasConnection, IsListed, IsListedFor, IsPlaceListed, KeepsListed, Waits, is_for, route_of}
+use Rattle.relay_next_hops.specs.Lanes.{IsListedUnroutable, KeepsCounts, ListsMore, tasks_at, tasks_of, with_last}
+use Rattle.relay_next_hops.specs.Listing.{ArePlacesListed, AreListedFrom, HasConnection, HasEarlyTurn, IsKept, IsListed, IsListedFor, IsPlaceListed, KeepsListed, Waits, WaitsEarly, is_early_for, is_for, route_of}
 use Rattle.relay_next_hops.specs.declared.hop.Hop.{Hop}
 use Rattle.relay_next_hops.specs.declared.lane.Lane.{Lane}
 use Rattle.relay_next_hops.specs.declared.lane.Task.{Task}
@@ -67,39 +68,82 @@ left_dropped (first ∷ xs) zero x ys is = cc is
 left_dropped (first ∷ xs) (suc n) x ys is = left_dropped xs n x ys is
 
 -- a lane without a task that is added changes no lane's tasks
-pub tasks_pushed : (lanes : List Lane) (lane : Lane) → lane.tasks.items ≡ [] → (number : ℕ) → option_map_or (λ (lane : Lane). lane.tasks.items) (slice_get (lanes ++ lane ∷ []) number) [] ≡ option_map_or (λ (lane : Lane). lane.tasks.items) (slice_get lanes number) []
+pub tasks_pushed : (lanes : List Lane) (lane : Lane) → tasks_of lane ≡ [] → (number : ℕ) → option_map_or tasks_of (slice_get (lanes ++ lane ∷ []) number) [] ≡ option_map_or tasks_of (slice_get lanes number) []
 tasks_pushed [] lane none zero = none
 tasks_pushed [] lane none (suc number) = refl
 tasks_pushed (first ∷ lanes) lane none zero = refl
 tasks_pushed (first ∷ lanes) lane none (suc number) = tasks_pushed lanes lane none number
 
 -- nor does one that may have been added
-pub tasks_grown : (lanes new : List Lane) (lane : Lane) (ok : Bool) → lane.tasks.items ≡ [] → new ≡ (if ok then lanes ++ lane ∷ [] else lanes) → (number : ℕ) → option_map_or (λ (lane : Lane). lane.tasks.items) (slice_get new number) [] ≡ option_map_or (λ (lane : Lane). lane.tasks.items) (slice_get lanes number) []
-tasks_grown lanes new lane true none is number = ap (λ (lanes : List Lane). option_map_or (λ (lane : Lane). lane.tasks.items) (slice_get lanes number) []) is ∙ tasks_pushed lanes lane none number
-tasks_grown lanes new lane false none is number = ap (λ (lanes : List Lane). option_map_or (λ (lane : Lane). lane.tasks.items) (slice_get lanes number) []) is
+pub tasks_grown : (lanes new : List Lane) (lane : Lane) (ok : Bool) → tasks_of lane ≡ [] → new ≡ (if ok then lanes ++ lane ∷ [] else lanes) → (number : ℕ) → option_map_or tasks_of (slice_get new number) [] ≡ option_map_or tasks_of (slice_get lanes number) []
+tasks_grown lanes new lane true none is number = ap (λ (lanes : List Lane). option_map_or tasks_of (slice_get lanes number) []) is ∙ tasks_pushed lanes lane none number
+tasks_grown lanes new lane false none is number = ap (λ (lanes : List Lane). option_map_or tasks_of (slice_get lanes number) []) is
 
 -- where a lane has a task more, what waited still does
-pub set_waits : (p : Task → Bool) (lanes : List Lane) (number : ℕ) (before after : Lane) → before ≡ slice_index_or lanes number before → (list_any p before.tasks.items ≡ true → list_any p after.tasks.items ≡ true) → (lane : ℕ) → list_any p (option_map_or (λ (lane : Lane). lane.tasks.items) (slice_get lanes lane) []) ≡ true → list_any p (option_map_or (λ (lane : Lane). lane.tasks.items) (slice_get (slice_set lanes number after) lane) []) ≡ true
+pub set_waits : (p : Task → Bool) (lanes : List Lane) (number : ℕ) (before after : Lane) → before ≡ slice_index_or lanes number before → (list_any p (tasks_of before) ≡ true → list_any p (tasks_of after) ≡ true) → (lane : ℕ) → list_any p (option_map_or tasks_of (slice_get lanes lane) []) ≡ true → list_any p (option_map_or tasks_of (slice_get (slice_set lanes number after) lane) []) ≡ true
 set_waits p [] number before after is more lane waits = waits
-set_waits p (first ∷ lanes) zero before after is more zero waits = more (subst (λ (lane : Lane). list_any p lane.tasks.items ≡ true) (sym is) waits)
+set_waits p (first ∷ lanes) zero before after is more zero waits = more (subst (λ (lane : Lane). list_any p (tasks_of lane) ≡ true) (sym is) waits)
 set_waits p (first ∷ lanes) zero before after is more (suc lane) waits = waits
 set_waits p (first ∷ lanes) (suc number) before after is more zero waits = waits
 set_waits p (first ∷ lanes) (suc number) before after is more (suc lane) waits = set_waits p lanes number before after is more lane waits
 
-pub set_own : (p : Task → Bool) (lanes : List Lane) (number : ℕ) (after : Lane) → number < length lanes → list_any p after.tasks.items ≡ true → list_any p (option_map_or (λ (lane : Lane). lane.tasks.items) (slice_get (slice_set lanes number after) number) []) ≡ true
+pub set_own : (p : Task → Bool) (lanes : List Lane) (number : ℕ) (after : Lane) → number < length lanes → list_any p (tasks_of after) ≡ true → list_any p (option_map_or tasks_of (slice_get (slice_set lanes number after) number) []) ≡ true
 set_own p [] number after low waits = absurd (omega (arith, low))
 set_own p (first ∷ lanes) zero after low waits = waits
 set_own p (first ∷ lanes) (suc number) after low waits = set_own p lanes number after (omega (arith, low)) waits
 
+-- of no tasks none is first
+pub front_none : {A : Type 0} (xs ys : List A) → xs ++ ys ≡ [] → xs ≡ []
+front_none [] ys none = refl
+front_none (x ∷ xs) ys none = absurd (cc none)
+
+or_more : (a b c : Bool) → (a || b) ≡ true → (a || (c || b)) ≡ true
+or_more true b c passes = refl
+or_more false b true passes = refl
+or_more false b false passes = passes
+
+or_mid : (a b : Bool) → (a || (true || b)) ≡ true
+or_mid true b = refl
+or_mid false b = refl
+
+-- one that is put among others leaves those that are there, and passes itself
+any_more : {A : Type 0} (p : A → Bool) (xs ys : List A) (x : A) → list_any p (xs ++ ys) ≡ true → list_any p (xs ++ x ∷ ys) ≡ true
+any_more p xs ys x passes =
+    list_any-append p xs (x ∷ ys) ∙ or_more (list_any p xs) (list_any p ys) (p x) (sym (list_any-append p xs ys) ∙ passes)
+
+any_mid : {A : Type 0} (p : A → Bool) (xs ys : List A) (x : A) → p x ≡ true → list_any p (xs ++ x ∷ ys) ≡ true
+any_mid p xs ys x passes =
+    list_any-append p xs (x ∷ ys) ∙ ap (λ passes. list_any p xs || (passes || list_any p ys)) passes ∙ or_mid (list_any p xs) (list_any p ys)
+
+last_more : (p : Task → Bool) (lane : Lane) (task : Task) → list_any p (tasks_of lane) ≡ true → list_any p (with_last task lane) ≡ true
+last_more p lane task waits = by task.early where
+  by : (early : Bool) → list_any p (if early then lane.early.items ++ task ∷ lane.tasks.items else tasks_of lane ++ task ∷ []) ≡ true
+  by true = any_more p lane.early.items lane.tasks.items task waits
+  by false = any_front p (tasks_of lane) (task ∷ []) waits
+
+last_own : (p : Task → Bool) (lane : Lane) (task : Task) → p task ≡ true → list_any p (with_last task lane) ≡ true
+last_own p lane task passes = by task.early where
+  by : (early : Bool) → list_any p (if early then lane.early.items ++ task ∷ lane.tasks.items else tasks_of lane ++ task ∷ []) ≡ true
+  by true = any_mid p lane.early.items lane.tasks.items task passes
+  by false = any_last p (tasks_of lane) task passes
+
 -- a task that may have been added leaves those that are there
-pub pushed_more : (p : Task → Bool) (pushed : Bool) (old new : List Task) (task : Task) → (pushed ≡ true → new ≡ old ++ task ∷ []) → (pushed ≡ false → new ≡ old) → list_any p old ≡ true → list_any p new ≡ true
-pushed_more p true old new task added same waits = ap (list_any p) (added refl) ∙ any_front p old (task ∷ []) waits
+pub pushed_more : (p : Task → Bool) (pushed : Bool) (old new : Lane) (task : Task) → (pushed ≡ true → tasks_of new ≡ with_last task old) → (pushed ≡ false → tasks_of new ≡ tasks_of old) → list_any p (tasks_of old) ≡ true → list_any p (tasks_of new) ≡ true
+pushed_more p true old new task added same waits = ap (list_any p) (added refl) ∙ last_more p old task waits
 pushed_more p false old new task added same waits = ap (list_any p) (same refl) ∙ waits
 
+-- a lane whose two kinds of tasks stay has the same tasks
+pub tasks_failed : (old new : Lane) → new.early.items ≡ old.early.items → new.tasks.items ≡ old.tasks.items → tasks_of new ≡ tasks_of old
+tasks_failed old new early tasks = ap (λ early. early ++ new.tasks.items) early ∙ ap (λ tasks. old.early.items ++ tasks) tasks
+
+-- and is there itself
+pub pushed_own : (p : Task → Bool) (old new : Lane) (task : Task) → tasks_of new ≡ with_last task old → p task ≡ true → list_any p (tasks_of new) ≡ true
+pushed_own p old new task added passes = ap (list_any p) added ∙ last_own p old task passes
+
 -- a task is for its own message and next hop
-pub is_own : (message : ℕ) (name hop : List ℕ) → hop ≡ name → is_for message name (record { message = message; hop = hop }) ≡ true
-is_own message name hop same = by (eqb_tells message message) where
-  by : ((eqb message message ≡ true) × (message ≡ message)) ⊎ ((eqb message message ≡ false) × (message ≢ message)) → is_for message name (record { message = message; hop = hop }) ≡ true
+pub is_own : (message : ℕ) (name hop : List ℕ) (early : Bool) → hop ≡ name → is_for message name (record { message = message; hop = hop; early = early }) ≡ true
+is_own message name hop early same = by (eqb_tells message message) where
+  by : ((eqb message message ≡ true) × (message ≡ message)) ⊎ ((eqb message message ≡ false) × (message ≢ message)) → is_for message name (record { message = message; hop = hop; early = early }) ≡ true
   by (inl own) = ap (λ same. same && bytes_eq hop name) own.0 ∙ ap (λ hop. bytes_eq hop name) same ∙ (bytes_eq-Decides name name).1 refl
   by (inr apart) = absurd (apart.1 refl)
 
@@ -110,7 +154,7 @@ match_some {A = A} none some found x is holds = subst (λ (found : Option A). Ma
 pub match_none : {A : Type 0} (none : Type 0) (some : A → Type 0) (found : Option A) → None ≡ found → none → MatchOption found none some
 match_none {A = A} none some found is holds = subst (λ (found : Option A). MatchOption found none some) is holds
 
-same_found : {A : Type 0} (found : Option A) (one other : A) → found ≡ Some one → found ≡ Some other → one ≡ other
+pub same_found : {A : Type 0} (found : Option A) (one other : A) → found ≡ Some one → found ≡ Some other → one ≡ other
 same_found found one other is also = cc (sym is ∙ also)
 
 -- Lanes keep what they had, and may have more.
@@ -118,15 +162,25 @@ module _ (old new : Lanes) (more : ListsMore old new) (kept : KeepsListed old ne
   pub for_kept : {S : Type 0} (hops : List (Option (Hop S))) (message : ℕ) (name : List ℕ) (at : SocketAddrV4) → IsListedFor hops message name at old → IsListedFor hops message name at new
   for_kept hops message name at (inl turn) = inl (turn.0, more.places turn.0 at turn.1, by turn.2) where
     by : Waits message name old turn.0 ⊎ HasConnection hops message name turn.0 → Waits message name new turn.0 ⊎ HasConnection hops message name turn.0
-    by (inl waits) = inl (kept.tasks message turn.0 name waits)
+    by (inl waits) = inl (kept.tasks (is_for message name) turn.0 waits)
     by (inr has) = inr has
   for_kept hops message name at (inr stale) = inr (kept.stale stale)
 
+  pub early_kept : {S : Type 0} (hops : List (Option (Hop S))) (message : ℕ) (name : List ℕ) (at : SocketAddrV4) → HasEarlyTurn hops message name at old → HasEarlyTurn hops message name at new
+  early_kept hops message name at turn = (turn.0, more.places turn.0 at turn.1, by turn.2) where
+    by : WaitsEarly message name old turn.0 ⊎ HasConnection hops message name turn.0 → WaitsEarly message name new turn.0 ⊎ HasConnection hops message name turn.0
+    by (inl waits) = inl (kept.tasks (is_early_for message name) turn.0 waits)
+    by (inr has) = inr has
+
   pub place_kept : {S : Type 0} (hops : List (Option (Hop S))) (moment : ℕ) (table : RouteTable) (message : ℕ) (recipients : List Recipient) (index : ℕ) (place : Place) → IsPlaceListed hops moment table message recipients index place old → IsPlaceListed hops moment table message recipients index place new
   place_kept hops moment table message recipients index place listed held = by (route_of table recipients index) (listed held) where
-    by : (hop : Option NextHop) → MatchOption hop (IsListedUnroutable message old) (λ hop. place.due ≤ moment → IsListedFor hops message hop.name hop.at old) → MatchOption hop (IsListedUnroutable message new) (λ hop. place.due ≤ moment → IsListedFor hops message hop.name hop.at new)
+    either : (hop : NextHop) → IsListedFor hops message hop.name hop.at old ⊎ IsKept message hop.name old → IsListedFor hops message hop.name hop.at new ⊎ IsKept message hop.name new
+    either hop (inl own) = inl (for_kept hops message hop.name hop.at own)
+    either hop (inr held) = inr (ap (holds hop.name message) more.held ∙ held)
+
+    by : (hop : Option NextHop) → MatchOption hop (IsListedUnroutable message old) (λ hop. place.due ≤ moment → IsListedFor hops message hop.name hop.at old ⊎ IsKept message hop.name old) → MatchOption hop (IsListedUnroutable message new) (λ hop. place.due ≤ moment → IsListedFor hops message hop.name hop.at new ⊎ IsKept message hop.name new)
     by None listed = kept.unroutable message listed
-    by (Some hop) listed = λ due. for_kept hops message hop.name hop.at (listed due)
+    by (Some hop) listed = λ due. either hop (listed due)
 
   pub places_kept : {S : Type 0} (hops : List (Option (Hop S))) (moment : ℕ) (table : RouteTable) (message : ℕ) (recipients : List Recipient) (places : List Place) (count : ℕ) → ArePlacesListed hops moment table message recipients places count old → ArePlacesListed hops moment table message recipients places count new
   places_kept hops moment table message recipients places count listed index place low there =
@@ -168,13 +222,14 @@ module _ (old new : Lanes) (more : ListsMore old new) (kept : KeepsListed old ne
 -- what two changes after one another keep
 pub more_then : (old between new : Lanes) → ListsMore old between → ListsMore between new → ListsMore old new
 more_then old between new one other = record {
+  held = other.held ∙ one.held;
   places = λ number place there. other.places number place (one.places number place there);
   runs = λ number. other.runs number ∙ one.runs number;
 }
 
 pub kept_then : (old between new : Lanes) → KeepsListed old between → KeepsListed between new → KeepsListed old new
 kept_then old between new one other = record {
-  tasks = λ message lane name waits. other.tasks message lane name (one.tasks message lane name waits);
+  tasks = λ test lane waits. other.tasks test lane (one.tasks test lane waits);
   unroutable = λ message listed. other.unroutable message (one.unroutable message listed);
   stale = λ stale. other.stale (one.stale stale);
 }
@@ -182,6 +237,7 @@ kept_then old between new one other = record {
 -- lanes whose places and counts stay have no fewer
 pub more_of : (old new : Lanes) → KeepsCounts old new → ListsMore old new
 more_of old new counts = record {
+  held = counts.held;
   places = λ number place there. ap (λ places. slice_get places number) counts.places ∙ there;
   runs = counts.runs;
 }
@@ -189,7 +245,7 @@ more_of old new counts = record {
 -- where all lanes have the same tasks, the same is listed
 pub kept_of : (old new : Lanes) → ((lane : ℕ) → tasks_at new lane ≡ tasks_at old lane) → ((message : ℕ) → IsListedUnroutable message old → IsListedUnroutable message new) → (old.is_stale ≡ true → new.is_stale ≡ true) → KeepsListed old new
 kept_of old new tasks unroutable stale = record {
-  tasks = λ message lane name waits. ap (list_any (is_for message name)) (tasks lane) ∙ waits;
+  tasks = λ test lane waits. ap (list_any test) (tasks lane) ∙ waits;
   unroutable = unroutable;
   stale = stale;
 }

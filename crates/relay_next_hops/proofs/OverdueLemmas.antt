@@ -1,11 +1,11 @@
 -- The last tasks of a lane, which weren't checked, and the first of them that passes a test.
-use Rattle.std.proofs.Common.{◌≡◌, ℕ, zero, suc, ◌+◌, ◌-◌, ◌≤◌, min, cond, Bool, true, false, List, [], ◌∷◌, ◌++◌, length, length-append, take, drop, refl, sym, ap, ◌∙◌, arith, find, option_map, option_to_list, slice_get, Option, Some, None, IfSome}
+use Rattle.std.proofs.Common.{◌≡◌, append_assoc, ℕ, zero, suc, ◌+◌, ◌-◌, ◌≤◌, min, cond, Bool, true, false, List, [], ◌∷◌, ◌++◌, length, length-append, take, drop, refl, sym, ap, ◌∙◌, arith, find, option_map, option_to_list, slice_get, Option, Some, None, IfSome}
 use Rattle.std.proofs.lemmas.List.{drop-drop, drop_min, take-append-drop}
 use Rattle.std.specs.Option.{option_map_or}
 use Rattle.relay_next_hops.specs.declared.lane.Lane.{Lane}
 use Rattle.relay_next_hops.specs.declared.lane.Task.{Task}
 use Rattle.relay_next_hops.specs.declared.lanes.Lanes.{Lanes}
-use Rattle.relay_next_hops.specs.Lanes.{tasks_at}
+use Rattle.relay_next_hops.specs.Lanes.{tasks_at, tasks_of}
 use Rattle.relay_next_hops.specs.Overdue.{TakesOut, checked_at, checked_of, unchecked_at, unchecked_of}
 
 -- what is left after one of two places, where both are the same or past the end
@@ -63,9 +63,11 @@ first_taken None tasks rest split none = sym (ap (λ tasks. slice_get tasks zero
 first_taken (Some task) tasks rest split none = sym (ap (λ tasks. slice_get tasks zero) split)
 
 parts_of : (lane : Option Lane)
-    → option_map_or (λ lane. lane.tasks.items) lane [] ≡ option_map_or checked_of lane [] ++ option_map_or unchecked_of lane []
+    → option_map_or tasks_of lane [] ≡ option_map_or checked_of lane [] ++ option_map_or unchecked_of lane []
 parts_of None = refl
-parts_of (Some lane) = sym (take-append-drop (length lane.tasks.items - lane.unchecked) lane.tasks.items)
+parts_of (Some lane) =
+    ap (λ tasks. lane.early.items ++ tasks) (sym (take-append-drop (length lane.tasks.items - lane.unchecked) lane.tasks.items))
+    ∙ sym (append_assoc lane.early.items (take (length lane.tasks.items - lane.unchecked) lane.tasks.items) (unchecked_of lane))
 
 -- the tasks of a lane are those that were checked and those that weren't
 pub tasks_parts : (lanes : Lanes) (number : ℕ) → tasks_at lanes number ≡ checked_at lanes number ++ unchecked_at lanes number

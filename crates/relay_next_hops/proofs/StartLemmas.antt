@@ -1,9 +1,13 @@
 -- What a task that was tried does to the counts of lanes, and where its connection goes.
-use Rattle.std.proofs.Common.{◌≡◌, inl, inr, ℕ, ◌+◌, ◌<◌, ◌≤◌, List, ◌∷◌, length, Option, None, Some, sym, ap, subst, ◌∙◌, add-one, arith}
+use Rattle.std.proofs.Common.{◌≡◌, ◌≢◌, ◌⊎◌, inl, inr, ℕ, ◌+◌, ◌<◌, ◌≤◌, true, false, eqb, List, ◌∷◌, length, Option, None, Some, sym, ap, subst, ◌∙◌, add-one, arith}
+use Rattle.std.specs.Prelude.{slice_set}
+use Rattle.std.proofs.lemmas.Bool.Decides.{eqb_tells}
 use Rattle.std.specs.declared.net.socket_addr.SocketAddrV4.{SocketAddrV4}
 use Rattle.relay_disk.specs.Device.{DiskWords}
 use Rattle.relay_routes.specs.Routes.{place_of}
 use Rattle.relay_slots.specs.Slots.{slot_at}
+use Rattle.relay_control.specs.Held.{holds}
+use Rattle.relay_control.specs.declared.held.Held.{Held}
 use Rattle.relay_loop.specs.Relay.{RelayState}
 use Rattle.relay_connections.specs.Table.{count_of}
 use Rattle.relay_connections.specs.declared.channel.Channel.{Channel}
@@ -12,7 +16,7 @@ use Rattle.relay_next_hops.specs.Counts.{CountsMatch, unanswered_of}
 use Rattle.relay_next_hops.specs.Errands.{AreAimed, IsAimed}
 use Rattle.relay_next_hops.specs.Lanes.{OnlyLane, tasks_at}
 use Rattle.relay_next_hops.specs.Paces.{RunsOneMore}
-use Rattle.relay_next_hops.specs.Starting.{ConnectsFor, IsBegun, IsEndOf, IsStep, IsTried, TriesNext, back_of, step_after}
+use Rattle.relay_next_hops.specs.Starting.{ConnectsFor, IsBegun, IsEndOf, IsStep, IsTried, OpensUnheld, TriesNext, back_of, step_after}
 use Rattle.relay_next_hops.specs.declared.errand.Aim.{Aim}
 use Rattle.relay_next_hops.specs.declared.hop.Hop.{Hop}
 use Rattle.relay_next_hops.specs.declared.lane.Task.{Task}
@@ -23,7 +27,7 @@ use Rattle.relay_next_hops.specs.declared.starting.Step.{Step}
 use Rattle.relay_next_hops.specs.declared.starting.Step.TheVariants.{Left, Back, Over, NoRoom, NoSlot}
 use Rattle.relay_next_hops.specs.declared.starting.Tried.{Tried}
 use Rattle.relay_next_hops.specs.declared.starting.Tried.TheVariants.{Connects, Wants, Fails, HasNoPlace}
-use Rattle.relay_next_hops.proofs.SlotLemmas.{aimed_put, counts_begun, counts_put, counts_stay}
+use Rattle.relay_next_hops.proofs.SlotLemmas.{aimed_put, counts_begun, counts_put, counts_stay, length_set, set_beside, set_there, some_within}
 use Rattle.relay_next_hops.proofs.TurnLemmas.{unanswered_put, unanswered_stay}
 
 module _ {D S : Type 0} (words : DiskWords D) (Opened : SocketAddrV4 → Channel S → Type 0) (now : Now) (lane number : ℕ) (task : Task) (hops_old hops_new : List (Option (Hop S))) (lanes_old lanes_new : Lanes) (old new : RelayState D) where
@@ -62,6 +66,41 @@ module _ {D S : Type 0} (words : DiskWords D) (Opened : SocketAddrV4 → Channel
   tried_unanswered Fails is free low only = subst (λ (hops : List (Option (Hop S))). unanswered_of hops_old lanes_old.paces ≤ unanswered_of hops lanes_new.paces) (sym is.2) (unanswered_stay hops_old lane lanes_old lanes_new only)
   tried_unanswered HasNoPlace is free low only = subst (λ (hops : List (Option (Hop S))). unanswered_of hops_old lanes_old.paces ≤ unanswered_of hops lanes_new.paces) (sym is.2) (unanswered_stay hops_old lane lanes_old lanes_new only)
 
+-- a connection for mail that no postmaster holds
+put_unheld : {S : Type 0} (held : Held) (hops : List (Option (Hop S))) (number : ℕ) (hop : Hop S) → holds hop.name hop.message held ≡ false → OpensUnheld held hops (slice_set hops number (Some hop))
+put_unheld {S} held hops number hop unheld other standing there = by (eqb_tells other number) where
+  by : ((eqb other number ≡ true) × (other ≡ number)) ⊎ ((eqb other number ≡ false) × (other ≢ number)) → (slot_at hops other ≡ Some standing) ⊎ (holds standing.name standing.message held ≡ false)
+  by (inl own) = inr (subst (λ (hop : Hop S). holds hop.name hop.message held ≡ false) same unheld) where
+    low : number < length hops
+    low = subst (λ (length : ℕ). number < length) (length_set hops number (Some hop)) (some_within (slice_set hops number (Some hop)) number standing (ap (slot_at (slice_set hops number (Some hop))) (sym own.1) ∙ there))
+
+    same : hop ≡ standing
+    same = cc (sym (set_there hops number (Some hop) low) ∙ ap (slot_at (slice_set hops number (Some hop))) (sym own.1) ∙ there)
+  by (inr apart) = inl (sym (set_beside hops number (Some hop) other apart.1) ∙ there)
+
+-- the same connections
+pub same_unheld : {S : Type 0} (held : Held) (old new : List (Option (Hop S))) → new ≡ old → OpensUnheld held old new
+same_unheld {S} held old new same number hop there = inl (ap (λ (hops : List (Option (Hop S))). slot_at hops number) (sym same) ∙ there)
+
+-- two calls after one another, with the same held mail
+pub unheld_then : {S : Type 0} (held between : Held) (old middle new : List (Option (Hop S))) → between ≡ held → OpensUnheld held old middle → OpensUnheld between middle new → OpensUnheld held old new
+unheld_then {S} held between old middle new same one other number hop there = by (other number hop there) where
+  by : (slot_at middle number ≡ Some hop) ⊎ (holds hop.name hop.message between ≡ false) → (slot_at old number ≡ Some hop) ⊎ (holds hop.name hop.message held ≡ false)
+  by (inl stood) = one number hop stood
+  by (inr unheld) = inr (ap (holds hop.name hop.message) (sym same) ∙ unheld)
+
+module _ {D S : Type 0} (words : DiskWords D) (Opened : SocketAddrV4 → Channel S → Type 0) (now : Now) (lane number : ℕ) (task : Task) (hops_old hops_new : List (Option (Hop S))) (lanes_old lanes_new : Lanes) (old new : RelayState D) where
+  -- a task that no postmaster holds was tried
+  pub tried_unheld : (held : Held) (tried : Tried) → holds task.hop task.message held ≡ false → IsTried words Opened now lane number task hops_old hops_new lanes_old lanes_new old new tried → OpensUnheld held hops_old hops_new
+  tried_unheld held Connects unheld is =
+      let connects : ConnectsFor Opened lane number task hops_old hops_new lanes_old lanes_new old = is.0 in
+      let its : holds connects.puts.hop.name connects.puts.hop.message held ≡ false =
+      ap (λ name. holds name connects.puts.hop.message held) connects.puts.its_name ∙ ap (λ message. holds task.hop message held) connects.puts.its_message ∙ unheld in
+      subst (OpensUnheld held hops_old) (sym connects.puts.put) (put_unheld held hops_old number connects.puts.hop its)
+  tried_unheld held Wants unheld is = same_unheld held hops_old hops_new is.2
+  tried_unheld held Fails unheld is = same_unheld held hops_old hops_new is.2
+  tried_unheld held HasNoPlace unheld is = same_unheld held hops_old hops_new is.2
+
 same_begun : (one other : Begun) → Some one ≡ Some other → one ≡ other
 same_begun one other same = cc
 
@@ -85,14 +124,14 @@ one_more old between new task first fewer =
 -- The task was the next of its lane: what has come of it is what its step says.
 module _ {D S : Type 0} (words : DiskWords D) (Opened : SocketAddrV4 → Channel S → Type 0) (now : Now) (lane : ℕ) (hops_old hops_new : List (Option (Hop S))) (lanes_old lanes_new : Lanes) (old new : RelayState D) where
   pub step_is : (tried : Tried) → TriesNext words Opened now lane hops_old hops_new lanes_old lanes_new old new tried → ((before : ℕ) → length (tasks_at lanes_old lane) ≡ before + 1 → length (tasks_at lanes_new lane) ≤ before + back_of tried) → IsStep words Opened now lane hops_old hops_new lanes_old lanes_new old new (step_after tried)
-  step_is Connects tries fewer = (Connects, tries, one_less (tasks_at lanes_old lane) (tasks_at tries.between lane) (tasks_at lanes_new lane) tries.task tries.first (fewer (length (tasks_at tries.between lane))))
+  step_is Connects tries fewer = (inl (Connects, tries), one_less (tasks_at lanes_old lane) (tasks_at tries.between lane) (tasks_at lanes_new lane) tries.task tries.first (fewer (length (tasks_at tries.between lane))))
   step_is Wants tries fewer = (tries, one_more (tasks_at lanes_old lane) (tasks_at tries.between lane) (tasks_at lanes_new lane) tries.task tries.first (fewer (length (tasks_at tries.between lane))))
-  step_is Fails tries fewer = (Fails, tries, one_less (tasks_at lanes_old lane) (tasks_at tries.between lane) (tasks_at lanes_new lane) tries.task tries.first (fewer (length (tasks_at tries.between lane))))
-  step_is HasNoPlace tries fewer = (HasNoPlace, tries, one_less (tasks_at lanes_old lane) (tasks_at tries.between lane) (tasks_at lanes_new lane) tries.task tries.first (fewer (length (tasks_at tries.between lane))))
+  step_is Fails tries fewer = (inl (Fails, tries), one_less (tasks_at lanes_old lane) (tasks_at tries.between lane) (tasks_at lanes_new lane) tries.task tries.first (fewer (length (tasks_at tries.between lane))))
+  step_is HasNoPlace tries fewer = (inl (HasNoPlace, tries), one_less (tasks_at lanes_old lane) (tasks_at tries.between lane) (tasks_at lanes_new lane) tries.task tries.first (fewer (length (tasks_at tries.between lane))))
 
   -- a step that isn't the lane's last
   pub step_goes_on : (step : Step) (begun : Option Begun) (kept_old kept_new : ℕ) → IsStep words Opened now lane hops_old hops_new lanes_old lanes_new old new step → IsEndOf step kept_old kept_new begun → ((last : Begun) → begun ≡ Some last → ⊥) → (length (tasks_at lanes_new lane) + 1 + kept_new ≤ length (tasks_at lanes_old lane) + kept_old) × (kept_old ≤ kept_new + 1) × (kept_new ≤ kept_old)
-  step_goes_on Left begun kept_old kept_new is ends none = (omega (arith, is.2, ends.1), omega (arith, ends.1), omega (arith, ends.1))
+  step_goes_on Left begun kept_old kept_new is ends none = (omega (arith, is.1, ends.1), omega (arith, ends.1), omega (arith, ends.1))
   step_goes_on Back begun kept_old kept_new is (inl ends) none = (omega (arith, is.1, ends.1), omega (arith, ends.1), omega (arith, ends.1))
   step_goes_on Back begun kept_old kept_new is (inr ends) none = absurd (none Wanting ends.0)
   step_goes_on Over begun kept_old kept_new is ends none = absurd (none AllDone ends.0)

@@ -8,7 +8,7 @@ use Rattle.relay_limits.specs.Pace.{MayBegin}
 use Rattle.relay_slots.specs.Slots.{slot_at}
 use Rattle.relay_connections.specs.Table.{count_of_such, is_such}
 use Rattle.relay_next_hops.specs.Counts.{is_unanswered, unanswered_of}
-use Rattle.relay_next_hops.specs.Lanes.{OnlyLane, tasks_at}
+use Rattle.relay_next_hops.specs.Lanes.{OnlyLane, tasks_at, tasks_of}
 use Rattle.relay_next_hops.specs.Paces.{HasLane, MayBeginAt, changed_at, has_answered_at, put_at}
 use Rattle.relay_next_hops.specs.declared.hop.Hop.{Hop}
 use Rattle.relay_next_hops.specs.declared.lane.Lane.{Lane}
@@ -54,6 +54,7 @@ has_lane most tick paces lane may none = subst (λ (pace : Option Pace). MatchOp
 -- two calls for one lane after one another
 pub only_then : (lane : ℕ) (old between new : Lanes) → OnlyLane lane old between → OnlyLane lane between new → OnlyLane lane old new
 only_then lane old between new one other = record {
+  held = other.held ∙ one.held;
   most = other.most ∙ one.most;
   tasks = λ number apart. other.tasks number apart ∙ one.tasks number apart;
   paces = λ number apart. other.paces number apart ∙ one.paces number apart;
@@ -64,8 +65,8 @@ only_then lane old between new one other = record {
 -- a lane that another takes the place of leaves the others' tasks
 pub tasks_beside : (old new : Lanes) (number : ℕ) (lane : Lane) → new.lanes.items ≡ slice_set old.lanes.items number lane → (other : ℕ) → other ≢ number → tasks_at new other ≡ tasks_at old other
 tasks_beside old new number lane is other apart =
-    ap (λ (lanes : List Lane). option_map_or (λ (lane : Lane). lane.tasks.items) (slice_get lanes other) []) is
-    ∙ ap (λ (lane : Option Lane). option_map_or (λ (lane : Lane). lane.tasks.items) lane []) (get_beside old.lanes.items number lane other apart)
+    ap (λ (lanes : List Lane). option_map_or tasks_of (slice_get lanes other) []) is
+    ∙ ap (λ (lane : Option Lane). option_map_or tasks_of lane []) (get_beside old.lanes.items number lane other apart)
 
 -- a pace that has changed leaves the others
 pub paces_beside : (change : Pace → Pace) (paces : List Pace) (number other : ℕ) → other ≢ number → slice_get (changed_at change paces number) other ≡ slice_get paces other

@@ -1,8 +1,13 @@
 -- What connections to next hops are for, and where they lead.
-use Rattle.std.specs.Prelude.{◌≡◌, ℕ, false, List, [], Option, None, Some, slice_set}
+use Rattle.std.specs.Prelude.{◌≡◌, ℕ, max, min, Bool, true, false, List, [], ◌∷◌, Option, None, Some}
+use Rattle.std.specs.Prelude.{if◌then◌else◌, slice_set}
 use Rattle.std.specs.declared.net.socket_addr.SocketAddrV4.{SocketAddrV4}
 use Rattle.relay_slots.specs.Slots.{slot_at}
+use Rattle.relay_trace.specs.DateTime.{last_second}
 use Rattle.relay_routes.specs.Routes.{Route, place_of}
+use Rattle.relay_book.specs.Queue.{message_of}
+use Rattle.relay_book.specs.declared.message.Message.{Message}
+use Rattle.relay_book.specs.declared.message.Place.{Place}
 use Rattle.relay_attempts.specs.Attempts.{StartsAtMost}
 use Rattle.relay_attempts.specs.declared.start.Started.{Started}
 use Rattle.relay_loop.specs.Relay.{OnlyHop, RelayState}
@@ -55,13 +60,27 @@ portions_after (Lost loss) attempt message portions = portions_after_loss loss a
 portions_after TurnedAway attempt message portions = portions
 portions_after Void attempt message portions = portions
 
--- this attempt has begun at a time for a message and a next hop, for the first of the places that are due there: this
--- many, or all of them if there are fewer
-pub record StartsFor {D : Type 0} (at most message : ℕ) (name : List ℕ) (attempt : Option ℕ) (old new : RelayState D)
+-- the last moment at which one of these places is due that is held, or now if that is later
+abbrev pub last_due : List Place → ℕ → ℕ
+last_due [] now = now
+last_due (place ∷ places) now = max (if place.held then place.due else now) (last_due places now)
+
+-- The moment by which an attempt for a message begins: now. If it was asked for early, it is the last moment at which a
+-- held place of the message is due, if that is later.
+abbrev pub starting_moment : Bool → Option Message → ℕ → ℕ
+starting_moment false message now = now
+starting_moment true None now = now
+starting_moment true (Some message) now = min (last_due message.places now) last_second
+
+-- this attempt has begun for a message and a next hop, for the first of the places that are due there at the moment by
+-- which it begins: this many, or all of them if there are fewer
+pub record StartsFor {D : Type 0} (early : Bool) (now most message : ℕ) (name : List ℕ) (attempt : Option ℕ)
+    (old new : RelayState D)
     : Type 0 where
   pub started : Started
-  pub begins : StartsAtMost old.node.config.host old.node.config.routes message name (Some most) at
-      old.node.records.queue old.node.attempts new.node.attempts started
+  pub begins : StartsAtMost old.node.config.host old.node.config.routes message name (Some most)
+      (starting_moment early (message_of old.node.records.queue.messages message) now) old.node.records.queue
+      old.node.attempts new.node.attempts started
   pub attempt_is : attempt ≡ Some started.attempt
   pub records : new.node.records ≡ old.node.records
   pub only : OnlyHop old new started.attempt

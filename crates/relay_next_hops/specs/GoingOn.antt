@@ -15,11 +15,12 @@ is_due_there relay message name at =
     option_map_or (λ message. is_any (due_places_in relay.node.config.routes name at message))
     (message_of relay.node.records.queue.messages message) false
 
--- the message of an errand is put before the others of its lane, for its next hop
+-- the message of an errand is put before the others of its lane, for its next hop, and isn't asked for early
 pub record GoesOnWith (errand : Errand) (old new : Lanes) : Type 0 where
   pub task : Task
   pub its_message : task.message ≡ errand.message
   pub its_name : task.hop ≡ errand.name
+  pub late : task.early ≡ false
   pub back : IsPutBack errand.aim.lane task old new
 
 -- if more of it is due there at a time, it was put there

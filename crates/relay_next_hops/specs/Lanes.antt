@@ -1,9 +1,10 @@
 -- The due mail at next hops, by lanes: the address of each lane, its running attempts, and its tasks.
-use Rattle.std.specs.Prelude.{◌≡◌, ◌≢◌, ◌⊎◌, ◌==◌, ◌+◌, ℕ, false, true, List, [], ◌∷◌, Option, None, Some, Contains}
-use Rattle.std.specs.Prelude.{option_map, slice_get}
+use Rattle.std.specs.Prelude.{◌≡◌, ◌≢◌, ◌⊎◌, ◌==◌, ◌+◌, ℕ, false, true, List, [], ◌∷◌, ◌++◌, Option, None, Some}
+use Rattle.std.specs.Prelude.{Contains, if◌then◌else◌, option_map, slice_get}
 use Rattle.std.specs.List.{list_any}
 use Rattle.std.specs.Option.{option_map_or}
 use Rattle.std.specs.declared.net.socket_addr.SocketAddrV4.{SocketAddrV4}
+use Rattle.relay_next_hops.specs.declared.lane.Lane.{Lane}
 use Rattle.relay_next_hops.specs.declared.lane.Task.{Task}
 use Rattle.relay_next_hops.specs.declared.lanes.Lanes.{Lanes}
 use Rattle.relay_next_hops.specs.declared.next_hops.NextHops.{NextHops}
@@ -13,9 +14,26 @@ use Rattle.relay_next_hops.specs.Paces.{RunAsBefore, has_answered_at}
 abbrev pub next_due_of : {S : Type 0} → NextHops S → ℕ
 next_due_of next_hops = next_hops.lanes.next_due
 
+-- the tasks of a lane in the order in which they begin: first those that were asked for early
+abbrev pub tasks_of : Lane → List Task
+tasks_of lane = lane.early.items ++ lane.tasks.items
+
 -- the tasks of the lane of a number, in the order in which they begin; none if there is no such lane
 abbrev pub tasks_at : Lanes → ℕ → List Task
-tasks_at lanes number = option_map_or (λ lane. lane.tasks.items) (slice_get lanes.lanes.items number) []
+tasks_at lanes number = option_map_or tasks_of (slice_get lanes.lanes.items number) []
+
+-- the tasks of the lane of a number that were asked for early; none if there is no such lane
+abbrev pub early_at : Lanes → ℕ → List Task
+early_at lanes number = option_map_or (λ lane. lane.early.items) (slice_get lanes.lanes.items number) []
+
+-- the tasks of a lane with one more before the others of its kind: those that were asked for early, or the rest
+abbrev pub with_first : Task → Lane → List Task
+with_first task lane = if task.early then task ∷ tasks_of lane else lane.early.items ++ task ∷ lane.tasks.items
+
+-- the tasks of a lane with one more after the others of its kind
+abbrev pub with_last : Task → Lane → List Task
+with_last task lane =
+    if task.early then lane.early.items ++ task ∷ lane.tasks.items else tasks_of lane ++ task ∷ []
 
 -- the message of the first of these tasks, if there is one
 abbrev pub first_message : List Task → Option ℕ
@@ -25,9 +43,10 @@ first_message tasks = option_map (λ task. task.message) (slice_get tasks 0)
 abbrev pub KeepsPlaces : Lanes → Lanes → Type 0
 KeepsPlaces old new = new.places ≡ old.places
 
--- each lane keeps its address, and its number of running attempts
+-- each lane keeps its address, and its number of running attempts; a postmaster holds the same mail
 pub record KeepsCounts (old new : Lanes) : Type 0 where
   pub places : new.places ≡ old.places
+  pub held : new.held ≡ old.held
   pub runs : RunAsBefore old.paces new.paces
 
 -- no address is known, nothing is listed, and a listing is requested
@@ -41,8 +60,10 @@ pub record IsNew (most : ℕ) (lanes : Lanes) : Type 0 where
   pub stale : lanes.is_stale ≡ true
   pub opened : lanes.is_open ≡ true
 
--- No lane loses its address, and each has as many running attempts as before; lanes may have been added.
+-- No lane loses its address, and each has as many running attempts as before; lanes may have been added. A postmaster
+-- holds the same mail.
 pub record ListsMore (old new : Lanes) : Type 0 where
+  pub held : new.held ≡ old.held
   pub places : (number : ℕ) (place : SocketAddrV4) → slice_get old.places number ≡ Some place
       → slice_get new.places number ≡ Some place
   pub runs : RunAsBefore old.paces new.paces
@@ -51,11 +72,11 @@ pub record ListsMore (old new : Lanes) : Type 0 where
 abbrev pub IsListedUnroutable : ℕ → Lanes → Type 0
 IsListedUnroutable message lanes = Contains lanes.unroutable.items message ⊎ (lanes.is_stale ≡ true)
 
--- The task is in front of its lane again. If it isn't, its message or all due mail will be listed anyway, or there is
--- no such lane.
+-- The task is in front of its lane again, after those that were asked for early, unless it was itself. If it isn't, its
+-- message or all due mail will be listed anyway, or there is no such lane.
 abbrev pub IsPutBack : ℕ → Task → Lanes → Lanes → Type 0
 IsPutBack lane task old new =
-    (tasks_at new lane ≡ task ∷ tasks_at old lane)
+    (tasks_at new lane ≡ option_map_or (with_first task) (slice_get old.lanes.items lane) [])
     ⊎ (list_any (λ message. message == task.message) old.queued.left ≡ true)
     ⊎ (new.is_stale ≡ true)
     ⊎ (slice_get old.lanes.items lane ≡ None)
@@ -65,8 +86,9 @@ abbrev pub IsNth : ℕ → ℕ → ℕ → ℕ → Type 0
 IsNth first count step lane = (first + step ≡ lane) ⊎ (first + step ≡ lane + count)
 
 -- A call for one lane: each other lane keeps its tasks and its pace, no next hop counts as having answered that didn't
--- before, and lanes that were open stay open.
+-- before, and lanes that were open stay open. A postmaster holds the same mail.
 pub record OnlyLane (lane : ℕ) (old new : Lanes) : Type 0 where
+  pub held : new.held ≡ old.held
   pub most : new.most ≡ old.most
   pub tasks : (other : ℕ) → other ≢ lane → tasks_at new other ≡ tasks_at old other
   pub paces : (other : ℕ) → other ≢ lane → slice_get new.paces other ≡ slice_get old.paces other

@@ -9,6 +9,7 @@ pub mod Hearing
 pub mod Losses
 pub mod GoingOn
 pub mod Starting
+pub mod Steering
 pub mod Turns
 pub mod Overdue
 pub mod Tables

@@ -1,5 +1,5 @@
--- What is listed of a message: each due place by a task in the lane of its next hop, and the message as unroutable if
--- one of its held places has no next hop.
+-- What is listed of a message: each due place that no postmaster holds, by a task in the lane of its next hop; and the
+-- message as unroutable if one of its held places has no next hop.
 use Rattle.std.specs.Prelude.{◌≡◌, ◌⊎◌, ◌==◌, ◌&&◌, ◌<◌, ◌≤◌, ℕ, Bool, true, List, [], Option, Some}
 use Rattle.std.specs.Prelude.{MatchOption, bytes_eq, drop, length, slice_get}
 use Rattle.std.specs.List.{list_any}
@@ -11,6 +11,7 @@ use Rattle.relay_routes.specs.Routes.{RouteTable, hop_at}
 use Rattle.relay_routes.specs.declared.hop.Hop.{Hop as NextHop}
 use Rattle.relay_book.specs.Queue.{message_of}
 use Rattle.relay_book.specs.declared.message.Place.{Place}
+use Rattle.relay_control.specs.Held.{holds}
 use Rattle.relay_node.specs.Node.{NodeState}
 use Rattle.relay_next_hops.specs.Lanes.{IsListedUnroutable, tasks_at}
 use Rattle.relay_next_hops.specs.declared.hop.Hop.{Hop}
@@ -25,6 +26,14 @@ is_for message name task = (task.message == message) && bytes_eq task.hop name
 -- a task for this message and next hop is in the lane of this number
 abbrev pub Waits : ℕ → List ℕ → Lanes → ℕ → Type 0
 Waits message name lanes lane = list_any (is_for message name) (tasks_at lanes lane) ≡ true
+
+-- the task is for this message and next hop, and was asked for early
+abbrev pub is_early_for : ℕ → List ℕ → Task → Bool
+is_early_for message name task = task.early && is_for message name task
+
+-- a task for this message and next hop that was asked for early is in the lane of this number
+abbrev pub WaitsEarly : ℕ → List ℕ → Lanes → ℕ → Type 0
+WaitsEarly message name lanes lane = list_any (is_early_for message name) (tasks_at lanes lane) ≡ true
 
 -- there is a connection for this message and next hop, in the lane of this number
 pub record HasConnection {S : Type 0} (hops : List (Option (Hop S))) (message : ℕ) (name : List ℕ) (lane : ℕ)
@@ -41,15 +50,25 @@ abbrev pub HasTurn : {S : Type 0} → List (Option (Hop S)) → ℕ → List ℕ
 HasTurn hops message name at lanes = (lane : ℕ) × (slice_get lanes.places lane ≡ Some at)
     × (Waits message name lanes lane ⊎ HasConnection hops message name lane)
 
+-- the same, where the task was asked for early
+abbrev pub HasEarlyTurn : {S : Type 0} → List (Option (Hop S)) → ℕ → List ℕ → SocketAddrV4 → Lanes → Type 0
+HasEarlyTurn hops message name at lanes = (lane : ℕ) × (slice_get lanes.places lane ≡ Some at)
+    × (WaitsEarly message name lanes lane ⊎ HasConnection hops message name lane)
+
 -- What was listed stays listed, in its lane or as a message to be given up; or all due mail is to be listed again.
 pub record KeepsListed (old new : Lanes) : Type 0 where
-  pub tasks : (message lane : ℕ) (name : List ℕ) → Waits message name old lane → Waits message name new lane
+  pub tasks : (test : Task → Bool) (lane : ℕ) → list_any test (tasks_at old lane) ≡ true
+      → list_any test (tasks_at new lane) ≡ true
   pub unroutable : (message : ℕ) → IsListedUnroutable message old → IsListedUnroutable message new
   pub stale : old.is_stale ≡ true → new.is_stale ≡ true
 
 -- it is listed or has a connection, or all due mail is to be listed again
 abbrev pub IsListedFor : {S : Type 0} → List (Option (Hop S)) → ℕ → List ℕ → SocketAddrV4 → Lanes → Type 0
 IsListedFor hops message name at lanes = HasTurn hops message name at lanes ⊎ (lanes.is_stale ≡ true)
+
+-- a postmaster holds the mail of this message for this next hop
+abbrev pub IsKept : ℕ → List ℕ → Lanes → Type 0
+IsKept message name lanes = holds name message lanes.held ≡ true
 
 -- the next hop of a message's place, if it has one
 abbrev pub route_of : RouteTable → List Recipient → ℕ → Option NextHop
@@ -59,11 +78,12 @@ route_of table recipients place =
 -- Below: at a time, with these connections to next hops.
 module _ {S : Type 0} (hops : List (Option (Hop S))) (moment : ℕ) where
   -- A place of a message is listed: if it is held and has no next hop, its message is unroutable; if it is due, the
-  -- message is listed for its next hop.
+  -- message is listed for its next hop, unless a postmaster holds it.
   abbrev pub IsPlaceListed : RouteTable → ℕ → List Recipient → ℕ → Place → Lanes → Type 0
   IsPlaceListed table message recipients index place lanes = place.held ≡ true
       → MatchOption (route_of table recipients index) (IsListedUnroutable message lanes)
-      (λ hop. place.due ≤ moment → IsListedFor hops message hop.name hop.at lanes)
+      (λ hop. place.due ≤ moment
+      → IsListedFor hops message hop.name hop.at lanes ⊎ IsKept message hop.name lanes)
 
   -- this many of its places are listed, from the first on
   abbrev pub ArePlacesListed : RouteTable → ℕ → List Recipient → List Place → ℕ → Lanes → Type 0

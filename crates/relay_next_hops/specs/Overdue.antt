@@ -28,13 +28,14 @@ is_overdue at message = option_map_or (λ message. list_any (is_late at) message
 abbrev pub is_overdue_task : ℕ → List (ℕ × Message) → Task → Bool
 is_overdue_task at messages task = is_overdue at (message_of messages task.message)
 
--- the tasks of a lane that weren't checked for being overdue since it was last emptied, in their order
+-- the tasks of a lane that weren't checked for being overdue since it was last emptied, in their order; those that were
+-- asked for early don't count
 abbrev pub unchecked_of : Lane → List Task
 unchecked_of lane = drop (length lane.tasks.items - lane.unchecked) lane.tasks.items
 
 -- the tasks before these
 abbrev pub checked_of : Lane → List Task
-checked_of lane = take (length lane.tasks.items - lane.unchecked) lane.tasks.items
+checked_of lane = lane.early.items ++ take (length lane.tasks.items - lane.unchecked) lane.tasks.items
 
 -- the unchecked tasks of the lane of a number, none if there is no such lane
 abbrev pub unchecked_at : Lanes → ℕ → List Task

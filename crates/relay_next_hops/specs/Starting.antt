@@ -6,11 +6,13 @@ use Rattle.relay_disk.specs.Device.{DiskWords}
 use Rattle.relay_routes.specs.Routes.{place_of}
 use Rattle.relay_records.specs.declared.fault.NodeFault.TheVariants.{NotDue, Unknown}
 use Rattle.relay_attempts.specs.Outcomes.{EndsUnroutable, RefusesToGiveUp}
+use Rattle.relay_control.specs.Held.{holds}
+use Rattle.relay_control.specs.declared.held.Held.{Held}
 use Rattle.relay_loop.specs.Relay.{RelayState}
 use Rattle.relay_connections.specs.declared.channel.Channel.{Channel}
 use Rattle.relay_connections.specs.declared.clocks.Now.{Now}
 use Rattle.relay_limits.specs.declared.pace.Pace.{Pace}
-use Rattle.relay_slots.specs.Slots.{IsFull, IsLeastFree}
+use Rattle.relay_slots.specs.Slots.{IsFull, IsLeastFree, slot_at}
 use Rattle.relay_slots.specs.declared.slots.TheConstants.{SLOT_COUNT}
 use Rattle.relay_next_hops.specs.Counts.{unanswered_of}
 use Rattle.relay_next_hops.specs.Errands.{PutsFor}
@@ -44,6 +46,7 @@ pub record ConnectsFor {D S : Type 0} (Opened : SocketAddrV4 → Channel S → T
   pub aim : Aim
   pub its_lane : aim.lane ≡ lane
   pub its_place : place_of relay.node.config.routes.routes task.hop ≡ Some aim.at
+  pub early : aim.early ≡ task.early
   pub puts : PutsFor Opened aim task.message task.hop number hops_old hops_new
   pub runs : RunsOneMore lane lanes_old.paces lanes_new.paces
   pub places : KeepsPlaces lanes_old lanes_new
@@ -114,8 +117,8 @@ step_after Wants = Back
 step_after Fails = Left
 step_after HasNoPlace = Left
 
--- The next task of a lane was tried, because one more may begin, and its next hop has answered or there is room among
--- those that haven't.
+-- The next task of a lane was tried, because one more may begin, its next hop has answered or there is room among those
+-- that haven't, and no postmaster holds it.
 pub record TriesNext {D S : Type 0} (words : DiskWords D) (Opened : SocketAddrV4 → Channel S → Type 0) (now : Now)
     (lane : ℕ) (hops_old hops_new : List (Option (Hop S))) (lanes_old lanes_new : Lanes) (old new : RelayState D)
     (tried : Tried)
@@ -128,13 +131,31 @@ pub record TriesNext {D S : Type 0} (words : DiskWords D) (Opened : SocketAddrV4
   pub free : IsLeastFree hops_old number
   pub first : tasks_at lanes_old lane ≡ task ∷ tasks_at between lane
   pub runs : between.paces ≡ lanes_old.paces
+  pub free_to_go : holds task.hop task.message lanes_old.held ≡ false
   pub comes : IsTried words Opened now lane number task hops_old hops_new between lanes_new old new tried
+
+-- The next task of a lane has left it without a connection, because a postmaster holds it.
+pub record LeavesKept {D S : Type 0} (lane : ℕ) (hops_old hops_new : List (Option (Hop S)))
+    (lanes_old lanes_new : Lanes) (old new : RelayState D)
+    : Type 0 where
+  pub task : Task
+  pub kept : holds task.hop task.message lanes_old.held ≡ true
+  pub first : tasks_at lanes_old lane ≡ task ∷ tasks_at lanes_new lane
+  pub paces : lanes_new.paces ≡ lanes_old.paces
+  pub hops : hops_new ≡ hops_old
+  pub relay : new ≡ old
+
+-- each connection that there wasn't before is for mail that no postmaster holds
+abbrev pub OpensUnheld : {S : Type 0} → Held → List (Option (Hop S)) → List (Option (Hop S)) → Type 0
+OpensUnheld {S} held old new = (number : ℕ) (hop : Hop S) → slot_at new number ≡ Some hop
+    → (slot_at old number ≡ Some hop) ⊎ (holds hop.name hop.message held ≡ false)
 
 -- the result for the next task of a lane
 abbrev pub IsStep : {D S : Type 0} → DiskWords D → (SocketAddrV4 → Channel S → Type 0) → Now → ℕ
     → List (Option (Hop S)) → List (Option (Hop S)) → Lanes → Lanes → RelayState D → RelayState D → Step → Type 0
 IsStep words Opened now lane hops_old hops_new lanes_old lanes_new old new Left =
-    (tried : Tried) × TriesNext words Opened now lane hops_old hops_new lanes_old lanes_new old new tried
+    (((tried : Tried) × TriesNext words Opened now lane hops_old hops_new lanes_old lanes_new old new tried)
+    ⊎ LeavesKept lane hops_old hops_new lanes_old lanes_new old new)
     × (length (tasks_at lanes_new lane) + 1 ≤ length (tasks_at lanes_old lane))
 IsStep words Opened now lane hops_old hops_new lanes_old lanes_new old new Back =
     TriesNext words Opened now lane hops_old hops_new lanes_old lanes_new old new Wants

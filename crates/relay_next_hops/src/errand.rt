@@ -1,5 +1,5 @@
 //! What the connections to next hops are made for, and what becomes of them.
-ghost use Rattle.std.specs.Prelude.{◌≡◌, ◌-◌, option_map};
+ghost use Rattle.std.specs.Prelude.{◌≡◌, ◌-◌, false, option_map};
 
 use crate::lane::Task;
 use relay_connections::Now;
@@ -21,6 +21,8 @@ pub(crate) struct Aim {
     pub(crate) beside: bool,
     /// When the message was accepted, if that is known.
     pub(crate) accepted: Option<Moment>,
+    /// Whether it was asked for early: its attempt begins even if the message isn't due there yet.
+    pub(crate) early: bool,
 }
 
 impl Aim {
@@ -73,12 +75,12 @@ impl Drop for Errand {
 }
 
 impl Errand {
-    /// Returns the message, and the name of its next hop.
+    /// Returns the task that it was made for.
     pub(crate) fn into_task(self) -> Task
-        ensures { (result.message ≡ self.message) × (result.hop ≡ self.name) }
+        ensures { (result.message ≡ self.message) × (result.hop ≡ self.name) × (result.early ≡ self.aim.early) }
     {
         let Errand {
-            aim: _,
+            aim,
             message,
             name,
             attempt: _,
@@ -86,7 +88,21 @@ impl Errand {
             is_welcome: _,
             talk: _talk,
         } = self;
-        Task { message, hop: name }
+        Task {
+            message,
+            hop: name,
+            early: aim.early,
+        }
+    }
+
+    /// Returns a task for what its attempt has left of the message. It isn't asked for early, since what the attempt has
+    /// just deferred isn't tried again at once.
+    pub(crate) fn into_rest(self) -> Task
+        ensures { (result.message ≡ self.message) × (result.hop ≡ self.name) × (result.early ≡ false) }
+    {
+        let mut task = self.into_task();
+        task.early = false;
+        task
     }
 }
 

@@ -27,7 +27,7 @@ pub(crate) fn go_on<D: Disk>(relay: &Relay<D>, lanes: &mut Lanes, errand: Errand
         return;
     }
     let lane = errand.aim.lane;
-    lanes.put_back(lane, errand.into_task());
+    lanes.put_back(lane, errand.into_rest());
 }
 
 /// Returns whether a place of a message is due that goes to this next hop.

@@ -2,11 +2,14 @@
 ghost use Rattle.std.specs.Prelude.{◌≡◌, ◌≢◌, ◌⊎◌, ℕ, [], None, Some, false, min, true};
 ghost use Rattle.relay_loop.specs.Outboxes.{unwritten_at};
 ghost use Rattle.relay_connections.specs.Channel.{unread_of};
-ghost use Rattle.relay_next_hops.specs.Errands.{KeepsErrand, StartsFor};
+ghost use Rattle.relay_book.specs.Queue.{message_of};
+ghost use Rattle.relay_trace.specs.DateTime.{last_second};
+ghost use Rattle.relay_next_hops.specs.Errands.{KeepsErrand, StartsFor, last_due, starting_moment};
 ghost use Rattle.relay_next_hops.specs.Hearing.{IsLate, hearing_of};
 
 use crate::errand::{Aim, Course, Errand};
 use crate::phase::Phase;
+use relay_book::Place;
 use relay_connections::{Channel, End, Now, Stream};
 use relay_disk::Disk;
 use relay_files::Fault;
@@ -14,6 +17,7 @@ use relay_log::{Loss, Talk};
 use relay_loop::Relay;
 use relay_node::NodeFault;
 use relay_routes::HostName;
+use relay_trace::Moment;
 use std::alloc::Global;
 
 /// How many seconds a next hop may take for its answer, however often it sends an octet.
@@ -158,7 +162,8 @@ impl<S: Stream> Hop<S> {
         ensures errand { KeepsErrand self.old self.new }
         ensures keeps { self.old.attempt ≢ None → self.new.attempt ≡ self.old.attempt }
         ensures starts { self.old.attempt ≡ None → self.new.attempt ≢ None
-            → StartsFor now.now.moment most self.old.message self.old.name self.new.attempt relay.old relay.new }
+            → StartsFor self.old.aim.early now.now.moment most self.old.message self.old.name self.new.attempt
+            relay.old relay.new }
     {
         self.hears = false;
         let course = self.go_on(relay, most, is_shared, now)?;
@@ -179,7 +184,8 @@ impl<S: Stream> Hop<S> {
         ensures errand { KeepsErrand self.old self.new }
         ensures keeps { self.old.attempt ≢ None → self.new.attempt ≡ self.old.attempt }
         ensures starts { self.old.attempt ≡ None → self.new.attempt ≢ None
-            → StartsFor now.now.moment most self.old.message self.old.name self.new.attempt relay.old relay.new }
+            → StartsFor self.old.aim.early now.now.moment most self.old.message self.old.name self.new.attempt
+            relay.old relay.new }
     {
         match self.attempt {
             Some(attempt) => Ok(self.exchange(relay, attempt, now)),
@@ -253,7 +259,8 @@ impl<S: Stream> Hop<S> {
     ) -> Result<Course, Fault>
         ensures errand { KeepsErrand self.old self.new }
         ensures starts { self.old.attempt ≡ None → self.new.attempt ≢ None
-            → StartsFor now.now.moment most self.old.message self.old.name self.new.attempt relay.old relay.new }
+            → StartsFor self.old.aim.early now.now.moment most self.old.message self.old.name self.new.attempt
+            relay.old relay.new }
     {
         if !self.channel.fill() {
             return Ok(match self.channel.end() {
@@ -269,8 +276,8 @@ impl<S: Stream> Hop<S> {
         self.begin(relay, most, now)
     }
 
-    /// Begins the attempt, for the first recipients of the message that are due, `most` of them at most. It may hear
-    /// what was read.
+    /// Begins the attempt, for the first recipients of the message that are due by the moment at which it begins,
+    /// `most` of them at most. It may hear what was read.
     fn begin<D: Disk>(
         &mut self,
         relay: &mut Relay<D>,
@@ -279,9 +286,11 @@ impl<S: Stream> Hop<S> {
     ) -> Result<Course, Fault>
         ensures errand { KeepsErrand self.old self.new }
         ensures starts { self.old.attempt ≡ None → self.new.attempt ≢ None
-            → StartsFor now.now.moment most self.old.message self.old.name self.new.attempt relay.old relay.new }
+            → StartsFor self.old.aim.early now.now.moment most self.old.message self.old.name self.new.attempt
+            relay.old relay.new }
     {
-        match relay.start_some(self.message, &self.name, most, now.moment) {
+        let at = self.start_moment(relay, now);
+        match relay.start_some(self.message, &self.name, most, at) {
             Ok(started) => {
                 self.attempt = Some(started.attempt);
                 self.wait_on(relay, started.attempt, now);
@@ -292,6 +301,18 @@ impl<S: Stream> Hop<S> {
             }
             Err(NodeFault::Stopped) => Err(Fault::Device),
             Err(_) => Ok(Course::Void),
+        }
+    }
+
+    /// Returns the moment by which its attempt begins: now. If it was asked for early, that is the last moment at which
+    /// a held place of its message is due, if that is later. Its outcome is recorded by the clock.
+    fn start_moment<D: Disk>(&self, relay: &Relay<D>, now: &Now) -> Moment
+        ensures { result ≡ starting_moment self.now.aim.early
+            (message_of relay.now.node.records.queue.messages self.now.message) now.now.moment }
+    {
+        match relay.node().message(self.message) {
+            Some(message) if self.aim.early => last_due(message.places.as_slice(), now.moment),
+            _ => now.moment,
         }
     }
 
@@ -349,4 +370,17 @@ impl<S: Stream> Hop<S> {
             self.answer_deadline = now.behind(ANSWER_SECONDS);
         }
     }
+}
+
+/// Returns the last moment at which one of these places is due that is held, or now if that is later.
+fn last_due(places: &[Place], now: Moment) -> Moment
+    ensures { result ≡ min (last_due places.now now) last_second }
+{
+    let mut last = now.seconds();
+    for place in places {
+        if place.held {
+            last = last.max(place.due);
+        }
+    }
+    Moment::nearest(last)
 }

@@ -229,8 +229,8 @@ impl<S: Stream + Drop> Hops<S> {
         ensures aimed { (routes : List Route) → AreAimed routes self.old.hops → AreAimed routes self.new.hops }
         ensures starts { OnOk result ((old new : Hop S) → slot_at self.old.hops number ≡ Some old
             → slot_at self.new.hops number ≡ Some new → old.attempt ≡ None → new.attempt ≢ None
-            → StartsFor now.now.moment (portion_of self.old.portions old.message) old.message old.name new.attempt
-            relay.old relay.new) }
+            → StartsFor old.aim.early now.now.moment (portion_of self.old.portions old.message) old.message old.name
+            new.attempt relay.old relay.new) }
     {
         let Some(taken) = self.hops.take(number) else {
             return Ok(false);

@@ -1,8 +1,9 @@
 //! The tasks for the next hops at one address.
-ghost use Rattle.std.specs.Prelude.{◌≡◌, ◌↔◌, ◌-◌, [], ◌∷◌, ◌++◌, IsTrue, None, drop, false, length, option_to_list, true};
+ghost use Rattle.std.specs.Prelude.{◌≡◌, ◌↔◌, ◌+◌, ◌-◌, ◌≤◌, [], ◌∷◌, ◌++◌, IsTrue, None, drop, false, length, true};
+ghost use Rattle.std.specs.Prelude.{if◌then◌else◌, option_to_list};
 ghost use Rattle.std.specs.List.{list_any};
-ghost use Rattle.relay_next_hops.specs.Lanes.{first_message};
-ghost use Rattle.relay_next_hops.specs.Listing.{is_for};
+ghost use Rattle.relay_next_hops.specs.Lanes.{first_message, tasks_of, with_first, with_last};
+ghost use Rattle.relay_next_hops.specs.Listing.{is_early_for, is_for};
 ghost use Rattle.relay_next_hops.specs.Overdue.{checked_of, unchecked_of};
 
 use relay_routes::HostName;
@@ -14,6 +15,8 @@ use std::mem;
 pub(crate) struct Task {
     pub(crate) message: u64,
     pub(crate) hop: HostName,
+    /// Whether it was asked for early: its attempt begins even if the message isn't due there yet.
+    pub(crate) early: bool,
 }
 
 // Written out, so that the proof of a caller that drops it stops at this function.
@@ -22,6 +25,7 @@ impl Drop for Task {
         let Task {
             message: _,
             hop: _hop,
+            early: _,
         } = self;
     }
 }
@@ -31,16 +35,23 @@ impl Task {
     pub(crate) fn into_parts(self) -> (u64, HostName)
         ensures { result ≡ (self.message, self.hop) }
     {
-        let Task { message, hop } = self;
+        let Task {
+            message,
+            hop,
+            early: _,
+        } = self;
         (message, hop)
     }
 }
 
 /// The tasks for the next hops at one address, in the order in which they begin.
 pub(crate) struct Lane {
+    /// Those that a postmaster has asked for early. They come first, and stay when the lane is emptied.
+    early: VecDeque<Task>,
+    /// The others.
     tasks: VecDeque<Task>,
-    /// How many tasks, the last ones, weren't checked for being overdue since the lane was emptied; all, if there are
-    /// fewer.
+    /// How many of the others, the last ones, weren't checked for being overdue since the lane was emptied; all, if
+    /// there are fewer.
     unchecked: usize,
     /// The tasks from before the lane was emptied.
     bygone: VecDeque<Task>,
@@ -50,6 +61,7 @@ pub(crate) struct Lane {
 impl Drop for Lane {
     fn drop(self) {
         let Lane {
+            early: _early,
             tasks: _tasks,
             unchecked: _,
             bygone: _bygone,
@@ -60,18 +72,21 @@ impl Drop for Lane {
 impl Lane {
     /// Returns an empty lane. Allocates nothing.
     pub(crate) fn new(alloc: Global) -> Self
-        ensures { result.tasks.items ≡ [] }
+        ensures { tasks_of result ≡ [] }
     {
         Lane {
+            early: VecDeque::new(alloc),
             tasks: VecDeque::new(alloc),
             unchecked: 0,
             bygone: VecDeque::new(alloc),
         }
     }
 
-    /// Empties the lane. Dropping the tasks takes a while, and is left to `let_go`.
+    /// Empties the lane, but for the tasks that were asked for early. Dropping the others takes a while, and is left to
+    /// `let_go`.
     pub(crate) fn clear(&mut self)
-        ensures { self.new.tasks.items ≡ [] }
+        ensures tasks { self.new.tasks.items ≡ [] }
+        ensures early { self.new.early ≡ self.old.early }
     {
         self.bygone.clear();
         mem::swap(&mut self.tasks, &mut self.bygone);
@@ -80,6 +95,7 @@ impl Lane {
 
     /// Drops up to `most` tasks from before the lane was emptied.
     pub(crate) fn let_go(&mut self, most: usize)
+        ensures early { self.new.early ≡ self.old.early }
         ensures tasks { self.new.tasks ≡ self.old.tasks }
         ensures unchecked { self.new.unchecked ≡ self.old.unchecked }
     {
@@ -92,14 +108,28 @@ impl Lane {
 
     /// Returns whether the lane is empty.
     pub(crate) fn is_empty(&self) -> bool
-        ensures { IsTrue result ↔ (self.now.tasks.items ≡ []) }
+        ensures { IsTrue result ↔ (tasks_of self.now ≡ []) }
     {
-        self.tasks.is_empty()
+        self.early.is_empty() && self.tasks.is_empty()
     }
 
-    /// Returns whether the last task is for this message and next hop.
-    pub(crate) fn ends_with(&self, message: u64, hop: &HostName) -> bool
-        ensures { result ≡ true → list_any (is_for message hop.now) self.now.tasks.items ≡ true }
+    /// Returns whether one of the last tasks of a kind, all for this message, is for this next hop too: of those that
+    /// were asked for early, or of the rest.
+    pub(crate) fn has_last(&self, message: u64, hop: &HostName, early: bool) -> bool
+        ensures rest { early ≡ false → result ≡ true
+            → list_any (is_for message hop.now) (tasks_of self.now) ≡ true }
+        ensures early { early ≡ true → result ≡ true
+            → list_any (is_early_for message hop.now) (tasks_of self.now) ≡ true }
+    {
+        if early {
+            self.ends_early_with(message, hop)
+        } else {
+            self.ends_with(message, hop)
+        }
+    }
+
+    fn ends_with(&self, message: u64, hop: &HostName) -> bool
+        ensures { result ≡ true → list_any (is_for message hop.now) (tasks_of self.now) ≡ true }
     {
         self.tasks
             .iter()
@@ -108,13 +138,28 @@ impl Lane {
             .any(|task| task.hop.as_slice() == hop.as_slice())
     }
 
-    /// Appends an unchecked task, and returns whether there was memory for it.
-    pub(crate) fn push(&mut self, task: Task) -> bool
-        ensures pushed { IsTrue result → self.new.tasks.items ≡ self.old.tasks.items ++ task ∷ [] }
-        ensures unchecked { IsTrue result → unchecked_of self.new ≡ unchecked_of self.old ++ task ∷ [] }
-        ensures failed { result ≡ false → (self.new.tasks.items ≡ self.old.tasks.items)
-            × (self.new.unchecked ≡ self.old.unchecked) }
+    fn ends_early_with(&self, message: u64, hop: &HostName) -> bool
+        ensures { result ≡ true → list_any (is_early_for message hop.now) (tasks_of self.now) ≡ true }
     {
+        self.early
+            .iter()
+            .rev()
+            .take_while(|task| task.message == message)
+            .any(|task| task.early && task.hop.as_slice() == hop.as_slice())
+    }
+
+    /// Adds a task, unchecked, after the others of its kind: those that were asked for early, or the rest. Returns
+    /// whether there was memory for it.
+    pub(crate) fn push(&mut self, task: Task) -> bool
+        ensures pushed { IsTrue result → tasks_of self.new ≡ with_last task self.old }
+        ensures unchecked { IsTrue result → unchecked_of self.new
+            ≡ (if task.early then unchecked_of self.old else unchecked_of self.old ++ task ∷ []) }
+        ensures failed { result ≡ false → (self.new.early.items ≡ self.old.early.items)
+            × (self.new.tasks.items ≡ self.old.tasks.items) × (self.new.unchecked ≡ self.old.unchecked) }
+    {
+        if task.early {
+            return self.early.push_back(task).is_ok();
+        }
         if self.tasks.push_back(task).is_err() {
             return false;
         }
@@ -122,20 +167,28 @@ impl Lane {
         true
     }
 
-    /// Puts a task back in front, and returns whether there was memory for it.
+    /// Puts a task back before the others of its kind: those that were asked for early, or the rest. Returns whether
+    /// there was memory for it.
     pub(crate) fn put_back(&mut self, task: Task) -> bool
-        ensures pushed { IsTrue result → self.new.tasks.items ≡ task ∷ self.old.tasks.items }
-        ensures failed { result ≡ false → self.new.tasks.items ≡ self.old.tasks.items }
+        ensures pushed { IsTrue result → tasks_of self.new ≡ with_first task self.old }
+        ensures failed { result ≡ false → tasks_of self.new ≡ tasks_of self.old }
+        ensures added { length (tasks_of self.new) ≤ length (tasks_of self.old) + 1 }
     {
+        if task.early {
+            return self.early.push_front(task).is_ok();
+        }
         self.tasks.push_front(task).is_ok()
     }
 
     /// Takes the next task.
     pub(crate) fn pop(&mut self) -> Option<Task>
-        ensures tasks { self.old.tasks.items ≡ option_to_list result ++ self.new.tasks.items }
-        ensures none { result ≡ None → self.old.tasks.items ≡ [] }
+        ensures tasks { tasks_of self.old ≡ option_to_list result ++ tasks_of self.new }
+        ensures none { result ≡ None → tasks_of self.old ≡ [] }
     {
-        self.tasks.pop_front()
+        match self.early.pop_front() {
+            Some(task) => Some(task),
+            None => self.tasks.pop_front(),
+        }
     }
 
     /// Returns the message of the first unchecked task.
@@ -150,7 +203,7 @@ impl Lane {
 
     /// Marks the first unchecked task as checked.
     pub(crate) fn check(&mut self)
-        ensures tasks { self.new.tasks ≡ self.old.tasks }
+        ensures tasks { (self.new.early ≡ self.old.early) × (self.new.tasks ≡ self.old.tasks) }
         ensures unchecked { unchecked_of self.new ≡ drop 1 (unchecked_of self.old) }
     {
         self.unchecked = self.unchecked.min(self.tasks.len()).saturating_sub(1);

@@ -1,6 +1,7 @@
 //! The due mail by the addresses of next hops, and which of it may begin.
 ghost use Rattle.std.specs.Prelude.{◌≡◌, ◌+◌, ◌≤◌, ◌↔◌, ◌++◌, [], IfSome, IsTrue, None};
 ghost use Rattle.std.specs.Prelude.{false, length, option_to_list, slice_get, true};
+ghost use Rattle.relay_control.specs.Held.{HoldsNothing};
 ghost use Rattle.relay_next_hops.specs.Lanes.{IsNew, IsPutBack, KeepsCounts, KeepsPlaces};
 ghost use Rattle.relay_next_hops.specs.Lanes.{OnlyLane, closed, tasks_at};
 ghost use Rattle.relay_next_hops.specs.Paces.{HasLane, IsHeldAt, MayBeginAt, RunsOneLess, RunsOneMore};
@@ -12,9 +13,11 @@ use crate::numbers::Numbers;
 use crate::paces::Paces;
 use crate::places::Places;
 use relay_connections::{Leaving, Now, Stream};
+use relay_control::Held;
 use relay_limits::Outage;
 use std::alloc::Global;
 use std::collections::VecDeque;
+use std::mem;
 use std::net::SocketAddrV4;
 
 /// The due mail.
@@ -60,6 +63,10 @@ pub(crate) struct Lanes {
     pub(crate) first: usize,
     /// The lane that gets the next free connection among those to next hops that haven't answered, if one waits for it.
     pub(crate) waiting: Option<usize>,
+    /// The mail that a postmaster holds.
+    pub(crate) held: Held,
+    /// Whether a listing has come to mail that a postmaster holds, since the last one began.
+    pub(crate) keeps: bool,
 }
 
 // Written out, so that the proof of a caller that drops them stops at this function.
@@ -87,14 +94,17 @@ impl Drop for Lanes {
             next_hold_end: _,
             first: _,
             waiting: _,
+            held: _held,
+            keeps: _,
         } = self;
     }
 }
 
 impl Lanes {
-    /// Returns lanes without tasks, with at most `most` connections to one address. Allocates nothing.
+    /// Returns lanes without tasks and held mail, with at most `most` connections to one address. Allocates nothing.
     pub(crate) fn new(alloc: Global, most: usize) -> Self
-        ensures { IsNew most result }
+        ensures fresh { IsNew most result }
+        ensures held { HoldsNothing result.held }
     {
         Lanes {
             alloc,
@@ -118,14 +128,20 @@ impl Lanes {
             next_hold_end: u64::MAX,
             first: 0,
             waiting: None,
+            held: Held::new(alloc),
+            keeps: false,
         }
     }
 
-    /// Returns the lanes as they were before anything was listed, for a relay that was opened again.
-    pub(crate) fn renewed(self) -> Self
-        ensures { IsNew self.most result }
+    /// Returns the lanes as they were before anything was listed, for a relay that was opened again. The same mail is
+    /// held.
+    pub(crate) fn renewed(mut self) -> Self
+        ensures fresh { IsNew self.most result }
+        ensures held { result.held ≡ self.held }
     {
-        Lanes::new(self.alloc, self.most)
+        let mut lanes = Lanes::new(self.alloc, self.most);
+        mem::swap(&mut lanes.held, &mut self.held);
+        lanes
     }
 
     /// Returns whether something may begin that couldn't before.

@@ -26,6 +26,7 @@ mod sockets;
 mod sorting;
 mod spares;
 mod starting;
+mod steering;
 mod turning;
 
 pub use dial::Dial;

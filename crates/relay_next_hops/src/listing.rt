@@ -157,7 +157,8 @@ impl Lanes {
 
     /// Returns whether a task waits, or a connection is being opened for one.
     fn has_waiting<S: Stream + Drop>(&self, hops: &Hops<S>) -> bool {
-        !self.unroutable.is_empty()
+        self.keeps
+            || !self.unroutable.is_empty()
             || hops.is_any_connecting()
             || self.lanes.as_slice().iter().any(|lane| !lane.is_empty())
     }
@@ -253,6 +254,7 @@ impl Lanes {
             return Ok(false);
         }
         self.unroutable.clear();
+        self.keeps = false;
         for lane in self.lanes.as_mut_slice() {
             lane.clear();
         }

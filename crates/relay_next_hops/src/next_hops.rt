@@ -1,11 +1,13 @@
 ghost use Rattle.std.specs.Prelude.{◌≡◌, ◌≤◌, ℕ, IfOk, IfSome, List, OnOk, map, true};
 ghost use Rattle.relay_routes.specs.Routes.{Route};
 ghost use Rattle.relay_slots.specs.Slots.{AreFree};
+ghost use Rattle.relay_control.specs.Held.{HoldsNothing};
 ghost use Rattle.relay_connections.specs.Table.{count_of};
 ghost use Rattle.relay_next_hops.specs.Hearing.{AnswersEach, order_of, replies_of, told_of};
 ghost use Rattle.relay_next_hops.specs.Lanes.{IsNew, next_due_of};
 ghost use Rattle.relay_next_hops.specs.Portions.{fresh};
 ghost use Rattle.relay_next_hops.specs.Readiness.{IsLeftHop, hops_of};
+ghost use Rattle.relay_next_hops.specs.Starting.{OpensUnheld};
 ghost use Rattle.relay_next_hops.specs.Tables.{TablesMatch};
 
 use crate::dial::Dial;
@@ -26,8 +28,8 @@ use std::rt::Clock;
 
 /// The connections to next hops, at most 64, and the mail that is due for them.
 pub struct NextHops<S = TcpStream> {
-    hops: Hops<S>,
-    lanes: Lanes,
+    pub(crate) hops: Hops<S>,
+    pub(crate) lanes: Lanes,
     starts: Starts,
 }
 
@@ -48,13 +50,14 @@ impl NextHops {
 }
 
 impl<S: Stream + Drop> NextHops<S> {
-    /// Returns an empty table without listed mail, with these limits. Fails if memory runs out.
+    /// Returns an empty table without listed or held mail, with these limits. Fails if memory runs out.
     #[tactic(auto, using(crate::proofs::SlotLemmas::free_aimed, crate::proofs::SlotLemmas::free_counts))]
     pub fn new(alloc: Global, limits: &Limits) -> Result<Self, AllocError>
         ensures free { IfOk result (λ next_hops. AreFree (hops_of next_hops)) }
         ensures matches { IfOk result (λ next_hops. (routes : List Route) → TablesMatch routes next_hops) }
         ensures portions { IfOk result (λ next_hops. next_hops.hops.portions
             ≡ fresh limits.now.recipients_per_attempt) }
+        ensures held { IfOk result (λ next_hops. HoldsNothing next_hops.lanes.held) }
     {
         Ok(NextHops {
             hops: Hops::new(alloc, usize::from(limits.recipients_per_attempt))?,
@@ -63,11 +66,13 @@ impl<S: Stream + Drop> NextHops<S> {
         })
     }
 
-    /// Returns the same without connections and without listed mail, for a relay that was opened again.
+    /// Returns the same without connections and without listed mail, for a relay that was opened again. The same mail
+    /// is held.
     #[tactic(auto, using(crate::proofs::SlotLemmas::free_aimed, crate::proofs::SlotLemmas::free_counts))]
     pub fn renewed(self) -> Self
         ensures free { AreFree (hops_of result) }
         ensures lanes { IsNew self.lanes.most result.lanes }
+        ensures held { result.lanes.held ≡ self.lanes.held }
         ensures matches { (routes : List Route) → TablesMatch routes result }
     {
         let NextHops {
@@ -159,8 +164,9 @@ impl<S: Stream + Drop> NextHops<S> {
         self.lanes.note_leaving(leaving);
     }
 
-    /// Begins due attempts, as far as they may begin, with the spare file descriptors; and gives up the places of one
-    /// message that have no next hop. Returns whether it gave any up. Fails only if the device has failed.
+    /// Begins due attempts, as far as they may begin, with the spare file descriptors, but opens no connection for mail
+    /// that is held; and gives up the places of one message that have no next hop. Returns whether it gave any up.
+    /// Fails only if the device has failed.
     pub fn begin<C: Clock, N: Dial<Stream = S>, D: Disk>(
         &mut self,
         clock: &C,
@@ -172,6 +178,8 @@ impl<S: Stream + Drop> NextHops<S> {
     ) -> Result<bool, Fault>
         ensures matches { TablesMatch relay.old.node.config.routes.routes self.old
             → OnOk result (TablesMatch relay.old.node.config.routes.routes self.new) }
+        ensures unheld { OnOk result (OpensUnheld self.old.lanes.held (hops_of self.old) (hops_of self.new)) }
+        ensures held { self.new.lanes.held ≡ self.old.lanes.held }
         ensures config { relay.new.node.config ≡ relay.old.node.config }
     {
         self.lanes.refresh(clock, relay, &self.hops, now)?;

@@ -6,6 +6,7 @@ ghost use Rattle.std.specs.Prelude.{length, option_to_list, true};
 ghost use Rattle.std.specs.List.{list_any};
 ghost use Rattle.std.specs.declared.net.socket_addr.SocketAddrV4.{SocketAddrV4};
 ghost use Rattle.relay_book.specs.Queue.{message_of};
+ghost use Rattle.relay_control.specs.Held.{holds};
 ghost use Rattle.relay_routes.specs.Routes.{place_of};
 ghost use Rattle.relay_slots.specs.Slots.{IsFull};
 ghost use Rattle.relay_next_hops.specs.declared.lane.Task.{Task};
@@ -28,8 +29,8 @@ use relay_loop::Relay;
 /// How many seconds a message may be due at a next hop on hold before an attempt counts as lost without a connection.
 const OVERDUE_SECONDS: u64 = 4 * 60 * 60;
 
-/// Records the loss of the first overdue task of a lane on hold, among the next unchecked ones, and returns whether
-/// there was one. Checks at most `checks` tasks, and subtracts what it has checked.
+/// Records the loss of the first overdue task of a lane on hold, among the next unchecked ones, unless a postmaster holds
+/// it. Returns whether there was one. Checks at most `checks` tasks, and subtracts what it has checked.
 pub(crate) fn lose_overdue<D: Disk>(
     relay: &mut Relay<D>,
     lanes: &mut Lanes,
@@ -42,7 +43,11 @@ pub(crate) fn lose_overdue<D: Disk>(
         → overdue_at now.now.moment relay.old.node.records.queue.messages lanes.old lane checks.old ≡ Some task
         → IsHeldAt now.now.tick lanes.old.paces lane → ¬ IsFull relay.old.node.attempts
         → place_of relay.old.node.config.routes.routes task.hop ≡ Some place
+        → holds task.hop task.message lanes.old.held ≡ false
         → IfOk result (λ lost. (lost ≡ true) × LosesTask D.words now.now.moment task relay.old relay.new) }
+    ensures kept { (task : Task)
+        → overdue_at now.now.moment relay.old.node.records.queue.messages lanes.old lane checks.old ≡ Some task
+        → holds task.hop task.message lanes.old.held ≡ true → (result ≡ Ok false) × (relay.new ≡ relay.old) }
     ensures timely { overdue_at now.now.moment relay.old.node.records.queue.messages lanes.old lane checks.old ≡ None
         → IsHeldAt now.now.tick lanes.old.paces lane → ¬ IsFull relay.old.node.attempts
         → (result ≡ Ok false) × Checks lane checks.old lanes.old lanes.new × (relay.new ≡ relay.old) }
@@ -60,6 +65,10 @@ pub(crate) fn lose_overdue<D: Disk>(
     let Some(task) = next_overdue(relay, lanes, lane, checks, now) else {
         return Ok(false);
     };
+    if lanes.is_kept(&task.hop, task.message) {
+        // A postmaster has held it since it was listed.
+        return Ok(false);
+    }
     let Some(aim) = aim_of(relay, lanes, &task, lane) else {
         return Ok(false);
     };

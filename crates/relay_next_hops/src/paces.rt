@@ -1,6 +1,6 @@
 //! The pace of each lane: how many of its attempts are running, and whether it is on hold.
 ghost use Rattle.std.specs.Prelude.{◌≡◌, ◌↔◌, [], IsTrue, option_copied, option_map, slice_get};
-ghost use Rattle.relay_limits.specs.Pace.{answered_pace, held_from, next_hold, with_leaving};
+ghost use Rattle.relay_limits.specs.Pace.{answered_pace, held_from, next_hold, probed, with_leaving};
 ghost use Rattle.relay_next_hops.specs.Paces.{IsHeldAt, MayBeginAt, RunAsBefore, begun, changed_at, ended};
 ghost use Rattle.relay_next_hops.specs.Paces.{refused, welcomed};
 
@@ -135,6 +135,15 @@ impl Paces {
     {
         if let Some(pace) = self.paces.get_mut(number) {
             pace.raise_limit();
+        }
+    }
+
+    /// Ends the hold of a lane at this tick, if it ends later.
+    pub(crate) fn probe(&mut self, number: usize, tick: u64)
+        ensures { self.new ≡ changed_at (probed tick) self.old number }
+    {
+        if let Some(pace) = self.paces.get_mut(number) {
+            pace.probe(tick);
         }
     }
 

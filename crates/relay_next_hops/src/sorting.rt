@@ -1,8 +1,8 @@
 //! Where the due mail of a message is listed: in the lane of each next hop's address, or as unroutable.
-ghost use Rattle.std.specs.Prelude.{◌≡◌, ℕ, IfSome, Some, length, option_copied, slice_get, true};
+ghost use Rattle.std.specs.Prelude.{◌≡◌, ℕ, IfSome, Some, false, length, option_copied, slice_get, true};
 ghost use Rattle.relay_next_hops.specs.Lanes.{IsListedUnroutable, KeepsCounts, ListsMore, tasks_at};
-ghost use Rattle.relay_next_hops.specs.Listing.{ArePlacesListed, HasTurn, IsListed, IsListedFor, IsPlaceListed};
-ghost use Rattle.relay_next_hops.specs.Listing.{KeepsListed, route_of};
+ghost use Rattle.relay_next_hops.specs.Listing.{ArePlacesListed, HasEarlyTurn, HasTurn, IsListed, IsListedFor};
+ghost use Rattle.relay_next_hops.specs.Listing.{IsPlaceListed, KeepsListed, route_of};
 
 use crate::hops::Hops;
 use crate::lane::{Lane, Task};
@@ -16,9 +16,9 @@ use relay_routes::{Hop, HostName, Table};
 use std::net::SocketAddrV4;
 
 impl Lanes {
-    /// Lists the due mail of a message, except where a connection for it exists. Returns whether the message exists. A
-    /// message with a held place without a hop is listed as unroutable. If memory runs out, all due mail is listed
-    /// again.
+    /// Lists the due mail of a message, except what a postmaster holds, and where a connection for it exists. Returns
+    /// whether the message exists. A message with a held place without a hop is listed as unroutable. If memory runs
+    /// out, all due mail is listed again.
     pub(crate) fn add<S: Stream + Drop, D: Disk>(
         &mut self,
         relay: &Relay<D>,
@@ -68,8 +68,8 @@ impl Lanes {
         }
     }
 
-    /// Lists a place of a message for its next hop, if it is due; or lists the message as unroutable, if the place is
-    /// held and has no hop.
+    /// Lists a place of a message for its next hop, if it is due and no postmaster holds it; or lists the message as
+    /// unroutable, if the place is held and has no hop.
     fn add_place<S: Stream + Drop>(
         &mut self,
         hops: &Hops<S>,
@@ -91,7 +91,9 @@ impl Lanes {
         }
         match hop_of_place(routes, recipients, index) {
             Some(hop) => {
-                if place.due <= now.moment.seconds() {
+                if self.is_kept(&hop.name, number) {
+                    self.keeps = true;
+                } else if place.due <= now.moment.seconds() {
                     self.push(hops, number, hop.at, &hop.name);
                 }
             }
@@ -113,22 +115,25 @@ impl Lanes {
         ensures listed { IsListedFor hops.now.hops message name.now at self.new }
         ensures walk { (self.new.queued ≡ self.old.queued) × (self.new.is_listing ≡ self.old.is_listing) }
     {
-        if !self.sort_in(hops, message, at, name) {
+        if !self.sort_in(hops, message, at, name, false) {
             self.is_stale = true;
         }
     }
 
-    /// Puts a message into the lane of its next hop's address, and returns whether there was memory for it.
-    fn sort_in<S: Stream + Drop>(
+    /// Puts a message into the lane of its next hop's address, before all that isn't asked for early if it is `early`,
+    /// unless it is there already or a connection for it exists. Returns whether there was memory for it.
+    pub(crate) fn sort_in<S: Stream + Drop>(
         &mut self,
         hops: &Hops<S>,
         message: u64,
         at: SocketAddrV4,
         name: &HostName,
+        early: bool,
     ) -> bool
         ensures more { ListsMore self.old self.new }
         ensures kept { KeepsListed self.old self.new }
-        ensures turn { result ≡ true → HasTurn hops.now.hops message name.now at self.new }
+        ensures turn { early ≡ false → result ≡ true → HasTurn hops.now.hops message name.now at self.new }
+        ensures early { early ≡ true → result ≡ true → HasEarlyTurn hops.now.hops message name.now at self.new }
         ensures walk { (self.new.queued ≡ self.old.queued) × (self.new.is_listing ≡ self.old.is_listing) }
     {
         let Some(number) = self.number_of(at) else {
@@ -137,7 +142,7 @@ impl Lanes {
         let Some(lane) = self.lanes.get_mut(number) else {
             return false;
         };
-        if lane.ends_with(message, name) {
+        if lane.has_last(message, name, early) {
             return true;
         }
         if hops.is_tried(message, number, name) {
@@ -147,7 +152,11 @@ impl Lanes {
             return false;
         };
         self.is_open = true;
-        lane.push(Task { message, hop })
+        lane.push(Task {
+            message,
+            hop,
+            early,
+        })
     }
 
     /// Lists a message that has places without a hop. If memory runs out, all due mail is listed again.
@@ -169,7 +178,7 @@ impl Lanes {
 
     /// Returns the number of the lane of an address, which is added if there is none. Returns `None` if memory runs
     /// out.
-    fn number_of(&mut self, at: SocketAddrV4) -> Option<usize>
+    pub(crate) fn number_of(&mut self, at: SocketAddrV4) -> Option<usize>
         ensures place { IfSome result (λ number. slice_get self.new.places number ≡ Some at) }
         ensures more { ListsMore self.old self.new }
         ensures kept { KeepsListed self.old self.new }

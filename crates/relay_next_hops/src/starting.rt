@@ -7,7 +7,7 @@ ghost use Rattle.relay_next_hops.specs.Errands.{AreAimed, IsOpenedTo};
 ghost use Rattle.relay_next_hops.specs.Lanes.{OnlyLane, tasks_at};
 ghost use Rattle.relay_next_hops.specs.Paces.{HasLane};
 ghost use Rattle.relay_next_hops.specs.Starting.{IsBegun, IsEndOf, IsStep};
-ghost use Rattle.relay_next_hops.specs.Starting.{IsTried, back_of, step_after};
+ghost use Rattle.relay_next_hops.specs.Starting.{IsTried, OpensUnheld, back_of, step_after};
 
 use crate::dial::Dial;
 use crate::ending::lose;
@@ -86,7 +86,7 @@ pub(crate) enum Begun {
 /// The result for the next task of a lane.
 #[derive(Clone, Copy, Debug, PartialEq, Eq)]
 pub(crate) enum Step {
-    /// It has left the lane: a connection is being opened for it, or none could be.
+    /// It has left the lane: a connection is being opened for it, none could be, or a postmaster holds it.
     Left,
     /// The system has no file descriptor or no memory for a connection: the task is in front of the lane again.
     Back,
@@ -111,8 +111,8 @@ pub(crate) enum Tried {
     HasNoPlace,
 }
 
-/// Begins what may be begun of a lane. If the system has no descriptor for a connection, one is given up that was kept
-/// for that.
+/// Begins what may be begun of a lane, and nothing that a postmaster holds. If the system has no descriptor for a
+/// connection, one is given up that was kept for that.
 pub(crate) fn start_lane<S: Stream + Drop, N: Dial<Stream = S>, D: Disk>(
     dial: &mut N,
     registry: &S::Registry,
@@ -132,6 +132,7 @@ pub(crate) fn start_lane<S: Stream + Drop, N: Dial<Stream = S>, D: Disk>(
         ≤ unanswered_of hops.new.hops lanes.new.paces) }
     ensures fewer { OnOk result (length (tasks_at lanes.new lane) ≤ length (tasks_at lanes.old lane)) }
     ensures kept { N.spares dial.new ≤ N.spares dial.old }
+    ensures unheld { OnOk result (OpensUnheld lanes.old.held hops.old.hops hops.new.hops) }
     ensures begun { IfOk result (IsBegun now.now.tick (N.spares dial.old) lanes.old hops.new.hops lanes.new
         (N.spares dial.new) lane) }
     ensures config { relay.new.node.config ≡ relay.old.node.config }
@@ -165,7 +166,7 @@ fn end_of<N: Dial>(step: Step, dial: &mut N) -> Option<Begun>
     }
 }
 
-/// Begins the next task of a lane, if one may be begun.
+/// Begins the next task of a lane, if one may be begun and no postmaster holds it.
 fn start_next<S: Stream + Drop, N: Dial<Stream = S>, D: Disk>(
     dial: &mut N,
     registry: &S::Registry,
@@ -185,6 +186,7 @@ fn start_next<S: Stream + Drop, N: Dial<Stream = S>, D: Disk>(
         ≤ unanswered_of hops.new.hops lanes.new.paces) }
     ensures fewer { OnOk result (length (tasks_at lanes.new lane) ≤ length (tasks_at lanes.old lane)) }
     ensures kept { N.spares dial.new ≡ N.spares dial.old }
+    ensures unheld { OnOk result (OpensUnheld lanes.old.held hops.old.hops hops.new.hops) }
     ensures came { IfOk result (IsStep D.words (IsOpenedTo N.leads_to S.remaining S.contents) now.now lane
         hops.old.hops hops.new.hops lanes.old lanes.new relay.old relay.new) }
     ensures config { relay.new.node.config ≡ relay.old.node.config }
@@ -201,6 +203,10 @@ fn start_next<S: Stream + Drop, N: Dial<Stream = S>, D: Disk>(
     let Some(task) = lanes.next(lane, now) else {
         return Ok(Step::Over);
     };
+    if lanes.is_kept(&task.hop, task.message) {
+        // A postmaster has held it since it was listed. When it is released, it is listed again.
+        return Ok(Step::Left);
+    }
     let tried = start_task(
         dial, registry, relay, hops, lanes, lane, number, task, now, log,
     )?;
@@ -268,7 +274,8 @@ pub(crate) fn aim_of<D: Disk>(
     ensures { MatchOption result
         (place_of relay.now.node.config.routes.routes task.now.hop ≡ None)
         (λ aim. (aim.lane ≡ lane)
-        × (place_of relay.now.node.config.routes.routes task.now.hop ≡ Some aim.at)) }
+        × (place_of relay.now.node.config.routes.routes task.now.hop ≡ Some aim.at)
+        × (aim.early ≡ task.now.early)) }
 {
     let routes = &relay.node().config().routes;
     match routes.place_of(task.hop.as_slice()) {
@@ -277,6 +284,7 @@ pub(crate) fn aim_of<D: Disk>(
             at,
             beside: 0 < lanes.standing(lane),
             accepted: accepted_at(relay, task.message),
+            early: task.early,
         }),
         None => None,
     }

@@ -3,7 +3,7 @@ ghost use Rattle.std.specs.Prelude.{◌≡◌, ◌≢◌, ◌⊎◌, ◌+◌, �
 ghost use Rattle.relay_next_hops.specs.Counts.{CountsMatch};
 ghost use Rattle.relay_next_hops.specs.Errands.{AreAimed};
 ghost use Rattle.relay_next_hops.specs.Lanes.{IsNth, KeepsCounts, OnlyLane, tasks_at, turned_to};
-ghost use Rattle.relay_next_hops.specs.Starting.{IsDone, IsStoppedBy};
+ghost use Rattle.relay_next_hops.specs.Starting.{IsDone, IsStoppedBy, OpensUnheld};
 ghost use Rattle.relay_next_hops.specs.Turns.{IsGoneOver, IsStopped};
 
 use crate::dial::Dial;
@@ -92,7 +92,7 @@ pub(crate) fn visited(first: usize, count: usize, waiting: Option<usize>, step: 
 /// limited number of connections, one each. If that limit is reached, the next free connection goes to the first
 /// waiting lane after the one that got the last, so that each waits until the others have had one, and no longer. Goes
 /// over every lane, unless it is paused, there is no room at all, or no spare descriptor is left. The lanes are closed
-/// only if none of them has more that may begin.
+/// only if none of them has more that may begin. Opens no connection for mail that a postmaster holds.
 pub(crate) fn start_tasks<S: Stream + Drop, N: Dial<Stream = S>, D: Disk>(
     dial: &mut N,
     registry: &S::Registry,
@@ -113,6 +113,8 @@ pub(crate) fn start_tasks<S: Stream + Drop, N: Dial<Stream = S>, D: Disk>(
         → IsGoneOver now.now.tick (N.spares dial.old) lanes.old hops.new.hops lanes.new lane)) }
     ensures closes { lanes.old.is_open ≡ true → OnOk result ((lanes.new.is_open ≡ true)
         ⊎ ((lane : ℕ) → lane < length lanes.old.lanes.items → IsDone now.now.tick hops.new.hops lanes.new lane)) }
+    ensures unheld { OnOk result (OpensUnheld lanes.old.held hops.old.hops hops.new.hops) }
+    ensures held { lanes.new.held ≡ lanes.old.held }
     ensures config { relay.new.node.config ≡ relay.old.node.config }
 {
     if !lanes.is_open() || now.tick < starts.paused_until {

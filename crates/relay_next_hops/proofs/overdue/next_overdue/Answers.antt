@@ -45,6 +45,7 @@ loop-checks-preserved g c =
       tasks = c.check.ensures.tasks ∙ c.loop-checks.invariant.tasks;
       counts = record {
         places = c.check.ensures.counts.places ∙ c.loop-checks.invariant.counts.places;
+        held = c.check.ensures.counts.held ∙ c.loop-checks.invariant.counts.held;
         runs = λ number. c.check.ensures.counts.runs number ∙ c.loop-checks.invariant.counts.runs number;
       };
       only = only_then c.args.lane c.args.lanes.now c.loop-checks.lanes c.check.new.self c.loop-checks.invariant.only c.check.ensures.only;

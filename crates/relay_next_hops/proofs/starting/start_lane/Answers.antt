@@ -1,7 +1,7 @@
 -- One task more was tried.
 use Rattle.std.proofs.Common.{sym, subst, ◌∙◌, arith}
 use Rattle.relay_next_hops.specs.Errands.{AreAimed, IsOpenedTo}
-use Rattle.relay_next_hops.proofs.StartLemmas.{step_ends, step_goes_on}
+use Rattle.relay_next_hops.proofs.StartLemmas.{step_ends, step_goes_on, unheld_then}
 use Rattle.relay_next_hops.proofs.TurnLemmas.{only_then}
 use Rattle.relay_next_hops.proofs.starting.start_lane.Goals as goal
 
@@ -17,11 +17,17 @@ loop-preserved g c =
       aimed = λ aimed. subst (λ config. AreAimed config.routes.routes c.start_next.new.hops.hops) before.config
           (next.aimed (subst (λ config. AreAimed config.routes.routes c.loop.hops.hops) (sym before.config) (before.aimed aimed)));
       only = only_then c.args.lane c.args.lanes.now c.loop.lanes c.start_next.new.lanes before.only next.only;
+      unheld = unheld_then c.args.lanes.now.held c.loop.lanes.held c.args.hops.now.hops c.loop.hops.hops c.start_next.new.hops.hops before.only.held before.unheld next.unheld;
       more = omega (arith, before.more, next.more);
       kept = omega (arith, before.kept, kept.2, next.kept);
       tries = omega (arith, before.tries, kept.1, next.kept);
       tasks = omega (arith, before.tasks, kept.0, next.kept);
     }
+
+pub returns-in-Some-clause-unheld : goal.returns-in-Some-clause-unheld
+returns-in-Some-clause-unheld g c =
+    unheld_then c.args.lanes.now.held c.loop.lanes.held c.args.hops.now.hops c.loop.hops.hops c.start_next.new.hops.hops
+    c.loop.invariant.only.held c.loop.invariant.unheld c.in_ok-step.ensures.unheld
 
 pub returns-in-Some-clause-begun : goal.returns-in-Some-clause-begun
 returns-in-Some-clause-begun g c =

@@ -1,12 +1,13 @@
 -- The next task of the lane was tried.
-use Rattle.std.proofs.Common.{◌≡◌, ◌+◌, ◌≤◌, List, length, sym, ap, subst, ◌∙◌, add-one, arith}
+use Rattle.std.proofs.Common.{◌≡◌, ◌+◌, ◌≤◌, inr, true, false, List, length, refl, sym, ap, subst, ◌∙◌, add-one, arith}
+use Rattle.relay_control.specs.Held.{holds}
 use Rattle.relay_limits.specs.declared.pace.Pace.{Pace}
 use Rattle.relay_next_hops.specs.Counts.{CountsMatch, unanswered_of}
 use Rattle.relay_next_hops.specs.Errands.{IsOpenedTo}
 use Rattle.relay_next_hops.specs.Lanes.{tasks_at}
 use Rattle.relay_next_hops.specs.Paces.{HasLane}
 use Rattle.relay_next_hops.specs.Starting.{IsStep}
-use Rattle.relay_next_hops.proofs.StartLemmas.{back_few, step_is, tried_aimed, tried_counts, tried_unanswered}
+use Rattle.relay_next_hops.proofs.StartLemmas.{back_few, same_unheld, step_is, tried_aimed, tried_counts, tried_unanswered, tried_unheld}
 use Rattle.relay_next_hops.proofs.TurnLemmas.{has_lane, only_then}
 use Rattle.relay_next_hops.proofs.starting.start_next.Goals as goal
 use Rattle.relay_next_hops.proofs.starting.start_next.Goals.{else-not-has_answered-via-then-not-has_answered+else-count_unanswered-ge-MOST_UNANSWERED, else-not-has_answered-via-else-not-has_answered}
@@ -33,6 +34,7 @@ returns g c =
     let low = c.in-Some.ensures.within in
     let comes = c.in_ok-tried.ensures.tried low has in
     let free = c.in-Some.ensures.least.free in
+    let unheld : holds task.hop task.message old.held ≡ false = ap (holds task.hop task.message) (sym c.in-Some-next.ensures.counts.held) ∙ sym c.is_kept.ensures ∙ c.if-is_kept.false in
     let longer : length (tasks_at old lane) ≡ length (tasks_at between lane) + 1 = ap length c.in-Some-next.ensures.tasks ∙ sym (add-one (length (tasks_at between lane))) in
     record {
       counts = λ match_is. tried_counts words opened now lane number task hops_old hops_new between new relay_old relay_new tried comes free low c.in-Some.ensures.few (subst (λ (paces : List Pace). CountsMatch hops_old paces) (sym paces) match_is);
@@ -41,6 +43,7 @@ returns g c =
       more = subst (λ (paces : List Pace). unanswered_of hops_old paces ≤ unanswered_of hops_new new.paces) paces (tried_unanswered words opened now lane number task hops_old hops_new between new relay_old relay_new tried comes free low c.in_ok-tried.ensures.only);
       kept = c.in_ok-tried.ensures.kept;
       fewer = omega (arith, c.in_ok-tried.ensures.fewer, longer, back_few tried);
+      unheld = tried_unheld words opened now lane number task hops_old hops_new between new relay_old relay_new old.held tried unheld comes;
       came = subst (IsStep words opened now lane hops_old hops_new old new relay_old relay_new) (sym c.step_after.ensures)
           (step_is words opened now lane hops_old hops_new old new relay_old relay_new tried
           (record {
@@ -55,8 +58,42 @@ returns g c =
             free = c.in-Some.ensures.least;
             first = c.in-Some-next.ensures.tasks;
             runs = paces;
+            free_to_go = unheld;
             comes = comes;
           })
           (λ before is. omega (arith, c.in_ok-tried.ensures.fewer, longer, is)));
       config = c.in_ok-tried.ensures.config;
+    }
+
+-- A task that a postmaster holds has left the lane, and nothing else changes.
+pub returns-then-is_kept : goal.returns-then-is_kept
+returns-then-is_kept g c =
+    let lane = c.args.lane in
+    let old = c.args.lanes.now in
+    let between = c.next.new.self in
+    let hops = c.args.hops.now.hops in
+    let task = c.in-Some-next.task in
+    let paces : between.paces ≡ old.paces = c.in-Some-next.ensures.paces in
+    let kept : holds task.hop task.message old.held ≡ true = ap (holds task.hop task.message) (sym c.in-Some-next.ensures.counts.held) ∙ sym c.is_kept.ensures ∙ c.if-is_kept.true in
+    let longer : length (tasks_at old lane) ≡ length (tasks_at between lane) + 1 = ap length c.in-Some-next.ensures.tasks ∙ sym (add-one (length (tasks_at between lane))) in
+    record {
+      counts = λ match_is. subst (λ (paces : List Pace). CountsMatch hops paces) (sym paces) match_is;
+      aimed = λ aimed. aimed;
+      only = c.in-Some-next.ensures.only;
+      more = subst (λ (paces : List Pace). unanswered_of hops old.paces ≤ unanswered_of hops paces) (sym paces) (omega arith);
+      fewer = omega (arith, longer);
+      kept = refl;
+      unheld = same_unheld old.held hops hops refl;
+      came = (
+        inr (record {
+          task = task;
+          kept = kept;
+          first = c.in-Some-next.ensures.tasks;
+          paces = paces;
+          hops = refl;
+          relay = refl;
+        }),
+        omega (arith, longer),
+      );
+      config = refl;
     }

@@ -8,6 +8,7 @@ use Rattle.relay_next_hops.specs.Turns.{IsGoneOver}
 use Rattle.relay_next_hops.specs.declared.lanes.Lanes.{Lanes}
 use Rattle.relay_next_hops.proofs.RoundLemmas.{done_kept, done_own, fewer_then, gone_kept, gone_own, round_all, round_next, stopped}
 use Rattle.relay_next_hops.proofs.SlotLemmas.{counts_stay}
+use Rattle.relay_next_hops.proofs.StartLemmas.{unheld_then}
 use Rattle.relay_next_hops.proofs.TurnLemmas.{only_then, unanswered_stay}
 use Rattle.relay_next_hops.proofs.turning.start_tasks.Goals as goal
 
@@ -37,6 +38,8 @@ loop-step-preserved g c =
       counts = λ match_is. began.counts (counts_stay hops_old old.paces between.paces lost.counts.runs (before.counts match_is));
       aimed = λ aimed. subst (λ config. AreAimed config.routes.routes hops_new) same
           (began.aimed (subst (λ config. AreAimed config.routes.routes hops_old) (sym same) (before.aimed aimed)));
+      unheld = unheld_then start.held between.held c.args.hops.now.hops hops_old hops_new (lost.only.held ∙ before.held) before.unheld began.unheld;
+      held = only.held ∙ before.held;
       opened = only.opened ∙ before.opened;
       kept = omega (arith, began.kept, before.kept);
       fewer = fewer_then start old new lane only (omega (arith, began.fewer, lost.fewer)) before.fewer;
@@ -75,6 +78,8 @@ returns-then-stops g c =
           (began.aimed (subst (λ config. AreAimed config.routes.routes hops_old) (sym same) (before.aimed aimed)));
       whole = λ opened. inr (inl stop);
       closes = λ opened. inl (ap (λ (lanes : Lanes). lanes.is_open) c.turn.ensures.rest ∙ only.opened ∙ before.opened ∙ opened);
+      unheld = unheld_then start.held between.held c.args.hops.now.hops hops_old hops_new (lost.only.held ∙ before.held) before.unheld began.unheld;
+      held = c.turn.ensures.counts.held ∙ only.held ∙ before.held;
       config = began.config ∙ same;
     }
 

@@ -4,7 +4,7 @@ use Rattle.std.proofs.Common.{◌≡◌, ◌+◌, ◌<◌, ◌≤◌, ℕ, false
 use Rattle.relay_next_hops.specs.Counts.{CountsMatch}
 use Rattle.relay_next_hops.specs.Errands.{AreAimed}
 use Rattle.relay_next_hops.specs.Lanes.{IsNth, tasks_at}
-use Rattle.relay_next_hops.specs.Starting.{IsDone}
+use Rattle.relay_next_hops.specs.Starting.{IsDone, OpensUnheld}
 use Rattle.relay_next_hops.specs.Turns.{IsGoneOver}
 use Rattle.relay_next_hops.proofs.turning.start_tasks.Given as goal
 
@@ -14,6 +14,8 @@ invariant-loop-step g l = record {
   counts : CountsMatch l.initial.hops.hops l.initial.lanes.paces → CountsMatch l.hops.hops l.lanes.paces;
   aimed : AreAimed l.initial.relay.node.config.routes.routes l.initial.hops.hops
       → AreAimed l.initial.relay.node.config.routes.routes l.hops.hops;
+  unheld : OpensUnheld l.initial.lanes.held l.initial.hops.hops l.hops.hops;
+  held : l.lanes.held ≡ l.initial.lanes.held;
   opened : l.lanes.is_open ≡ l.initial.lanes.is_open;
   kept : g.N.Dial.spares l.dial ≤ g.N.Dial.spares l.initial.dial;
   fewer : (lane : ℕ) → length (tasks_at l.lanes lane) ≤ length (tasks_at l.initial.lanes lane);

@@ -11,9 +11,10 @@ loop-preserved c = (
   c.loop.invariant.3,
   c.loop.invariant.4,
   c.loop.invariant.5,
-  λ lane. tasks_grown c.loop.self.lanes.items c.push.new.self.items c.new.result _ c.new.ensures c.push.ensures.items lane ∙ c.loop.invariant.6 lane,
+  c.loop.invariant.6,
+  λ lane. tasks_grown c.loop.self.lanes.items c.push.new.self.items c.new.result _ c.new.ensures c.push.ensures.items lane ∙ c.loop.invariant.7 lane,
 )
 
 pub returns-then-is_err-2-clause-tasks : goal.returns-then-is_err-2-clause-tasks
 returns-then-is_err-2-clause-tasks c = λ lane.
-    tasks_grown c.loop.self.lanes.items c.push.new.self.items c.new.result _ c.new.ensures c.push.ensures.items lane ∙ c.loop.invariant.6 lane
+    tasks_grown c.loop.self.lanes.items c.push.new.self.items c.new.result _ c.new.ensures c.push.ensures.items lane ∙ c.loop.invariant.7 lane

@@ -8,4 +8,4 @@ invariant-loop l =
     (l.self.places ≡ l.initial.self.places) × (l.self.paces ≡ l.initial.self.paces)
     × (l.self.unroutable ≡ l.initial.self.unroutable) × (l.self.is_stale ≡ l.initial.self.is_stale)
     × (l.self.queued ≡ l.initial.self.queued) × (l.self.is_listing ≡ l.initial.self.is_listing)
-    × ((lane : ℕ) → tasks_at l.self lane ≡ tasks_at l.initial.self lane)
+    × (l.self.held ≡ l.initial.self.held) × ((lane : ℕ) → tasks_at l.self lane ≡ tasks_at l.initial.self lane)

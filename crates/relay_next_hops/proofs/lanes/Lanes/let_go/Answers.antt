@@ -7,6 +7,7 @@ pub loop-number-preserved : goal.loop-number-preserved
 loop-number-preserved c = record {
   counts = record {
     places = c.let_go_of.ensures.counts.places ∙ c.loop-number.invariant.counts.places;
+    held = c.let_go_of.ensures.counts.held ∙ c.loop-number.invariant.counts.held;
     runs = λ number. c.let_go_of.ensures.counts.runs number ∙ c.loop-number.invariant.counts.runs number;
   };
   kept = kept_then c.args.self.now c.loop-number.self c.let_go_of.new.self c.loop-number.invariant.kept c.let_go_of.ensures.kept;

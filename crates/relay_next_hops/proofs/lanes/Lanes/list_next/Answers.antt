@@ -25,10 +25,10 @@ loop-preserved g c =
     let before = c.loop.invariant in
     let split : drop c.loop.counter c.args.self.now.queued.left ≡ c.in-Some.number ∷ c.next.new.self.left = sym before.walk ∙ c.in-Some.ensures.next in
     record {
-      more = more_then c.args.self.now c.loop.self c.look_at.new.self before.more (record { places = c.look_at.ensures.more.places; runs = c.look_at.ensures.more.runs });
+      more = more_then c.args.self.now c.loop.self c.look_at.new.self before.more (record { held = c.look_at.ensures.more.held; places = c.look_at.ensures.more.places; runs = c.look_at.ensures.more.runs });
       kept = kept_then c.args.self.now c.loop.self c.look_at.new.self before.kept (record { tasks = c.look_at.ensures.kept.tasks; unroutable = c.look_at.ensures.kept.unroutable; stale = c.look_at.ensures.kept.stale });
       walk = c.look_at.ensures.walk ∙ left_dropped c.args.self.now.queued.left c.loop.counter c.in-Some.number c.next.new.self.left split ∙ ap (λ (n : ℕ). drop n c.args.self.now.queued.left) (sym (add-one c.loop.counter));
-      listed = walk_next c.loop.self c.look_at.new.self (record { places = c.look_at.ensures.more.places; runs = c.look_at.ensures.more.runs }) (record { tasks = c.look_at.ensures.kept.tasks; unroutable = c.look_at.ensures.kept.unroutable; stale = c.look_at.ensures.kept.stale })
+      listed = walk_next c.loop.self c.look_at.new.self (record { held = c.look_at.ensures.more.held; places = c.look_at.ensures.more.places; runs = c.look_at.ensures.more.runs }) (record { tasks = c.look_at.ensures.kept.tasks; unroutable = c.look_at.ensures.kept.unroutable; stale = c.look_at.ensures.kept.stale })
           c.args.hops.now.hops c.args.now.now.moment c.args.relay.now.node c.args.self.now.queued.left c.loop.counter c.in-Some.number
           (get_dropped c.args.self.now.queued.left c.loop.counter c.in-Some.number c.next.new.self.left split) before.listed c.look_at.ensures.listed;
       within = omega (arith, c.loop-test.true);

@@ -19,7 +19,7 @@ returns-in-Ok-clause-kept g c = kept_then c.args.self.now c.take_new-self.new.se
 pub returns-in-Ok-clause-listed : goal.returns-in-Ok-clause-listed
 returns-in-Ok-clause-listed g c = λ known number from below.
     message_kept c.take_new-self.new.self c.note_next.new.self
-    (more_of c.take_new-self.new.self c.note_next.new.self (record { places = c.note_next.ensures.counts.places; runs = c.note_next.ensures.counts.runs }))
+    (more_of c.take_new-self.new.self c.note_next.new.self (record { places = c.note_next.ensures.counts.places; held = c.note_next.ensures.counts.held; runs = c.note_next.ensures.counts.runs }))
     (record {
       tasks = c.note_next.ensures.kept.tasks;
       unroutable = c.note_next.ensures.kept.unroutable;

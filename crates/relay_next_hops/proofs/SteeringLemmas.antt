@@ -1,0 +1,49 @@
+-- A flush goes over held places one by one: those that were listed stay so, and are counted.
+use Rattle.std.proofs.Common.{◌≡◌, ◌⊎◌, inl, inr, ℕ, ◌+◌, ◌<◌, ◌≤◌, zero, suc, Bool, true, false, List, [], ◌∷◌, length, take, get_or, MatchOption, Option, None, Some, sym, ap, subst, ◌∙◌, arith, if◌then◌else◌}
+use Rattle.std.specs.Prelude.{count_by, slice_get}
+use Rattle.std.proofs.lemmas.Bool.{cases_lt}
+use Rattle.std.proofs.lemmas.List.Sums.{count_by_more_no, count_by_more_yes}
+use Rattle.relay_control.specs.declared.held.Held.{Held}
+use Rattle.relay_control.specs.declared.scope.Scope.{Scope}
+use Rattle.relay_routes.specs.declared.hop.Hop.{Hop as NextHop}
+use Rattle.relay_node.specs.Node.{NodeState}
+use Rattle.relay_next_hops.specs.Lanes.{ListsMore}
+use Rattle.relay_next_hops.specs.Listing.{HasEarlyTurn, KeepsListed}
+use Rattle.relay_next_hops.specs.Steering.{IsFlushed, hop_of_mark, is_flushed}
+use Rattle.relay_next_hops.specs.declared.hop.Hop.{Hop}
+use Rattle.relay_next_hops.specs.declared.lanes.Lanes.{Lanes}
+use Rattle.relay_next_hops.proofs.ListingLemmas.{early_kept, same_found}
+
+-- the same where the same mail is held
+pub flushed_same : {D : Type 0} (node : NodeState D) (scope : Option Scope) (mark : ℕ × ℕ) (held other : Held) (flushed : Bool) → other ≡ held → flushed ≡ is_flushed node other scope mark → flushed ≡ is_flushed node held scope mark
+flushed_same node scope mark held other flushed same is = is ∙ ap (λ (held : Held). is_flushed node held scope mark) same
+
+-- what is found has a place among the others
+pub low_of : {A : Type 0} (xs : List A) (n : ℕ) (x : A) → slice_get xs n ≡ Some x → n < length xs
+low_of [] n x there = absurd (cc there)
+low_of (y ∷ ys) zero x there = omega arith
+low_of (y ∷ ys) (suc n) x there = omega (arith, low_of ys n x there)
+
+-- one more is counted, if it passes
+pub counted_next : {A : Type 0} (test : A → Bool) (marks : List A) (n count : ℕ) (d : A) (passes : Bool) → n < length marks → passes ≡ test (get_or marks n d) → count ≡ count_by test (take n marks) → (if passes then count + 1 else count) ≡ count_by test (take (n + 1) marks)
+counted_next test marks n count d true low is before = ap (λ (k : ℕ). k + 1) before ∙ sym (count_by_more_yes test marks n d low (sym is))
+counted_next test marks n count d false low is before = before ∙ sym (count_by_more_no test marks n d low (sym is))
+
+module _ {D S : Type 0} (node : NodeState D) (hops : List (Option (Hop S))) (old new : Lanes) (more : ListsMore old new) (kept : KeepsListed old new) where
+  pub flushed_kept : (mark : ℕ × ℕ) → IsFlushed node hops mark old → IsFlushed node hops mark new
+  flushed_kept mark listed = by (hop_of_mark node mark) listed where
+    by : (hop : Option NextHop) → MatchOption hop ⊥ (λ hop. HasEarlyTurn hops mark.0 hop.name hop.at old) → MatchOption hop ⊥ (λ hop. HasEarlyTurn hops mark.0 hop.name hop.at new)
+    by None listed = listed
+    by (Some hop) listed = early_kept old new more kept hops mark.0 hop.name hop.at listed
+
+  -- one more was gone over
+  pub each_next : (held : Held) (scope : Option Scope) (marks : List (ℕ × ℕ)) (n : ℕ) (mark : ℕ × ℕ) → slice_get marks n ≡ Some mark → (is_flushed node held scope mark ≡ true → IsFlushed node hops mark new) → ((step : ℕ) (other : ℕ × ℕ) → step < n → slice_get marks step ≡ Some other → is_flushed node held scope other ≡ true → IsFlushed node hops other old) → (step : ℕ) (other : ℕ × ℕ) → step < n + 1 → slice_get marks step ≡ Some other → is_flushed node held scope other ≡ true → IsFlushed node hops other new
+  each_next held scope marks n mark is own before step other below there flushed = by (cases_lt step n) where
+    by : (step < n) ⊎ (n ≤ step) → IsFlushed node hops other new
+    by (inl low) = flushed_kept other (before step other low there flushed)
+    by (inr high) = subst (λ (mark : ℕ × ℕ). is_flushed node held scope mark ≡ true → IsFlushed node hops mark new) same own flushed where
+      place : n ≡ step
+      place = omega (arith, below, high)
+
+      same : mark ≡ other
+      same = same_found (slice_get marks n) mark other is (ap (slice_get marks) place ∙ there)

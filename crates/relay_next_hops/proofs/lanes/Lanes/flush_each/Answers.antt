@@ -1,0 +1,60 @@
+-- The next place is listed, if it is asked for and no postmaster holds it.
+use Rattle.std.proofs.Common.{true, false, sym, ap, ◌∙◌, arith}
+use Rattle.std.specs.Prelude.{count_by, option_copied, slice_index_or}
+use Rattle.std.proofs.lemmas.List.{take_all}
+use Rattle.relay_next_hops.specs.Steering.{is_flushed}
+use Rattle.relay_next_hops.specs.declared.lanes.Lanes.{Lanes}
+use Rattle.relay_next_hops.proofs.ListingLemmas.{get_at, kept_then, more_then}
+use Rattle.relay_next_hops.proofs.SteeringLemmas.{counted_next, each_next, flushed_same, low_of}
+use Rattle.relay_next_hops.proofs.lanes.Lanes.flush_each.Goals as goal
+use Rattle.relay_next_hops.proofs.lanes.Lanes.flush_each.Goals.{else-branch, then-branch}
+
+pub loop-mark-preserved : goal.loop-mark-preserved
+loop-mark-preserved g c =
+    let before = c.loop-mark.invariant in
+    let after = c.in_ok-flush_place.ensures in
+    let node = c.args.relay.now.node in
+    let hops = c.args.hops.now.hops in
+    let held = c.args.self.now.held in
+    let scope = option_copied c.args.scope in
+    let marks = c.args.marks.now in
+    let index = c.loop-mark.mark-index in
+    let old = c.loop-mark.self in
+    let new = c.flush_place.new.self in
+    let more = more_then c.args.self.now old new before.more after.more in
+    let kept = kept_then c.args.self.now old new before.kept after.kept in
+    let low = c.loop-mark-test.true in
+    let flushed = flushed_same node scope _ held old.held c.in_ok-flush_place.field-0 before.more.held after.flushed in
+    let each = each_next node hops old new after.more after.kept held scope marks index (slice_index_or marks index _) (get_at marks index _ low) (λ is. (after.listed (flushed ∙ is)).0) before.each in
+    elim c.if-branch.branch [
+      | then-branch w ↦ record {
+        more = more;
+        kept = kept;
+        few = omega (arith, before.few, w.count-is);
+        counted = w.count-is ∙ counted_next (is_flushed node held scope) marks index c.loop-mark.count _ true low (sym w.if-branch.true ∙ flushed) before.counted;
+        each = each;
+        opened = λ some. (after.listed w.if-branch.true).1;
+      }
+      | else-branch w ↦ record {
+        more = more;
+        kept = kept;
+        few = omega (arith, before.few, w.count-is);
+        counted = w.count-is ∙ counted_next (is_flushed node held scope) marks index c.loop-mark.count _ false low (sym w.if-branch.false ∙ flushed) before.counted;
+        each = each;
+        opened = λ some. ap (λ (lanes : Lanes). lanes.is_open) (after.left w.if-branch.false) ∙ before.opened (omega (arith, some, w.count-is));
+      }
+    ]
+
+pub returns-in_err-flush_place-clause-kept : goal.returns-in_err-flush_place-clause-kept
+returns-in_err-flush_place-clause-kept g c =
+    kept_then c.args.self.now c.loop-mark.self c.flush_place.new.self c.loop-mark.invariant.kept c.flush_place.ensures.kept
+
+pub returns-clause-flushed : goal.returns-clause-flushed
+returns-clause-flushed g c =
+    let marks = c.args.marks.now in
+    let index = c.loop-mark.mark-index in
+    record {
+      count_is = c.loop-mark.invariant.counted
+          ∙ ap (count_by (is_flushed c.args.relay.now.node c.args.self.now.held (option_copied c.args.scope))) (take_all index marks (omega (arith, c.loop-mark-test.false)));
+      each = λ step mark there is. c.loop-mark.invariant.each step mark (omega (arith, low_of marks step mark there, c.loop-mark-test.false)) there is;
+    }
