@@ -1,4 +1,7 @@
+pub mod Answers
 pub mod Found
 pub mod Reopening
 pub mod Room
+pub mod Withdrawing
+pub mod Steering
 pub mod Tidying

@@ -1,5 +1,12 @@
 //! The listener, and the clients that connect to it.
-ghost use Rattle.std.specs.Prelude.{◌≤◌};
+ghost use Rattle.std.specs.Prelude.{◌≡◌, ◌≤◌, false, true};
+ghost use Rattle.std.specs.List.{list_any};
+ghost use Rattle.std.specs.Net.Addr.{ipv4_octets};
+ghost use Rattle.std.specs.Net.Socket.{v4_ip};
+ghost use Rattle.relay_connections.specs.Leaving.{leavers_of};
+ghost use Rattle.relay_connections.specs.Welcome.{AreAllowed, KeepsRules, LeavesWith, allowed_of, refusal_of};
+ghost use Rattle.relay_limits.specs.AllowedClients.{may_connect};
+ghost use Rattle.relay_routes.specs.Network.{is_in};
 
 use crate::listen::{Found, Listen};
 use mio::net::TcpStream;
@@ -33,6 +40,8 @@ pub(crate) struct Door<S = TcpStream> {
     refusals: Refusals,
     /// Clients that were refused because they may not connect.
     strangers: Refusals,
+    /// Clients that connected while the relay was stopping.
+    late: Refusals,
     /// The addresses whose connections begin with a PROXY protocol header.
     balancers: Balancers,
     /// The connections whose headers aren't read yet.
@@ -47,6 +56,7 @@ impl<S: Drop> Drop for Door<S> {
             paused_until: _,
             refusals: _refusals,
             strangers: _strangers,
+            late: _late,
             balancers: _balancers,
             arrivals: _arrivals,
         } = self;
@@ -66,6 +76,7 @@ impl<S: Stream + Drop> Door<S> {
             paused_until: 0,
             refusals: Refusals::new(alloc, Refusal::NoRoom)?,
             strangers: Refusals::new(alloc, Refusal::NoService)?,
+            late: Refusals::new(alloc, Refusal::Stopping)?,
             balancers,
             arrivals: Arrivals::new(alloc)?,
         })
@@ -112,6 +123,7 @@ impl<S: Stream + Drop> Door<S> {
     {
         let next = self.refusals.next_deadline(otherwise);
         let next = self.strangers.next_deadline(next);
+        let next = self.late.next_deadline(next);
         let next = self.arrivals.next_deadline(next);
         if self.is_ready {
             next.min(self.paused_until)
@@ -132,9 +144,13 @@ impl<S: Stream + Drop> Door<S> {
         leaving: &mut Leaving<S>,
         now: &Now,
         log: &mut Log<'_, Vec<u8>>,
-    ) -> Result<(), Fault> {
+    ) -> Result<(), Fault>
+        ensures allowed { AreAllowed clients.old relay.old → AreAllowed clients.new relay.new }
+        ensures rules { KeepsRules clients.old clients.new }
+    {
         self.refusals.tell(now, log);
         self.strangers.tell(now, log);
+        self.late.tell(now, log);
         for _ in 0..MOST_AT_ONCE {
             if !self.may_accept(now) {
                 break;
@@ -167,7 +183,17 @@ impl<S: Stream + Drop> Door<S> {
         peer: SocketAddrV4,
         now: &Now,
         log: &mut Log<'_, Vec<u8>>,
-    ) -> Result<(), Fault> {
+    ) -> Result<(), Fault>
+        ensures balancer { list_any (is_in (ipv4_octets (v4_ip peer))) self.old.balancers ≡ true
+            → (relay.new ≡ relay.old) × (clients.new ≡ clients.old) × (leaving.new ≡ leaving.old) }
+        ensures stranger { list_any (is_in (ipv4_octets (v4_ip peer))) self.old.balancers ≡ false
+            → may_connect (allowed_of clients.old) (ipv4_octets (v4_ip peer)) ≡ false
+            → (relay.new ≡ relay.old) × (clients.new ≡ clients.old)
+            × LeavesWith S.remaining S.contents stream (refusal_of relay.old.node.config.host Refusal.NoService)
+            (leavers_of leaving.old) (leavers_of leaving.new) }
+        ensures allowed { AreAllowed clients.old relay.old → AreAllowed clients.new relay.new }
+        ensures rules { KeepsRules clients.old clients.new }
+    {
         if !self.balancers.contains(*peer.ip()) {
             return self.welcome(registry, relay, clients, leaving, stream, peer, now, log);
         }
@@ -186,7 +212,10 @@ impl<S: Stream + Drop> Door<S> {
         leaving: &mut Leaving<S>,
         now: &Now,
         log: &mut Log<'_, Vec<u8>>,
-    ) -> Result<(), Fault> {
+    ) -> Result<(), Fault>
+        ensures allowed { AreAllowed clients.old relay.old → AreAllowed clients.new relay.new }
+        ensures rules { KeepsRules clients.old clients.new }
+    {
         for _ in 0..MOST_AT_ONCE {
             match self.arrivals.next(registry, now) {
                 Some(Arrived::Client(stream, peer)) => {
@@ -213,11 +242,19 @@ impl<S: Stream + Drop> Door<S> {
         peer: SocketAddrV4,
         now: &Now,
         log: &mut Log<'_, Vec<u8>>,
-    ) -> Result<(), Fault> {
+    ) -> Result<(), Fault>
+        ensures stranger { may_connect (allowed_of clients.old) (ipv4_octets (v4_ip peer)) ≡ false
+            → (relay.new ≡ relay.old) × (clients.new ≡ clients.old)
+            × LeavesWith S.remaining S.contents stream (refusal_of relay.old.node.config.host Refusal.NoService)
+            (leavers_of leaving.old) (leavers_of leaving.new) }
+        ensures allowed { AreAllowed clients.old relay.old → AreAllowed clients.new relay.new }
+        ensures rules { KeepsRules clients.old clients.new }
+    {
         match clients.welcome(registry, relay, leaving, stream, peer, now)? {
             None => log.connected(),
             Some(Refusal::NoRoom) => self.refusals.note(peer, now, log),
             Some(Refusal::NoService) => self.strangers.note(peer, now, log),
+            Some(Refusal::Stopping) => self.late.note(peer, now, log),
         }
         Ok(())
     }

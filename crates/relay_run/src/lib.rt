@@ -2,8 +2,12 @@
 //! become ready, over one node.
 #![tactic(auto)]
 
+mod answers;
+mod control;
 mod door;
+mod draining;
 mod failures;
+mod held_mail;
 mod known;
 mod listen;
 mod reopening;
@@ -14,8 +18,10 @@ mod shell;
 mod start;
 mod status_page;
 mod status_texts;
+mod steering;
 mod tidying;
 mod turns;
 mod waiting;
+mod withdrawing;
 
 pub use serving::run;

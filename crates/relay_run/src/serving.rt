@@ -1,9 +1,9 @@
-ghost use Rattle.std.specs.Prelude.{IfOk};
-
+use crate::control::ControlSocket;
 use crate::door::Door;
 use crate::shell::{Shell, SystemShell};
 use crate::start::{
-    Settings, kept_file, locked_relay, log_form, open_listener, open_page, read_settings, say_ready,
+    Settings, kept_file, locked_relay, log_form, open_listener, open_page, open_steering,
+    read_settings, say_ready,
 };
 use crate::status_page::StatusPage;
 use crate::turns::{System, serve};
@@ -18,14 +18,15 @@ use std::net::{Net, TcpListener, TcpStream};
 use std::rt::{Clock, Files};
 
 /// The most events of one wait: one for each connection and each connection whose header isn't read yet, one for the
-/// listener, and those of the page.
-const EVENT_COUNT: usize = 4 * SLOT_COUNT + 1 + StatusPage::TOKENS;
+/// listener, and those of the page and of the control socket.
+const EVENT_COUNT: usize = 4 * SLOT_COUNT + 1 + StatusPage::TOKENS + ControlSocket::TOKENS;
 
-/// Serves clients and relays their mail, in one thread, with up to 64 sessions and 64 attempts at a time. Returns only
-/// with a fault; the process may be stopped at any time. Faults at the start are checked in this order: the
-/// configuration file, its content, its limits, the spool, the listener, the page's listener. If this machine doesn't
-/// have the listener's address yet, waits for it for a minute. Then writes a line `ready HOST ADDRESS` to `writer`,
-/// and, unless `quiet` is set, logs to `errors`, with the time of each line, in the configured format.
+/// Serves clients and relays their mail, in one thread, with up to 64 sessions and 64 attempts at a time. Returns after
+/// it has drained, which is asked for by the control socket, or with a fault; the process may be stopped at any time.
+/// Faults at the start are checked in this order: the configuration file, its content, its limits, the spool, the
+/// listener, the page's listener, the control socket, the file of held mail. If this machine doesn't have the
+/// listener's address yet, waits for it for a minute. Then writes a line `ready HOST ADDRESS` to `writer`, and, unless
+/// `quiet` is set, logs to `errors`, with the time of each line, in the configured format.
 ///
 /// A broken connection ends alone. If the device fails, all connections end, and the spool is opened again when there
 /// may be room. Only a failed sync, or too little memory or too few file descriptors before the first client, end the
@@ -41,14 +42,13 @@ pub fn run<
     quiet: bool,
     writer: &mut W,
     errors: &mut E,
-) -> Result<(), Fault>
-    ensures { IfOk result (λ _. ⊥) }
-{
+) -> Result<(), Fault> {
     let Settings {
         config,
         limits,
         balancers,
         allowed,
+        control,
     } = read_settings(alloc, rt, path)?;
     let at = config.listen;
     let form = log_form(quiet, &limits);
@@ -59,8 +59,11 @@ pub fn run<
     };
     let listener = open_listener(alloc, rt, poll.registry(), at, form, errors)?;
     let page = open_page(alloc, rt, poll.registry(), &limits, &relay)?;
+    let steering = open_steering(alloc, rt, poll.registry(), control, &relay)?;
     let door = Door::new(alloc, balancers)?;
-    let mut shell: SystemShell = Shell::new(alloc, relay, door, room, &limits, allowed)?;
+    let mut shell: SystemShell = Shell::new(alloc, relay, door, room, steering, &limits, allowed)?;
+    let held = shell.steering.held_mail.read(rt)?;
+    shell.next_hops.set_held(held);
     shell.next_hops.prepare(&shell.relay)?;
     let events = Events::with_capacity(alloc, EVENT_COUNT)?;
     say_ready(alloc, &shell.relay, at, writer)?;
@@ -72,5 +75,6 @@ pub fn run<
         events,
         page,
     };
-    serve(alloc, system, shell, form, errors)
+    let _drained = serve(alloc, system, shell, form, errors)?;
+    Ok(())
 }

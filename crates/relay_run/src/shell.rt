@@ -1,6 +1,8 @@
 ghost use Rattle.std.specs.Prelude.{◌≡◌, ◌⊎◌, ◌↔◌, None, Some, IfErr, IfOk, IsErr, IsTrue, OnOk};
+ghost use Rattle.relay_connections.specs.Welcome.{KeepsRules};
 ghost use Rattle.relay_run.specs.Reopening.{HasFailedToSync, IsWhole};
 ghost use Rattle.relay_run.specs.Room.{MayStart};
+ghost use Rattle.relay_run.specs.Steering.{IsDraining, MayBegin, TurnsAway};
 ghost use Rattle.relay_run.specs.Tidying.{FailsToCompact, IsCompacted, KeepsRest, MayBeTrimmed, compacted_size_of};
 
 use crate::door::Door;
@@ -9,6 +11,7 @@ use crate::listen::Listen;
 use crate::reopening::{Pauses, Why, reopen};
 use crate::reporter::Reporter;
 use crate::room::Room;
+use crate::steering::Steering;
 use crate::tidying::Tidying;
 use mio::net::TcpStream;
 use relay_connections::{Clients, Intake, Leaving, Now, Replied, Stream};
@@ -36,6 +39,7 @@ pub(crate) struct Shell<S, D: Disk, F> {
     pauses: Pauses,
     pub(crate) room: Room<F>,
     known: Known,
+    pub(crate) steering: Steering,
 }
 
 /// The shell of `run`, over the system's streams and files.
@@ -54,20 +58,25 @@ impl<S: Drop, D: Disk + Drop, F: Drop> Drop for Shell<S, D, F> {
             pauses: _,
             room: _room,
             known: _,
+            steering: _steering,
         } = self;
     }
 }
 
 impl<S: Stream + Drop, D: Disk + Drop, F: Disk + Drop> Shell<S, D, F> {
-    /// Makes a shell without connections, with these limits, for the clients that may connect. Fails if memory runs out.
+    /// Makes a shell without connections, with these limits, for the clients that may connect. Fails if memory runs
+    /// out.
     pub(crate) fn new(
         alloc: Global,
         relay: Relay<D>,
         door: Door<S>,
         room: Room<F>,
+        steering: Steering,
         limits: &Limits,
         allowed: AllowedClients,
-    ) -> Result<Self, AllocError> {
+    ) -> Result<Self, AllocError>
+        ensures { ¬ IsDraining steering → IfOk result (λ shell. TurnsAway shell.steering shell.clients) }
+    {
         let clients = Clients::new(alloc, limits, allowed)?;
         let next_hops = NextHops::new(alloc, limits)?;
         let leaving = Leaving::new(alloc, u64::from(limits.client_timeout))?;
@@ -83,6 +92,7 @@ impl<S: Stream + Drop, D: Disk + Drop, F: Disk + Drop> Shell<S, D, F> {
             pauses,
             room,
             known,
+            steering,
         })
     }
 
@@ -101,11 +111,11 @@ impl<S: Stream + Drop, D: Disk + Drop, F: Disk + Drop> Shell<S, D, F> {
         self.room.is_renewed(now)
     }
 
-    /// Returns whether attempts may begin.
+    /// Returns whether attempts may begin: no drain was asked for, and there is room for their outcomes.
     pub(crate) fn may_start(&self) -> bool
-        ensures { IsTrue result ↔ MayStart self.now.room self.now.relay.node.records.spool.size }
+        ensures { IsTrue result ↔ MayBegin self.now.steering self.now.room self.now.relay.node.records.spool.size }
     {
-        self.room.may_start(self.relay.node().size())
+        !self.steering.is_draining() && self.room.may_start(self.relay.node().size())
     }
 
     /// Does for each connection one thing that can be done at once, and begins due attempts. If the relay is short of
@@ -118,7 +128,9 @@ impl<S: Stream + Drop, D: Disk + Drop, F: Disk + Drop> Shell<S, D, F> {
         registry: &S::Registry,
         now: &Now,
         log: &mut Log<'_, Vec<u8>>,
-    ) -> Result<(), Fault> {
+    ) -> Result<(), Fault>
+        ensures rules { (self.new.steering ≡ self.old.steering) × KeepsRules self.old.clients self.new.clients }
+    {
         let node = self.relay.node();
         if self.room.look(node.size(), node.config().spool_limit, now) {
             log.shortage_ended();
@@ -153,7 +165,8 @@ impl<S: Stream + Drop, D: Disk + Drop, F: Disk + Drop> Shell<S, D, F> {
         ensures known { (self.new.known.next_number ≡ self.old.known.next_number)
             × (self.new.known.size ≡ self.old.known.size) }
         ensures rest { (self.new.clients ≡ self.old.clients) × (self.new.next_hops ≡ self.old.next_hops)
-            × (self.new.leaving ≡ self.old.leaving) × (self.new.door ≡ self.old.door) }
+            × (self.new.leaving ≡ self.old.leaving) × (self.new.door ≡ self.old.door)
+            × (self.new.steering ≡ self.old.steering) }
     {
         if !self.tidying.may_be_due(now) {
             return Ok(());
@@ -186,7 +199,7 @@ impl<S: Stream + Drop, D: Disk + Drop, F: Disk + Drop> Shell<S, D, F> {
         ensures failed { IfErr result (λ fault. (fault ≡ Fault.Device) × KeepsRest self.old.relay self.new.relay) }
         ensures rest { (self.new.clients ≡ self.old.clients) × (self.new.next_hops ≡ self.old.next_hops)
             × (self.new.leaving ≡ self.old.leaving) × (self.new.door ≡ self.old.door)
-            × (self.new.known ≡ self.old.known) }
+            × (self.new.known ≡ self.old.known) × (self.new.steering ≡ self.old.steering) }
     {
         self.tidying.trim(&mut self.relay)
     }
@@ -197,7 +210,9 @@ impl<S: Stream + Drop, D: Disk + Drop, F: Disk + Drop> Shell<S, D, F> {
         registry: &S::Registry,
         now: &Now,
         log: &mut Log<'_, Vec<u8>>,
-    ) -> Result<(), Fault> {
+    ) -> Result<(), Fault>
+        ensures rules { (self.new.steering ≡ self.old.steering) × KeepsRules self.old.clients self.new.clients }
+    {
         let closed = self
             .next_hops
             .attend(registry, &mut self.relay, &mut self.leaving, now, log)?;
@@ -212,7 +227,9 @@ impl<S: Stream + Drop, D: Disk + Drop, F: Disk + Drop> Shell<S, D, F> {
         registry: &S::Registry,
         now: &Now,
         log: &mut Log<'_, Vec<u8>>,
-    ) -> Result<(), Fault> {
+    ) -> Result<(), Fault>
+        ensures rules { (self.new.steering ≡ self.old.steering) × KeepsRules self.old.clients self.new.clients }
+    {
         let (intake, replied) = self.hear(registry, now, log)?;
         if intake.was_full {
             self.tidying.note_full(now, log);
@@ -239,7 +256,9 @@ impl<S: Stream + Drop, D: Disk + Drop, F: Disk + Drop> Shell<S, D, F> {
         registry: &S::Registry,
         now: &Now,
         log: &mut Log<'_, Vec<u8>>,
-    ) -> Result<(Intake, Option<Replied>), NodeFault> {
+    ) -> Result<(Intake, Option<Replied>), NodeFault>
+        ensures rules { (self.new.steering ≡ self.old.steering) × KeepsRules self.old.clients self.new.clients }
+    {
         match self.next_hops.replies() {
             Ok(replies) => self.clients.serve(
                 registry,
@@ -261,14 +280,16 @@ impl<S: Stream + Drop, D: Disk + Drop, F: Disk + Drop> Shell<S, D, F> {
     }
 
     /// Notes whether connections to next hops were closed.
-    fn note_ends(&mut self, closed: bool) {
+    fn note_ends(&mut self, closed: bool)
+        ensures { (self.new.steering ≡ self.old.steering) × KeepsRules self.old.clients self.new.clients }
+    {
         if closed {
             self.tidying.note_shrunk();
             self.door.resume();
         }
     }
 
-    /// Begins due attempts, but none while there is no room for their outcomes.
+    /// Begins due attempts, but none while there is no room for their outcomes, or after a drain was asked for.
     fn begin<C: Clock, N: Dial<Stream = S>>(
         &mut self,
         clock: &C,
@@ -277,8 +298,9 @@ impl<S: Stream + Drop, D: Disk + Drop, F: Disk + Drop> Shell<S, D, F> {
         now: &Now,
         log: &mut Log<'_, Vec<u8>>,
     ) -> Result<(), Fault>
-        ensures held { ¬ MayStart self.old.room self.old.relay.node.records.spool.size
+        ensures held { ¬ MayBegin self.old.steering self.old.room self.old.relay.node.records.spool.size
             → (self.new.relay ≡ self.old.relay) × (self.new.next_hops ≡ self.old.next_hops) }
+        ensures rules { (self.new.steering ≡ self.old.steering) × KeepsRules self.old.clients self.new.clients }
     {
         if !self.may_start() {
             return Ok(());
@@ -307,6 +329,8 @@ impl<S: Stream + Drop> Shell<S, FileDisk, RoomFile> {
         ensures whole { IfOk result (λ shell. IsWhole self.known shell.relay.node.records.queue.next
             shell.relay.node.records.spool.size) }
         ensures tested { why ≡ Why.Failed → IfOk result (λ shell. MayStart shell.room self.known.size) }
+        ensures rules { IfOk result (λ shell. (shell.steering ≡ self.steering)
+            × KeepsRules self.clients shell.clients) }
     {
         self.clients.clear();
         self.leaving.clear();
@@ -321,6 +345,7 @@ impl<S: Stream + Drop> Shell<S, FileDisk, RoomFile> {
             pauses,
             room,
             known,
+            steering,
         } = self;
         let mut pauses = pauses;
         let mut room = room;
@@ -343,6 +368,7 @@ impl<S: Stream + Drop> Shell<S, FileDisk, RoomFile> {
             tidying: Tidying::new(),
             pauses,
             room,
+            steering,
         })
     }
 }

@@ -1,14 +1,17 @@
 //! The start of a relay.
+use crate::control::ControlSocket;
+use crate::held_mail::HeldMail;
 use crate::known::Known;
 use crate::listen::listener_at;
 use crate::reopening::open_bounded;
 use crate::room::Room;
 use crate::status_page::StatusPage;
+use crate::steering::Steering;
 use mio::Registry;
 use mio::net::TcpListener;
 use relay_disk::FileDisk;
 use relay_files::{Fault, configuration_text, locked_node};
-use relay_limits::{AllowedClients, Balancers, Limit, Limits, LogForm};
+use relay_limits::{AllowedClients, Balancers, Limit, Limits, LogForm, control_path};
 use relay_log::{Counters, Form, Log};
 use relay_loop::Relay;
 use relay_routes::{Config, ConfigFault};
@@ -31,10 +34,12 @@ pub(crate) struct Settings {
     pub(crate) balancers: Balancers,
     /// The clients that may connect.
     pub(crate) allowed: AllowedClients,
+    /// The path of the control socket, if there is one.
+    pub(crate) control: Option<String>,
 }
 
 /// Returns what the file at this path says. Faults are checked in this order: the file, the configuration, the limits,
-/// the balancers, the clients that may connect.
+/// the balancers, the clients that may connect, the control socket.
 pub(crate) fn read_settings<F: Files<File = File>>(
     alloc: Global,
     files: &F,
@@ -50,11 +55,15 @@ pub(crate) fn read_settings<F: Files<File = File>>(
     let Some(allowed) = AllowedClients::of_document(alloc, &document)? else {
         return Err(Fault::Limit(Limit::Clients));
     };
+    let Some(control) = control_path(alloc, &document)? else {
+        return Err(Fault::Limit(Limit::Control));
+    };
     Ok(Settings {
         config,
         limits,
         balancers,
         allowed,
+        control,
     })
 }
 
@@ -146,6 +155,26 @@ pub(crate) fn open_page<R: Clock + Net>(
     let since = clock_moment(rt);
     match StatusPage::open(alloc, rt, registry, limits.status_port, next_number, since) {
         Ok(page) => Ok(page),
+        Err(error) if error.kind() == ErrorKind::OutOfMemory => Err(Fault::NoMemory),
+        Err(_) => Err(Fault::Socket),
+    }
+}
+
+/// Opens the control socket at the configured path, if there is one, and the file of held mail.
+pub(crate) fn open_steering<R: Files<File = File> + Net>(
+    alloc: Global,
+    rt: &R,
+    registry: &Registry,
+    control: Option<String>,
+    relay: &Relay<FileDisk>,
+) -> Result<Steering, Fault> {
+    let held_mail = HeldMail::beside(alloc, relay.node().config().spool.as_str())?;
+    let path = match &control {
+        Some(path) => Some(path.as_str()),
+        None => None,
+    };
+    match ControlSocket::open(alloc, rt, registry, path) {
+        Ok(socket) => Ok(Steering::new(alloc, socket, held_mail)),
         Err(error) if error.kind() == ErrorKind::OutOfMemory => Err(Fault::NoMemory),
         Err(_) => Err(Fault::Socket),
     }

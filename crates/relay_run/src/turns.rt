@@ -3,9 +3,11 @@ ghost use Rattle.std.specs.Prelude.{◌≡◌, ◌≤◌, ◌-◌, ℕ, IfOk};
 ghost use Rattle.relay_connections.specs.Readiness.{IsLeftClient, clients_of};
 ghost use Rattle.relay_next_hops.specs.Lanes.{next_due_of};
 ghost use Rattle.relay_next_hops.specs.Readiness.{IsLeftHop, hops_of};
-ghost use Rattle.relay_run.specs.Room.{MayStart, next_look};
+ghost use Rattle.relay_run.specs.Room.{next_look};
+ghost use Rattle.relay_run.specs.Steering.{HasDrained, MayBegin};
 ghost use Rattle.relay_run.specs.declared.waiting.TheConstants.{LONGEST_WAIT};
 
+use crate::control::ControlSocket;
 use crate::reopening::Why;
 use crate::reporter::Reporter;
 use crate::shell::SystemShell;
@@ -19,9 +21,10 @@ use relay_log::{Counters, Form, Log};
 use relay_next_hops::Sockets;
 use relay_trace::clock_moment;
 use std::alloc::Global;
+use std::fs::File;
 use std::io::Write;
 use std::net::Net;
-use std::rt::Clock;
+use std::rt::{Clock, Files};
 use std::time::Duration;
 
 /// What a relay uses of the system beside files: the clocks, its listener, what opens streams to next hops, what
@@ -49,15 +52,15 @@ impl<R> Drop for System<'_, R> {
     }
 }
 
-/// Serves until a fault ends the relay.
-pub(crate) fn serve<R: Clock + Net, E: Write>(
+/// Serves until the relay has drained, and returns it then; or until a fault ends it.
+pub(crate) fn serve<R: Files<File = File> + Clock + Net, E: Write>(
     alloc: Global,
     system: System<'_, R>,
     shell: SystemShell,
     form: Option<Form>,
     errors: &mut E,
-) -> Result<(), Fault>
-    ensures { IfOk result (λ _. ⊥) }
+) -> Result<SystemShell, Fault>
+    ensures { IfOk result (λ shell. (tick : ℕ) × HasDrained shell.steering shell.next_hops tick) }
 {
     let mut system = system;
     let mut shell = shell;
@@ -74,7 +77,10 @@ pub(crate) fn serve<R: Clock + Net, E: Write>(
             &mut lines,
             errors,
         );
-        shell = behind_turn(alloc, &mut system, shell, end, form, &mut counters, errors)?;
+        shell = after_turn(alloc, &mut system, shell, end, form, &mut counters, errors)?;
+        if shell.has_drained(system.poll.registry(), &Now::of(system.clock)) {
+            return Ok(shell);
+        }
     }
     // This many turns never pass.
     Err(Fault::Socket)
@@ -91,8 +97,13 @@ fn wait<R: Clock>(system: &mut System<'_, R>, shell: &mut SystemShell) {
         let (token, ready) = (event.token().0, Readiness::of(event));
         if token < StatusPage::TOKEN {
             shell.note(token, ready);
-        } else {
+        } else if token < ControlSocket::TOKEN {
             system.page.note(token - StatusPage::TOKEN, ready);
+        } else {
+            shell
+                .steering
+                .socket
+                .note(token - ControlSocket::TOKEN, ready);
         }
     }
 }
@@ -102,7 +113,7 @@ fn next_wait(shell: &SystemShell, page: &StatusPage, now: &Now) -> u64
     ensures client { (number : ℕ) → IsLeftClient (clients_of shell.now.clients) shell.now.relay number
         → result ≡ 0 }
     ensures hop { (number : ℕ) → IsLeftHop (hops_of shell.now.next_hops) shell.now.relay number → result ≡ 0 }
-    ensures due { MayStart shell.now.room shell.now.relay.node.records.spool.size
+    ensures due { MayBegin shell.now.steering shell.now.room shell.now.relay.node.records.spool.size
         → result ≤ next_due_of shell.now.next_hops - now.now.tick }
     ensures look { result ≤ next_look shell.now.room.standing shell.now.room - now.now.tick }
     ensures longest { result ≤ LONGEST_WAIT }
@@ -115,7 +126,7 @@ fn next_wait(shell: &SystemShell, page: &StatusPage, now: &Now) -> u64
 }
 
 /// Returns the relay after a turn with this result. Logs a fault that ends the relay.
-fn behind_turn<R: Clock, E: Write>(
+fn after_turn<R: Clock, E: Write>(
     alloc: Global,
     system: &mut System<'_, R>,
     shell: SystemShell,
@@ -124,12 +135,12 @@ fn behind_turn<R: Clock, E: Write>(
     counters: &mut Counters,
     errors: &mut E,
 ) -> Result<SystemShell, Fault> {
-    let behind = kept_or_reopened(alloc, system, shell, end, form, counters, errors);
-    if let Err(fault) = &behind {
+    let after = kept_or_reopened(alloc, system, shell, end, form, counters, errors);
+    if let Err(fault) = &after {
         let mut log = Log::stamped(alloc, errors, form, clock_moment(system.clock), counters);
         log.stopping(fault);
     }
-    behind
+    after
 }
 
 /// Returns the relay after a turn with this result. Opens its spool again if the device has failed, or has room again.
@@ -159,8 +170,8 @@ fn kept_or_reopened<R: Clock, E: Write>(
 }
 
 /// Takes a turn, and writes its log lines. Then keeps the spool small, which may take a while, and so comes after those
-/// lines. Serves the page last.
-fn take_turn<R: Clock + Net, E: Write>(
+/// lines. Serves the page and the control socket last.
+fn take_turn<R: Files<File = File> + Clock + Net, E: Write>(
     alloc: Global,
     system: &mut System<'_, R>,
     shell: &mut SystemShell,
@@ -179,6 +190,10 @@ fn take_turn<R: Clock + Net, E: Write>(
     end?;
     shell.note_known();
     show(system, shell, counters, &now);
+    let end = steer(alloc, system, shell, &now, form, counters, lines);
+    hand_out(lines, errors);
+    end?;
+    shell.note_known();
     shell.trim()
 }
 
@@ -212,6 +227,20 @@ fn serve_all<R: Clock + Net>(
         now,
         &mut log,
     )
+}
+
+/// Serves the control socket, and collects the log lines.
+fn steer<R: Files<File = File>>(
+    alloc: Global,
+    system: &System<'_, R>,
+    shell: &mut SystemShell,
+    now: &Now,
+    form: Option<Form>,
+    counters: &mut Counters,
+    lines: &mut Vec<u8>,
+) -> Result<(), Fault> {
+    let mut log = Log::stamped(alloc, lines, form, now.moment, counters);
+    shell.steer(system.clock, system.poll.registry(), now, &mut log)
 }
 
 /// Compacts the spool if that is due, and collects the log lines.

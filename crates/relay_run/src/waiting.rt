@@ -3,7 +3,8 @@ ghost use Rattle.std.specs.Prelude.{◌≡◌, ◌≤◌, ◌-◌, ℕ, true};
 ghost use Rattle.relay_connections.specs.Readiness.{IsLeftClient, clients_of};
 ghost use Rattle.relay_next_hops.specs.Lanes.{next_due_of};
 ghost use Rattle.relay_next_hops.specs.Readiness.{IsLeftHop, hops_of};
-ghost use Rattle.relay_run.specs.Room.{MayStart, next_look};
+ghost use Rattle.relay_run.specs.Room.{next_look};
+ghost use Rattle.relay_run.specs.Steering.{MayBegin};
 ghost use Rattle.relay_run.specs.declared.waiting.TheConstants.{LONGEST_WAIT};
 
 use crate::door::Door;
@@ -45,18 +46,18 @@ impl<S: Stream + Drop, D: Disk + Drop, F: Disk + Drop> Shell<S, D, F> {
         if self.next_hops.is_ready(&self.relay, self.may_start()) {
             return true;
         }
-        self.door.is_ready(now) || self.leaving.is_ready()
+        self.door.is_ready(now) || self.leaving.is_ready() || self.steering.socket.is_ready(now)
     }
 
     /// Returns how many milliseconds to wait for readiness, at most a minute: 0 while a connection has octets that
-    /// weren't read to the end; and no longer than until the node's next work is due or, while no attempt may begin,
-    /// until the room is looked at again.
+    /// weren't read to the end; and no longer than until the node's next work is due, if attempts may begin, and until
+    /// the room is looked at again or a drain is over.
     pub(crate) fn wait(&self, now: &Now) -> u64
         ensures client { (number : ℕ) → IsLeftClient (clients_of self.now.clients) self.now.relay number
             → result ≡ 0 }
         ensures hop { (number : ℕ) → IsLeftHop (hops_of self.now.next_hops) self.now.relay number
             → result ≡ 0 }
-        ensures due { MayStart self.now.room self.now.relay.node.records.spool.size
+        ensures due { MayBegin self.now.steering self.now.room self.now.relay.node.records.spool.size
             → result ≤ next_due_of self.now.next_hops - now.now.tick }
         ensures look { result ≤ next_look self.now.room.standing self.now.room - now.now.tick }
         ensures longest { result ≤ LONGEST_WAIT }
@@ -70,6 +71,7 @@ impl<S: Stream + Drop, D: Disk + Drop, F: Disk + Drop> Shell<S, D, F> {
         next = self.leaving.next_deadline(next);
         next = self.tidying.next_deadline(next);
         next = self.room.next_deadline(next);
+        next = self.steering.next_deadline(next);
         next = self.next_hops.next_deadline(self.may_start(), next);
         next.saturating_sub(now.tick)
     }

@@ -1,0 +1,4 @@
+mod AnswerLemmas
+mod DoorLemmas
+mod SteeringLemmas
+mod WithdrawalLemmas

@@ -1,0 +1,286 @@
+//! What a postmaster asks of a running relay, and how far it has come with it.
+ghost use Rattle.std.specs.Prelude.{◌≡◌, ◌≤◌, ◌↔◌, IfErr, IsTrue, List, OnErr, OnOk};
+ghost use Rattle.relay_run.specs.Steering.{DrainsBy, FailsToObey, IsDraining, Obeys, TurnsAway};
+ghost use Rattle.relay_run.specs.Withdrawing.{FailsAmong, HaveOutcomes};
+ghost use Rattle.relay_run.specs.declared.withdrawing.Outcome.{Outcome};
+
+use crate::answers::{Answer, done, done_with_count, refused, withdrawn};
+use crate::control::ControlSocket;
+use crate::draining::Drain;
+use crate::held_mail::HeldMail;
+use crate::shell::Shell;
+use crate::withdrawing::withdraw_each;
+use mio::Registry;
+use relay_book::Withdrawal;
+use relay_connections::{Now, Stream};
+use relay_control::{Named, Request, Scope, write_request};
+use relay_disk::Disk;
+use relay_files::Fault;
+use relay_log::Log;
+use std::alloc::{AllocError, Global};
+use std::fs::File;
+use std::rt::Files;
+
+/// Why the configuration isn't read again.
+const NO_RELOAD: &[u8] = b"reload: not supported; restart the relay after relayd drain";
+
+/// The control socket, and what was asked for by it.
+pub(crate) struct Steering {
+    pub(crate) alloc: Global,
+    pub(crate) socket: ControlSocket,
+    pub(crate) held_mail: HeldMail,
+    /// The drain that was asked for, if one was.
+    pub(crate) drain: Option<Drain>,
+}
+
+// Written out, so that what drops it calls this, and doesn't look into its parts.
+impl Drop for Steering {
+    fn drop(self) {
+        let Steering {
+            alloc: _,
+            socket: _socket,
+            held_mail: _held_mail,
+            drain: _,
+        } = self;
+    }
+}
+
+impl Steering {
+    /// Makes a steering by this socket. Nothing was asked for yet.
+    pub(crate) fn new(alloc: Global, socket: ControlSocket, held_mail: HeldMail) -> Self
+        ensures { ¬ IsDraining result }
+    {
+        Steering {
+            alloc,
+            socket,
+            held_mail,
+            drain: None,
+        }
+    }
+
+    /// Returns whether a drain was asked for.
+    pub(crate) fn is_draining(&self) -> bool
+        ensures { IsTrue result ↔ IsDraining self.now }
+    {
+        self.drain.is_some()
+    }
+
+    /// Returns the tick at which something is to be done, or `otherwise` if that is earlier.
+    pub(crate) fn next_deadline(&self, otherwise: u64) -> u64
+        ensures { result ≤ otherwise }
+    {
+        let next = self.socket.next_deadline(otherwise);
+        match self.drain {
+            Some(drain) => next.min(drain.until),
+            None => next,
+        }
+    }
+}
+
+impl<S: Stream + Drop, D: Disk + Drop, F: Disk + Drop> Shell<S, D, F> {
+    /// Serves the control socket. Does what one caller asks for, if one does, and logs that. Fails only if the device
+    /// has failed.
+    pub(crate) fn steer<O: Files<File = File>>(
+        &mut self,
+        files: &O,
+        registry: &Registry,
+        now: &Now,
+        log: &mut Log<'_, Vec<u8>>,
+    ) -> Result<(), Fault>
+        ensures fault { IfErr result (λ fault. fault ≡ Fault.Device) }
+        ensures away { TurnsAway self.old.steering self.old.clients → TurnsAway self.new.steering self.new.clients }
+    {
+        let Some((caller, request)) = self.steering.socket.serve(registry, now) else {
+            return Ok(());
+        };
+        if let Ok(line) = write_request(self.steering.alloc, &request) {
+            if let Some(text) = line.as_slice().strip_suffix(b"\n") {
+                log.steered(text);
+            }
+        }
+        if let Some(answer) = self.obey(files, caller, request, now, log)? {
+            self.steering.socket.answer(caller, answer);
+        }
+        Ok(())
+    }
+
+    /// Does what a caller asks for, and returns its answer; `None` for a drain, which is answered when the relay has
+    /// drained. Fails only if the device has failed.
+    fn obey<O: Files<File = File>>(
+        &mut self,
+        files: &O,
+        caller: usize,
+        request: Request,
+        now: &Now,
+        log: &mut Log<'_, Vec<u8>>,
+    ) -> Result<Option<Answer>, Fault>
+        ensures obeys { OnOk result (Obeys D.honest D.words now.now.moment request self.old.relay self.new.relay) }
+        ensures failed { OnErr result (FailsToObey D.honest D.words now.now.moment request self.old.relay
+            self.new.relay) }
+        ensures fault { IfErr result (λ fault. fault ≡ Fault.Device) }
+        ensures drains { DrainsBy now.now.tick caller request self.old.steering.drain self.new.steering.drain
+            self.old.clients self.new.clients }
+        ensures rest { (self.new.leaving ≡ self.old.leaving) × (self.new.door ≡ self.old.door)
+            × (self.new.room ≡ self.old.room) }
+    {
+        match request {
+            Request::Flush(scope) => match &scope {
+                Some(scope) => Ok(Some(self.flush(scope, now)?)),
+                None => Ok(Some(self.flush_all(None, now)?)),
+            },
+            Request::Hold(scope) => Ok(Some(self.hold(files, scope))),
+            Request::Release(scope) => Ok(Some(self.release(files, &scope))),
+            Request::Return(names) => {
+                let answer = self.withdraw(names.as_slice(), Withdrawal::Return, now, log)?;
+                Ok(Some(answer))
+            }
+            Request::Discard(names) => {
+                let answer = self.withdraw(names.as_slice(), Withdrawal::Discard, now, log)?;
+                Ok(Some(answer))
+            }
+            Request::Reload => Ok(Some(refused(self.steering.alloc, NO_RELOAD))),
+            Request::Drain { seconds } => {
+                self.begin_drain(caller, seconds, now);
+                Ok(None)
+            }
+        }
+    }
+
+    /// Lists mail to be tried now, due or not, and returns the answer. Fails only if the device has failed.
+    fn flush(&mut self, scope: &Scope, now: &Now) -> Result<Answer, Fault>
+        ensures fault { IfErr result (λ fault. fault ≡ Fault.Device) }
+        ensures relay { self.new.relay ≡ self.old.relay }
+        ensures drain { self.new.steering.drain ≡ self.old.steering.drain }
+        ensures rest { (self.new.clients ≡ self.old.clients) × (self.new.leaving ≡ self.old.leaving)
+            × (self.new.door ≡ self.old.door) × (self.new.room ≡ self.old.room) }
+    {
+        if let Some(answer) = self.refusal(scope) {
+            return Ok(answer);
+        }
+        self.flush_all(Some(scope), now)
+    }
+
+    /// Lists mail that is there, or all queued mail, to be tried now, and returns the answer. Fails only if the device
+    /// has failed.
+    fn flush_all(&mut self, scope: Option<&Scope>, now: &Now) -> Result<Answer, Fault>
+        ensures fault { IfErr result (λ fault. fault ≡ Fault.Device) }
+        ensures relay { self.new.relay ≡ self.old.relay }
+        ensures drain { self.new.steering.drain ≡ self.old.steering.drain }
+        ensures rest { (self.new.clients ≡ self.old.clients) × (self.new.leaving ≡ self.old.leaving)
+            × (self.new.door ≡ self.old.door) × (self.new.room ≡ self.old.room) }
+    {
+        let alloc = self.steering.alloc;
+        match self.next_hops.flush(&self.relay, scope, now) {
+            Ok(count) => Ok(done_with_count(alloc, "flushed recipients=", count)),
+            Err(Fault::NoMemory) => Ok(Err(AllocError)),
+            Err(_) => Err(Fault::Device),
+        }
+    }
+
+    /// Holds mail, in the file of held mail too, and returns the answer. If the file can't be written, mail that wasn't
+    /// held stays so.
+    fn hold<O: Files<File = File>>(&mut self, files: &O, scope: Scope) -> Answer
+        ensures relay { self.new.relay ≡ self.old.relay }
+        ensures drain { self.new.steering.drain ≡ self.old.steering.drain }
+        ensures rest { (self.new.clients ≡ self.old.clients) × (self.new.leaving ≡ self.old.leaving)
+            × (self.new.door ≡ self.old.door) × (self.new.room ≡ self.old.room) }
+    {
+        if let Some(answer) = self.refusal(&scope) {
+            return answer;
+        }
+        let alloc = self.steering.alloc;
+        let undo = match &scope {
+            Scope::Hop(name) => Scope::Hop(name.copy(alloc)?),
+            Scope::Message(number) => Scope::Message(*number),
+        };
+        let is_new = self.next_hops.hold(scope)?;
+        if self.steering.held_mail.write(files, self.next_hops.held()) {
+            return done(alloc, held_line(is_new));
+        }
+        if is_new {
+            self.next_hops.release(&undo);
+        }
+        refused(alloc, b"the file of held mail can't be written")
+    }
+
+    /// Releases mail, in the file of held mail too, and returns the answer. If the file can't be written, the mail is
+    /// held again when the relay is started again, and the answer says so.
+    fn release<O: Files<File = File>>(&mut self, files: &O, scope: &Scope) -> Answer
+        ensures relay { self.new.relay ≡ self.old.relay }
+        ensures drain { self.new.steering.drain ≡ self.old.steering.drain }
+        ensures rest { (self.new.clients ≡ self.old.clients) × (self.new.leaving ≡ self.old.leaving)
+            × (self.new.door ≡ self.old.door) × (self.new.room ≡ self.old.room) }
+    {
+        let alloc = self.steering.alloc;
+        // Mail that has left the queue since can be released too.
+        if !self.next_hops.release(scope) {
+            return refused(alloc, b"it isn't held");
+        }
+        if self.steering.held_mail.write(files, self.next_hops.held()) {
+            return done(alloc, b"released");
+        }
+        refused(
+            alloc,
+            b"released until the relay restarts: the file of held mail can't be written",
+        )
+    }
+
+    /// Withdraws the named places, message by message, and returns the answer. Fails only if the device has failed.
+    fn withdraw(
+        &mut self,
+        names: &[Named],
+        withdrawal: Withdrawal,
+        now: &Now,
+        log: &mut Log<'_, Vec<u8>>,
+    ) -> Result<Answer, Fault>
+        ensures withdraws { OnOk result ((outcomes : List Outcome) × HaveOutcomes D.honest D.words now.now.moment
+            withdrawal names.now outcomes self.old.relay self.new.relay) }
+        ensures failed { OnErr result (FailsAmong D.honest D.words now.now.moment withdrawal names.now self.old.relay
+            self.new.relay) }
+        ensures fault { IfErr result (λ fault. fault ≡ Fault.Device) }
+        ensures drain { self.new.steering.drain ≡ self.old.steering.drain }
+        ensures rest { (self.new.clients ≡ self.old.clients) × (self.new.leaving ≡ self.old.leaving)
+            × (self.new.door ≡ self.old.door) × (self.new.room ≡ self.old.room) }
+    {
+        let alloc = self.steering.alloc;
+        let Ok(outcomes) = Vec::with_capacity(alloc, names.len()) else {
+            return Ok(Err(AllocError));
+        };
+        let mut outcomes = outcomes;
+        withdraw_each(&mut self.relay, names, withdrawal, &mut outcomes, now, log)?;
+        self.tidying.note_shrunk();
+        Ok(withdrawn(alloc, withdrawal, names, outcomes.as_slice()))
+    }
+
+    /// Returns the answer to a request for mail that isn't there: no route has the next hop, or the message isn't
+    /// queued. Returns `None` if it is there.
+    fn refusal(&self, scope: &Scope) -> Option<Answer> {
+        let alloc = self.steering.alloc;
+        let node = self.relay.node();
+        match scope {
+            Scope::Hop(name) => match node.config().routes.place_of(name.as_slice()) {
+                Some(_) => None,
+                None => Some(refused(alloc, b"no route has this next hop")),
+            },
+            Scope::Message(number) => match node.message(*number) {
+                Some(_) => None,
+                None => Some(not_queued(alloc, *number)),
+            },
+        }
+    }
+}
+
+/// Returns the line of the answer to a request that has held mail.
+fn held_line(is_new: bool) -> &'static [u8] {
+    if is_new {
+        b"held; a held message still expires"
+    } else {
+        b"held before"
+    }
+}
+
+/// Returns the answer to a request for a message that isn't queued.
+fn not_queued(alloc: Global, number: u64) -> Answer {
+    let reason = format!(in alloc; "message {number} isn't queued")?;
+    refused(alloc, reason.as_str().as_bytes())
+}
