@@ -1,22 +1,34 @@
 -- The arguments of the program, the first of which is its name, and its exit status.
-use Rattle.std.specs.Prelude.{◌≡◌, ◌≢◌, ℕ, Bool, not, ◌&&◌, List, [], ◌∷◌, true, false, codes, is_some, Option}
+use Rattle.std.specs.Prelude.{◌≡◌, ◌≢◌, ℕ, Bool, not, ◌&&◌, ◌||◌, List, [], ◌∷◌, true, false, codes, is_some, Option}
 use Rattle.std.specs.Prelude.{Some, None, unwrap_or, if◌then◌else◌, option_map}
 use Rattle.std.specs.Option.{option_copied, option_map_or}
 use Rattle.std.specs.Str.{bytes_eq}
 use Rattle.std.specs.Str.Parse.{digits_value, without_leading_plus}
 use Rattle.clap.specs.Words.{App, IsAmong, Kinds, Row, Rule, Text, fault_of, first_of, new_app, new_rule}
 use Rattle.clap.specs.Words.{subcommand_of, with_rule, with_subcommand}
+use Rattle.clap.specs.Kinds.{or_else}
 use Rattle.clap.specs.ValueTests.{is_unsigned_in}
 use Rattle.clap.specs.declared.builder.action.ArgAction.TheVariants.{Set, SetTrue}
 use Rattle.clap.specs.declared.builder.value_parser.ValueParser.TheVariants.{Unsigned}
-use Rattle.clap.specs.declared.error.kind.ErrorKind.TheVariants.{DisplayHelp, DisplayVersion}
+use Rattle.clap.specs.declared.error.kind.ErrorKind.{ErrorKind}
+use Rattle.clap.specs.declared.error.kind.ErrorKind.TheVariants.{ArgumentConflict, DisplayHelp, DisplayVersion}
 use Rattle.clap.specs.declared.error.kind.ErrorKind.TheVariants.{MissingRequiredArgument, MissingSubcommand}
 use Rattle.clap.specs.declared.error.kind.ErrorKind.TheVariants.{UnknownArgument, ValueValidation}
 use Rattle.relay_arguments.specs.declared.words.Subcommand.{Subcommand}
 use Rattle.relay_arguments.specs.declared.words.Subcommand.TheVariants.{Session, Play, Init, List as ListHeld, Compact}
 use Rattle.relay_arguments.specs.declared.words.Subcommand.TheVariants.{Check, Run, Serve, Push}
 use Rattle.relay_arguments.specs.declared.words.Subcommand.TheVariants.{Listing as ListRows, Show, Status}
+use Rattle.relay_arguments.specs.declared.words.Subcommand.TheVariants.{Steer, Withdraw, Save}
 use Rattle.relay_arguments.specs.declared.looks.Listing.{Listing}
+use Rattle.relay_arguments.specs.declared.steering.Mail.{Mail}
+use Rattle.relay_arguments.specs.declared.steering.Mail.TheVariants.{Hop, Message}
+use Rattle.relay_arguments.specs.declared.steering.Steering.{Steering}
+use Rattle.relay_arguments.specs.declared.steering.Steering.TheVariants.{Flush, Hold, Release, Drain}
+use Rattle.relay_arguments.specs.declared.withdrawing.Choice.{Choice}
+use Rattle.relay_arguments.specs.declared.withdrawing.Removal.{Removal}
+use Rattle.relay_arguments.specs.declared.withdrawing.Removal.TheVariants.{Return, Discard}
+use Rattle.relay_arguments.specs.declared.choices.ChoiceFault.{ChoiceFault}
+use Rattle.relay_arguments.specs.declared.choices.ChoiceFault.TheVariants.{Both, Neither, Nothing}
 
 -- the grammar without subcommands, one of which is required; there is no `help` subcommand
 abbrev pub without_subcommands : App
@@ -79,6 +91,18 @@ number_rule =
     record (new_rule (codes "number"))
     { action = Some Set; value_names = 1; required = true; parser = Some (Unsigned 1 18446744073709551615) }
 
+-- profile: `--message NUMBER`, from 1 to 2^64 - 1
+abbrev pub message_rule : Rule
+message_rule = record (option_rule (codes "message")) { parser = Some (Unsigned 1 18446744073709551615) }
+
+-- profile: `--seconds N`, from 0 to 65,535
+abbrev pub seconds_rule : Rule
+seconds_rule = record (option_rule (codes "seconds")) { parser = Some (Unsigned 0 65535) }
+
+-- profile: `FILE`, required
+abbrev pub file_rule : Rule
+file_rule = record (new_rule (codes "file")) { action = Some Set; value_names = 1; required = true }
+
 -- the subcommand that lists the queue, plainly, as a table or as JSON objects, with these filters
 abbrev pub with_forms : App
 with_forms =
@@ -111,6 +135,28 @@ serving = with_rule (with_rule (with_rule (configured (codes "serve")) rounds_ru
 abbrev pub pushing : App
 pushing = with_rule (configured (codes "push")) log_rule
 
+-- a subcommand about the mail of a next hop, or about a message
+abbrev pub steering : Text → App
+steering name = with_rule (with_rule (configurable name) (option_rule (codes "hop"))) message_rule
+
+-- the subcommand that stops a running relay
+abbrev pub draining : App
+draining = with_rule (configurable (codes "drain")) seconds_rule
+
+-- a subcommand with the options that choose queued mail
+abbrev pub with_choice : Text → App
+with_choice name =
+    with_rule (with_rule (with_rule (with_rule (configurable name) (option_rule (codes "message")))
+    (option_rule (codes "hop"))) (option_rule (codes "from"))) (option_rule (codes "to"))
+
+-- a subcommand that withdraws the mail that its options choose
+abbrev pub withdrawing : Text → App
+withdrawing name = with_rule (with_choice name) (switch_rule (codes "yes"))
+
+-- the subcommand that saves a message to a file
+abbrev pub saving : App
+saving = with_rule (with_rule (configurable (codes "save")) number_rule) file_rule
+
 -- the grammar with the subcommands that need no file
 abbrev pub without_files : App
 without_files =
@@ -137,13 +183,73 @@ with_check = with_subcommand with_compact checking.top
 abbrev pub with_run : App
 with_run = with_subcommand with_check running.top
 
+-- and with those that serve in rounds and relay once
+abbrev pub with_push : App
+with_push = with_subcommand (with_subcommand with_run serving.top) pushing.top
+
+-- and with those that steer a running relay
+abbrev pub with_hold : App
+with_hold = with_subcommand (with_subcommand with_push (steering (codes "flush")).top) (steering (codes "hold")).top
+
+abbrev pub with_drain : App
+with_drain = with_subcommand (with_subcommand with_hold (steering (codes "release")).top) draining.top
+
+-- and with those that withdraw queued mail
+abbrev pub with_discard : App
+with_discard =
+    with_subcommand (with_subcommand with_drain (withdrawing (codes "return")).top) (withdrawing (codes "discard")).top
+
 -- the grammar of the program
 abbrev pub relayd : App
-relayd = with_subcommand (with_subcommand with_run serving.top) pushing.top
+relayd = with_subcommand with_discard saving.top
 
--- the kinds of errors that the arguments have; none if they are right
+-- a next hop or a message is named
+abbrev pub names_mail : List Row → Bool
+names_mail rows = is_some (first_of (codes "hop") rows) || is_some (first_of (codes "message") rows)
+
+-- a next hop and a message exclude each other, and one of them must be named if it is needed
+abbrev pub mail_kinds : Bool → List Row → Kinds
+mail_kinds needed rows =
+    if is_some (first_of (codes "hop") rows) && is_some (first_of (codes "message") rows) then ArgumentConflict ∷ []
+    else if needed && not (names_mail rows) then MissingRequiredArgument ∷ []
+    else []
+
+-- an option chooses mail to withdraw
+abbrev pub chooses_mail : List Row → Bool
+chooses_mail rows =
+    is_some (first_of (codes "message") rows) || is_some (first_of (codes "hop") rows)
+    || is_some (first_of (codes "from") rows) || is_some (first_of (codes "to") rows)
+
+-- what is withdrawn must be chosen
+abbrev pub withdrawal_kinds : List Row → Kinds
+withdrawal_kinds rows = if chooses_mail rows then [] else MissingRequiredArgument ∷ []
+
+-- the kinds of errors of the arguments of a subcommand of this name, by the mail that they name
+abbrev pub choice_kinds_by : Text → List Row → Kinds
+choice_kinds_by name rows =
+    if bytes_eq name (codes "flush") then mail_kinds false rows
+    else if bytes_eq name (codes "hold") || bytes_eq name (codes "release") then mail_kinds true rows
+    else if bytes_eq name (codes "return") || bytes_eq name (codes "discard") then withdrawal_kinds rows
+    else []
+
+abbrev pub choice_kinds : Option (Text × List Row) → Kinds
+choice_kinds None = []
+choice_kinds (Some (name, rows)) = choice_kinds_by name rows
+
+-- the kinds of errors that the arguments have: those of the argument parser, else those of the mail that is named; none
+-- if they are right
 abbrev pub faults_in : List Text → Kinds
-faults_in words = fault_of relayd words
+faults_in words = or_else (fault_of relayd words) (choice_kinds (subcommand_of relayd words))
+
+-- the kind of a wrong choice of mail
+abbrev pub kind_of_choice : ChoiceFault → ErrorKind
+kind_of_choice Both = ArgumentConflict
+kind_of_choice Neither = MissingRequiredArgument
+kind_of_choice Nothing = MissingRequiredArgument
+
+abbrev pub kinds_of : Option ChoiceFault → Kinds
+kinds_of None = []
+kinds_of (Some fault) = kind_of_choice fault ∷ []
 
 -- which recipients are listed, and how: as JSON objects; by next hop, reverse path, forward path and age, if these are
 -- given
@@ -153,6 +259,25 @@ pub record AskedRows : Type 0 where
   pub from : Option Text
   pub to : Option Text
   pub older : Option Text
+
+-- mail that is named: that of a next hop, or a message
+pub data AskedMail : Type 0 where
+  OfHop : Text → AskedMail
+  OfMessage : ℕ → AskedMail
+
+-- a request to a running relay
+pub data AskedSteering : Type 0 where
+  AskedFlush : Option AskedMail → AskedSteering
+  AskedHold : AskedMail → AskedSteering
+  AskedRelease : AskedMail → AskedSteering
+  AskedDrain : ℕ → AskedSteering
+
+-- which mail is withdrawn: by the numbers of messages, next hop, reverse path and forward path, if these are given
+pub record AskedChoice : Type 0 where
+  pub numbers : Option Text
+  pub hop : Option Text
+  pub from : Option Text
+  pub to : Option Text
 
 -- what the program shall do
 pub data Asked : Type 0 where
@@ -168,6 +293,9 @@ pub data Asked : Type 0 where
   AskedRun : Text → Bool → Asked
   AskedServe : Text → ℕ → ℕ → Bool → Asked
   AskedPush : Text → Bool → Asked
+  AskedSteer : Text → AskedSteering → Asked
+  AskedWithdraw : Text → Removal → AskedChoice → Bool → Asked
+  AskedSave : Text → ℕ → Text → Asked
 
 -- the file of `--config`, where it is required
 abbrev pub config_in : List Row → Text
@@ -177,17 +305,18 @@ config_in rows = unwrap_or (first_of (codes "config") rows) []
 abbrev pub config_or_default_in : List Row → Text
 config_or_default_in rows = unwrap_or (first_of (codes "config") rows) (codes "/etc/relayd.toml")
 
--- the number in a text, from 1 to the most; the argument parser refuses other texts
-abbrev pub number_of : ℕ → Text → ℕ
-number_of most text = if is_unsigned_in 1 most text then digits_value 10 (without_leading_plus text) else 1
+-- the number in a text, from the least to the most; the argument parser refuses other texts
+abbrev pub number_of : ℕ → ℕ → Text → ℕ
+number_of least most text =
+    if is_unsigned_in least most text then digits_value 10 (without_leading_plus text) else least
 
 -- the number of rounds, 1 by default
 abbrev pub rounds_in : List Row → ℕ
-rounds_in rows = option_map_or (number_of 1000000) (first_of (codes "rounds") rows) 1
+rounds_in rows = option_map_or (number_of 1 1000000) (first_of (codes "rounds") rows) 1
 
 -- the number of connections in a round, 1 by default
 abbrev pub workers_in : List Row → ℕ
-workers_in rows = option_map_or (number_of 64) (first_of (codes "workers") rows) 1
+workers_in rows = option_map_or (number_of 1 64) (first_of (codes "workers") rows) 1
 
 -- a switch of this name was given
 abbrev pub is_given_in : Text → List Row → Bool
@@ -215,13 +344,13 @@ list_asked rows =
     if is_plain (rows_asked_in rows) && not (is_given_in (codes "long") rows) then AskedList (config_in rows)
     else AskedListing (config_in rows) (rows_asked_in rows)
 
--- the number of the message; the argument parser refuses arguments without one
-abbrev pub message_number_in : List Row → ℕ
-message_number_in rows = option_map_or (number_of 18446744073709551615) (first_of (codes "number") rows) 1
+-- the number of the message that an argument names; arguments without one are refused
+abbrev pub message_number_in : Text → List Row → ℕ
+message_number_in argument rows = option_map_or (number_of 1 18446744073709551615) (first_of argument rows) 1
 
 -- `show`: a message, or only its text
 abbrev pub show_asked : List Row → Asked
-show_asked rows = AskedShow (config_or_default_in rows) (message_number_in rows) (is_given_in (codes "raw") rows)
+show_asked rows = AskedShow (config_or_default_in rows) (message_number_in (codes "number") rows) (is_given_in (codes "raw") rows)
 
 -- `status`: a table, or metrics
 abbrev pub status_asked : List Row → Asked
@@ -240,6 +369,54 @@ serve_asked rows = AskedServe (config_in rows) (rounds_in rows) (workers_in rows
 abbrev pub push_asked : List Row → Asked
 push_asked rows = AskedPush (config_in rows) (is_given_in (codes "log") rows)
 
+-- the mail that is named; arguments that name none are refused
+abbrev pub mail_in : List Row → AskedMail
+mail_in rows = option_map_or OfHop (first_of (codes "hop") rows) (OfMessage (message_number_in (codes "message") rows))
+
+-- the mail that is named, if any is
+abbrev pub named_mail_in : List Row → Option AskedMail
+named_mail_in rows = if names_mail rows then Some (mail_in rows) else None
+
+-- the number of seconds, 60 by default
+abbrev pub seconds_in : List Row → ℕ
+seconds_in rows = option_map_or (number_of 0 65535) (first_of (codes "seconds") rows) 60
+
+-- `flush`, `hold`, `release` and `drain`
+abbrev pub flush_asked : List Row → Asked
+flush_asked rows = AskedSteer (config_or_default_in rows) (AskedFlush (named_mail_in rows))
+
+abbrev pub hold_asked : List Row → Asked
+hold_asked rows = AskedSteer (config_or_default_in rows) (AskedHold (mail_in rows))
+
+abbrev pub release_asked : List Row → Asked
+release_asked rows = AskedSteer (config_or_default_in rows) (AskedRelease (mail_in rows))
+
+abbrev pub drain_asked : List Row → Asked
+drain_asked rows = AskedSteer (config_or_default_in rows) (AskedDrain (seconds_in rows))
+
+-- the options that choose mail to withdraw
+abbrev pub choice_in : List Row → AskedChoice
+choice_in rows = record {
+  numbers = first_of (codes "message") rows;
+  hop = first_of (codes "hop") rows;
+  from = first_of (codes "from") rows;
+  to = first_of (codes "to") rows;
+}
+
+-- `return` and `discard`
+abbrev pub withdraw_asked : Removal → List Row → Asked
+withdraw_asked removal rows =
+    AskedWithdraw (config_or_default_in rows) removal (choice_in rows) (is_given_in (codes "yes") rows)
+
+-- the file that a message is saved to; the argument parser refuses arguments without one
+abbrev pub into_in : List Row → Text
+into_in rows = unwrap_or (first_of (codes "file") rows) []
+
+-- `save`
+abbrev pub save_asked : List Row → Asked
+save_asked rows =
+    AskedSave (config_or_default_in rows) (message_number_in (codes "number") rows) (into_in rows)
+
 -- what the subcommand of this name asks for
 abbrev pub asked_by : Text → List Row → Asked
 asked_by name rows =
@@ -252,6 +429,13 @@ asked_by name rows =
     else if bytes_eq name (codes "run") then run_asked rows
     else if bytes_eq name (codes "serve") then serve_asked rows
     else if bytes_eq name (codes "push") then push_asked rows
+    else if bytes_eq name (codes "flush") then flush_asked rows
+    else if bytes_eq name (codes "hold") then hold_asked rows
+    else if bytes_eq name (codes "release") then release_asked rows
+    else if bytes_eq name (codes "drain") then drain_asked rows
+    else if bytes_eq name (codes "return") then withdraw_asked Return rows
+    else if bytes_eq name (codes "discard") then withdraw_asked Discard rows
+    else if bytes_eq name (codes "save") then save_asked rows
     else if bytes_eq name (codes "play") then AskedPlay
     else AskedSession
 
@@ -274,6 +458,27 @@ rows_value listing = record {
   older = option_copied listing.older;
 }
 
+-- the meaning of mail that is named
+abbrev pub mail_value : Mail → AskedMail
+mail_value (Hop name) = OfHop name.now
+mail_value (Message number) = OfMessage number
+
+-- the meaning of a request
+abbrev pub steering_value : Steering → AskedSteering
+steering_value (Flush mail) = AskedFlush (option_map mail_value mail)
+steering_value (Hold mail) = AskedHold (mail_value mail)
+steering_value (Release mail) = AskedRelease (mail_value mail)
+steering_value (Drain seconds) = AskedDrain seconds
+
+-- the meaning of the options that choose mail
+abbrev pub choice_value : Choice → AskedChoice
+choice_value choice = record {
+  numbers = option_copied choice.numbers;
+  hop = option_copied choice.hop;
+  from = option_copied choice.from;
+  to = option_copied choice.to;
+}
+
 -- the meaning of a subcommand
 abbrev pub asked : Subcommand → Asked
 asked Session = AskedSession
@@ -288,6 +493,9 @@ asked (Check file route) = AskedCheck file.now (option_map (λ address. address.
 asked (Run file quiet) = AskedRun file.now quiet
 asked (Serve file rounds workers log) = AskedServe file.now rounds workers log
 asked (Push file log) = AskedPush file.now log
+asked (Steer file request) = AskedSteer file.now (steering_value request)
+asked (Withdraw file removal choice confirmed) = AskedWithdraw file.now removal (choice_value choice) confirmed
+asked (Save file number into) = AskedSave file.now number into.now
 
 -- the arguments of a subcommand with the file `c`, and more
 abbrev pub words_of : Text → Text → List Text → List Text
@@ -356,6 +564,40 @@ LooksAtQueue name =
     × (asked_in (words_of name (codes "status") []) ≡ AskedStatus (codes "c") false)
     × (asked_in (name ∷ codes "status" ∷ []) ≡ AskedStatus (codes "/etc/relayd.toml") false)
 
+-- `flush` takes a next hop or a message, or neither; `hold` and `release` need one of them. `drain` takes 0 to 65,535
+-- seconds.
+abbrev pub Steers : Text → Type 0
+Steers name =
+    (asked_in (name ∷ codes "flush" ∷ []) ≡ AskedSteer (codes "/etc/relayd.toml") (AskedFlush None))
+    × (faults_in (words_of name (codes "flush") []) ≡ [])
+    × (faults_in (words_of name (codes "flush") (codes "--hop" ∷ codes "a" ∷ codes "--message" ∷ codes "7" ∷ []))
+    ≡ ArgumentConflict ∷ [])
+    × (asked_in (words_of name (codes "hold") (codes "--message" ∷ codes "7" ∷ []))
+    ≡ AskedSteer (codes "c") (AskedHold (OfMessage 7)))
+    × (faults_in (words_of name (codes "hold") []) ≡ MissingRequiredArgument ∷ [])
+    × (faults_in (words_of name (codes "hold") (codes "--message" ∷ codes "0" ∷ [])) ≡ ValueValidation ∷ [])
+    × (asked_in (words_of name (codes "release") (codes "--hop" ∷ codes "a" ∷ []))
+    ≡ AskedSteer (codes "c") (AskedRelease (OfHop (codes "a"))))
+    × (asked_in (words_of name (codes "drain") []) ≡ AskedSteer (codes "c") (AskedDrain 60))
+    × (asked_in (words_of name (codes "drain") (codes "--seconds" ∷ codes "0" ∷ []))
+    ≡ AskedSteer (codes "c") (AskedDrain 0))
+    × (faults_in (words_of name (codes "drain") (codes "--seconds" ∷ codes "65536" ∷ [])) ≡ ValueValidation ∷ [])
+
+-- `return` and `discard` need an option that chooses mail; without `--yes` nothing is withdrawn. `save` requires a
+-- number and a file.
+abbrev pub Withdraws : Text → Type 0
+Withdraws name =
+    (faults_in (words_of name (codes "return") (codes "--yes" ∷ [])) ≡ MissingRequiredArgument ∷ [])
+    × (faults_in (words_of name (codes "discard") (codes "--hop" ∷ codes "a" ∷ [])) ≡ [])
+    × (asked_in (words_of name (codes "return") (codes "--message" ∷ codes "15,16" ∷ []))
+    ≡ AskedWithdraw (codes "c") Return
+    (record { numbers = Some (codes "15,16"); hop = None; from = None; to = None }) false)
+    × (asked_in (words_of name (codes "discard") (codes "--yes" ∷ codes "--from" ∷ codes "a" ∷ codes "--to" ∷ codes "b" ∷ []))
+    ≡ AskedWithdraw (codes "c") Discard
+    (record { numbers = None; hop = None; from = Some (codes "a"); to = Some (codes "b") }) true)
+    × (asked_in (words_of name (codes "save") (codes "7" ∷ codes "f" ∷ [])) ≡ AskedSave (codes "c") 7 (codes "f"))
+    × (faults_in (words_of name (codes "save") (codes "7" ∷ [])) ≡ MissingRequiredArgument ∷ [])
+
 -- `session` and `play` take no arguments; `init` and `list` require a file. A missing subcommand, a missing file or a
 -- further argument is an error; `--help` asks for help, and `--version` for the version.
 abbrev pub WordsAreTaken : Type 0
@@ -379,6 +621,8 @@ WordsAreTaken =
     × Checks name
     × Runs name
     × LooksAtQueue name
+    × Steers name
+    × Withdraws name
 
 -- the argument parser finds no error, and the arguments ask for a session
 abbrev pub AskForSession : List Text → Type 0

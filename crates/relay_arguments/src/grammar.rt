@@ -4,10 +4,13 @@ ghost use Rattle.clap.specs.Words.{app_of, new_app, rule_of};
 ghost use Rattle.relay_arguments.specs.Arguments.{checking, config_rule, configurable, configured, log_rule};
 ghost use Rattle.relay_arguments.specs.Arguments.{optional_config_rule, over_files, pushing, quiet_rule, relayd};
 ghost use Rattle.relay_arguments.specs.Arguments.{rounds_rule, route_rule, running, serving, with_check};
-ghost use Rattle.relay_arguments.specs.Arguments.{with_compact, with_queue, with_run, without_files};
+ghost use Rattle.relay_arguments.specs.Arguments.{with_compact, with_discard, with_drain, with_hold, with_push};
+ghost use Rattle.relay_arguments.specs.Arguments.{with_queue, with_run, without_files};
 ghost use Rattle.relay_arguments.specs.Arguments.{without_subcommands, workers_rule};
 
 use crate::looks::{list, show, status};
+use crate::steering::{drain, flush, hold, release};
+use crate::withdrawing::{discard, return_mail, save};
 use crate::words::{MOST_ROUNDS, MOST_WORKERS};
 use clap::builder::ValueParser;
 use clap::{Arg, ArgAction, Command};
@@ -20,6 +23,48 @@ const VERSION: &str = "1.0.0";
 pub(crate) fn program<'a>(alloc: Global) -> Result<Command<'a>, AllocError>
     ensures { IfOk result (λ command. app_of command ≡ relayd) }
 {
+    let with_discard = with_discard(alloc)?;
+    let save = save(alloc)?;
+    with_discard.subcommand(save)
+}
+
+/// Returns the grammar with all subcommands but `save`. Fails if memory runs out.
+fn with_discard<'a>(alloc: Global) -> Result<Command<'a>, AllocError>
+    ensures { IfOk result (λ command. app_of command ≡ with_discard) }
+{
+    let with_drain = with_drain(alloc)?;
+    let return_mail = return_mail(alloc)?;
+    let with_return = with_drain.subcommand(return_mail)?;
+    let discard = discard(alloc)?;
+    with_return.subcommand(discard)
+}
+
+/// Returns the grammar with the subcommands up to `drain`. Fails if memory runs out.
+fn with_drain<'a>(alloc: Global) -> Result<Command<'a>, AllocError>
+    ensures { IfOk result (λ command. app_of command ≡ with_drain) }
+{
+    let with_hold = with_hold(alloc)?;
+    let release = release(alloc)?;
+    let with_release = with_hold.subcommand(release)?;
+    let drain = drain(alloc)?;
+    with_release.subcommand(drain)
+}
+
+/// Returns the grammar with the subcommands up to `hold`. Fails if memory runs out.
+fn with_hold<'a>(alloc: Global) -> Result<Command<'a>, AllocError>
+    ensures { IfOk result (λ command. app_of command ≡ with_hold) }
+{
+    let with_push = with_push(alloc)?;
+    let flush = flush(alloc)?;
+    let with_flush = with_push.subcommand(flush)?;
+    let hold = hold(alloc)?;
+    with_flush.subcommand(hold)
+}
+
+/// Returns the grammar with the subcommands up to `push`. Fails if memory runs out.
+fn with_push<'a>(alloc: Global) -> Result<Command<'a>, AllocError>
+    ensures { IfOk result (λ command. app_of command ≡ with_push) }
+{
     // Each subcommand is added as soon as it is made, so that few have to be dropped if memory runs out.
     let with_run = with_run(alloc)?;
     let serve = serve(alloc)?;
@@ -28,7 +73,7 @@ pub(crate) fn program<'a>(alloc: Global) -> Result<Command<'a>, AllocError>
     with_serve.subcommand(push)
 }
 
-/// Returns the grammar with all subcommands but `serve` and `push`. Fails if memory runs out.
+/// Returns the grammar with the subcommands up to `run`. Fails if memory runs out.
 fn with_run<'a>(alloc: Global) -> Result<Command<'a>, AllocError>
     ensures { IfOk result (λ command. app_of command ≡ with_run) }
 {

@@ -1,9 +1,14 @@
 //! The arguments of `relayd`: the subcommand that they name, or what is wrong with them.
 #![tactic(auto)]
 
+mod choices;
 mod grammar;
 mod looks;
+mod steering;
+mod withdrawing;
 mod words;
 
 pub use looks::Listing;
+pub use steering::{Mail, Steering};
+pub use withdrawing::{Choice, Removal};
 pub use words::{Subcommand, arguments, words_are_taken};

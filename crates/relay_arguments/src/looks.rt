@@ -1,5 +1,5 @@
 //! The arguments of the subcommands that show the queue.
-ghost use Rattle.std.specs.Prelude.{◌≡◌, codes, false, IfOk};
+ghost use Rattle.std.specs.Prelude.{◌≡◌, codes, false, is_some, IfOk};
 ghost use Rattle.std.specs.Option.{option_copied};
 ghost use Rattle.clap.specs.Words.{app_of, first_of, found_of, rows_of, rule_of};
 ghost use Rattle.relay_arguments.specs.Arguments.{asked, is_plain, list_asked, listing, message_number_in};
@@ -46,7 +46,7 @@ pub(crate) fn show_asked<'a>(matches: &ArgMatches<'a>) -> Subcommand<'a>
 {
     Subcommand::Show {
         file: config_or_default(matches),
-        number: message_number(matches),
+        number: message_number(matches, "number"),
         raw: is_given(matches, "raw"),
     }
 }
@@ -86,18 +86,25 @@ fn is_plain(listing: &Listing<'_>) -> bool
 }
 
 /// Returns the value of an option, if it was given.
-fn text_of<'a>(matches: &ArgMatches<'a>, option: &str) -> Option<&'a str>
+pub(crate) fn text_of<'a>(matches: &ArgMatches<'a>, option: &str) -> Option<&'a str>
     ensures { option_copied result ≡ first_of option.now (rows_of (found_of matches.now)) }
 {
     matches.get_str(option)
 }
 
-/// Returns the number of the message; the argument parser refuses arguments without one.
-fn message_number(matches: &ArgMatches<'_>) -> u64
-    ensures { result ≡ message_number_in (rows_of (found_of matches.now)) }
+/// Returns whether an option was given.
+pub(crate) fn is_some_text(matches: &ArgMatches<'_>, option: &str) -> bool
+    ensures { result ≡ is_some (first_of option.now (rows_of (found_of matches.now))) }
 {
-    match matches.get_str("number") {
-        Some(text) => number_of(text, u64::MAX),
+    matches.get_str(option).is_some()
+}
+
+/// Returns the number of the message that an argument names; arguments without one are refused.
+pub(crate) fn message_number(matches: &ArgMatches<'_>, argument: &str) -> u64
+    ensures { result ≡ message_number_in argument.now (rows_of (found_of matches.now)) }
+{
+    match matches.get_str(argument) {
+        Some(text) => number_of(text, 1, u64::MAX),
         None => 1,
     }
 }
@@ -171,7 +178,7 @@ pub(crate) fn status<'a>(alloc: Global) -> Result<Command<'a>, AllocError>
 }
 
 /// Returns a switch of this name.
-fn switch<'a>(alloc: Global, name: &'a str, help: &'a str) -> Arg<'a>
+pub(crate) fn switch<'a>(alloc: Global, name: &'a str, help: &'a str) -> Arg<'a>
     ensures rule { rule_of result ≡ switch_rule name.now }
     ensures local { result.global ≡ false }
 {
@@ -182,7 +189,7 @@ fn switch<'a>(alloc: Global, name: &'a str, help: &'a str) -> Arg<'a>
 }
 
 /// Returns an option of this name with any value, which `--help` calls `value`.
-fn option<'a>(alloc: Global, name: &'a str, value: &'a str, help: &'a str) -> Arg<'a>
+pub(crate) fn option<'a>(alloc: Global, name: &'a str, value: &'a str, help: &'a str) -> Arg<'a>
     ensures rule { rule_of result ≡ option_rule name.now }
     ensures local { result.global ≡ false }
 {
@@ -194,7 +201,7 @@ fn option<'a>(alloc: Global, name: &'a str, value: &'a str, help: &'a str) -> Ar
 }
 
 /// `NUMBER`, a positional argument
-fn number_argument<'a>(alloc: Global) -> Arg<'a>
+pub(crate) fn number_argument<'a>(alloc: Global) -> Arg<'a>
     ensures rule { rule_of result ≡ number_rule }
     ensures local { result.global ≡ false }
 {

@@ -5,8 +5,11 @@ ghost use Rattle.relay_arguments.specs.Arguments.{check_asked, config_or_default
 ghost use Rattle.relay_arguments.specs.Arguments.{number_of, push_asked, rounds_in, run_asked, serve_asked};
 ghost use Rattle.relay_arguments.specs.Arguments.{workers_in};
 
+use crate::choices::choice_fault;
 use crate::grammar::program;
 use crate::looks::{Listing, list_asked, show_asked, status_asked};
+use crate::steering::{Steering, drain_asked, flush_asked, hold_asked, release_asked};
+use crate::withdrawing::{Choice, Removal, save_asked, withdraw_asked};
 use clap::{ArgMatches, Error};
 use std::alloc::Global;
 use std::convert::AsStr;
@@ -72,6 +75,33 @@ pub enum Subcommand<'a> {
         /// Whether to log to standard error.
         log: bool,
     },
+    /// Send a request to a running relay.
+    Steer {
+        /// The configuration file.
+        file: &'a str,
+        /// The request.
+        asked: Steering<'a>,
+    },
+    /// Withdraw queued mail.
+    Withdraw {
+        /// The configuration file.
+        file: &'a str,
+        /// How it is withdrawn.
+        removal: Removal,
+        /// Which mail is withdrawn.
+        choice: Choice<'a>,
+        /// Whether to withdraw it, instead of printing what would be withdrawn.
+        yes: bool,
+    },
+    /// Save the text of a message to a new file.
+    Save {
+        /// The configuration file.
+        file: &'a str,
+        /// The number of the message.
+        number: u64,
+        /// The file to make.
+        into: &'a str,
+    },
     /// Relay due mail once.
     Push {
         /// The configuration file.
@@ -97,7 +127,10 @@ pub fn arguments<'a, S: AsStr>(alloc: Global, words: &'a [S]) -> Result<Subcomma
     ensures asked { IfOk result (λ subcommand. asked subcommand ≡ asked_in (map S.text words.now)) }
 {
     let matches = program(alloc)?.try_get_matches_from(words)?;
-    Ok(asked_for(&matches))
+    match choice_fault(&matches) {
+        Some(fault) => Err(fault.error(alloc)?),
+        None => Ok(asked_for(&matches)),
+    }
 }
 
 /// Returns the subcommand that was given.
@@ -132,6 +165,20 @@ fn named<'a>(name: &str, matches: &ArgMatches<'a>) -> Subcommand<'a>
         serve_asked(matches)
     } else if name == "push" {
         push_asked(matches)
+    } else if name == "flush" {
+        flush_asked(matches)
+    } else if name == "hold" {
+        hold_asked(matches)
+    } else if name == "release" {
+        release_asked(matches)
+    } else if name == "drain" {
+        drain_asked(matches)
+    } else if name == "return" {
+        withdraw_asked(Removal::Return, matches)
+    } else if name == "discard" {
+        withdraw_asked(Removal::Discard, matches)
+    } else if name == "save" {
+        save_asked(matches)
     } else if name == "play" {
         Subcommand::Play
     } else {
@@ -208,7 +255,7 @@ fn rounds(matches: &ArgMatches<'_>) -> u32
     ensures { result ≡ rounds_in (rows_of (found_of matches.now)) }
 {
     match matches.get_str("rounds") {
-        Some(text) => number_of(text, MOST_ROUNDS) as u32,
+        Some(text) => number_of(text, 1, MOST_ROUNDS) as u32,
         None => 1,
     }
 }
@@ -218,28 +265,28 @@ fn workers(matches: &ArgMatches<'_>) -> u8
     ensures { result ≡ workers_in (rows_of (found_of matches.now)) }
 {
     match matches.get_str("workers") {
-        Some(text) => number_of(text, MOST_WORKERS) as u8,
+        Some(text) => number_of(text, 1, MOST_WORKERS) as u8,
         None => 1,
     }
 }
 
-/// Returns the number in a text, from 1 to `most`; the argument parser refuses other texts.
-pub(crate) fn number_of(text: &str, most: u64) -> u64
-    requires { 1 ≤ most }
-    ensures number { result ≡ number_of most text.now }
+/// Returns the number in a text, from `least` to `most`; the argument parser refuses other texts.
+pub(crate) fn number_of(text: &str, least: u64, most: u64) -> u64
+    requires { least ≤ most }
+    ensures number { result ≡ number_of least most text.now }
     ensures within { result ≤ most }
 {
     match text.parse::<u64>() {
         Ok(number) => {
-            if number < 1 {
-                1
+            if number < least {
+                least
             } else if most < number {
-                1
+                least
             } else {
                 number
             }
         }
-        Err(_) => 1,
+        Err(_) => least,
     }
 }
 

@@ -1,5 +1,5 @@
 -- The number of a message, by the rows of a parse.
-use Rattle.std.proofs.Common.{◌∙◌, ap, sym, codes, option_map, Option, Bor, List, ℕ}
+use Rattle.std.proofs.Common.{◌∙◌, ap, sym, option_map, Option, Bor, List, ℕ}
 use Rattle.std.specs.Option.{option_map_or}
 use Rattle.clap.specs.Words.{found_of}
 use Rattle.clap.proofs.WalkLemmas.{first_value-rows}
@@ -7,16 +7,16 @@ use Rattle.relay_arguments.specs.Arguments.{number_of}
 use Rattle.relay_arguments.proofs.looks.message_number.Goals as goal
 
 of_value : Option (Bor (List ℕ)) → ℕ
-of_value found = option_map_or (number_of 18446744073709551615) (option_map (λ text. text.now) found) 1
+of_value found = option_map_or (number_of 1 18446744073709551615) (option_map (λ text. text.now) found) 1
 
 pub returns-in-Some : goal.returns-in-Some
 unfolding of_value
 returns-in-Some c =
     c.number_of.ensures.number ∙ (ap of_value (sym c.in-Some.is)
-    ∙ ap (λ found. option_map_or (number_of 18446744073709551615) found 1) (c.get_str.ensures ∙ first_value-rows (found_of c.args.matches.now) (codes "number")))
+    ∙ ap (λ found. option_map_or (number_of 1 18446744073709551615) found 1) (c.get_str.ensures ∙ first_value-rows (found_of c.args.matches.now) c.args.argument.now))
 
 pub returns-in-None : goal.returns-in-None
 unfolding of_value
 returns-in-None c =
     ap of_value (sym c.in-None.is)
-    ∙ ap (λ found. option_map_or (number_of 18446744073709551615) found 1) (c.get_str.ensures ∙ first_value-rows (found_of c.args.matches.now) (codes "number"))
+    ∙ ap (λ found. option_map_or (number_of 1 18446744073709551615) found 1) (c.get_str.ensures ∙ first_value-rows (found_of c.args.matches.now) c.args.argument.now)

@@ -7,16 +7,16 @@ use Rattle.relay_arguments.specs.Arguments.{number_of}
 use Rattle.relay_arguments.proofs.words.workers.Goals as goal
 
 of_value : Option (Bor (List ℕ)) → ℕ
-of_value found = option_map_or (number_of 64) (option_map (λ text. text.now) found) 1
+of_value found = option_map_or (number_of 1 64) (option_map (λ text. text.now) found) 1
 
 pub returns-in-Some : goal.returns-in-Some
 unfolding of_value
 returns-in-Some c =
     c.number_of.ensures.number ∙ (ap of_value (sym c.in-Some.is)
-    ∙ ap (λ found. option_map_or (number_of 64) found 1) (c.get_str.ensures ∙ first_value-rows (found_of c.args.matches.now) (codes "workers")))
+    ∙ ap (λ found. option_map_or (number_of 1 64) found 1) (c.get_str.ensures ∙ first_value-rows (found_of c.args.matches.now) (codes "workers")))
 
 pub returns-in-None : goal.returns-in-None
 unfolding of_value
 returns-in-None c =
     ap of_value (sym c.in-None.is)
-    ∙ ap (λ found. option_map_or (number_of 64) found 1) (c.get_str.ensures ∙ first_value-rows (found_of c.args.matches.now) (codes "workers"))
+    ∙ ap (λ found. option_map_or (number_of 1 64) found 1) (c.get_str.ensures ∙ first_value-rows (found_of c.args.matches.now) (codes "workers"))
