@@ -1,4 +1,6 @@
+mod GroupLemmas
 mod JoinLemmas
+mod PartLemmas
 mod RowLemmas
 mod ScreenLemmas
 mod TextLemmas

@@ -5,3 +5,4 @@ pub mod Filter
 pub mod Picks
 pub mod Table
 pub mod Printed
+pub mod Selection

@@ -14,6 +14,9 @@ pub enum QueueFault {
     /// An age isn't a number and a unit.
     #[error("an age is a number and s, m, h or d, as 4h")]
     BadAge,
+    /// No queued recipient matches what is asked for.
+    #[error("no queued mail matches")]
+    NothingSelected,
 }
 
 impl From<Fault> for QueueFault {

@@ -351,7 +351,7 @@ fn push_oldest(screen: &mut Screen, oldest: Option<u64>) -> Result<(), AllocErro
 }
 
 /// Adds a number and a noun, in the plural unless there is one.
-fn push_count(screen: &mut Screen, count: u64, noun: &[u8]) -> Result<(), AllocError>
+pub(crate) fn push_count(screen: &mut Screen, count: u64, noun: &[u8]) -> Result<(), AllocError>
     ensures { OnOk result (screen.new ≡ screen.old ++ counted count (shown noun.now)) }
 {
     screen.push_number(count)?;

@@ -1,0 +1,158 @@
+//! What a postmaster sees of the mail that a selection takes, and the mail itself.
+ghost use Rattle.std.specs.Prelude.{◌≡◌, ◌++◌, IfErr, IfOk, OnOk, length, map};
+ghost use Rattle.std.specs.List.{flat_map};
+ghost use Rattle.relay_queue.specs.Row.{said_by};
+ghost use Rattle.relay_queue.specs.Selection.{IsTaken, TakesNothing, group_of, groups_of, line_of_mark, more_line};
+ghost use Rattle.relay_queue.specs.Selection.{preview_text, recipient_line, sums_line};
+
+use crate::fault::QueueFault;
+use crate::groups::{Mark, Selected, groups_of, selected_marks};
+use crate::row::{Row, row_at};
+use crate::screen::Screen;
+use crate::selection::Selection;
+use crate::table::push_count;
+use relay_disk::Disk;
+use relay_files::{Fault, configuration, open_to_read};
+use relay_records::Records;
+use relay_routes::Table;
+use relay_trace::clock_moment;
+use std::alloc::{AllocError, Global};
+use std::fs::File;
+use std::rt::{Clock, Files};
+
+/// How many recipients a preview lists.
+const MOST_LINES: usize = 10;
+
+/// The queued mail that a selection takes.
+#[derive(Debug, Drop)]
+pub struct Taken {
+    /// The messages with a selected recipient, in the order of the queue, each once.
+    pub messages: Vec<Selected>,
+    /// The lines of the first ten recipients, each the number of its message, its reverse path and its path, and a line
+    /// with the sums of all.
+    pub preview: Screen,
+}
+
+/// Returns the queued mail that a selection takes. Opens the spool's files for reading only, without a lock, so that a
+/// relay may be running on them. Faults are checked in this order: the configuration file, its content, the spool;
+/// [`QueueFault::NothingSelected`] if the selection takes nothing.
+pub fn select<R: Files<File = File> + Clock>(
+    alloc: Global,
+    rt: &R,
+    path: &str,
+    selection: &Selection<'_>,
+) -> Result<Taken, QueueFault>
+    ensures taken { IfOk result (λ taken. IsTaken selection.now taken.messages.items taken.preview) }
+    ensures nothing { IfErr result (λ fault. fault ≡ QueueFault.NothingSelected → TakesNothing selection.now) }
+{
+    let config = configuration(alloc, rt, path)?;
+    let records = open_to_read(alloc, rt, &config)?;
+    let now = clock_moment(rt);
+    let marks = selected_marks(alloc, &records, &config.routes, selection, now)?;
+    if marks.is_empty() {
+        return Err(QueueFault::NothingSelected);
+    }
+    taken_of(alloc, &records, &config.routes, marks.as_slice())
+}
+
+/// Returns these places by message, and their preview.
+fn taken_of<D: Disk>(
+    alloc: Global,
+    records: &Records<D>,
+    table: &Table,
+    marks: &[Mark],
+) -> Result<Taken, QueueFault>
+    ensures messages { IfOk result (λ taken. map group_of taken.messages.items ≡ groups_of marks.now) }
+    ensures preview { IfOk result (λ taken. taken.preview ≡ preview_text table.now records.now.queue marks.now) }
+    ensures err { IfErr result (λ fault. fault ≡ QueueFault.Files Fault.NoMemory) }
+{
+    let messages = groups_of(alloc, marks)?;
+    let preview = preview_of(alloc, records, table, marks, messages.len())?;
+    Ok(Taken { messages, preview })
+}
+
+/// Returns the preview of places, which are of this number of messages.
+fn preview_of<D: Disk>(
+    alloc: Global,
+    records: &Records<D>,
+    table: &Table,
+    marks: &[Mark],
+    messages: usize,
+) -> Result<Screen, AllocError>
+    requires { messages ≡ length (groups_of marks.now) }
+    ensures { IfOk result (λ preview. preview ≡ preview_text table.now records.now.queue marks.now) }
+{
+    let mut screen = Screen::new(alloc);
+    push_lines(
+        &mut screen,
+        records,
+        table,
+        &marks[..marks.len().min(MOST_LINES)],
+    )?;
+    push_more(&mut screen, marks.len())?;
+    push_sums(&mut screen, messages as u64, marks.len() as u64)?;
+    Ok(screen)
+}
+
+/// Adds the lines of recipients.
+fn push_lines<D: Disk>(
+    screen: &mut Screen,
+    records: &Records<D>,
+    table: &Table,
+    marks: &[Mark],
+) -> Result<(), AllocError>
+    ensures { OnOk result (screen.new ≡ screen.old ++ flat_map (line_of_mark table.now records.now.queue) marks.now) }
+{
+    for mark in marks {
+        push_line_of(screen, records, table, *mark)?;
+    }
+    Ok(())
+}
+
+/// Adds the line of the recipient at a place, if it is queued.
+fn push_line_of<D: Disk>(
+    screen: &mut Screen,
+    records: &Records<D>,
+    table: &Table,
+    mark: Mark,
+) -> Result<(), AllocError>
+    ensures { OnOk result (screen.new ≡ screen.old ++ line_of_mark table.now records.now.queue mark) }
+{
+    match row_at(records, table, mark.0, mark.1) {
+        Some(row) => push_line(screen, &row),
+        None => Ok(()),
+    }
+}
+
+/// Adds the line of a recipient.
+fn push_line(screen: &mut Screen, row: &Row<'_>) -> Result<(), AllocError>
+    ensures { OnOk result (screen.new ≡ screen.old ++ recipient_line (said_by row.now)) }
+{
+    screen.push_number(row.number)?;
+    screen.push(b" ")?;
+    screen.push(row.reverse_path)?;
+    screen.push(b" ")?;
+    screen.push(row.path)?;
+    screen.end_line()
+}
+
+/// Adds a line that says that there are more recipients than were listed, if there are.
+fn push_more(screen: &mut Screen, recipients: usize) -> Result<(), AllocError>
+    ensures { OnOk result (screen.new ≡ screen.old ++ more_line recipients) }
+{
+    if recipients <= MOST_LINES {
+        return Ok(());
+    }
+    screen.push(b"..")?;
+    screen.end_line()
+}
+
+/// Adds the line of the sums: `7 messages, 12 recipients`.
+fn push_sums(screen: &mut Screen, messages: u64, recipients: u64) -> Result<(), AllocError>
+    ensures { OnOk result (screen.new ≡ screen.old ++ sums_line messages recipients) }
+{
+    push_count(screen, messages, b"message")?;
+    screen.push(b", ")?;
+    push_count(screen, recipients, b"recipient")?;
+    screen.end_line()
+}
