@@ -1,3 +1,4 @@
 mod ProfileLemmas
 mod SessionLemmas
 mod StatusLemmas
+mod WithdrawalLemmas

@@ -6,7 +6,10 @@ ghost use Rattle.relay_program.specs.Play.{IsPlayedWhole};
 ghost use Rattle.relay_program.specs.Session.{EndsAs};
 
 use crate::looks::{list_rows, show, status};
+use crate::saving::save;
+use crate::steering::steer;
 use crate::streams::session;
+use crate::withdrawing::withdraw;
 use clap::Error;
 use clap::error::ErrorKind;
 use relay_arguments::{Subcommand, arguments};
@@ -117,6 +120,23 @@ pub fn command<
         Ok(Subcommand::Push { file, log }) => {
             ended_alone(push(alloc, system, file, writer, errors, log), errors)
         }
+        Ok(Subcommand::Steer { file, asked }) => {
+            ended(steer(alloc, system, file, asked, writer), errors)
+        }
+        Ok(
+            Subcommand::Withdraw {
+                file,
+                removal,
+                choice,
+                yes,
+            },
+        ) => ended(
+            withdraw(alloc, system, file, removal, &choice, yes, writer),
+            errors,
+        ),
+        Ok(Subcommand::Save { file, number, into }) => {
+            ended(save(alloc, system, file, number, into), errors)
+        }
         Err(error) => explain(&error, writer, errors),
     }
 }
@@ -146,7 +166,7 @@ fn run_apart_from_its_log<
     E: Write,
     L: Write + Send + Drop + 'static,
 >(alloc: Global, system: &F, file: &str, quiet: bool, writer: &mut W, errors: &mut E, log: L) -> u8
-    ensures { result ≡ 1 }
+    ensures { (result ≡ 0) ⊎ (result ≡ 1) }
 {
     match LogWriter::start(alloc, *system, log) {
         Ok(mut lines) => {
@@ -158,7 +178,8 @@ fn run_apart_from_its_log<
     }
 }
 
-/// Runs the relay. Unless it is quiet, first writes the findings in its configuration to `errors`.
+/// Runs the relay until it is drained, or fails. Unless it is quiet, first writes the findings in its configuration to
+/// `errors`.
 fn run_checked<
     F: Files<File = File>
         + Clock
@@ -170,14 +191,14 @@ fn run_checked<
     W: Write,
     E: Write,
 >(alloc: Global, system: &F, file: &str, quiet: bool, writer: &mut W, errors: &mut E) -> u8
-    ensures { result ≡ 1 }
+    ensures { (result ≡ 0) ⊎ (result ≡ 1) }
 {
     if !quiet {
         // A relay runs even if these can't be written.
         let _ = warn(alloc, system, file, errors);
     }
     match run(alloc, system, file, quiet, writer, errors) {
-        Ok(()) => FAULT,
+        Ok(()) => DONE,
         Err(fault) => fail_to_run(alloc, system, file, fault, errors),
     }
 }

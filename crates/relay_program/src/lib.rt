@@ -2,11 +2,19 @@
 //! writer.
 #![tactic(auto)]
 
+mod control_client;
 mod descriptors;
 mod dispatch;
 mod looks;
+mod offline;
+mod report;
+mod requests;
+mod saving;
 mod setup;
+mod steering;
+mod steering_fault;
 mod streams;
+mod withdrawing;
 
 pub use descriptors::hold_standard_streams;
 pub use dispatch::{command, refuse_streams, refuse_words};

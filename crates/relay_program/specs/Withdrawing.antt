@@ -1,0 +1,74 @@
+-- What `return` and `discard` do to a spool on which no relay runs: exactly the selected places end, and nothing else
+-- changes.
+use Rattle.std.specs.Prelude.{◌≡◌, ◌⊎◌, ℕ, List, [], ◌∷◌, ◌++◌}
+use Rattle.relay_disk.specs.Device.{DiskWords}
+use Rattle.relay_attempts.specs.Withdrawals.{AddsWithdrawal, CutsWithdrawal, EndsWithdrawal, RefusesToWithdraw}
+use Rattle.relay_book.specs.declared.change.Change.{Change}
+use Rattle.relay_book.specs.declared.change.Withdrawal.{Withdrawal}
+use Rattle.relay_node.specs.Node.{NodeState}
+use Rattle.relay_queue.specs.declared.groups.Selected.{Selected}
+use Rattle.relay_records.specs.Records.{Keeps}
+use Rattle.relay_records.specs.declared.fault.NodeFault.{NodeFault}
+use Rattle.relay_records.specs.declared.fault.NodeFault.TheVariants as fault
+use Rattle.relay_report.specs.Report.{reporter_of}
+use Rattle.relay_program.specs.declared.offline.Outcome.{Outcome}
+use Rattle.relay_program.specs.declared.offline.Outcome.TheVariants.{Withdrawn, Unknown, Busy, Full}
+
+-- the configuration, the sessions and the attempts are the same
+pub record KeepsAllButMail {D : Type 0} (old new : NodeState D) : Type 0 where
+  pub config : new.config ≡ old.config
+  pub seats : new.seats ≡ old.seats
+  pub attempts : new.attempts ≡ old.attempts
+
+-- The words below are of places that the postmaster withdraws at a time.
+module _ {D : Type 0} (honest : Type 0) (words : DiskWords D) (at : ℕ) (withdrawal : Withdrawal) where
+  -- Exactly the selected places of the message have ended. In a list of changes that is one change more, the
+  -- withdrawal.
+  pub record Withdraws (selected : Selected) (old new : NodeState D) : Type 0 where
+    pub number : ℕ
+    pub ends : EndsWithdrawal words (reporter_of old.config) old.attempts selected.message at withdrawal
+        selected.places.items old.records new.records number
+    pub adds : (changes : List Change) → Keeps honest words old.records changes
+        → AddsWithdrawal honest words (reporter_of old.config) selected.message at withdrawal selected.places.items
+        changes old.records new.records number
+    pub rest : KeepsAllButMail old new
+
+  -- they haven't, for this reason, and no mail has changed
+  pub record Refuses (selected : Selected) (why : NodeFault) (old new : NodeState D) : Type 0 where
+    pub why_is : RefusesToWithdraw words (reporter_of old.config) old.attempts selected.message at withdrawal
+        selected.places.items old.records new.records why
+    pub same : new.records ≡ old.records
+    pub rest : KeepsAllButMail old new
+
+  -- the outcome of withdrawing the selected places of a message
+  abbrev pub HasOutcome : Outcome → Selected → NodeState D → NodeState D → Type 0
+  HasOutcome Withdrawn selected old new = Withdraws selected old new
+  HasOutcome Unknown selected old new = Refuses selected fault.Unknown old new
+  HasOutcome Busy selected old new = Refuses selected fault.Busy old new
+  HasOutcome Full selected old new = Refuses selected fault.Full old new
+
+  -- these are the outcomes of the messages, one after the other
+  abbrev pub HaveOutcomes : List Selected → List Outcome → NodeState D → NodeState D → Type 0
+  HaveOutcomes [] [] old new = new ≡ old
+  HaveOutcomes [] (outcome ∷ outcomes) old new = ⊥
+  HaveOutcomes (selected ∷ all) [] old new = ⊥
+  HaveOutcomes (selected ∷ all) (outcome ∷ outcomes) old new =
+      (between : NodeState D) × HasOutcome outcome selected old between × HaveOutcomes all outcomes between new
+
+  -- memory ran out, and no mail has changed, or the device failed while the selected places ended
+  pub record FailsToWithdraw (selected : Selected) (old new : NodeState D) : Type 0 where
+    pub cause : (RefusesToWithdraw words (reporter_of old.config) old.attempts selected.message at withdrawal
+        selected.places.items old.records new.records fault.NoMemory)
+        ⊎ (RefusesToWithdraw words (reporter_of old.config) old.attempts selected.message at withdrawal
+        selected.places.items old.records new.records fault.Stopped)
+    pub rest : KeepsAllButMail old new
+
+  -- the first of the messages without an outcome failed
+  pub record FailsAmong (all : List Selected) (outcomes : List Outcome) (old new : NodeState D) : Type 0 where
+    pub front : List Selected
+    pub selected : Selected
+    pub back : List Selected
+    pub parts : all ≡ front ++ selected ∷ back
+    pub between : NodeState D
+    pub have : HaveOutcomes front outcomes old between
+    pub fails : FailsToWithdraw selected between new

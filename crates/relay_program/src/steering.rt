@@ -1,0 +1,77 @@
+//! The subcommands `flush`, `hold`, `release` and `drain`.
+ghost use Rattle.std.specs.Prelude.{◌≡◌, IfOk};
+ghost use Rattle.relay_program.specs.Steering.{AsksFor, Names};
+
+use crate::control_client::{ask, socket_path};
+use crate::steering_fault::SteeringFault;
+use relay_arguments::{Mail, Steering};
+use relay_control::{End, Request, Scope, read_answer};
+use relay_files::Fault;
+use relay_routes::HostName;
+use std::alloc::Global;
+use std::fs::File;
+use std::io::{self, Write};
+use std::net::Net;
+use std::rt::Files;
+
+/// Sends a request to the relay whose configuration is in a file, and prints the lines of its answer.
+pub(crate) fn steer<R: Files<File = File> + Net, W: Write>(
+    alloc: Global,
+    rt: &R,
+    file: &str,
+    asked: Steering<'_>,
+    writer: &mut W,
+) -> Result<(), SteeringFault> {
+    let Some(path) = socket_path(alloc, rt, file)? else {
+        return Err(SteeringFault::NoSocket);
+    };
+    let request = request_of(alloc, asked)?;
+    let octets = ask(alloc, rt, path.as_str(), &request)?;
+    let Some(reply) = read_answer(octets.as_slice()) else {
+        return Err(SteeringFault::NoAnswer);
+    };
+    if print_lines(reply.lines, writer).is_err() {
+        return Err(SteeringFault::Files(Fault::Output));
+    }
+    match reply.end {
+        End::Done => Ok(()),
+        End::Refused(reason) => Err(SteeringFault::Refused(Vec::from_slice(alloc, reason)?)),
+    }
+}
+
+/// Returns the request that the arguments ask for. Fails if no next hop can have the name, or memory runs out.
+fn request_of(alloc: Global, asked: Steering<'_>) -> Result<Request, SteeringFault>
+    ensures { IfOk result (AsksFor asked) }
+{
+    match asked {
+        Steering::Flush(None) => Ok(Request::Flush(None)),
+        Steering::Flush(Some(mail)) => Ok(Request::Flush(Some(scope_of(alloc, mail)?))),
+        Steering::Hold(mail) => Ok(Request::Hold(scope_of(alloc, mail)?)),
+        Steering::Release(mail) => Ok(Request::Release(scope_of(alloc, mail)?)),
+        Steering::Drain(seconds) => Ok(Request::Drain { seconds }),
+    }
+}
+
+/// Returns the mail of a request. Fails if no next hop can have the name, or memory runs out.
+fn scope_of(alloc: Global, mail: Mail<'_>) -> Result<Scope, SteeringFault>
+    ensures { IfOk result (Names mail) }
+{
+    match mail {
+        Mail::Message(number) => Ok(Scope::Message(number)),
+        Mail::Hop(name) => match HostName::read(alloc, name.as_bytes())? {
+            Some(name) => Ok(Scope::Hop(name)),
+            None => Err(SteeringFault::BadHop),
+        },
+    }
+}
+
+/// Prints the lines of an answer, without the space that each begins with.
+fn print_lines<W: Write>(lines: &[u8], writer: &mut W) -> io::Result<()> {
+    for line in lines.split(|octet| *octet == b'\n') {
+        if let Some(text) = line.strip_prefix(b" ") {
+            writer.write_all(text)?;
+            writer.write_all(b"\n")?;
+        }
+    }
+    writer.flush()
+}
