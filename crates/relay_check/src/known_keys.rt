@@ -6,7 +6,7 @@ use strsim::levenshtein;
 use toml::Table;
 
 /// How many keys a configuration may have.
-pub(crate) const KEY_COUNT: usize = 18;
+pub(crate) const KEY_COUNT: usize = 19;
 
 /// The keys of a configuration.
 const KEYS: [&str; KEY_COUNT] = [
@@ -28,6 +28,7 @@ const KEYS: [&str; KEY_COUNT] = [
     "log",
     "balancers",
     "clients",
+    "control",
 ];
 
 /// The keys of a route's next hop.

@@ -4,7 +4,7 @@ use crate::findings::Findings;
 use crate::known_keys::KEY_COUNT;
 use crate::networks::{BALANCERS, CLIENTS, TRUSTED_CLIENTS};
 use crate::position::Place;
-use relay_limits::{AllowedClients, Balancers, Limit, Limits};
+use relay_limits::{AllowedClients, Balancers, Limit, Limits, control_path};
 use relay_routes::{Config, ConfigFault, Key};
 use std::alloc::{AllocError, Global};
 use std::fmt;
@@ -117,19 +117,23 @@ fn broken_rule(alloc: Global, document: &Table) -> Result<Option<Rule>, AllocErr
         Err(ConfigFault::NoMemory) => Err(AllocError),
         Err(ConfigFault::Missing(key) | ConfigFault::BadValue(key)) => Ok(Some(rule_of(key))),
         Err(ConfigFault::NotToml) | Ok(_) => match Limits::of_document(document) {
-            Ok(_) => broken_networks(alloc, document),
+            Ok(_) => broken_last(alloc, document),
             Err(limit) => Ok(Some(rule_of_limit(limit))),
         },
     }
 }
 
-/// Returns the rule of the first key of `run` alone whose value must be an array of networks, and isn't.
-fn broken_networks(alloc: Global, document: &Table) -> Result<Option<Rule>, AllocError> {
+/// Returns the rule of the first key that `run` reads after its limits and whose value breaks it: the networks, and the
+/// path of the control socket.
+fn broken_last(alloc: Global, document: &Table) -> Result<Option<Rule>, AllocError> {
     if Balancers::of_document(alloc, document)?.is_none() {
         return Ok(Some(rule_of_limit(Limit::Balancers)));
     }
     if AllowedClients::of_document(alloc, document)?.is_none() {
         return Ok(Some(rule_of_limit(Limit::Clients)));
+    }
+    if control_path(alloc, document)?.is_none() {
+        return Ok(Some(rule_of_limit(Limit::Control)));
     }
     Ok(None)
 }
@@ -212,6 +216,10 @@ fn rule_of_limit(limit: Limit) -> Rule {
         Limit::Log => ("\"text\" or \"json\"", Good::Text("json")),
         Limit::Balancers => ("an array of IPv4 networks", Good::NoBalancers),
         Limit::Clients => ("an array of IPv4 networks", Good::NoClients),
+        Limit::Control => (
+            "the path of a socket, of 1 to 107 octets",
+            Good::Text("/run/relayd/control"),
+        ),
     };
     Rule {
         key: limit.text(),
