@@ -352,6 +352,24 @@ def run_source(program, packages, _source, folder, runs):
     return "smtp-source: 64 sessions at once"
 
 
+def run_flushed(program, packages, _server, folder, runs):
+    """A Postfix that was away. A next hop that can't be reached is on hold for a minute, and `flush` ends that."""
+    port, control = free_port(), pathlib.Path(folder) / "control"
+    with contextlib.closing(Field(program, packages, folder, runs, control=f'"{control}"')) as field:
+        field.relay.route({"in.example": ("next.example", port), "out.example": ("sink.example", field.sink.port)})
+        with field.serving():
+            hand_in(field.relay.port, ["b@in.example"], SMALL)
+            time.sleep(2)
+            same("queued", [place[2] for place in field.relay.held()], ["<b@in.example>"])
+            with contextlib.closing(Postfix(packages, field.relay.port, field.sink.port, port=port)):
+                begun = time.monotonic()
+                same("flush", field.relay.run("flush", "--hop", "next.example"), ["flushed recipients=1"])
+                all_taken(field.sink, ["b@in.example"], SMALL)
+                if time.monotonic() - begun > 30:
+                    raise Difference("the message was taken when the hold was over, and not when it was flushed")
+    return "Postfix: flush after it was away"
+
+
 def run_client(program, packages, client, folder, runs):
     with contextlib.closing(Field(program, packages, folder, runs)) as field:
         client(field, packages)
@@ -374,6 +392,9 @@ def main():
     if "postfix" in had:
         # `serve` takes one client after the other.
         plays.append(("run", (run_source, "postfix")))
+    if "postfix" in servers:
+        # The control socket is one of `run`.
+        plays.append(("run", (run_flushed, "postfix")))
     if "haproxy" in had and can_make_rooms():
         # The key is one of `run`.
         plays += [("run", (run_proxied, header)) for header in ("send-proxy", "send-proxy-v2")]

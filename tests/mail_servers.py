@@ -56,13 +56,14 @@ def can_make_rooms():
 
 
 class Server:
-    """One of the three servers. It listens when it is made. Its queue is in memory, or in a given folder."""
+    """One of the three servers. It listens when it is made, at a given port or at a free one. Its queue is in memory, or
+    in a given folder."""
 
     users = ()
 
-    def __init__(self, packages, to_out, to_in, spool=""):
+    def __init__(self, packages, to_out, to_in, spool="", port=None):
         self.room = tempfile.TemporaryDirectory()
-        self.port, self.to_out, self.to_in = free_port(), to_out, to_in
+        self.port, self.to_out, self.to_in = port or free_port(), to_out, to_in
         room = pathlib.Path(self.room.name)
         (room / "live").mkdir()
         (room / "files/root").mkdir(parents=True)

@@ -46,6 +46,7 @@ SCRIPTS = [
     Script(["tests/status_page.py", RELAYD], is_timed=True),
     Script(["tests/run_hops.py", RELAYD], is_timed=True),
     Script(["tests/run_proxy.py", RELAYD], is_timed=True),
+    Script(["tests/run_control.py", RELAYD], is_timed=True),
     Script(["tests/run_mail.py", RELAYD], is_timed=True),
     Script(["tests/run_faults.py", RELAYD], is_timed=True),
     Script(["tests/run_load.py", RELAYD], is_timed=True),

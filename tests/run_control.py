@@ -1,0 +1,377 @@
+#!/usr/bin/env python3
+"""Steers `relayd run` by its control socket, with subcommands and with octets of its own, and checks the mail. Withdraws
+mail from a spool on which no relay runs. Ends at the first difference.
+
+    tests/run_control.py build/relayd [ROW..]
+
+With names of rows, runs these only. TIMES in the environment multiplies the time limits (default 2).
+"""
+import contextlib
+import os
+import socket
+import stat
+import subprocess
+import sys
+import threading
+import time
+
+sys.dont_write_bytecode = True
+
+from relay_program import PATIENCE, free_port, same, until
+from running_relay import SOON, Client, clients_of, hop_that, hop_that_hangs, lines_of, play_rows
+
+# Octets that a caller sends, and their answers.
+REFUSED = [
+    (b"\n", b"error unknown request: send flush, hold, release, return, discard, reload or drain\n"),
+    (b"FLUSH\n", b"error unknown request: send flush, hold, release, return, discard, reload or drain\n"),
+    (b" flush\n", b"error unknown request: send flush, hold, release, return, discard, reload or drain\n"),
+    (b"flush all\n", b"error usage: flush, flush hop NAME or flush message NUMBER\n"),
+    (b"flush \n", b"error usage: flush, flush hop NAME or flush message NUMBER\n"),
+    (b"flush\r\n", b"error unknown request: send flush, hold, release, return, discard, reload or drain\n"),
+    (b"hold\n", b"error usage: hold hop NAME or hold message NUMBER\n"),
+    (b"hold message 007\n", b"error usage: hold hop NAME or hold message NUMBER\n"),
+    (b"hold message +7\n", b"error usage: hold hop NAME or hold message NUMBER\n"),
+    (b"hold message 18446744073709551616\n", b"error usage: hold hop NAME or hold message NUMBER\n"),
+    (b"hold hop a b\n", b"error usage: hold hop NAME or hold message NUMBER\n"),
+    (b"release message -1\n", b"error usage: release hop NAME or release message NUMBER\n"),
+    (b"return\n", b"error usage: return NUMBER:PLACE,.. ..\n"),
+    (b"return 15\n", b"error usage: return NUMBER:PLACE,.. ..\n"),
+    (b"return 15:\n", b"error usage: return NUMBER:PLACE,.. ..\n"),
+    (b"return 15:0,100\n", b"error usage: return NUMBER:PLACE,.. ..\n"),
+    (b"return 15:3,0\n", b"error usage: return NUMBER:PLACE,.. ..\n"),
+    (b"return 18446744073709551616:0\n", b"error usage: return NUMBER:PLACE,.. ..\n"),
+    (b"discard 15:0  16:1\n", b"error usage: discard NUMBER:PLACE,.. ..\n"),
+    (b"discard" + b" 15:0" * 65 + b"\n", b"error usage: discard NUMBER:PLACE,.. ..\n"),
+    (b"reload now\n", b"error usage: reload\n"),
+    (b"drain\n", b"error usage: drain SECONDS, from 0 to 65535\n"),
+    (b"drain 65536\n", b"error usage: drain SECONDS, from 0 to 65535\n"),
+    (b"x" * 4096, b"error request too long: no line ends within 4096 octets\n"),
+]
+
+
+# The faults of subcommands that find no relay, and that find one which they can't reach.
+UNREACHED = (1, "relayd: control: no relay listens, or this user may not connect")
+LOCKED_ANYHOW = (
+    1, "relayd: locked\nrelayd: another relayd holds the spool: stop it, or set control and restart it")
+
+
+def with_control(field, name="relay", **options):
+    """Returns a relay with a control socket, and the path of the socket."""
+    path = field.folder / f"{name}.control"
+    return field.relay(name, control=f'"{path}"', **options), path
+
+
+def asked(path, octets):
+    """Returns what the relay answers to these octets."""
+    with socket.socket(socket.AF_UNIX) as link:
+        link.settimeout(PATIENCE)
+        link.connect(str(path))
+        link.sendall(octets)
+        with link.makefile("rb") as answer:
+            return answer.read()
+
+
+def not_all(relay, *words):
+    """Returns the lines of a subcommand that withdraws only a part of the selected mail."""
+    ended = relay.ended(PATIENCE, *words)
+    same(f"relayd {' '.join(words)}", (ended.returncode, ended.stderr),
+         (1, b"relayd: not all of the mail was withdrawn; try again\n"))
+    return ended.stdout.decode().splitlines()
+
+
+def deferred_mail(relay, count=1, path="c@example.net"):
+    """Submits messages to a next hop that isn't there. Returns their numbers when each is deferred."""
+    with clients_of(relay, 1) as [client]:
+        numbers = [client.hand_in(path) for _ in range(count)]
+        until("all are deferred", lambda: len(lines_of(relay, "status=deferred")) >= count)
+    return numbers
+
+
+def returned_report(field):
+    """Checks that one report arrives, which says that the postmaster has returned the mail."""
+    [report] = field.arrived(1, SOON)
+    same("its envelope", (report.mail[:2], report.recipients), (b"<>", [b"<a@example.org>"]))
+    same("its reason", b"\r\nDiagnostic-Code: X-Postmaster; returned by the postmaster\r\n" in report.content, True)
+
+
+def takes_mail(arrived, pause=0.0):
+    """Returns a function for a next hop that takes mail, waits this long before it replies to a content, and adds each
+    content to a list."""
+
+    def serve(link):
+        with link.makefile("rb") as lines:
+            link.sendall(b"220 hop.example\r\n")
+            for line in lines:
+                if line == b"DATA\r\n":
+                    link.sendall(b"354 go on\r\n")
+                    content = b""
+                    while (text := lines.readline()) not in (b".\r\n", b""):
+                        content += text
+                    time.sleep(pause)
+                    arrived.append(content)
+                link.sendall(b"250 ok\r\n")
+                if line == b"QUIT\r\n":
+                    return
+
+    return serve
+
+
+# The rows. Each says in its name what holds.
+
+
+def a_flush_tries_what_was_put_off(field):
+    port, arrived = free_port(), []
+    relay, _ = with_control(field, more={"example.net": ("away.example", port)})
+    with relay.running(), clients_of(relay, 1) as [client]:
+        client.hand_in("c@example.net")
+        until("it is put off", lambda: lines_of(relay, "status=deferred"))
+        with hop_that(takes_mail(arrived), port):
+            time.sleep(1.5)
+            same("it comes before its time", len(arrived), 0)
+            same("flush", relay.run("flush", "--hop", "away.example"), ["flushed recipients=1"])
+            until("it comes", lambda: len(arrived) == 1, SOON)
+            until("it leaves the queue", lambda: relay.held() == [])
+
+
+def a_held_hop_gets_nothing_up_to_its_release(field):
+    relay, _ = with_control(field)
+    with relay.running():
+        same("hold", relay.run("hold", "--hop", "next.example"), ["held; a held message still expires"])
+        with clients_of(relay, 1) as [client]:
+            client.hand_in()
+            time.sleep(1)
+            same("messages at the sink", len(field.sink.take_all()), 0)
+    same("the file of held mail", (relay.folder / "relay.spool.held").read_text(),
+         'hops = ["next.example"]\nmessages = []\n')
+    with relay.running():
+        time.sleep(1)
+        same("messages at the sink after a restart", len(field.sink.take_all()), 0)
+        same("flush", relay.run("flush"), ["flushed recipients=0"])
+        same("release", relay.run("release", "--hop", "next.example"), ["released"])
+        field.arrived(1, SOON)
+
+
+def a_held_message_stays_and_others_leave(field):
+    port, arrived = free_port(), []
+    relay, _ = with_control(field, more={"example.net": ("away.example", port)})
+    with relay.running(), clients_of(relay, 1) as [client]:
+        held, other = client.hand_in("c@example.net"), client.hand_in("d@example.net")
+        until("both are put off", lambda: len(lines_of(relay, "status=deferred")) >= 2)
+        relay.run("hold", "--message", str(held))
+        with hop_that(takes_mail(arrived), port):
+            relay.run("flush")
+            until("the other leaves", lambda: [row[0] for row in relay.held()] == [held])
+            relay.run("release", "--message", str(held))
+            relay.run("flush", "--message", str(held))
+            until("it leaves too", lambda: relay.held() == [])
+            same("messages", len(arrived), 2)
+        same("hold of one that isn't queued", relay.refused("hold", "--message", str(other)),
+             (1, f"relayd: control: message {other} isn't queued"))
+
+
+def what_is_no_request_is_refused(field):
+    relay, path = with_control(field)
+    with relay.running():
+        for octets, answer in REFUSED:
+            same(f"the answer to {octets[:40]}", asked(path, octets), answer)
+        same("a flush after them", asked(path, b"flush\nand more"), b" flushed recipients=0\nok\n")
+
+
+def silent_callers_hold_up_nobody(field):
+    relay, path = with_control(field)
+    with relay.running(), contextlib.ExitStack() as stack:
+        for _ in range(8):
+            link = stack.enter_context(socket.socket(socket.AF_UNIX))
+            link.connect(str(path))
+        with clients_of(relay, 1) as [client]:
+            client.hand_in()
+            field.arrived(1, SOON)
+        # The relay closes their connections after five seconds.
+        same("a flush then", asked(path, b"flush\n"), b" flushed recipients=0\nok\n")
+
+
+def the_socket_is_its_users_own(field):
+    relay, path = with_control(field)
+    with relay.running():
+        same("its mode", stat.S_IMODE(path.stat().st_mode), 0o600)
+        same("it is a socket", stat.S_ISSOCK(path.stat().st_mode), True)
+    same("it stays after a kill", path.exists(), True)
+    same("nobody listens", relay.refused("flush"), UNREACHED)
+    with relay.running():
+        same("flush of the next run", relay.run("flush"), ["flushed recipients=0"])
+
+
+def a_drain_cuts_no_attempt(field):
+    """16 attempts run when the relay is drained; nothing is delivered twice."""
+    port, arrived = free_port(), []
+    relay, _ = with_control(field, more={"example.net": ("slow.example", port)}, attempts_per_hop=16)
+    with hop_that(takes_mail(arrived, 1.0), port):
+        process = relay.begin()
+        with clients_of(relay, 1) as [client]:
+            for number in range(40):
+                client.hand_in("c@example.net", b"Subject: %d\r\n\r\ntext\r\n.\r\n" % number)
+        until("attempts run", lambda: len(arrived) >= 1)
+        same("drain", relay.run("drain", "--seconds", "30"), ["stopping; attempts cut=0"])
+        same("its status", process.wait(PATIENCE), 0)
+        process.stdout.close()
+        with relay.running():
+            until("all leave", lambda: relay.held() == [], 60)
+        same("each came once", len(arrived), 40)
+        same("none came twice", len({content.split(b"\r\n\r\n")[0] for content in arrived if content}), len(arrived))
+
+
+def a_draining_relay_takes_no_client(field):
+    port, arrived = free_port(), []
+    relay, path = with_control(field, more={"example.net": ("slow.example", port)})
+    with hop_that(takes_mail(arrived, 3.0), port):
+        process = relay.begin()
+        with clients_of(relay, 1) as [client]:
+            client.hand_in("c@example.net")
+            drain = threading.Thread(target=asked, args=(path, b"drain 30\n"))
+            time.sleep(0.5)
+            drain.start()
+            time.sleep(0.5)
+            with Client(relay) as other:
+                same("the greeting", other.reply(), "421 relay.example service stopping, closing")
+        same("its status", process.wait(PATIENCE), 0)
+        drain.join()
+        process.stdout.close()
+        same("what was on its way", len(arrived), 1)
+
+
+def wrong_words_are_refused(field):
+    relay, _ = with_control(field)
+    for words in [("hold",), ("release",), ("hold", "--hop", "next.example", "--message", "1"), ("return", "--yes"),
+                  ("discard",), ("hold", "--message", "0"), ("drain", "--seconds", "65536"), ("reload",), ("save", "1")]:
+        same(f"the status of {words}", relay.refused(*words)[0], 2)
+    other = field.relay("other")
+    same("no control", other.refused("flush"),
+         (1, 'relayd: control: not configured; set control = "/run/relayd/control"'))
+
+
+def other_users_steer_nothing(field):
+    relay, path = with_control(field)
+    with relay.running():
+        options = {}
+        if os.geteuid() == 0:
+            # Another user may read the configuration, but not connect.
+            options = {"user": 65534, "group": 65534, "extra_groups": []}
+            for place, mode in [(field.folder, 0o711), (relay.folder, 0o711), (relay.file, 0o644)]:
+                place.chmod(mode)
+        else:
+            path.chmod(0)
+        ended = subprocess.run(relay.words("flush"), capture_output=True, timeout=PATIENCE, env=relay.environment,
+                               **options)
+        same("flush", (ended.returncode, ended.stderr.decode().rstrip("\n")), UNREACHED)
+
+
+def returned_mail_is_reported(field):
+    relay, _ = with_control(field, more={"example.net": ("away.example", free_port())})
+    with relay.running():
+        [number] = deferred_mail(relay)
+        same("without --yes", relay.run("return", "--message", str(number)),
+             [f"{number} <a@example.org> <c@example.net>", "1 message, 1 recipient",
+              "nothing was returned; add --yes to return this mail"])
+        same("it is queued", [row[0] for row in relay.held()], [number])
+        same("return", relay.run("return", "--message", str(number), "--yes"), ["returned recipients=1"])
+        returned_report(field)
+        until("the queue is empty", lambda: relay.held() == [])
+        same("return again", relay.refused("return", "--message", str(number), "--yes"),
+             (1, "relayd: no queued mail matches"))
+
+
+def discarded_mail_is_gone(field):
+    relay, _ = with_control(field, more={"example.net": ("away.example", free_port())})
+    with relay.running():
+        first, second = deferred_mail(relay, 2)
+        same("discard of one", relay.run("discard", "--message", f"{first},{second + 7}", "--yes"),
+             ["discarded recipients=1"])
+        same("the other is queued", [row[0] for row in relay.held()], [second])
+        same("another reverse path", relay.refused("discard", "--from", "x@example.org", "--yes"),
+             (1, "relayd: no queued mail matches"))
+        same("discard of a path", relay.run("discard", "--to", "C@EXAMPLE.NET", "--from", "<a@example.org>", "--yes"),
+             ["discarded recipients=1"])
+        same("the queue", relay.held(), [])
+        time.sleep(1)
+        same("messages at the sink", len(field.sink.take_all()), 0)
+
+
+def many_messages_take_several_requests(field):
+    """A request names 64 messages at most."""
+    relay, _ = with_control(field, more={"example.net": ("away.example", free_port())})
+    with relay.running():
+        numbers = deferred_mail(relay, 130)
+        lines = relay.run("discard", "--hop", "away.example")
+        same("lines", lines[:10], [f"{number} <a@example.org> <c@example.net>" for number in numbers[:10]])
+        same("sums", lines[10:12], ["..", "130 messages, 130 recipients"])
+        same("discard", relay.run("discard", "--hop", "away.example", "--yes"), ["discarded recipients=130"])
+        same("the queue", relay.held(), [])
+
+
+def mail_in_an_attempt_is_busy(field):
+    with hop_that_hangs(b"220 slow.example\r\n") as (port, taken):
+        relay, _ = with_control(field, more={"example.net": ("slow.example", port)})
+        with relay.running(), clients_of(relay, 1) as [client]:
+            number = client.hand_in("c@example.net")
+            until("an attempt runs", lambda: len(taken) == 1)
+            same("return", not_all(relay, "return", "--hop", "slow.example", "--yes"),
+                 [f"{number} busy", "returned recipients=0"])
+            same("it is queued", [row[0] for row in relay.held()], [number])
+
+
+def mail_is_withdrawn_without_a_relay(field):
+    relay, _ = with_control(field, more={"example.net": ("away.example", free_port())})
+    with relay.running():
+        first, second, third = deferred_mail(relay, 3)
+    same("return", relay.run("return", "--message", str(first), "--yes"), ["returned recipients=1"])
+    same("discard", relay.run("discard", "--message", str(second), "--yes"), ["discarded recipients=1"])
+    same("nobody else is withdrawn", [row[0] for row in relay.held() if row[2] != "<a@example.org>"], [third])
+    with relay.running():
+        returned_report(field)
+        time.sleep(1)
+        same("more messages at the sink", len(field.sink.take_all()), 0)
+
+
+def a_relay_without_a_socket_keeps_its_mail(field):
+    relay = field.relay("relay", more={"example.net": ("away.example", free_port())})
+    with relay.running():
+        [number] = deferred_mail(relay)
+        same("return", relay.refused("return", "--message", str(number), "--yes"), LOCKED_ANYHOW)
+        same("it is queued", [row[0] for row in relay.held()], [number])
+
+
+def a_saved_message_is_its_text(field):
+    relay, _ = with_control(field, more={"example.net": ("away.example", free_port())})
+    with relay.running():
+        [number] = deferred_mail(relay)
+        file = field.folder / "saved.eml"
+        same("save", relay.run("save", str(number), str(file)), [])
+        same("the file", file.read_bytes(), relay.ended(PATIENCE, "show", "--raw", str(number)).stdout)
+        same("save again", relay.refused("save", str(number), str(file))[0], 1)
+        same("a message that isn't there", relay.refused("save", str(number + 1), str(file.with_suffix(".other"))),
+             (1, f"relayd: message {number + 1} is not queued"))
+
+
+ROWS = [
+    a_flush_tries_what_was_put_off,
+    a_held_hop_gets_nothing_up_to_its_release,
+    a_held_message_stays_and_others_leave,
+    what_is_no_request_is_refused,
+    silent_callers_hold_up_nobody,
+    the_socket_is_its_users_own,
+    a_drain_cuts_no_attempt,
+    a_draining_relay_takes_no_client,
+    wrong_words_are_refused,
+    other_users_steer_nothing,
+    returned_mail_is_reported,
+    discarded_mail_is_gone,
+    many_messages_take_several_requests,
+    mail_in_an_attempt_is_busy,
+    mail_is_withdrawn_without_a_relay,
+    a_relay_without_a_socket_keeps_its_mail,
+    a_saved_message_is_its_text,
+]
+
+
+if __name__ == "__main__":
+    play_rows("run_control", ROWS)
