@@ -9,6 +9,7 @@ ghost use Rattle.relay_node.specs.Node.{Connects, CutsTalk, IsFused, IsIdle, Rec
 ghost use Rattle.relay_node.specs.Node.{UsesOctets};
 ghost use Rattle.relay_node.specs.Node.{RefusesToConnect, RefusesToEnd, RefusesToMake, RefusesToReceive};
 ghost use Rattle.relay_node.specs.Room.{ComesToOffer};
+ghost use Rattle.relay_node.specs.Seats.{in_transaction_at};
 ghost use Rattle.relay_slots.specs.Slots.{IsFull, OthersStay, slot_at};
 ghost use Rattle.relay_records.specs.HeldPlace.{IsWaiting, waiting_at};
 ghost use Rattle.relay_records.specs.Open.{FailsFor, Opens, RefusesImage};
@@ -225,6 +226,17 @@ impl<D: Disk> Node<D> {
             session: number,
             out,
         })
+    }
+
+    /// Returns whether a mail transaction is open in this session; `false` if there is no such session. Allocates
+    /// nothing.
+    pub fn is_in_transaction(&self, session: usize) -> bool
+        ensures { result ≡ in_transaction_at self.now.seats session }
+    {
+        match self.seats.as_slice().get(session) {
+            Some(Some(seat)) => seat.session.is_in_transaction(),
+            Some(None) | None => false,
+        }
     }
 
     /// Frees the number of a session whose connection has ended. Allocates nothing.

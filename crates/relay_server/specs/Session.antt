@@ -1,5 +1,5 @@
 -- What a caller may say of a session: what it has said so far, whether an offer is open, and what comes next.
-use Rattle.std.specs.Prelude.{◌≡◌, ◌≢◌, ℕ, ◌+◌, ◌≤◌, ◌<◌, List, [], ◌∷◌, ◌++◌, length}
+use Rattle.std.specs.Prelude.{◌≡◌, ◌≢◌, ℕ, ◌+◌, ◌≤◌, ◌<◌, Bool, true, false, List, [], ◌∷◌, ◌++◌, length}
 use Rattle.relay_lines.specs.Reply.{reply_text}
 use Rattle.relay_server.specs.declared.offer.Answer.{Answer}
 use Rattle.relay_server.specs.declared.offer.Offer.{Offer}
@@ -7,7 +7,10 @@ use Rattle.relay_server.specs.declared.reply_table.Row.TheVariants.{Greeting}
 use Rattle.relay_server.specs.declared.session.Next.{Next}
 use Rattle.relay_server.specs.declared.session.Next.TheVariants as next
 use Rattle.relay_server.specs.declared.session.Session.{Session}
+use Rattle.relay_server.specs.declared.stage.Stage.{Stage}
 use Rattle.relay_server.specs.declared.stage.Stage.TheVariants as stage
+use Rattle.relay_server.specs.declared.state.CommandState.{CommandState as Held}
+use Rattle.relay_server.specs.declared.state.CommandState.TheVariants as held
 use Rattle.relay_server.specs.Dialogue.{Offered, Said, Turn, Turns, read_by, written_by, offered_by, answered_by}
 use Rattle.relay_server.specs.Machine.{Keeps, Shown, Reading, Offering, Over, offers_at, shown_at}
 use Rattle.relay_server.specs.Reply.{reply_of}
@@ -52,6 +55,29 @@ Waits session = next_of session ≢ next.More
 -- the session is closed
 abbrev pub IsClosed : Session → Type 0
 IsClosed session = session.stage ≡ stage.Closed
+
+-- a mail transaction of the client is open while it gives a command: its MAIL was accepted (RFC 5321, section 3.3), and
+-- no chunk of its content was refused, after which it only ends
+abbrev pub has_transaction : Held → Bool
+has_transaction held.Fresh = false
+has_transaction (held.Greeted client) = false
+has_transaction (held.Open transaction) = true
+has_transaction (held.Gathering gathering) = true
+has_transaction (held.Spent client) = false
+
+-- one is open at this stage: its content may be coming, or wait for the answer to its offer
+abbrev pub is_transaction : Stage → Bool
+is_transaction (stage.Command state) = has_transaction state
+is_transaction (stage.Receiving mail) = true
+is_transaction (stage.Chunk chunk) = true
+is_transaction (stage.Skipping skipped) = has_transaction skipped.state
+is_transaction (stage.Offering transaction content) = true
+is_transaction stage.Closed = false
+is_transaction stage.Failed = false
+
+-- a mail transaction of the client is open
+abbrev pub in_transaction : Session → Bool
+in_transaction session = is_transaction session.stage
 
 -- memory ran out in a call on the session
 abbrev pub HasFailed : Session → Type 0

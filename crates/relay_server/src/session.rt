@@ -1,6 +1,7 @@
 ghost use Rattle.relay_server.specs.Bounds.{IsHeldAt};
 
 mod reading;
+mod transaction;
 
 use crate::offer::{Answer, Offer};
 use crate::reply_table::Row;
