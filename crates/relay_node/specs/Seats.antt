@@ -17,7 +17,7 @@ pub record TakesSeat {D : Type 0} (records : Kept D) (number : ℕ) (old new : L
 -- a mail transaction is open in the session of this number; no session has this number otherwise, or none is
 abbrev pub seat_in_transaction : Option Seat → Bool
 seat_in_transaction None = false
-seat_in_transaction (Some seat) = in_transaction seat.session
+seat_in_transaction (Some seat) = in_transaction seat.session.value
 
 abbrev pub in_transaction_at : List (Option Seat) → ℕ → Bool
 in_transaction_at seats number = seat_in_transaction (slot_at seats number)

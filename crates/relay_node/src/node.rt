@@ -21,7 +21,7 @@ ghost use Rattle.relay_spool.specs.Spool.{AtEachMoment, OnlyReads};
 
 use crate::attempts::note;
 use crate::receive::{Received, hear};
-use crate::seat::{Seat, put_back, take_seat};
+use crate::seat::{Seat, put_back, seat_at, take_seat};
 use relay_attempts::Attempts;
 use relay_disk::{Disk, Disks, Reboot};
 use relay_records::{Cause, HeldPlace, NodeFault, NotOpened, Noted, Records};
@@ -233,9 +233,9 @@ impl<D: Disk> Node<D> {
     pub fn is_in_transaction(&self, session: usize) -> bool
         ensures { result ≡ in_transaction_at self.now.seats session }
     {
-        match self.seats.as_slice().get(session) {
-            Some(Some(seat)) => seat.session.is_in_transaction(),
-            Some(None) | None => false,
+        match seat_at(&self.seats, session) {
+            Some(seat) => seat.session.is_in_transaction(),
+            None => false,
         }
     }
 

@@ -1,5 +1,6 @@
-ghost use Rattle.std.specs.Prelude.{◌≡◌, ◌<◌, length, Some, IfErr, IfOk, if◌then◌else◌, slice_set};
+ghost use Rattle.std.specs.Prelude.{◌≡◌, ◌<◌, length, None, Some, IfErr, IfOk, MatchOption, if◌then◌else◌, slice_set};
 ghost use Rattle.relay_node.specs.Seats.{RefusesSeat, TakesSeat};
+ghost use Rattle.relay_slots.specs.Slots.{slot_at};
 
 use relay_attempts::Attempts;
 use relay_disk::Disk;
@@ -22,6 +23,18 @@ impl Drop for Seat {
             session: _session,
             peer: _,
         } = self;
+    }
+}
+
+/// Returns the seat of a session, if there is one.
+pub(crate) fn seat_at(seats: &Slots<Seat>, session: usize) -> Option<&Seat>
+    ensures { MatchOption result (slot_at seats.now session ≡ None)
+        (λ seat. slot_at seats.now session ≡ Some seat.now) }
+{
+    match seats.as_slice().get(session) {
+        Some(Some(seat)) => Some(seat),
+        Some(None) => None,
+        None => None,
     }
 }
 
