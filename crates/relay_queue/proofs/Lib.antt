@@ -3,5 +3,6 @@ mod JoinLemmas
 mod PartLemmas
 mod RowLemmas
 mod ScreenLemmas
+mod TakenLemmas
 mod TextLemmas
 mod WidthLemmas

@@ -2,6 +2,7 @@
 ghost use Rattle.std.specs.Prelude.{◌≡◌, ◌++◌, IfErr, IfOk, OnOk, length, map};
 ghost use Rattle.std.specs.List.{flat_map};
 ghost use Rattle.relay_queue.specs.Row.{said_by};
+ghost use Rattle.relay_queue.specs.Screen.{AreSafe};
 ghost use Rattle.relay_queue.specs.Selection.{IsTaken, TakesNothing, group_of, groups_of, line_of_mark, more_line};
 ghost use Rattle.relay_queue.specs.Selection.{preview_text, recipient_line, sums_line};
 
@@ -28,9 +29,9 @@ const MOST_LINES: usize = 10;
 pub struct Taken {
     /// The messages with a selected recipient, in the order of the queue, each once.
     pub messages: Vec<Selected>,
-    /// The lines of the first ten recipients, each the number of its message, its reverse path and its path, and a line
-    /// with the sums of all.
-    pub preview: Screen,
+    /// Text for a terminal: the lines of the first ten recipients, each the number of its message, its reverse path and
+    /// its path, and a line with the sums of all.
+    pub preview: Vec<u8>,
 }
 
 /// Returns the queued mail that a selection takes. Opens the spool's files for reading only, without a lock, so that a
@@ -42,7 +43,7 @@ pub fn select<R: Files<File = File> + Clock>(
     path: &str,
     selection: &Selection<'_>,
 ) -> Result<Taken, QueueFault>
-    ensures taken { IfOk result (λ taken. IsTaken selection.now taken.messages.items taken.preview) }
+    ensures taken { IfOk result (λ taken. IsTaken selection.now taken.messages.items taken.preview.items) }
     ensures nothing { IfErr result (λ fault. fault ≡ QueueFault.NothingSelected → TakesNothing selection.now) }
 {
     let config = configuration(alloc, rt, path)?;
@@ -63,7 +64,9 @@ fn taken_of<D: Disk>(
     marks: &[Mark],
 ) -> Result<Taken, QueueFault>
     ensures messages { IfOk result (λ taken. map group_of taken.messages.items ≡ groups_of marks.now) }
-    ensures preview { IfOk result (λ taken. taken.preview ≡ preview_text table.now records.now.queue marks.now) }
+    ensures preview { IfOk result (λ taken. taken.preview.items
+        ≡ preview_text table.now records.now.queue marks.now) }
+    ensures safe { IfOk result (λ taken. AreSafe taken.preview.items) }
     ensures err { IfErr result (λ fault. fault ≡ QueueFault.Files Fault.NoMemory) }
 {
     let messages = groups_of(alloc, marks)?;
@@ -78,9 +81,10 @@ fn preview_of<D: Disk>(
     table: &Table,
     marks: &[Mark],
     messages: usize,
-) -> Result<Screen, AllocError>
+) -> Result<Vec<u8>, AllocError>
     requires { messages ≡ length (groups_of marks.now) }
-    ensures { IfOk result (λ preview. preview ≡ preview_text table.now records.now.queue marks.now) }
+    ensures text { IfOk result (λ text. text.items ≡ preview_text table.now records.now.queue marks.now) }
+    ensures safe { IfOk result (λ text. AreSafe text.items) }
 {
     let mut screen = Screen::new(alloc);
     push_lines(
@@ -91,7 +95,7 @@ fn preview_of<D: Disk>(
     )?;
     push_more(&mut screen, marks.len())?;
     push_sums(&mut screen, messages as u64, marks.len() as u64)?;
-    Ok(screen)
+    Ok(screen.into_vec())
 }
 
 /// Adds the lines of recipients.

@@ -44,6 +44,15 @@ impl Screen {
         self.text.as_slice()
     }
 
+    /// Returns the text as a `Vec`. Allocates nothing.
+    pub(crate) fn into_vec(self) -> Vec<u8>
+        ensures value { result.items ≡ self }
+        ensures safe { AreSafe result.items }
+    {
+        let Screen { text } = self;
+        text
+    }
+
     /// Clears the text, and keeps its memory.
     pub fn clear(&mut self)
         ensures { self.new ≡ [] }
