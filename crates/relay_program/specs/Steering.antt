@@ -1,13 +1,20 @@
 -- Requests to a running relay.
-use Rattle.std.specs.Prelude.{◌≡◌, None, Some}
+use Rattle.std.specs.Prelude.{◌≡◌, ℕ, List, None, Some}
 use Rattle.relay_arguments.specs.declared.steering.Mail.{Mail}
 use Rattle.relay_arguments.specs.declared.steering.Mail.TheVariants as mail
 use Rattle.relay_arguments.specs.declared.steering.Steering.{Steering}
 use Rattle.relay_arguments.specs.declared.steering.Steering.TheVariants.{Flush, Hold, Release, Drain}
+use Rattle.relay_control.specs.Answer.{HasNoAnswer, ReadsAnswer}
+use Rattle.relay_control.specs.declared.answer.End.{End}
+use Rattle.relay_control.specs.declared.answer.End.TheVariants.{Done, Refused}
+use Rattle.relay_control.specs.declared.answer.Reply.{Reply}
 use Rattle.relay_control.specs.declared.request.Request.{Request}
 use Rattle.relay_control.specs.declared.request.Request.TheVariants as asks
 use Rattle.relay_control.specs.declared.scope.Scope.{Scope}
 use Rattle.relay_control.specs.declared.scope.Scope.TheVariants as scope
+use Rattle.relay_files.specs.declared.fault.Fault.TheVariants.{NoMemory}
+use Rattle.relay_program.specs.declared.steering_fault.SteeringFault.{SteeringFault}
+use Rattle.relay_program.specs.declared.steering_fault.SteeringFault.TheVariants as fault
 
 -- a request is about this mail
 abbrev pub Names : Mail → Scope → Type 0
@@ -24,3 +31,28 @@ AsksFor (Hold named) (asks.Hold asked) = Names named asked
 AsksFor (Release named) (asks.Release asked) = Names named asked
 AsksFor (Drain seconds) (asks.Drain asked) = asked ≡ seconds
 AsksFor asked request = ⊥
+
+-- the request was refused for this reason, or memory ran out for it
+abbrev pub IsRefusal : End → SteeringFault → Type 0
+IsRefusal (Refused reason) (fault.Refused octets) = octets.items ≡ reason.now
+IsRefusal (Refused reason) (fault.Files NoMemory) = Unit {0}
+IsRefusal last other = ⊥
+
+-- the octets that a relay sent are an answer: the request was done
+pub record IsDone (octets : List ℕ) : Type 0 where
+  pub reply : Reply
+  pub reads : ReadsAnswer octets reply
+  pub done : reply.end ≡ Done
+
+-- they are an answer: it was refused
+pub record IsRefused (octets : List ℕ) (why : SteeringFault) : Type 0 where
+  pub reply : Reply
+  pub reads : ReadsAnswer octets reply
+  pub refused : IsRefusal reply.end why
+
+-- they are no answer, or one that refuses the request; else memory ran out, or the output failed
+abbrev pub IsNotDone : List ℕ → SteeringFault → Type 0
+IsNotDone octets fault.NoAnswer = HasNoAnswer octets
+IsNotDone octets (fault.Refused reason) = IsRefused octets (fault.Refused reason)
+IsNotDone octets (fault.Files other) = Unit {0}
+IsNotDone octets other = ⊥

@@ -1,18 +1,39 @@
 -- What `return` and `discard` do to a spool on which no relay runs: exactly the selected places end, and nothing else
 -- changes.
-use Rattle.std.specs.Prelude.{◌≡◌, ◌⊎◌, ℕ, List, [], ◌∷◌, ◌++◌}
+use Rattle.std.specs.Prelude.{◌≡◌, ℕ, List, [], ◌∷◌, ◌++◌, None}
+use Rattle.std.specs.Option.{option_copied}
 use Rattle.relay_disk.specs.Device.{DiskWords}
+use Rattle.relay_arguments.specs.declared.withdrawing.Choice.{Choice}
+use Rattle.relay_arguments.specs.declared.withdrawing.Removal.{Removal}
+use Rattle.relay_arguments.specs.declared.withdrawing.Removal.TheVariants as asks
 use Rattle.relay_attempts.specs.Withdrawals.{AddsWithdrawal, CutsWithdrawal, EndsWithdrawal, RefusesToWithdraw}
 use Rattle.relay_book.specs.declared.change.Change.{Change}
 use Rattle.relay_book.specs.declared.change.Withdrawal.{Withdrawal}
+use Rattle.relay_book.specs.declared.change.Withdrawal.TheVariants as how
+use Rattle.relay_files.specs.declared.fault.Fault.{Fault}
+use Rattle.relay_files.specs.declared.fault.Fault.TheVariants.{Device, NoMemory}
 use Rattle.relay_node.specs.Node.{NodeState}
 use Rattle.relay_queue.specs.declared.groups.Selected.{Selected}
+use Rattle.relay_queue.specs.declared.selection.Selection.{Selection}
 use Rattle.relay_records.specs.Records.{Keeps}
 use Rattle.relay_records.specs.declared.fault.NodeFault.{NodeFault}
 use Rattle.relay_records.specs.declared.fault.NodeFault.TheVariants as fault
 use Rattle.relay_report.specs.Report.{reporter_of}
 use Rattle.relay_program.specs.declared.offline.Outcome.{Outcome}
 use Rattle.relay_program.specs.declared.offline.Outcome.TheVariants.{Withdrawn, Unknown, Busy, Full}
+
+-- how the subcommands `return` and `discard` withdraw mail
+abbrev pub withdrawal_by : Removal → Withdrawal
+withdrawal_by asks.Return = how.Return
+withdrawal_by asks.Discard = how.Discard
+
+-- the selection takes the mail that the options choose
+pub record Chooses (choice : Choice) (selection : Selection) : Type 0 where
+  pub numbers : option_copied selection.numbers ≡ option_copied choice.numbers
+  pub hop : option_copied selection.filter.hop ≡ option_copied choice.hop
+  pub reverse_path : option_copied selection.filter.reverse_path ≡ option_copied choice.from
+  pub path : option_copied selection.filter.path ≡ option_copied choice.to
+  pub age : selection.filter.age ≡ None
 
 -- the configuration, the sessions and the attempts are the same
 pub record KeepsAllButMail {D : Type 0} (old new : NodeState D) : Type 0 where
@@ -55,20 +76,28 @@ module _ {D : Type 0} (honest : Type 0) (words : DiskWords D) (at : ℕ) (withdr
   HaveOutcomes (selected ∷ all) (outcome ∷ outcomes) old new =
       (between : NodeState D) × HasOutcome outcome selected old between × HaveOutcomes all outcomes between new
 
-  -- memory ran out, and no mail has changed, or the device failed while the selected places ended
-  pub record FailsToWithdraw (selected : Selected) (old new : NodeState D) : Type 0 where
-    pub cause : (RefusesToWithdraw words (reporter_of old.config) old.attempts selected.message at withdrawal
-        selected.places.items old.records new.records fault.NoMemory)
-        ⊎ (RefusesToWithdraw words (reporter_of old.config) old.attempts selected.message at withdrawal
-        selected.places.items old.records new.records fault.Stopped)
+  -- the device failed while the selected places ended
+  pub record Stops (selected : Selected) (old new : NodeState D) : Type 0 where
+    pub why_is : RefusesToWithdraw words (reporter_of old.config) old.attempts selected.message at withdrawal
+        selected.places.items old.records new.records fault.Stopped
+    pub cuts : (changes : List Change) → Keeps honest words old.records changes
+        → CutsWithdrawal honest words (reporter_of old.config) selected.message at withdrawal selected.places.items
+        changes old.records new.records
     pub rest : KeepsAllButMail old new
 
+  -- the selected places of a message have no outcome: memory ran out, and no mail has changed, or the device failed
+  abbrev pub FailsToWithdraw : Fault → Selected → NodeState D → NodeState D → Type 0
+  FailsToWithdraw NoMemory selected old new = Refuses selected fault.NoMemory old new
+  FailsToWithdraw Device selected old new = Stops selected old new
+  FailsToWithdraw other selected old new = ⊥
+
   -- the first of the messages without an outcome failed
-  pub record FailsAmong (all : List Selected) (outcomes : List Outcome) (old new : NodeState D) : Type 0 where
+  pub record FailsAmong (all : List Selected) (outcomes : List Outcome) (why : Fault) (old new : NodeState D)
+      : Type 0 where
     pub front : List Selected
     pub selected : Selected
     pub back : List Selected
     pub parts : all ≡ front ++ selected ∷ back
     pub between : NodeState D
     pub have : HaveOutcomes front outcomes old between
-    pub fails : FailsToWithdraw selected between new
+    pub fails : FailsToWithdraw why selected between new

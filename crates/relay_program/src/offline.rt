@@ -1,5 +1,5 @@
 //! Withdrawing mail from a spool on which no relay runs.
-ghost use Rattle.std.specs.Prelude.{◌≡◌, ◌≤◌, [], IfErr, IfOk, MatchOption, OnErr, OnOk, length, vec_capacity};
+ghost use Rattle.std.specs.Prelude.{◌≡◌, ◌≤◌, [], IfErr, IfOk, OnOk, length, vec_capacity};
 ghost use Rattle.relay_program.specs.Withdrawing.{FailsAmong, FailsToWithdraw, HasOutcome, HaveOutcomes};
 
 use relay_book::Withdrawal;
@@ -35,8 +35,8 @@ pub(crate) fn withdraw_each<D: Disk>(
     requires room { length messages.now ≤ vec_capacity outcomes.old }
     ensures have { OnOk result (HaveOutcomes D.honest D.words now withdrawal messages.now outcomes.new.items
         node.old node.new) }
-    ensures failed { OnErr result (FailsAmong D.honest D.words now withdrawal messages.now outcomes.new.items
-        node.old node.new) }
+    ensures failed { IfErr result (λ why. FailsAmong D.honest D.words now withdrawal messages.now outcomes.new.items
+        why node.old node.new) }
 {
     for selected in messages {
         outcomes.push_reserved(withdraw(node, selected, withdrawal, now)?);
@@ -53,7 +53,7 @@ fn withdraw<D: Disk>(
 ) -> Result<Outcome, Fault>
     ensures has { IfOk result (λ outcome. HasOutcome D.honest D.words now withdrawal outcome selected.now
         node.old node.new) }
-    ensures failed { IfErr result (λ fault. FailsToWithdraw D.honest D.words now withdrawal selected.now
+    ensures failed { IfErr result (λ why. FailsToWithdraw D.honest D.words now withdrawal why selected.now
         node.old node.new) }
 {
     match node.withdraw(

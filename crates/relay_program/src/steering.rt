@@ -1,6 +1,6 @@
 //! The subcommands `flush`, `hold`, `release` and `drain`.
-ghost use Rattle.std.specs.Prelude.{◌≡◌, IfOk};
-ghost use Rattle.relay_program.specs.Steering.{AsksFor, Names};
+ghost use Rattle.std.specs.Prelude.{◌≡◌, IfErr, IfOk, OnOk};
+ghost use Rattle.relay_program.specs.Steering.{AsksFor, IsDone, IsNotDone, IsRefusal, Names};
 
 use crate::control_client::{ask, socket_path};
 use crate::steering_fault::SteeringFault;
@@ -27,13 +27,32 @@ pub(crate) fn steer<R: Files<File = File> + Net, W: Write>(
     };
     let request = request_of(alloc, asked)?;
     let octets = ask(alloc, rt, path.as_str(), &request)?;
-    let Some(reply) = read_answer(octets.as_slice()) else {
+    print_answer(alloc, octets.as_slice(), writer)
+}
+
+/// Prints the lines of an answer. Fails if the octets are no answer, if the output can't be written, if the relay
+/// refused the request, or if memory runs out.
+fn print_answer<W: Write>(alloc: Global, octets: &[u8], writer: &mut W) -> Result<(), SteeringFault>
+    ensures done { OnOk result (IsDone octets.now) }
+    ensures failed { IfErr result (IsNotDone octets.now) }
+{
+    let Some(reply) = read_answer(octets) else {
         return Err(SteeringFault::NoAnswer);
     };
     if print_lines(reply.lines, writer).is_err() {
         return Err(SteeringFault::Files(Fault::Output));
     }
-    match reply.end {
+    end_of(alloc, reply.end)?;
+    Ok(())
+}
+
+/// Succeeds if the relay did what a request asked. Fails if it refused the request, for its reason, or if memory runs
+/// out.
+pub(crate) fn end_of(alloc: Global, end: End<'_>) -> Result<(), SteeringFault>
+    ensures done { OnOk result (end.entry ≡ End.Done) }
+    ensures refused { IfErr result (IsRefusal end.entry) }
+{
+    match end {
         End::Done => Ok(()),
         End::Refused(reason) => Err(SteeringFault::Refused(Vec::from_slice(alloc, reason)?)),
     }
@@ -41,7 +60,7 @@ pub(crate) fn steer<R: Files<File = File> + Net, W: Write>(
 
 /// Returns the request that the arguments ask for. Fails if no next hop can have the name, or memory runs out.
 fn request_of(alloc: Global, asked: Steering<'_>) -> Result<Request, SteeringFault>
-    ensures { IfOk result (AsksFor asked) }
+    ensures { IfOk result (AsksFor asked.entry) }
 {
     match asked {
         Steering::Flush(None) => Ok(Request::Flush(None)),
@@ -54,7 +73,7 @@ fn request_of(alloc: Global, asked: Steering<'_>) -> Result<Request, SteeringFau
 
 /// Returns the mail of a request. Fails if no next hop can have the name, or memory runs out.
 fn scope_of(alloc: Global, mail: Mail<'_>) -> Result<Scope, SteeringFault>
-    ensures { IfOk result (Names mail) }
+    ensures { IfOk result (Names mail.entry) }
 {
     match mail {
         Mail::Message(number) => Ok(Scope::Message(number)),

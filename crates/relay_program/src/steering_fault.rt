@@ -57,18 +57,34 @@ impl fmt::Display for SteeringFault {
 }
 
 impl From<AllocError> for SteeringFault {
+    ghost use Rattle.std.specs.Prelude.{◌≡◌};
+    ghost use Rattle.relay_files.specs.declared.fault.Fault.TheVariants.{NoMemory};
+    ghost use Rattle.relay_program.specs.declared.steering_fault.SteeringFault.TheVariants.{Files};
+
+    ghost from_gives = { λ _ fault. fault ≡ Files NoMemory };
+
     fn from(_fault: AllocError) -> SteeringFault {
         SteeringFault::Files(Fault::NoMemory)
     }
 }
 
 impl From<Fault> for SteeringFault {
+    ghost use Rattle.std.specs.Prelude.{◌≡◌};
+    ghost use Rattle.relay_program.specs.declared.steering_fault.SteeringFault.TheVariants.{Files};
+
+    ghost from_gives = { λ given fault. fault ≡ Files given };
+
     fn from(fault: Fault) -> SteeringFault {
         SteeringFault::Files(fault)
     }
 }
 
 impl From<QueueFault> for SteeringFault {
+    ghost use Rattle.std.specs.Prelude.{◌≡◌};
+    ghost use Rattle.relay_program.specs.declared.steering_fault.SteeringFault.TheVariants.{Queue};
+
+    ghost from_gives = { λ given fault. fault ≡ Queue given };
+
     fn from(fault: QueueFault) -> SteeringFault {
         SteeringFault::Queue(fault)
     }

@@ -1,12 +1,18 @@
 //! The subcommands `return` and `discard`.
+ghost use Rattle.std.specs.Prelude.{◌≡◌, IfErr, OnOk};
+ghost use Rattle.std.specs.Option.{option_copied};
+ghost use Rattle.relay_program.specs.Steering.{IsDone, IsNotDone};
+ghost use Rattle.relay_program.specs.Withdrawing.{Chooses, withdrawal_by};
+
 use crate::control_client::{ask, is_listening, socket_path};
 use crate::offline::{Outcome, withdraw_each};
 use crate::report::Report;
 use crate::requests::requests_of;
+use crate::steering::end_of;
 use crate::steering_fault::SteeringFault;
 use relay_arguments::{Choice, Removal};
 use relay_book::Withdrawal;
-use relay_control::{End, read_answer};
+use relay_control::read_answer;
 use relay_disk::FileDisk;
 use relay_files::{Fault, configuration, locked_node, write_out};
 use relay_node::Node;
@@ -49,15 +55,27 @@ pub(crate) fn withdraw<R: Files<File = File> + Clock + Net, W: Write>(
 }
 
 /// Returns the selection that the options make.
-fn selection_of<'a>(choice: &Choice<'a>) -> Selection<'a> {
+fn selection_of<'a>(choice: &Choice<'a>) -> Selection<'a>
+    ensures { Chooses choice.now result }
+{
     Selection {
-        numbers: choice.numbers.map(|text| text.as_bytes()),
+        numbers: octets_of(choice.numbers),
         filter: Filter {
-            hop: choice.hop.map(|text| text.as_bytes()),
-            reverse_path: choice.from.map(|text| text.as_bytes()),
-            path: choice.to.map(|text| text.as_bytes()),
+            hop: octets_of(choice.hop),
+            reverse_path: octets_of(choice.from),
+            path: octets_of(choice.to),
             age: None,
         },
+    }
+}
+
+/// Returns the octets of a text, if there is one.
+fn octets_of(text: Option<&str>) -> Option<&[u8]>
+    ensures { option_copied result ≡ option_copied text.entry }
+{
+    match text {
+        Some(text) => Some(text.as_bytes()),
+        None => None,
     }
 }
 
@@ -121,14 +139,22 @@ fn by_relay<N: Net>(
     let requests = requests_of(alloc, removal, messages)?;
     for request in requests.as_slice() {
         let octets = ask(alloc, net, path, request)?;
-        let Some(reply) = read_answer(octets.as_slice()) else {
-            return Err(SteeringFault::NoAnswer);
-        };
-        report.add_answer(reply.lines)?;
-        if let End::Refused(reason) = reply.end {
-            return Err(SteeringFault::Refused(Vec::from_slice(alloc, reason)?));
-        }
+        report_answer(alloc, octets.as_slice(), report)?;
     }
+    Ok(())
+}
+
+/// Reports an answer of the relay. Fails if the octets are no answer, if the relay refused the request, or if memory
+/// runs out.
+fn report_answer(alloc: Global, octets: &[u8], report: &mut Report) -> Result<(), SteeringFault>
+    ensures done { OnOk result (IsDone octets.now) }
+    ensures failed { IfErr result (IsNotDone octets.now) }
+{
+    let Some(reply) = read_answer(octets) else {
+        return Err(SteeringFault::NoAnswer);
+    };
+    report.add_answer(reply.lines)?;
+    end_of(alloc, reply.end)?;
     Ok(())
 }
 
@@ -142,17 +168,29 @@ fn on_spool<C: Clock>(
     report: &mut Report,
 ) -> Result<(), SteeringFault> {
     let mut node = node;
-    let withdrawal = match removal {
-        Removal::Return => Withdrawal::Return,
-        Removal::Discard => Withdrawal::Discard,
-    };
     let mut outcomes = Vec::with_capacity(alloc, messages.len())?;
     let now = clock_moment(clock);
-    let end = withdraw_each(&mut node, messages, withdrawal, now, &mut outcomes);
+    let end = withdraw_each(
+        &mut node,
+        messages,
+        withdrawal_by(removal),
+        now,
+        &mut outcomes,
+    );
     for (selected, outcome) in messages.iter().zip(outcomes.as_slice()) {
         tell(alloc, report, selected, *outcome)?;
     }
     Ok(end?)
+}
+
+/// Returns how a subcommand withdraws mail.
+fn withdrawal_by(removal: Removal) -> Withdrawal
+    ensures { result ≡ withdrawal_by removal }
+{
+    match removal {
+        Removal::Return => Withdrawal::Return,
+        Removal::Discard => Withdrawal::Discard,
+    }
 }
 
 /// Reports the outcome of withdrawing places of a message.
