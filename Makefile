@@ -55,8 +55,8 @@ instructions: relayd relay_rows_tests
 # Proves and links the program, a line a crate, and then shows a message's way through it.
 relayd:
 	@tools/needs.sh
-	@echo "Proves the relay crate by crate, builds it as build/relayd, and sends a message through it: 40 to 50 minutes on"
-	@echo "four processors."
+	@echo "Proves the relay crate by crate, builds it as build/relayd, and sends a message through it: about an hour on four"
+	@echo "processors."
 	@mkdir -p build
 	@tools/prove.py relayd session
 	@cp crates/relayd/out/relayd build/relayd

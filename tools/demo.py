@@ -27,7 +27,7 @@ def main():
         tour(program, folder)
     print(f"\nDone in {time.monotonic() - begun:.0f} s. Each heading was also checked; no file is left.\n"
           "This program was compiled with run-time checks and isn't proved yet:\n"
-          "   make relayd   proves and builds it, in 40 to 50 minutes on four processors\n"
+          "   make relayd   proves and builds it, in about an hour on four processors\n"
           "   make test     runs the whole gate, all proofs and tests, in one to two hours on four processors")
 
 
