@@ -71,6 +71,13 @@ def asked(path, octets):
             return answer.read()
 
 
+def found_away(relay):
+    """Waits until the relay has found that a next hop is away. How many of its messages were tried until then depends
+    on how fast they came."""
+    until("the next hop is found away", lambda: lines_of(relay, "hop-held") != [])
+    time.sleep(0.5)
+
+
 def not_all(relay, *words):
     """Returns the lines of a subcommand that withdraws only a part of the selected mail."""
     ended = relay.ended(PATIENCE, *words)
@@ -80,10 +87,10 @@ def not_all(relay, *words):
 
 
 def deferred_mail(relay, count=1, path="c@example.net"):
-    """Submits messages to a next hop that isn't there. Returns their numbers when each is deferred."""
+    """Submits messages to a next hop that isn't there. Returns their numbers when none of them is being tried."""
     with clients_of(relay, 1) as [client]:
         numbers = [client.hand_in(path) for _ in range(count)]
-        until("all are deferred", lambda: len(lines_of(relay, "status=deferred")) >= count)
+        found_away(relay)
     return numbers
 
 
@@ -156,7 +163,7 @@ def a_held_message_stays_and_others_leave(field):
     relay, _ = with_control(field, more={"example.net": ("away.example", port)})
     with relay.running(), clients_of(relay, 1) as [client]:
         held, other = client.hand_in("c@example.net"), client.hand_in("d@example.net")
-        until("both are put off", lambda: len(lines_of(relay, "status=deferred")) >= 2)
+        found_away(relay)
         relay.run("hold", "--message", str(held))
         with hop_that(takes_mail(arrived), port):
             relay.run("flush")
