@@ -359,6 +359,46 @@ def a_saved_message_is_its_text(field):
              (1, f"relayd: message {number + 1} is not queued"))
 
 
+def not_saved(relay, *words):
+    """Returns the output of a subcommand that saves, and so withdraws, only a part of the selected mail; and its lines on
+    standard error before the last."""
+    ended = relay.ended(PATIENCE, *words)
+    lines = ended.stderr.decode().splitlines()
+    same(f"relayd {' '.join(words)}", (ended.returncode, lines[-1:]),
+         (1, ["relayd: mail that was not saved is still queued"]))
+    return ended.stdout.decode().splitlines(), lines[:-1]
+
+
+def mail_is_saved_before_it_is_withdrawn(field):
+    relay, _ = with_control(field, more={"example.net": ("away.example", free_port())})
+    folder = field.folder / "saved"
+    folder.mkdir()
+    with relay.running():
+        first, second, third = deferred_mail(relay, 3)
+        texts = [relay.ended(PATIENCE, "show", "--raw", str(number)).stdout for number in (first, second)]
+        words = ("discard", "--message", f"{first},{second}", "--save", str(folder))
+        relay.run(*words)
+        same("files of a preview", list(folder.iterdir()), [])
+        (folder / f"{second}.eml").write_bytes(b"other mail")
+        same("a file that exists", not_saved(relay, *words, "--yes"),
+             (["discarded recipients=1"], [f"relayd: {folder}/{second}.eml: File exists (os error 17)"]))
+        same("the file of the first", (folder / f"{first}.eml").read_bytes(), texts[0])
+        same("the other file", (folder / f"{second}.eml").read_bytes(), b"other mail")
+        same("the queue", [row[0] for row in relay.held()], [second, third])
+        nowhere = field.folder / "nowhere"
+        printed, faults = not_saved(relay, "discard", "--hop", "away.example", "--save", str(nowhere), "--yes")
+        same("a folder that isn't there", printed, ["discarded recipients=0"])
+        same("its faults", faults, [f"relayd: {nowhere}/{number}.eml: No such file or directory (os error 2)"
+                                    for number in (second, third)]
+             + [f"relayd: {nowhere}: No such file or directory (os error 2)"])
+        same("the queue then", [row[0] for row in relay.held()], [second, third])
+    (folder / f"{second}.eml").unlink()
+    same("return without a relay",
+         relay.run("return", "--message", str(second), "--save", str(folder), "--yes"), ["returned recipients=1"])
+    same("the file of the second", (folder / f"{second}.eml").read_bytes(), texts[1])
+    same("the queue at the end", [row[0] for row in relay.held() if row[2] != "<a@example.org>"], [third])
+
+
 ROWS = [
     a_flush_tries_what_was_put_off,
     a_held_hop_gets_nothing_up_to_its_release,
@@ -377,6 +417,7 @@ ROWS = [
     mail_is_withdrawn_without_a_relay,
     a_relay_without_a_socket_keeps_its_mail,
     a_saved_message_is_its_text,
+    mail_is_saved_before_it_is_withdrawn,
 ]
 
 

@@ -149,9 +149,9 @@ with_choice name =
     with_rule (with_rule (with_rule (with_rule (configurable name) (option_rule (codes "message")))
     (option_rule (codes "hop"))) (option_rule (codes "from"))) (option_rule (codes "to"))
 
--- a subcommand that withdraws the mail that its options choose
+-- a subcommand that withdraws the mail that its options choose, and may save it before that
 abbrev pub withdrawing : Text → App
-withdrawing name = with_rule (with_choice name) (switch_rule (codes "yes"))
+withdrawing name = with_rule (with_rule (with_choice name) (option_rule (codes "save"))) (switch_rule (codes "yes"))
 
 -- the subcommand that saves a message to a file
 abbrev pub saving : App
@@ -294,7 +294,7 @@ pub data Asked : Type 0 where
   AskedServe : Text → ℕ → ℕ → Bool → Asked
   AskedPush : Text → Bool → Asked
   AskedSteer : Text → AskedSteering → Asked
-  AskedWithdraw : Text → Removal → AskedChoice → Bool → Asked
+  AskedWithdraw : Text → Removal → AskedChoice → Option Text → Bool → Asked
   AskedSave : Text → ℕ → Text → Asked
 
 -- the file of `--config`, where it is required
@@ -406,7 +406,8 @@ choice_in rows = record {
 -- `return` and `discard`
 abbrev pub withdraw_asked : Removal → List Row → Asked
 withdraw_asked removal rows =
-    AskedWithdraw (config_or_default_in rows) removal (choice_in rows) (is_given_in (codes "yes") rows)
+    AskedWithdraw (config_or_default_in rows) removal (choice_in rows) (first_of (codes "save") rows)
+    (is_given_in (codes "yes") rows)
 
 -- the file that a message is saved to; the argument parser refuses arguments without one
 abbrev pub into_in : List Row → Text
@@ -494,7 +495,8 @@ asked (Run file quiet) = AskedRun file.now quiet
 asked (Serve file rounds workers log) = AskedServe file.now rounds workers log
 asked (Push file log) = AskedPush file.now log
 asked (Steer file request) = AskedSteer file.now (steering_value request)
-asked (Withdraw file removal choice confirmed) = AskedWithdraw file.now removal (choice_value choice) confirmed
+asked (Withdraw file removal choice folder confirmed) =
+    AskedWithdraw file.now removal (choice_value choice) (option_copied folder) confirmed
 asked (Save file number into) = AskedSave file.now number into.now
 
 -- the arguments of a subcommand with the file `c`, and more
@@ -583,18 +585,22 @@ Steers name =
     ≡ AskedSteer (codes "c") (AskedDrain 0))
     × (faults_in (words_of name (codes "drain") (codes "--seconds" ∷ codes "65536" ∷ [])) ≡ ValueValidation ∷ [])
 
--- `return` and `discard` need an option that chooses mail; without `--yes` nothing is withdrawn. `save` requires a
--- number and a file.
+-- `return` and `discard` need an option that chooses mail; without `--yes` nothing is withdrawn, and with `--save` it is
+-- saved in a folder before that. `save` requires a number and a file.
 abbrev pub Withdraws : Text → Type 0
 Withdraws name =
     (faults_in (words_of name (codes "return") (codes "--yes" ∷ [])) ≡ MissingRequiredArgument ∷ [])
     × (faults_in (words_of name (codes "discard") (codes "--hop" ∷ codes "a" ∷ [])) ≡ [])
     × (asked_in (words_of name (codes "return") (codes "--message" ∷ codes "15,16" ∷ []))
     ≡ AskedWithdraw (codes "c") Return
-    (record { numbers = Some (codes "15,16"); hop = None; from = None; to = None }) false)
+    (record { numbers = Some (codes "15,16"); hop = None; from = None; to = None }) None false)
     × (asked_in (words_of name (codes "discard") (codes "--yes" ∷ codes "--from" ∷ codes "a" ∷ codes "--to" ∷ codes "b" ∷ []))
     ≡ AskedWithdraw (codes "c") Discard
-    (record { numbers = None; hop = None; from = Some (codes "a"); to = Some (codes "b") }) true)
+    (record { numbers = None; hop = None; from = Some (codes "a"); to = Some (codes "b") }) None true)
+    × (asked_in (words_of name (codes "discard") (codes "--hop" ∷ codes "a" ∷ codes "--save" ∷ codes "d" ∷ []))
+    ≡ AskedWithdraw (codes "c") Discard
+    (record { numbers = None; hop = Some (codes "a"); from = None; to = None }) (Some (codes "d")) false)
+    × (faults_in (words_of name (codes "return") (codes "--save" ∷ codes "d" ∷ [])) ≡ MissingRequiredArgument ∷ [])
     × (asked_in (words_of name (codes "save") (codes "7" ∷ codes "f" ∷ [])) ≡ AskedSave (codes "c") 7 (codes "f"))
     × (faults_in (words_of name (codes "save") (codes "7" ∷ [])) ≡ MissingRequiredArgument ∷ [])
 

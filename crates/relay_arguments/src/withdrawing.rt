@@ -40,6 +40,7 @@ pub(crate) fn withdraw_asked<'a>(removal: Removal, matches: &ArgMatches<'a>) -> 
         file: config_or_default(matches),
         removal,
         choice: choice_given(matches),
+        folder: text_of(matches, "save"),
         yes: is_given(matches, "yes"),
     }
 }
@@ -84,8 +85,8 @@ fn into<'a>(matches: &ArgMatches<'a>) -> &'a str
     matches.get_str("file").unwrap_or("")
 }
 
-/// `return [--config FILE] [--message NUMBERS] [--hop NAME] [--from PATH] [--to PATH] [--yes]`. Fails if memory runs
-/// out.
+/// `return [--config FILE] [--message NUMBERS] [--hop NAME] [--from PATH] [--to PATH] [--save FOLDER] [--yes]`. Fails if
+/// memory runs out.
 pub(crate) fn return_mail<'a>(alloc: Global) -> Result<Command<'a>, AllocError>
     ensures { IfOk result (λ command. app_of command ≡ withdrawing (codes "return")) }
 {
@@ -97,8 +98,8 @@ pub(crate) fn return_mail<'a>(alloc: Global) -> Result<Command<'a>, AllocError>
     )
 }
 
-/// `discard [--config FILE] [--message NUMBERS] [--hop NAME] [--from PATH] [--to PATH] [--yes]`. Fails if memory runs
-/// out.
+/// `discard [--config FILE] [--message NUMBERS] [--hop NAME] [--from PATH] [--to PATH] [--save FOLDER] [--yes]`. Fails if
+/// memory runs out.
 pub(crate) fn discard<'a>(alloc: Global) -> Result<Command<'a>, AllocError>
     ensures { IfOk result (λ command. app_of command ≡ withdrawing (codes "discard")) }
 {
@@ -124,7 +125,7 @@ pub(crate) fn save<'a>(alloc: Global) -> Result<Command<'a>, AllocError>
     .arg(file_to_make(alloc))
 }
 
-/// Returns a subcommand of this name with the options that choose mail, and `--yes`. Fails if memory runs out.
+/// Returns a subcommand of this name with the options that choose mail, `--save` and `--yes`. Fails if memory runs out.
 fn of_choice<'a>(
     alloc: Global,
     name: &'a str,
@@ -133,12 +134,18 @@ fn of_choice<'a>(
 ) -> Result<Command<'a>, AllocError>
     ensures { IfOk result (λ command. app_of command ≡ withdrawing name.now) }
 {
-    let with_choice = with_choice(alloc, name, about, example)?;
-    with_choice.arg(switch(
-        alloc,
-        "yes",
-        "Withdraw the mail; without this, only print what would be withdrawn",
-    ))
+    with_choice(alloc, name, about, example)?
+        .arg(option(
+            alloc,
+            "save",
+            "FOLDER",
+            "First save each message in this folder, to a new file named by its number, as 7.eml",
+        ))?
+        .arg(switch(
+            alloc,
+            "yes",
+            "Withdraw the mail; without this, only print what would be withdrawn",
+        ))
 }
 
 /// Returns a subcommand of this name with the options that choose mail. Fails if memory runs out.

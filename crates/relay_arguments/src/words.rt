@@ -90,6 +90,8 @@ pub enum Subcommand<'a> {
         removal: Removal,
         /// Which mail is withdrawn.
         choice: Choice<'a>,
+        /// The folder in which each of the messages is saved before that, if any.
+        folder: Option<&'a str>,
         /// Whether to withdraw it, instead of printing what would be withdrawn.
         yes: bool,
     },

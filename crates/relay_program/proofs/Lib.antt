@@ -1,4 +1,5 @@
 mod ProfileLemmas
+mod SavingLemmas
 mod SessionLemmas
 mod StatusLemmas
 mod WithdrawalLemmas

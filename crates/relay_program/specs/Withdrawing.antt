@@ -1,6 +1,6 @@
 -- What `return` and `discard` do to a spool on which no relay runs: exactly the selected places end, and nothing else
 -- changes.
-use Rattle.std.specs.Prelude.{◌≡◌, ℕ, List, [], ◌∷◌, ◌++◌, None}
+use Rattle.std.specs.Prelude.{◌≡◌, ◌⊎◌, ℕ, List, [], ◌∷◌, ◌++◌, None}
 use Rattle.std.specs.Option.{option_copied}
 use Rattle.relay_disk.specs.Device.{DiskWords}
 use Rattle.relay_arguments.specs.declared.withdrawing.Choice.{Choice}
@@ -34,6 +34,12 @@ pub record Chooses (choice : Choice) (selection : Selection) : Type 0 where
   pub reverse_path : option_copied selection.filter.reverse_path ≡ option_copied choice.from
   pub path : option_copied selection.filter.path ≡ option_copied choice.to
   pub age : selection.filter.age ≡ None
+
+-- some of the messages, in the same order
+abbrev pub AreSome : List Selected → List Selected → Type 0
+AreSome [] all = Unit {0}
+AreSome (one ∷ some) [] = ⊥
+AreSome (one ∷ some) (first ∷ all) = ((one ≡ first) × AreSome some all) ⊎ AreSome (one ∷ some) all
 
 -- the configuration, the sessions and the attempts are the same
 pub record KeepsAllButMail {D : Type 0} (old new : NodeState D) : Type 0 where

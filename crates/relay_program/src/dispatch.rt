@@ -9,7 +9,7 @@ use crate::looks::{list_rows, show, status};
 use crate::saving::save;
 use crate::steering::steer;
 use crate::streams::session;
-use crate::withdrawing::withdraw;
+use crate::withdrawing::{Asked, withdraw};
 use clap::Error;
 use clap::error::ErrorKind;
 use relay_arguments::{Subcommand, arguments};
@@ -128,12 +128,21 @@ pub fn command<
                 file,
                 removal,
                 choice,
+                folder,
                 yes,
             },
-        ) => ended(
-            withdraw(alloc, system, file, removal, &choice, yes, writer),
-            errors,
-        ),
+        ) => {
+            let asked = Asked {
+                removal,
+                choice,
+                folder,
+                confirmed: yes,
+            };
+            ended(
+                withdraw(alloc, system, file, &asked, writer, errors),
+                errors,
+            )
+        }
         Ok(Subcommand::Save { file, number, into }) => {
             ended(save(alloc, system, file, number, into), errors)
         }

@@ -24,6 +24,8 @@ pub(crate) enum SteeringFault {
     Refused(Vec<u8>),
     /// Some of the selected mail wasn't withdrawn.
     NotAll,
+    /// Some of the selected mail wasn't saved, and is still queued.
+    NotSaved,
 }
 
 impl fmt::Display for SteeringFault {
@@ -52,6 +54,7 @@ impl fmt::Display for SteeringFault {
                 }
             }
             SteeringFault::NotAll => f.write_str("not all of the mail was withdrawn; try again"),
+            SteeringFault::NotSaved => f.write_str("mail that was not saved is still queued"),
         }
     }
 }

@@ -1,13 +1,14 @@
 //! The subcommands `return` and `discard`.
-ghost use Rattle.std.specs.Prelude.{◌≡◌, IfErr, OnOk};
+ghost use Rattle.std.specs.Prelude.{◌≡◌, true, is_none, IfErr, IfOk, OnOk};
 ghost use Rattle.std.specs.Option.{option_copied};
 ghost use Rattle.relay_program.specs.Steering.{IsDone, IsNotDone};
-ghost use Rattle.relay_program.specs.Withdrawing.{Chooses, withdrawal_by};
+ghost use Rattle.relay_program.specs.Withdrawing.{AreSome, Chooses, withdrawal_by};
 
 use crate::control_client::{ask, is_listening, socket_path};
 use crate::offline::{Outcome, withdraw_each};
 use crate::report::Report;
 use crate::requests::requests_of;
+use crate::saving::save_each;
 use crate::steering::end_of;
 use crate::steering_fault::SteeringFault;
 use relay_arguments::{Choice, Removal};
@@ -24,24 +25,41 @@ use std::io::Write;
 use std::net::Net;
 use std::rt::{Clock, Files};
 
-/// Withdraws the queued mail that the options choose: by the relay that runs, or on the spool itself if none runs.
-/// Unless it is `confirmed`, only prints what would be withdrawn.
-pub(crate) fn withdraw<R: Files<File = File> + Clock + Net, W: Write>(
+/// Which queued mail is withdrawn, and how.
+#[derive(Clone, Copy, Debug, Drop)]
+pub(crate) struct Asked<'a> {
+    /// How it ends.
+    pub(crate) removal: Removal,
+    /// Which mail is withdrawn.
+    pub(crate) choice: Choice<'a>,
+    /// The folder in which each of the messages is saved before that, if any.
+    pub(crate) folder: Option<&'a str>,
+    /// Whether to withdraw it, instead of printing what would be withdrawn.
+    pub(crate) confirmed: bool,
+}
+
+/// Withdraws the queued mail that the options choose: by the relay that runs, or on the spool itself if none runs. If a
+/// folder is given, saves the messages there before, and withdraws only those that were saved. Unless it is `confirmed`,
+/// only prints what would be withdrawn.
+pub(crate) fn withdraw<R: Files<File = File> + Clock + Net, W: Write, E: Write>(
     alloc: Global,
     rt: &R,
     file: &str,
-    removal: Removal,
-    choice: &Choice<'_>,
-    confirmed: bool,
+    asked: &Asked<'_>,
     writer: &mut W,
+    errors: &mut E,
 ) -> Result<(), SteeringFault> {
-    let taken = select(alloc, rt, file, &selection_of(choice))?;
-    if !confirmed {
+    let removal = asked.removal;
+    let taken = select(alloc, rt, file, &selection_of(&asked.choice))?;
+    if !asked.confirmed {
         return print_preview(&taken, removal, writer);
     }
-    let messages = taken.messages.as_slice();
+    let way = way_to(alloc, rt, file)?;
+    let selected = taken.messages.len();
+    let saved = saved_of(alloc, rt, file, asked.folder, taken, errors)?;
+    let messages = saved.as_slice();
     let mut report = Report::new(alloc, removal);
-    let end = match way_to(alloc, rt, file)? {
+    let end = match way {
         Way::Relay(path) => by_relay(alloc, rt, path.as_str(), removal, messages, &mut report),
         Way::Spool(node) => on_spool(alloc, rt, node, removal, messages, &mut report),
     };
@@ -50,7 +68,30 @@ pub(crate) fn withdraw<R: Files<File = File> + Clock + Net, W: Write>(
     }
     match end {
         Ok(()) if report.has_refused() => Err(SteeringFault::NotAll),
+        Ok(()) if messages.len() < selected => Err(SteeringFault::NotSaved),
         end => end,
+    }
+}
+
+/// Returns the messages to withdraw: those that were saved, if a folder is given, else all that are taken.
+fn saved_of<F: Files<File = File>, E: Write>(
+    alloc: Global,
+    files: &F,
+    file: &str,
+    folder: Option<&str>,
+    taken: Taken,
+    errors: &mut E,
+) -> Result<Vec<Selected>, SteeringFault>
+    ensures some { IfOk result (λ saved. AreSome saved.items taken.messages.items) }
+    ensures all { is_none folder.entry ≡ true → IfOk result (λ saved. saved.items ≡ taken.messages.items) }
+{
+    let Taken {
+        messages,
+        preview: _preview,
+    } = taken;
+    match folder {
+        Some(folder) => save_each(alloc, files, file, folder, messages, errors),
+        None => Ok(messages),
     }
 }
 
