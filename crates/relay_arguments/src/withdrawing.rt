@@ -85,8 +85,8 @@ fn into<'a>(matches: &ArgMatches<'a>) -> &'a str
     matches.get_str("file").unwrap_or("")
 }
 
-/// `return [--config FILE] [--message NUMBERS] [--hop NAME] [--from PATH] [--to PATH] [--save FOLDER] [--yes]`. Fails if
-/// memory runs out.
+/// `return [--config FILE] [--message NUMBERS] [--hop NAME] [--from PATH] [--to PATH] [--save FOLDER] [--yes]`.
+/// Fails if memory runs out.
 pub(crate) fn return_mail<'a>(alloc: Global) -> Result<Command<'a>, AllocError>
     ensures { IfOk result (λ command. app_of command ≡ withdrawing (codes "return")) }
 {
@@ -98,8 +98,8 @@ pub(crate) fn return_mail<'a>(alloc: Global) -> Result<Command<'a>, AllocError>
     )
 }
 
-/// `discard [--config FILE] [--message NUMBERS] [--hop NAME] [--from PATH] [--to PATH] [--save FOLDER] [--yes]`. Fails if
-/// memory runs out.
+/// `discard [--config FILE] [--message NUMBERS] [--hop NAME] [--from PATH] [--to PATH] [--save FOLDER] [--yes]`.
+/// Fails if memory runs out.
 pub(crate) fn discard<'a>(alloc: Global) -> Result<Command<'a>, AllocError>
     ensures { IfOk result (λ command. app_of command ≡ withdrawing (codes "discard")) }
 {

@@ -19,7 +19,7 @@ pub const MOST_WRITTEN: usize = 64 * 1024;
 /// How many milliseconds a caller has from its coming to its going, unless its request takes longer.
 pub const CALL_TIME: u64 = 5_000;
 
-/// What is to be done for a caller next.
+/// What to do next for a caller.
 #[derive(Drop)]
 pub(crate) enum Stage {
     /// Its request is read.

@@ -65,7 +65,7 @@ impl Steering {
         self.drain.is_some()
     }
 
-    /// Returns the tick at which something is to be done, or `otherwise` if that is earlier.
+    /// Returns the tick of the next deadline, or `otherwise` if that is earlier.
     pub(crate) fn next_deadline(&self, otherwise: u64) -> u64
         ensures { result ≤ otherwise }
     {
