@@ -4,18 +4,12 @@ SHELL := bash
 
 .PHONY: test demo interop hostile bench load instructions relayd relay_rows_tests
 
-# The whole gate: the sample configuration and a play beside their tested copies; then every proof from nothing, the
-# edits that must fail and the tests, as many side by side as tools/lanes.sh says (RT_JOBS, where it is given); then the
-# scripts of tests/run_all.py, over the programs that these have built. The gate's own last line is the last.
+# The whole gate: the sample configuration and a play beside their tested copies; then all proofs, edits that must fail
+# and tests.
 test:
 	cmp relayd.toml crates/relay_rows_tests/data/relayd.toml
 	cmp docs/plays/lost_reply.play crates/relay_rows_tests/data/lost_reply.play
-	mkdir -p build
-	rm -rf build/lanes
-	RT_JOBS=$$(tools/lanes.sh) rt ci | tee build/gate.log
-	cp crates/relayd/out/relayd build/relayd
-	tests/run_all.py --junit build/tests.xml
-	tail -n 1 build/gate.log
+	tools/gate.sh
 
 # Compiles the relay without its proofs, and shows a message's way through it, over sockets of this machine. It leaves
 # nothing behind.

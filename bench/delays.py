@@ -7,8 +7,14 @@
 The crowds are those of CROWDS below, or the named ones. MESSAGES (200) is how many messages each figure is of, DUE
 (100000) how many are due for the measured listing. The client waits for the 250 that follows its mail data, one message
 after another on one connection; beside a crowd of next hops a message's way to a next hop that answers is measured.
+
+The relay has a processor of its own, and so has the client. A virtual machine's processor stands still at times, since
+others of its host have the real one. So a process of the highest priority on each of these two wakes every millisecond
+and notes how late it woke, and each line also has the longest wait without the time that such a processor stood still.
 """
+import collections
 import contextlib
+import multiprocessing
 import os
 import pathlib
 import socket
@@ -23,7 +29,7 @@ sys.dont_write_bytecode = True
 
 from relay_program import free_port, until
 from run_load import pipeline, pour
-from running_relay import TEXT, Field, beside, clients_of, lines_of, number_of, shim
+from running_relay import TEXT, Field, clients_of, in_a_process, lines_of, number_of, shim
 
 MESSAGES = int(os.environ.get("MESSAGES", 200))
 DUE = int(os.environ.get("DUE", 100_000))
@@ -32,36 +38,95 @@ MEGABYTE = b"Subject: long\r\n\r\n" + (b"x" * 1022 + b"\r\n") * 1023 + b".\r\n"
 WAITING, PASSING = 24, 64
 # How many next hops say nothing.
 SILENT = 63
+# A process that sleeps for a millisecond wakes this much later without any standstill, in seconds.
+LATE = 0.002
+
+# A time, from a moment to a moment, in seconds of the monotonic clock.
+Span = collections.namedtuple("Span", "begun ended")
+
+
+def note_standstills(processor, pipe):
+    """Notes when this processor stood still, until something comes through the pipe, and sends it there."""
+    os.sched_setaffinity(0, {processor})
+    with contextlib.suppress(PermissionError):
+        os.nice(-20)
+    standstills, last = [], time.monotonic()
+    while not pipe.poll():
+        time.sleep(0.001)
+        now = time.monotonic()
+        if now - last > 0.001 + LATE:
+            standstills.append(Span(last, now))
+        last = now
+    pipe.send(standstills)
+
+
+class Measured:
+    """How long a relay and this process wait, each on a processor of its own, beside a flood on the others."""
+
+    def __init__(self, relay, flood=None):
+        self.all = sorted(os.sched_getaffinity(0))
+        self.own = self.all[:2]
+        os.sched_setaffinity(relay.pid, self.own[:1])
+        if flood:
+            os.sched_setaffinity(flood.pid, self.all[2:] or self.own[-1:])
+
+    def __enter__(self):
+        self.stack, self.pipes = contextlib.ExitStack(), []
+        for processor in self.own:
+            ours, theirs = multiprocessing.Pipe()
+            self.stack.enter_context(in_a_process(note_standstills, processor, theirs))
+            self.pipes.append(ours)
+        os.sched_setaffinity(0, self.own[-1:])
+        return self
+
+    def __exit__(self, *failure):
+        os.sched_setaffinity(0, self.all)
+        self.stack.close()
+
+    def tell(self, crowd, waits):
+        """Prints the median and the longest of these waits, and the longest without standstills."""
+        standstills = []
+        for pipe in self.pipes:
+            pipe.send(None)
+            standstills += pipe.recv()
+        times = [wait.ended - wait.begun for wait in waits]
+        moving = [time - still_in(wait, standstills) for time, wait in zip(times, waits)]
+        figures = [statistics.median(times), max(times), max(moving)]
+        median, longest, without = (f"{figure * 1000:7.1f} ms" for figure in figures)
+        print(f"{crowd:<44} median {median}   longest {longest}, without standstills {without}", flush=True)
+
+
+def still_in(wait, standstills):
+    """Returns how much of a wait is in one of these times, in seconds."""
+    still, last = 0, wait.begun
+    for begun, ended in sorted(standstills):
+        begun, ended = max(begun, last), min(ended, wait.ended)
+        if begun < ended:
+            still, last = still + ended - begun, ended
+    return still
 
 
 def waits_of(client, count=MESSAGES):
-    """Returns how long each of so many messages waits for its 250, in seconds."""
+    """Returns from when to when each of so many messages waits for its 250."""
     waits = []
     for _ in range(count):
         client.ask_for_text()
         begun = time.monotonic()
         number_of(client.say(TEXT))
-        waits.append(time.monotonic() - begun)
+        waits.append(Span(begun, time.monotonic()))
     return waits
 
 
-def tell(crowd, waits):
-    print(f"{crowd:<44} median {statistics.median(waits) * 1000:7.1f} ms   longest {max(waits) * 1000:7.1f} ms",
-          flush=True)
-
-
-def pipelining(count, octets):
-    """Clients that send these octets over and over, and read the replies."""
+def pipelining(count, line):
+    """Clients that send this line over and over, and read the replies."""
 
     def measure(field, crowd):
         relay = field.relay(sessions_per_client=64)
-        with relay.running("--quiet"), clients_of(relay, 1) as [client]:
-            if not count:
-                tell(crowd, waits_of(client))
-                return
-            with beside(lambda done: pipeline(relay, count, octets * (65_536 // len(octets)), done)):
+        with relay.running("--quiet") as process, clients_of(relay, 1) as [client]:
+            with in_a_process(pipeline, relay, count, line) if count else contextlib.nullcontext() as flood:
                 time.sleep(1)
-                tell(crowd, waits_of(client))
+                with Measured(process, flood) as measured:
+                    measured.tell(crowd, waits_of(client))
 
     return measure
 
@@ -71,24 +136,25 @@ def listings(field, crowd):
     away = {f"away-{number}.example": (f"hop-{number}.example", free_port()) for number in range(4)}
     relay = field.relay(more=away, spool_limit=1 << 30, client_timeout=3600)
     shim(field, "run_clocks", relay, FASTER="60")
-    with relay.running("--quiet"):
+    with relay.running("--quiet") as process:
         pour(relay, list(away), DUE)
-        with clients_of(relay, 1) as [client]:
-            tell(crowd, waits_of(client))
+        with clients_of(relay, 1) as [client], Measured(process) as measured:
+            measured.tell(crowd, waits_of(client))
 
 
 def compactions(field, crowd):
     """The spool is compacted while long messages pass through it and others wait."""
     away = {"away.example": ("hop.example", free_port())}
     relay = field.relay(more=away, spool_limit=1 << 30, max_content=1 << 21)
-    with relay.running(), clients_of(relay, 2) as [client, other]:
+    with relay.running() as process, clients_of(relay, 2) as [client, other]:
         for _ in range(WAITING):
             other.hand_in("b@away.example", MEGABYTE)
         for _ in range(PASSING):
             other.hand_in(text=MEGABYTE)
-        waits = waits_of(client)
-        until("a compaction", lambda: waits.extend(waits_of(client, 1)) or lines_of(relay, "relayd: compacted"))
-        tell(crowd, waits)
+        with Measured(process) as measured:
+            waits = waits_of(client)
+            until("a compaction", lambda: waits.extend(waits_of(client, 1)) or lines_of(relay, "relayd: compacted"))
+            measured.tell(crowd, waits)
 
 
 def silent_hops(field, crowd):
@@ -99,19 +165,20 @@ def silent_hops(field, crowd):
         more = {f"silent-{at}.example": (f"hop-{at}.example", listener.getsockname()[1])
                 for at, listener in enumerate(listeners)}
         relay = field.relay(more=more)
-        with relay.running("--quiet"), clients_of(relay, 1) as [client]:
+        with relay.running("--quiet") as process, clients_of(relay, 1) as [client]:
             client.hand_in()
             field.arrived(1)
             for domain in more:
                 client.hand_in(f"b@{domain}")
             waits = []
-            for _ in range(MESSAGES):
-                begun = time.monotonic()
-                client.hand_in()
-                field.sink.wait_for(1, 60)
-                waits.append(time.monotonic() - begun)
-                field.sink.take_all()
-            tell(crowd, waits)
+            with Measured(process) as measured:
+                for _ in range(MESSAGES):
+                    begun = time.monotonic()
+                    client.hand_in()
+                    field.sink.wait_for(1, 60)
+                    waits.append(Span(begun, time.monotonic()))
+                    field.sink.take_all()
+                measured.tell(crowd, waits)
 
 
 CROWDS = {

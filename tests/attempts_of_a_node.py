@@ -6,7 +6,7 @@ stamp line before the mail data, and use no octet after an attempt's end; the ou
 verdicts, to the octet, and the places that they keep are held afterwards; no call may run out of memory. Four rows are
 wrong on purpose.
 
-    tests/attempts_of_a_node.py crates/relay_rows_tests/out/relay_rows_tests
+    tests/attempts_of_a_node.py build/relay_rows_tests
 """
 import pathlib
 import re

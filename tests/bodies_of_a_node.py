@@ -4,7 +4,7 @@ says comes whole, in two pieces cut at each octet, octet by octet, and among so 
 open. The reply must come after as many octets as the row says, what follows these is read as commands, and the
 spool has the content, to the octet. Four rows are wrong on purpose.
 
-    tests/bodies_of_a_node.py crates/relay_rows_tests/out/relay_rows_tests
+    tests/bodies_of_a_node.py build/relay_rows_tests
 """
 import pathlib
 import re

@@ -107,6 +107,9 @@ trusted_clients = "127.0.0.1"
 routed_paths = "no"
 balancers = "192.0.2.5"
 reports = "long"
+clients = "192.0.2.5"
+control = ""
+control_group = "postmasters"
 """, [
         '1:1: error: host = "relay example": write a name of 1 to 255 letters, digits, hyphens and periods, such as '
         'host = "relay.example.org"',
@@ -129,7 +132,12 @@ reports = "long"
         'trusted_clients = ["127.0.0.0/8"]',
         '15:1: error: routed_paths = "no": write "pass" or "refuse", such as routed_paths = "refuse"',
         '16:1: error: balancers = "192.0.2.5": write an array of IPv4 networks, such as balancers = ["192.0.2.5"]',
-        '17:1: error: reports = "long": write "plain" or "rich", such as reports = "rich"'])
+        '17:1: error: reports = "long": write "plain" or "rich", such as reports = "rich"',
+        '18:1: error: clients = "192.0.2.5": write an array of IPv4 networks, such as clients = ["192.0.2.0/24"]',
+        '19:1: error: control = "": write the path of a socket, of 1 to 107 octets, such as '
+        'control = "/run/relayd/control"',
+        '20:1: error: control_group = "postmasters": write the number of a group from 0 to 4294967294, such as '
+        'control_group = 100'])
 
 
 def each_network_is_judged_on_its_own(program):

@@ -5,7 +5,7 @@ so many other clients that 64 sessions are open. Each reply must be as it is wri
 the records of the messages, to the octet; no call may run out of memory. A message whose text is `no room` meets a full
 spool, which has room again after it. Two dialogues are wrong on purpose, one in a reply and one in a message.
 
-    tests/dialogues_of_a_node.py crates/relay_rows_tests/out/relay_rows_tests
+    tests/dialogues_of_a_node.py build/relay_rows_tests
 """
 import pathlib
 import re

@@ -8,7 +8,7 @@ after just these octets. The spool of the one that serves has the message, or no
 other has the verdicts, to the octet. Then the one that relays loses its next hop after each octet of its replies: each
 place may be tried again. Four rows are wrong on purpose.
 
-    tests/errands_of_nodes.py crates/relay_rows_tests/out/relay_rows_tests
+    tests/errands_of_nodes.py build/relay_rows_tests
 """
 import pathlib
 import sys

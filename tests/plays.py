@@ -129,8 +129,8 @@ def undone(program, first=""):
     status, out, errors = run(program, changed.encode())
     same("the end", (status, errors), (0, b""))
     seen = out.decode().split("\n")[:-1]
-    behind = seen.index("stopped b") + 1
-    same("after the stop", seen[behind:behind + 4], ["refused NoLink", "a 1 0", "accept a 1 1 link 1", "now 1800"])
+    index = seen.index("stopped b") + 1
+    same("after the stop", seen[index:index + 4], ["refused NoLink", "a 1 0", "accept a 1 1 link 1", "now 1800"])
     same("in the end", seen[-6:], ["b 1 0", "accept a 1 1 link 1", "accept b 1 1 link 3",
                                    "transfer a 1 0 link 3 report 0", "1", "1"])
 

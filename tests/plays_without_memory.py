@@ -22,7 +22,7 @@ from relay_program import HERE, Difference, run_main, same
 
 PLAYS = HERE.parent / "docs" / "plays"
 ACCEPTED = re.compile(r"^node ([a-p]) link \d+ used \d+ out .*250 queued as (\d+)\\r\\n", re.MULTILINE)
-# What stands before node a stops, while it is down, and behind its next stop: each line with what is to be seen of it.
+# What stands before node a stops, while it is down, and after its next stop: each line with its answer.
 BEFORE = [
     ("connect b", GREETED.format(1, "b")),
     ("send 1 " + MAIL.format("a.example"), "ok"),

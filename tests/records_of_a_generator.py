@@ -2,7 +2,7 @@
 """Makes 1,000 records with a fixed generator, about half of them accepts and half outcomes, with up to 100 recipients
 or rulings each. The program decodes each record and encodes its change again, and must get the same octets.
 
-    tests/records_of_a_generator.py crates/relay_rows_tests/out/relay_rows_tests
+    tests/records_of_a_generator.py build/relay_rows_tests
 """
 import pathlib
 import subprocess
@@ -33,8 +33,8 @@ class Draw:
 
     def mailbox(self):
         """Returns a mailbox; one in four has a quoted string as its local part."""
-        before, behind = (b'<"', b' x"@') if self.below(4) == 0 else (b"<", b"@")
-        return before + self.letters(20) + behind + self.letters(20) + b".example>"
+        before, after = (b'<"', b' x"@') if self.below(4) == 0 else (b"<", b"@")
+        return before + self.letters(20) + after + self.letters(20) + b".example>"
 
     def path(self, times, other):
         """Returns the other path once in so many times, else a mailbox."""

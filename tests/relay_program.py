@@ -24,6 +24,10 @@ class Difference(Exception):
     """Something differs from what is expected."""
 
 
+class Slow(Difference):
+    """Something takes longer than it may."""
+
+
 def shown(value):
     """Returns a value as text, without its middle if it is long."""
     text = repr(value)
@@ -40,7 +44,7 @@ def until(what, holds, seconds=PATIENCE):
     ends = time.monotonic() + seconds
     while not holds():
         if time.monotonic() > ends:
-            raise Difference(f"{what}: not within {seconds} seconds")
+            raise Slow(f"{what}: not within {seconds} seconds")
         time.sleep(0.01)
 
 
@@ -224,7 +228,7 @@ class Relay:
             same("relayd run goes on", process.poll(), None)
             process.terminate()
             same("a signal ends relayd run", process.wait(PATIENCE), -signal.SIGTERM)
-            same("relayd run prints behind `ready`", process.stdout.read(), b"")
+            same("relayd run prints after `ready`", process.stdout.read(), b"")
         finally:
             process.kill()
             process.wait()

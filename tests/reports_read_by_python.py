@@ -3,7 +3,7 @@
 parts without defects, with the fields that its row's records give, and the same parts into which the program itself
 splits it.
 
-    tests/reports_read_by_python.py crates/relay_rows_tests/out/relay_rows_tests
+    tests/reports_read_by_python.py build/relay_rows_tests
 """
 import datetime
 import email

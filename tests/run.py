@@ -23,7 +23,7 @@ import time
 sys.dont_write_bytecode = True
 
 from mail_checks import CONTENT, CONTENTS, behind_mark, hand_in, one_message
-from relay_program import Difference, LOCKED, PATIENCE, same, until
+from relay_program import Difference, LOCKED, PATIENCE, Slow, same, until
 from running_relay import NO_SERVICE, TEXT, TIMEOUT, TIMES, TOO_MANY, Client, Feeder, beside, clients_of, comes_to_rest
 from running_relay import greeted, lines_of, no_later, number_of, play_rows, repeats_at, resident, shim, slowest
 from running_relay import tokens_at
@@ -126,7 +126,7 @@ def the_next_of_one_address_is_sent_away(field):
         with clients_of(relay, 16, "127.0.0.2") as others:
             others[0].hand_in()
         same("QUIT", clients[3].say(b"QUIT\r\n")[:4], "221 ")
-        same("behind QUIT", clients[3].rest(), b"")
+        same("after QUIT", clients[3].rest(), b"")
         clients[3].__exit__()
         until("room for one more", lambda: greeted(relay))
         clients[0].hand_in()
@@ -265,7 +265,7 @@ def a_silent_client_is_told_and_left(field):
         same("what they got", [client.rest() for client in clients], [TIMEOUT] * 3)
         waited = time.monotonic() - begun
         if not 0.5 < waited < 2 + TIMES:
-            raise Difference(f"they are waited for {waited:.1f} s")
+            raise Slow(f"they are waited for {waited:.1f} s")
         same("list", relay.held(), [])
         hand_in(relay)
         field.arrived(1)
@@ -284,7 +284,7 @@ def a_client_that_drips_is_told_and_left(field):
             told = select.select(waiting, [], [], 0.2)[0]
             waiting = [link for link in waiting if link not in told]
             if time.monotonic() > begun + 1 + 2 * TIMES:
-                raise Difference(f"{len(waiting)} are still waited for")
+                raise Slow(f"{len(waiting)} are still waited for")
         same("what they got", [client.rest() for client in clients], [TIMEOUT] * 2)
 
 
@@ -301,7 +301,7 @@ def a_line_without_an_end_is_cut_off(field):
             text.link.sendall((b"x" * 68 + b"\r\n") * 1000)
             time.sleep(0.3)
         if rounds == 10:
-            raise Difference("it isn't cut off")
+            raise Slow("it isn't cut off")
         same("what it got", line.rest(), TIMEOUT)
         number_of(text.say(b".\r\n"))
         field.arrived(1)
@@ -389,7 +389,7 @@ def the_reply_to_quit_arrives_whole(field):
             with Client(relay) as client:
                 client.begin()
                 client.link.sendall(b"QUIT\r\n" + b"NOOP\r\n" * (size // 6))
-                same(f"QUIT with {size} octets behind", client.rest(), b"221 relay.example closing\r\n")
+                same(f"QUIT with {size} octets after", client.rest(), b"221 relay.example closing\r\n")
 
 
 def the_end_of_the_input_leaves_what_was_answered(field):
@@ -450,11 +450,11 @@ def a_kill_loses_nothing(field):
             answered.update(feeder.answered)
         held, gone = {row[0] for row in relay.held()}, tokens_at(field.sink)
         lost = [token for token, number in answered.items() if number not in held and token not in gone]
-        same(f"messages lost behind kill {kill}", lost, [])
+        same(f"messages lost after kill {kill}", lost, [])
     same("numbers given twice", len(answered) - len(set(answered.values())), 0)
     compactions = len(lines_of(relay, "relayd: compacted"))
     if len(answered) < 2 * KILLS or compactions < KILLS // 4:
-        raise Difference(f"only {len(answered)} messages were answered 250, and {compactions} compactions")
+        raise Slow(f"only {len(answered)} messages were answered 250, and {compactions} compactions")
     with relay.running():
         until("an empty list", lambda: relay.held() == [])
     same("messages that never came", set(answered) - tokens_at(field.sink), set())
@@ -491,7 +491,7 @@ def few_descriptors_keep_clients_waiting_alone(field):
                 stack.enter_context(Client(relay))
             comes_to_rest(process, "without descriptors")
         until("room for one more", lambda: greeted(relay))
-        comes_to_rest(process, "behind 240 connections")
+        comes_to_rest(process, "after 240 connections")
         hand_in(relay)
         field.arrived(1)
 

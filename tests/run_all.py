@@ -23,7 +23,7 @@ import xml.etree.ElementTree as ElementTree
 TOP = pathlib.Path(__file__).resolve().parent.parent
 LOGS = TOP / "build/tests"
 RELAYD = "build/relayd"
-ROWS = "crates/relay_rows_tests/out/relay_rows_tests"
+ROWS = "build/relay_rows_tests"
 # How long a script may run, in seconds.
 LONGEST = 3600
 
@@ -119,8 +119,11 @@ class Running:
             self.is_timed_one_running = self.is_timed_one_running and not script.is_timed
             self.results.append(result)
             print(f"{'FAILED' if result.fault else 'ok':6}  {result.name:28}{result.seconds:8.1f} s", flush=True)
+            lines = result.output.splitlines()
             if result.fault:
-                print("".join(f"    {line}\n" for line in [*result.output.splitlines(), result.fault]), flush=True)
+                print("".join(f"    {line}\n" for line in [*lines, result.fault]), flush=True)
+            else:
+                print("".join(f"    {line}\n" for line in lines if ": again, " in line), end="", flush=True)
             self.changed.notify_all()
 
     def run(self, script):

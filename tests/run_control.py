@@ -8,17 +8,20 @@ With names of rows, runs these only. TIMES in the environment multiplies the tim
 """
 import contextlib
 import os
+import random
 import socket
 import stat
 import subprocess
 import sys
 import threading
 import time
+from concurrent.futures import ThreadPoolExecutor
+from email.utils import parsedate_to_datetime
 
 sys.dont_write_bytecode = True
 
 from relay_program import PATIENCE, free_port, same, until
-from running_relay import SOON, Client, clients_of, hop_that, hop_that_hangs, lines_of, play_rows
+from running_relay import SOON, TEXT, TIMES, Client, clients_of, hop_that, hop_that_hangs, lines_of, play_rows
 
 # Octets that a caller sends, and their answers.
 REFUSED = [
@@ -51,6 +54,9 @@ REFUSED = [
 
 # The faults of subcommands that find no relay, and that find one which they can't reach.
 UNREACHED = (1, "relayd: control: no relay listens, or this user may not connect")
+# The answer to a reload, and the last reply to a client whose session it ends.
+RELOADED = b" reloaded; attempts cut=0\nok\n"
+STOPPING = "421 relay.example service stopping, closing"
 LOCKED_ANYHOW = (
     1, "relayd: locked\nrelayd: another relayd holds the spool: stop it, or set control and restart it")
 
@@ -123,6 +129,16 @@ def takes_mail(arrived, pause=0.0):
     return serve
 
 
+def reloads(path):
+    """Asks for a reload in a thread of its own. Returns the thread, and the list that gets the answer."""
+    answers = []
+    thread = threading.Thread(target=lambda: answers.append(asked(path, b"reload\n")))
+    thread.start()
+    time.sleep(0.5)
+    same("answers before its end", answers, [])
+    return thread, answers
+
+
 # The rows. Each says in its name what holds.
 
 
@@ -143,7 +159,8 @@ def a_flush_tries_what_was_put_off(field):
 def a_held_hop_gets_nothing_up_to_its_release(field):
     relay, _ = with_control(field)
     with relay.running():
-        same("hold", relay.run("hold", "--hop", "next.example"), ["held; a held message still expires"])
+        same("hold", relay.run("hold", "--hop", "next.example"),
+             ["held; mail still expires 5 days after it was accepted"])
         with clients_of(relay, 1) as [client]:
             client.hand_in()
             time.sleep(1)
@@ -164,7 +181,11 @@ def a_held_message_stays_and_others_leave(field):
     with relay.running(), clients_of(relay, 1) as [client]:
         held, other = client.hand_in("c@example.net"), client.hand_in("d@example.net")
         found_away(relay)
-        relay.run("hold", "--message", str(held))
+        [line] = relay.run("hold", "--message", str(held))
+        expiry = parsedate_to_datetime(line.removeprefix("held; it still expires, on ")).timestamp()
+        same("it expires in five days", abs(expiry - time.time() - 5 * 86400) < 60, True)
+        [line] = relay.run("hold", "--message", str(held))
+        same("held once more", line.startswith("held before; it still expires, on "), True)
         with hop_that(takes_mail(arrived), port):
             relay.run("flush")
             until("the other leaves", lambda: [row[0] for row in relay.held()] == [held])
@@ -246,10 +267,108 @@ def a_draining_relay_takes_no_client(field):
         same("what was on its way", len(arrived), 1)
 
 
+def a_reload_adds_a_route_and_takes_one(field):
+    """A client in a mail transaction is not cut, and its mail goes by the table that it began with."""
+    port, arrived = free_port(), []
+    relay, path = with_control(field, more={"example.net": ("away.example", free_port())})
+    with relay.running(), hop_that(takes_mail(arrived), port):
+        with Client(relay) as client, Client(relay) as idle:
+            client.begin()
+            idle.begin()
+            client.ask_for_text("c@example.net")
+            relay.route({"example.org": ("next.example", field.sink.port), "example.com": ("new.example", port)})
+            reload, answers = reloads(path)
+            same("an idle client", idle.reply(), STOPPING)
+            with Client(relay) as late:
+                same("the reply to the mail", client.say(TEXT)[:4], "250 ")
+                same("the client after it", client.reply(), STOPPING)
+                reload.join(PATIENCE)
+                same("the answer", answers, [RELOADED])
+                # It has waited to be accepted, and is served by the new table.
+                late.begin()
+                same("a route that was added", late.offer("d@example.com")[:4], "250 ")
+                same("MAIL", late.say(b"MAIL FROM:<a@example.org>\r\n")[:4], "250 ")
+                same("a route that was taken", late.say(b"RCPT TO:<c@example.net>\r\n")[:4], "550 ")
+        until("the log says why their sessions ended",
+              lambda: [line.rsplit(" reason=", 1)[1] for line in lines_of(relay, "client-end")][:2] == ["stopping"] * 2)
+        until("mail comes by the new route", lambda: len(arrived) == 1, SOON)
+        # Mail whose route has gone ends by the new table.
+        [report] = field.arrived(1, SOON)
+        same("who gets the report", report.recipients, [b"<a@example.org>"])
+        until("the queue is empty", lambda: relay.held() == [])
+
+
+def a_configuration_with_a_fault_is_not_taken(field):
+    relay, path = with_control(field)
+    with relay.running(), clients_of(relay, 1) as [client]:
+        good = relay.file.read_text()
+        for text, answer in [
+            (good.replace('host = "relay.example"', 'host = "relay example"'), b"error config BadValue host\n"),
+            ("max_content = 0\n" + good, b"error config BadValue max_content\n"),
+            ("[routes\n", b"error config NotToml\n"),
+        ]:
+            relay.file.write_text(text)
+            same("the answer", asked(path, b"reload\n"), answer)
+        relay.file.unlink()
+        same("the answer without a file", asked(path, b"reload\n"), b"error input\n")
+        relay.file.write_text(good)
+        client.hand_in()
+        field.arrived(1, SOON)
+
+
+def what_needs_a_restart_is_named(field):
+    relay, path = with_control(field)
+    with relay.running(), clients_of(relay, 1) as [client]:
+        good = relay.file.read_text()
+        changed = [
+            ('host = "relay.example"', 'host = "other.example"', b"host"),
+            (f'listen = "127.0.0.1:{relay.port}"', f'listen = "127.0.0.1:{free_port()}"', b"listen"),
+            (f'spool = "{relay.spool}"', f'spool = "{relay.spool}.other"', b"spool"),
+            (f'control = "{path}"', f'control = "{path}.other"', b"control"),
+            (f'control = "{path}"', f'control = "{path}"\nstatus_listen = "127.0.0.1:{free_port()}"', b"status_listen"),
+            (f'control = "{path}"\n', "", b"control"),
+            (f'control = "{path}"\n', f'control = "{path}"\ncontrol_group = 0\n', b"control_group"),
+        ]
+        for old, new, key in changed:
+            relay.file.write_text(good.replace(old, new))
+            same(f"the answer for {key}", asked(path, b"reload\n"), b"error restart the relay to change " + key + b"\n")
+        client.hand_in()
+        field.arrived(1, SOON)
+
+
+def a_reload_cuts_no_attempt(field):
+    """16 attempts run when the configuration is read again; nothing is delivered twice."""
+    port, arrived = free_port(), []
+    relay, path = with_control(field, more={"example.net": ("slow.example", port)}, attempts_per_hop=16)
+    with hop_that(takes_mail(arrived, 1.0), port), relay.running():
+        with clients_of(relay, 1) as [client]:
+            for number in range(40):
+                client.hand_in("c@example.net", b"Subject: %d\r\n\r\ntext\r\n.\r\n" % number)
+        until("attempts run", lambda: len(arrived) >= 1)
+        same("reload", asked(path, b"reload\n"), RELOADED)
+        until("all leave", lambda: relay.held() == [], 60)
+        same("each came once", len(arrived), 40)
+        same("none came twice", len({content.split(b"\r\n\r\n")[0] for content in arrived if content}), len(arrived))
+
+
+def one_reload_at_a_time(field):
+    relay, path = with_control(field)
+    with relay.running(), Client(relay) as client:
+        client.begin()
+        client.ask_for_text()
+        reload, answers = reloads(path)
+        same("another one", asked(path, b"reload\n"), b"error another reload waits\n")
+        same("the reply to the mail", client.say(TEXT)[:4], "250 ")
+        reload.join(PATIENCE)
+        same("the first", answers, [RELOADED])
+        field.arrived(1, SOON)
+
+
 def wrong_words_are_refused(field):
     relay, _ = with_control(field)
     for words in [("hold",), ("release",), ("hold", "--hop", "next.example", "--message", "1"), ("return", "--yes"),
-                  ("discard",), ("hold", "--message", "0"), ("drain", "--seconds", "65536"), ("reload",), ("save", "1")]:
+                  ("discard",), ("hold", "--message", "0"), ("drain", "--seconds", "65536"), ("reload", "now"),
+                  ("save", "1")]:
         same(f"the status of {words}", relay.refused(*words)[0], 2)
     other = field.relay("other")
     same("no control", other.refused("flush"),
@@ -270,6 +389,23 @@ def other_users_steer_nothing(field):
         ended = subprocess.run(relay.words("flush"), capture_output=True, timeout=PATIENCE, env=relay.environment,
                                **options)
         same("flush", (ended.returncode, ended.stderr.decode().rstrip("\n")), UNREACHED)
+
+
+def a_group_may_steer(field):
+    group = 65534 if os.geteuid() == 0 else os.getegid()
+    relay, path = with_control(field, control_group=group)
+    with relay.running():
+        found = path.stat()
+        same("its mode and group", (stat.S_IMODE(found.st_mode), found.st_gid), (0o660, group))
+        same("flush", relay.run("flush"), ["flushed recipients=0"])
+        if os.geteuid() != 0:
+            return
+        for place, mode in [(field.folder, 0o711), (relay.folder, 0o711), (relay.file, 0o644)]:
+            place.chmod(mode)
+        for other, answer in [(group, (0, "flushed recipients=0\n", "")), (65533, (1, "", UNREACHED[1] + "\n"))]:
+            ended = subprocess.run(relay.words("flush"), capture_output=True, timeout=PATIENCE, text=True,
+                                   env=relay.environment, user=65533, group=other, extra_groups=[])
+            same(f"flush by group {other}", (ended.returncode, ended.stdout, ended.stderr), answer)
 
 
 def returned_mail_is_reported(field):
@@ -313,6 +449,94 @@ def many_messages_take_several_requests(field):
         same("sums", lines[10:12], ["..", "130 messages, 130 recipients"])
         same("discard", relay.run("discard", "--hop", "away.example", "--yes"), ["discarded recipients=130"])
         same("the queue", relay.held(), [])
+
+
+def thousands_of_messages_are_discarded_at_once(field):
+    """5,000 messages end within 5 seconds, since the changes of a request share one pair of syncs."""
+    relay, _ = with_control(field)
+    with relay.running():
+        relay.run("hold", "--hop", "next.example")
+        with clients_of(relay, 25) as clients, ThreadPoolExecutor(len(clients)) as pool:
+            numbers = sum(pool.map(lambda client: [client.hand_in() for _ in range(200)], clients), [])
+        same("messages", len(set(numbers)), 5000)
+        begun = time.monotonic()
+        same("discard", relay.run("discard", "--hop", "next.example", "--yes"), ["discarded recipients=5000"])
+        same("they end in time", time.monotonic() - begun < 5 * TIMES, True)
+        same("the queue", relay.held(), [])
+        relay.run("release", "--hop", "next.example")
+    with relay.running():
+        same("the queue after a restart", relay.held(), [])
+        time.sleep(1)
+        same("messages at the sink", len(field.sink.take_all()), 0)
+
+
+def a_kill_ends_no_other_mail_than_was_named(field):
+    """A relay is killed while it discards every second message, a few in each request. What was answered is gone, what
+    wasn't named stays, and in the end exactly that arrives."""
+    relay, path = with_control(field)
+    with relay.running():
+        relay.run("hold", "--hop", "next.example")
+        with clients_of(relay, 8) as clients, ThreadPoolExecutor(len(clients)) as pool:
+            numbers = sorted(sum(pool.map(lambda client: [client.hand_in() for _ in range(100)], clients), []))
+    kept, named = set(numbers[1::2]), numbers[::2]
+    chance = random.Random(71)
+
+    def discard(ended):
+        with contextlib.suppress(OSError):
+            while named:
+                answer = asked(path, b"discard" + b"".join(b" %d:0" % number for number in named[:3]) + b"\n")
+                if not answer.endswith(b"\nok\n"):
+                    return
+                ended.update(named[:3])
+                del named[:3]
+
+    for kill in range(6):
+        process, ended = relay.begin(), set()
+        steers = threading.Thread(target=discard, args=(ended,))
+        steers.start()
+        time.sleep(chance.uniform(0.01, 0.1))
+        process.kill()
+        process.communicate()
+        steers.join()
+        queued = {row[0] for row in relay.held()}
+        same(f"mail that wasn't named and is gone after kill {kill}", kept - queued, set())
+        same(f"discarded mail that is queued after kill {kill}", ended & queued, set())
+    with relay.running():
+        discard(set())
+        same("mail that is still to be discarded", named, [])
+        same("the queue", {row[0] for row in relay.held()}, kept)
+        same("release", relay.run("release", "--hop", "next.example"), ["released"])
+        field.arrived(len(kept), PATIENCE)
+        until("the queue is empty", lambda: relay.held() == [])
+
+
+def steering_under_load_loses_no_mail(field):
+    """Eight clients send mail while it is held, released, flushed and discarded. Each message arrives once, or was
+    discarded."""
+    relay, path = with_control(field, sessions_per_client=64)
+    taken, discarded, ends = [], 0, threading.Event()
+
+    def send(client):
+        while not ends.is_set():
+            taken.append(client.hand_in())
+
+    with relay.running(), clients_of(relay, 8) as clients:
+        senders = [threading.Thread(target=send, args=(client,)) for client in clients]
+        for sender in senders:
+            sender.start()
+        for _ in range(10):
+            same("hold", asked(path, b"hold hop next.example\n")[-3:], b"ok\n")
+            time.sleep(0.1)
+            for number in taken[-20:]:
+                discarded += asked(path, b"discard %d:0\n" % number) == b" discarded recipients=1\nok\n"
+            same("release", asked(path, b"release hop next.example\n")[-3:], b"ok\n")
+            same("flush", asked(path, b"flush\n")[-3:], b"ok\n")
+        ends.set()
+        for sender in senders:
+            sender.join()
+        until("the queue is empty", lambda: relay.held() == [], 60)
+        same("messages were discarded", discarded > 0, True)
+        field.arrived(len(taken) - discarded)
 
 
 def mail_in_an_attempt_is_busy(field):
@@ -408,11 +632,20 @@ ROWS = [
     the_socket_is_its_users_own,
     a_drain_cuts_no_attempt,
     a_draining_relay_takes_no_client,
+    a_reload_adds_a_route_and_takes_one,
+    a_configuration_with_a_fault_is_not_taken,
+    what_needs_a_restart_is_named,
+    a_reload_cuts_no_attempt,
+    one_reload_at_a_time,
     wrong_words_are_refused,
     other_users_steer_nothing,
+    a_group_may_steer,
     returned_mail_is_reported,
     discarded_mail_is_gone,
     many_messages_take_several_requests,
+    thousands_of_messages_are_discarded_at_once,
+    a_kill_ends_no_other_mail_than_was_named,
+    steering_under_load_loses_no_mail,
     mail_in_an_attempt_is_busy,
     mail_is_withdrawn_without_a_relay,
     a_relay_without_a_socket_keeps_its_mail,

@@ -20,9 +20,9 @@ import time
 sys.dont_write_bytecode = True
 
 from mail_checks import hand_in
-from relay_program import Difference, PATIENCE, free_port, same, until
-from running_relay import SOON, TEXT, TIMEOUT, Client, beside, clients_of, comes_to_rest, greeted
-from running_relay import hop_that_falls_silent, lines_of, number_of, play_rows, shim, switches
+from relay_program import Difference, PATIENCE, Slow, free_port, same, until
+from running_relay import SOON, TEXT, TIMEOUT, Client, clients_of, comes_to_rest, greeted
+from running_relay import hop_that_falls_silent, in_a_process, lines_of, number_of, play_rows, shim, switches
 
 DAY = 86400
 NO_ROOM = b"421 relay.example insufficient system storage, closing\r\n"
@@ -78,7 +78,7 @@ def a_full_device_closes_all_and_goes_on_with_room(field):
             client.hand_in()
         field.arrived(1)
         until("an empty list", lambda: relay.held() == [])
-        comes_to_rest(process, "behind a device that had failed")
+        comes_to_rest(process, "after a device that had failed")
 
 
 def the_spool_stays_closed_while_there_is_no_room(field):
@@ -147,16 +147,7 @@ def feed_beside(relay, seconds, big):
     """Submits small messages for so long, one after another on a connection, and on request beside a client that offers
     what doesn't fit. Returns the numbers of those that got a 250."""
     numbers = []
-
-    def offer(done):
-        while not done.is_set():
-            with contextlib.suppress(Difference, OSError), Client(relay) as client:
-                client.begin()
-                while not done.is_set():
-                    client.ask_for_text()
-                    client.say(b"Subject: big\r\n\r\n" + b"x" * 70 * 4400 + b"\r\n.\r\n")
-
-    def feed():
+    with in_a_process(offer_what_does_not_fit, relay) if big else contextlib.nullcontext():
         ends = time.monotonic() + seconds
         while time.monotonic() < ends:
             with contextlib.suppress(Difference, OSError), Client(relay) as client:
@@ -165,10 +156,33 @@ def feed_beside(relay, seconds, big):
                     client.ask_for_text()
                     numbers.append(number_of(client.say(TEXT)))
                     time.sleep(0.05)
-
-    with beside(offer) if big else contextlib.nullcontext():
-        feed()
     return numbers
+
+
+def offer_what_does_not_fit(relay):
+    """Offers messages of 308,000 octets without end, on a new connection after each fault."""
+    text = b"Subject: big\r\n\r\n" + b"x" * 70 * 4400 + b"\r\n.\r\n"
+    while True:
+        with contextlib.suppress(Difference, OSError), Client(relay) as client:
+            client.begin()
+            while True:
+                client.ask_for_text()
+                client.say(text)
+
+
+def feed_while_others_offer(relay):
+    """Submits small messages alone and then beside a client that offers what doesn't fit, and requires that at least
+    half as many get through; returns the numbers of all. Other programs on a busy machine take their share at times, so
+    there are up to three rounds."""
+    numbers, rounds = [], []
+    for _ in range(3):
+        alone = feed_beside(relay, 5, big=False)
+        crowded = feed_beside(relay, 15, big=True)
+        numbers += alone + crowded
+        rounds.append((len(crowded), len(alone)))
+        if len(crowded) / 15 >= len(alone) / 5 / 2:
+            return numbers
+    raise Slow(f"messages in 15 s beside it, and in 5 s alone: {rounds}")
 
 
 def what_doesnt_fit_costs_others_nothing(field):
@@ -179,15 +193,12 @@ def what_doesnt_fit_costs_others_nothing(field):
             return
         others.write_bytes(bytes(110 * 1024))
         with relay.running() as process:
-            alone = feed_beside(relay, 5, big=False)
-            crowded = feed_beside(relay, 15, big=True)
-            if len(crowded) / 15 < len(alone) / 5 / 2:
-                raise Difference(f"{len(crowded)} messages in 15 s beside it, and {len(alone)} in 5 s alone")
+            numbers = feed_while_others_offer(relay)
             until("an empty list", lambda: relay.held() == [], 60)
             copies = copies_at(field.sink)
-            same("messages that were lost", set(alone + crowded) - set(copies), set())
+            same("messages that were lost", set(numbers) - set(copies), set())
             same("messages that came thrice", came_thrice(field), [])
-            comes_to_rest(process, "behind what didn't fit")
+            comes_to_rest(process, "after what didn't fit")
             # With room the state ends, and what didn't fit does.
             others.unlink()
             subprocess.run(["mount", "-o", "remount,size=32m", others.parent], check=True)
@@ -455,7 +466,7 @@ def what_was_put_off_is_tried_at_its_moment(field):
         field.arrived(1, 3 + 2 * SOON)
         same("early", time.time() + float(shift.read_text()) >= due, True)
         until("an empty list", lambda: relay.held() == [])
-        comes_to_rest(process, "behind what was put off")
+        comes_to_rest(process, "after what was put off")
 
 
 def a_next_hop_is_waited_for_by_what_it_was_told(field):
@@ -483,7 +494,7 @@ def a_next_hop_is_waited_for_by_what_it_was_told(field):
                         waited[name] = time.monotonic() - begun[name]
                 time.sleep(0.02)
                 if time.monotonic() > begun["data"] + 6 + PATIENCE:
-                    raise Difference(f"of the silent ones only {sorted(waited)} are lost")
+                    raise Slow(f"of the silent ones only {sorted(waited)} are lost")
             same("losses", len(lines_of(relay, " status=deferred reason=timeout")), len(silent))
             early = {name: seconds for name, seconds in waited.items() if seconds < silent[name][0] / 100 - 0.05}
             same("next hops that are lost early", early, {})
@@ -520,8 +531,8 @@ def a_thousand_connections_find_few_descriptors(field):
         same("connections that heard something", len(firsts), 1000)
         same("what they heard", set(firsts) <= {"220 ", "421 "}, True)
         if took > 5 * SOON:
-            raise Difference(f"a thousand connections take {took:.1f} s")
-        comes_to_rest(process, "behind a thousand connections")
+            raise Slow(f"a thousand connections take {took:.1f} s")
+        comes_to_rest(process, "after a thousand connections")
 
 
 def clients_leave_four_descriptors_for_attempts(field):

@@ -19,9 +19,9 @@ import time
 sys.dont_write_bytecode = True
 
 from mail_checks import hand_in
-from relay_program import Difference, PATIENCE, free_port, same, until
-from running_relay import SOON, TIMES, Client, beside, clients_of, comes_to_rest, lines_of, no_later, number_of
-from running_relay import play_rows, resident, shim, slowest, switches, token_of
+from relay_program import Difference, PATIENCE, Slow, free_port, same, until
+from running_relay import SOON, TIMES, Client, beside, clients_of, comes_to_rest, in_a_process, lines_of, no_later
+from running_relay import number_of, play_rows, resident, shim, slowest, switches, token_of
 
 DUE = int(os.environ.get("DUE", 6300))
 THROUGH = int(os.environ.get("THROUGH", 2000))
@@ -30,7 +30,7 @@ AWAY = 63
 # How many messages are in one piece, and the piece's next hop's domain.
 AT_ONCE = 20
 # How many messages come before all of them have to be out: what waits at once takes memory of which an allocator
-# doesn't give all back, more or less of it by how far the next hop is behind.
+# doesn't give all back, more or less of it by how far the next hop lags.
 WAVE = 2000
 # What a 250 may wait for while all that is due is listed, in seconds.
 LISTING = 0.02 * TIMES
@@ -89,7 +89,7 @@ def mail_for_63_hops_that_are_away_holds_up_no_other(field):
             waits.append(time.monotonic() - begun)
             time.sleep(0.1)
         if max(waits) > SOON:
-            raise Difference(f"a message waits {max(waits):.2f} s beside {DUE} that are due")
+            raise Slow(f"a message waits {max(waits):.2f} s beside {DUE} that are due")
         held = len(relay.held())
         if held != DUE // AT_ONCE * AT_ONCE:
             raise Difference(f"{held} messages wait, of {DUE}")
@@ -112,7 +112,7 @@ def what_is_due_is_listed_beside_prompt_replies(field):
                 waits.append(slowest(client, 5, "c@away-0.example"))
                 time.sleep(0.1)
         if max(waits) > alone + LISTING:
-            raise Difference(f"a message waits {max(waits):.3f} s beside {DUE} that are due, and {alone:.3f} s without")
+            raise Slow(f"a message waits {max(waits):.3f} s beside {DUE} that are due, and {alone:.3f} s without")
         same("how many wait", len(relay.held()), DUE // AT_ONCE * AT_ONCE + 200)
         comes_to_rest(process, "beside what is due")
 
@@ -172,7 +172,7 @@ def list_takes_no_longer_beside_a_flood(field):
                 same("what was listed and isn't any more", set(before) - set(numbers), set())
                 before = numbers
                 if took > 3 * alone + SOON:
-                    raise Difference(f"list takes {took:.2f} s beside a flood, and {alone:.2f} s alone")
+                    raise Slow(f"list takes {took:.2f} s beside a flood, and {alone:.2f} s alone")
 
 
 def list_ends_beside_compactions(field):
@@ -190,11 +190,13 @@ def list_ends_beside_compactions(field):
             for _ in range(100):
                 took, _ = listing(relay)
                 if took > SOON:
-                    raise Difference(f"list takes {took:.2f} s beside compactions")
+                    raise Slow(f"list takes {took:.2f} s beside compactions")
 
 
-def pipeline(relay, count, octets, done):
-    """Sends these octets over and over on this many connections, and reads the replies; neither waits for the other."""
+def pipeline(relay, count, line):
+    """Sends this line over and over on this many connections, and reads the replies, without end; neither waits for the
+    other."""
+    octets = line * (65_536 // len(line))
     with contextlib.ExitStack() as stack:
         selector = stack.enter_context(selectors.DefaultSelector())
         for _ in range(count):
@@ -202,8 +204,8 @@ def pipeline(relay, count, octets, done):
             client.begin()
             client.link.setblocking(False)
             selector.register(client.link, selectors.EVENT_READ | selectors.EVENT_WRITE)
-        while not done.is_set():
-            for key, events in selector.select(0.1):
+        while True:
+            for key, events in selector.select():
                 with contextlib.suppress(BlockingIOError):
                     if events & selectors.EVENT_READ:
                         key.fileobj.recv(1 << 18)
@@ -218,14 +220,10 @@ def clients_that_pipeline_commands_delay_no_reply(field):
     with relay.running("--quiet") as process, clients_of(relay, 1) as [client]:
         alone = slowest(client, 20)
         field.arrived(20)
-        for count, octets in ((16, b"\r\n"), (60, b"NOOP\r\n"), (60, b"UNKNOWN\r\n"), (60, b"\r\n")):
-
-            def flood(done, count=count, octets=octets):
-                pipeline(relay, count, octets * (65_536 // len(octets)), done)
-
-            with beside(flood):
+        for count, line in ((16, b"\r\n"), (60, b"NOOP\r\n"), (60, b"UNKNOWN\r\n"), (60, b"\r\n")):
+            with in_a_process(pipeline, relay, count, line):
                 time.sleep(0.5)
-                no_later(client, alone, 20, f"{count} clients that pipeline {octets}")
+                no_later(client, alone, 20, f"{count} clients that pipeline {line}")
             field.arrived(20)
         comes_to_rest(process, "after clients that pipeline")
 
@@ -238,7 +236,7 @@ def memory_and_descriptors_stay_as_mail_goes_through(field):
             for _ in range(max(1, THROUGH // 4 // WAVE)):
                 pour_through(field, relay, min(WAVE, THROUGH // 4))
             until("an empty list", lambda: relay.held() == [])
-            comes_to_rest(process, "behind much mail")
+            comes_to_rest(process, "after much mail")
             until("descriptors of none but itself", lambda: part == 0 or descriptors(process) == seen[0][1])
             seen.append((resident(process), descriptors(process)))
         # The first part takes what the relay takes for itself.
@@ -257,7 +255,7 @@ def sixty_four_texts_at_once_cost_what_they_have(field):
             before = resident(process)
         with clients_of(relay, 64) as clients:
             for client in clients:
-                # All are written behind each other.
+                # All are written one after another.
                 client.link.settimeout(PATIENCE + CONTENT / 50000)
                 client.ask_for_text("c@example.net")
                 client.link.sendall(content)

@@ -18,7 +18,7 @@ import time
 sys.dont_write_bytecode = True
 
 from mail_checks import hand_in, read_report
-from relay_program import Difference, PATIENCE, free_port, same, until
+from relay_program import Difference, PATIENCE, Slow, free_port, same, until
 from running_relay import NO_SERVICE, SOON, TIMEOUT, TOO_MANY, Client, clients_of, hop_that
 from running_relay import hop_that_falls_silent, lines_of, no_later, play_rows, shim
 from running_relay import slowest
@@ -501,7 +501,7 @@ def a_log_that_nobody_reads_stops_no_end(field):
         begun = time.monotonic()
         same("its end", process.wait(PATIENCE), 1)
         if time.monotonic() > begun + 1 + SOON:
-            raise Difference(f"it ends after {time.monotonic() - begun:.1f} s")
+            raise Slow(f"it ends after {time.monotonic() - begun:.1f} s")
     field.sink.take_all()
 
 

@@ -14,7 +14,7 @@ import time
 
 sys.dont_write_bytecode = True
 
-from relay_program import Difference, PATIENCE, same, until
+from relay_program import Slow, same, until
 from running_relay import NO_SERVICE, TEXT, TIMES, TOO_MANY, Client, lines_of, number_of, play_rows
 
 BALANCER = "127.0.0.2"
@@ -86,7 +86,7 @@ def reasons(relay):
 def is_refused(relay, reason, *parts):
     before = reasons(relay)
     if is_closed(relay, *parts) > 1 * TIMES:
-        raise Difference(f"{parts} is waited for")
+        raise Slow(f"{parts} is waited for")
     until(f"the line of {parts}", lambda: reasons(relay) == [*before, reason])
 
 
@@ -181,7 +181,7 @@ def a_header_that_does_not_come_is_waited_for_five_seconds(field):
         for parts in ([], [tcp4("192.0.2.77")[:-1]], [block(PROXY, TCP4, addresses("192.0.2.77"))[:-1]]):
             seconds = is_closed(relay, *parts)
             if not LONGEST - 0.1 <= seconds <= LONGEST + 1 * TIMES:
-                raise Difference(f"closed after {seconds:.1f} s")
+                raise Slow(f"closed after {seconds:.1f} s")
         until("three lines", lambda: reasons(relay) == 3 * ["proxy-header-timeout"])
 
 

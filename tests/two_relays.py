@@ -411,7 +411,7 @@ def a_sender_who_asked_hears_once_that_mail_is_late(field):
     field.sink.manners = Manners(refusals={"<b@example.org>": "450 later"})
     with field.relay.serving():
         hand_in(field.relay, rcpt=["NOTIFY=DELAY,FAILURE"])
-    # Four hours behind its acceptance a place that still waits is late.
+    # Four hours after its acceptance a place that still waits is late.
     field.later(field.relay, 4 * 3600 + 60)
     same("push of late mail", field.relay.logged("push"), (
         ["1 next.example ended"],

@@ -13,7 +13,7 @@ fi
 room=$(mktemp -d)
 trap 'rm -rf "$room"' EXIT
 
-sed "s|^ExecStart=/usr/local/bin/relayd |ExecStart=$program |" docs/relayd.service > "$room/relayd.service"
+sed -E "s|^(Exec[A-Za-z]+=-?)/usr/local/bin/relayd |\\1$program |" docs/relayd.service > "$room/relayd.service"
 grep -q "^ExecStart=$program run --config " "$room/relayd.service" || {
     echo "unit_file: docs/relayd.service starts another program" >&2
     exit 1

@@ -3,7 +3,7 @@
 names, and each of these comes. It ends at the first difference.
 
     tests/without_memory.py sessions build/relayd
-    tests/without_memory.py books crates/relay_rows_tests/out/relay_rows_tests
+    tests/without_memory.py books build/relay_rows_tests
     tests/without_memory.py nodes build/relayd
 
 - sessions: three dialogues. All goes well all the same; or the program says so, ends with status 1, and has written a

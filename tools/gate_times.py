@@ -3,6 +3,10 @@
 of each crate, for the table of docs/GATE.md.
 
     RT_JOBS=4 rt ci > build/gate.log & tools/gate_times.py $!
+    RT_JOBS=4 rt ci > build/gate.log & tools/gate_times.py --short $!
+
+With --short it takes no units, and prints few lines: the minutes of each crate, and the seconds of the runs for its
+edits, in their order: the check that they begin with, each edit, and the check after them. `make test` prints those.
 
 It adds up the processor time of each run of the prover, by crate, with the must-fail edits apart: those are the runs in
 a folder of rt's edits, including the check that they begin with and the check after them. It looks only at descendants
@@ -21,6 +25,7 @@ import signal
 import subprocess
 import sys
 import tempfile
+import textwrap
 import time
 
 TOP = pathlib.Path(__file__).resolve().parent.parent
@@ -169,14 +174,38 @@ def tell(found, units):
         print(f"{crate}: {' '.join(seconds)}")
 
 
-def main(number):
-    found, units = {}, Units()
+def tell_shortly(found):
+    """Prints a crate's minutes, with those of its edits after a plus sign, and then the seconds of its edits."""
+    sums, edits_of = {}, {}
+    for crate, _begun, is_edit, seconds in sorted(found.values(), key=lambda it: it[1]):
+        name = crate.removeprefix("relay_")
+        sums.setdefault(name, [0, 0])[is_edit] += seconds
+        if is_edit:
+            edits_of.setdefault(name, []).append(f"{seconds:.0f}")
+    whole, edits = sum(map(sum, sums.values())), sum(it[1] for it in sums.values())
+    print(f"gate: {whole / 60:.0f} minutes of a processor, {edits / 60:.0f} of them edits")
+    by_cost = sorted(sums.items(), key=lambda it: -sum(it[1]))
+    words = [f"{name} {proof / 60:.1f}" + (f"+{edit / 60:.1f}" if edit else "") for name, (proof, edit) in by_cost]
+    print(textwrap.fill(", ".join(words), 118, break_on_hyphens=False))
+    for name, _sum in by_cost:
+        if name in edits_of:
+            print(f"{name}: {' '.join(edits_of[name])}")
+
+
+def main(words):
+    is_short, number = words[:1] == ["--short"], words[-1]
+    found, units = {}, None if is_short else Units()
     while is_running(number):
-        units.attend(look_at_all(found, number))
-        time.sleep(LOOK)
+        running = look_at_all(found, number)
+        if units:
+            units.attend(running)
+        time.sleep(LOOK if units else 2 * LOOK)
+    if is_short:
+        tell_shortly(found)
+        return
     if units.unit:
         units.end()
     tell(found, units.taken)
 
 
-main(sys.argv[1])
+main(sys.argv[1:])

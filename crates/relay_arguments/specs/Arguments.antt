@@ -15,15 +15,21 @@ use Rattle.clap.specs.declared.error.kind.ErrorKind.TheVariants.{ArgumentConflic
 use Rattle.clap.specs.declared.error.kind.ErrorKind.TheVariants.{MissingRequiredArgument, MissingSubcommand}
 use Rattle.clap.specs.declared.error.kind.ErrorKind.TheVariants.{UnknownArgument, ValueValidation}
 use Rattle.relay_arguments.specs.declared.words.Subcommand.{Subcommand}
-use Rattle.relay_arguments.specs.declared.words.Subcommand.TheVariants.{Session, Play, Init, List as ListHeld, Compact}
-use Rattle.relay_arguments.specs.declared.words.Subcommand.TheVariants.{Check, Run, Serve, Push}
-use Rattle.relay_arguments.specs.declared.words.Subcommand.TheVariants.{Listing as ListRows, Show, Status}
-use Rattle.relay_arguments.specs.declared.words.Subcommand.TheVariants.{Steer, Withdraw, Save}
+use Rattle.relay_arguments.specs.declared.words.Subcommand.TheVariants.{Session, Play, Task as OfTask}
+use Rattle.relay_arguments.specs.declared.tasks.Task.{Task}
+use Rattle.relay_arguments.specs.declared.tasks.Task.TheVariants.{Init, Compact, Check, Look as OfLook}
+use Rattle.relay_arguments.specs.declared.tasks.Task.TheVariants.{Relay as OfRelaying, Control as OfControl}
+use Rattle.relay_arguments.specs.declared.tasks.Look.{Look}
+use Rattle.relay_arguments.specs.declared.tasks.Look.TheVariants.{List as ListHeld, Listing as ListRows, Show, Status}
+use Rattle.relay_arguments.specs.declared.tasks.Relaying.{Relaying}
+use Rattle.relay_arguments.specs.declared.tasks.Relaying.TheVariants.{Run, Serve, Push}
+use Rattle.relay_arguments.specs.declared.tasks.Control.{Control}
+use Rattle.relay_arguments.specs.declared.tasks.Control.TheVariants.{Steer, Withdraw, Save}
 use Rattle.relay_arguments.specs.declared.looks.Listing.{Listing}
 use Rattle.relay_arguments.specs.declared.steering.Mail.{Mail}
 use Rattle.relay_arguments.specs.declared.steering.Mail.TheVariants.{Hop, Message}
 use Rattle.relay_arguments.specs.declared.steering.Steering.{Steering}
-use Rattle.relay_arguments.specs.declared.steering.Steering.TheVariants.{Flush, Hold, Release, Drain}
+use Rattle.relay_arguments.specs.declared.steering.Steering.TheVariants.{Flush, Hold, Release, Drain, Reload}
 use Rattle.relay_arguments.specs.declared.withdrawing.Choice.{Choice}
 use Rattle.relay_arguments.specs.declared.withdrawing.Removal.{Removal}
 use Rattle.relay_arguments.specs.declared.withdrawing.Removal.TheVariants.{Return, Discard}
@@ -194,10 +200,13 @@ with_hold = with_subcommand (with_subcommand with_push (steering (codes "flush")
 abbrev pub with_drain : App
 with_drain = with_subcommand (with_subcommand with_hold (steering (codes "release")).top) draining.top
 
+abbrev pub with_reload : App
+with_reload = with_subcommand with_drain (configurable (codes "reload")).top
+
 -- and with those that withdraw queued mail
 abbrev pub with_discard : App
 with_discard =
-    with_subcommand (with_subcommand with_drain (withdrawing (codes "return")).top) (withdrawing (codes "discard")).top
+    with_subcommand (with_subcommand with_reload (withdrawing (codes "return")).top) (withdrawing (codes "discard")).top
 
 -- the grammar of the program
 abbrev pub relayd : App
@@ -271,6 +280,7 @@ pub data AskedSteering : Type 0 where
   AskedHold : AskedMail → AskedSteering
   AskedRelease : AskedMail → AskedSteering
   AskedDrain : ℕ → AskedSteering
+  AskedReload : AskedSteering
 
 -- which mail is withdrawn: by the numbers of messages, next hop, reverse path and forward path, if these are given
 pub record AskedChoice : Type 0 where
@@ -350,7 +360,8 @@ message_number_in argument rows = option_map_or (number_of 1 1844674407370955161
 
 -- `show`: a message, or only its text
 abbrev pub show_asked : List Row → Asked
-show_asked rows = AskedShow (config_or_default_in rows) (message_number_in (codes "number") rows) (is_given_in (codes "raw") rows)
+show_asked rows =
+    AskedShow (config_or_default_in rows) (message_number_in (codes "number") rows) (is_given_in (codes "raw") rows)
 
 -- `status`: a table, or metrics
 abbrev pub status_asked : List Row → Asked
@@ -381,7 +392,7 @@ named_mail_in rows = if names_mail rows then Some (mail_in rows) else None
 abbrev pub seconds_in : List Row → ℕ
 seconds_in rows = option_map_or (number_of 0 65535) (first_of (codes "seconds") rows) 60
 
--- `flush`, `hold`, `release` and `drain`
+-- `flush`, `hold`, `release`, `drain` and `reload`
 abbrev pub flush_asked : List Row → Asked
 flush_asked rows = AskedSteer (config_or_default_in rows) (AskedFlush (named_mail_in rows))
 
@@ -393,6 +404,9 @@ release_asked rows = AskedSteer (config_or_default_in rows) (AskedRelease (mail_
 
 abbrev pub drain_asked : List Row → Asked
 drain_asked rows = AskedSteer (config_or_default_in rows) (AskedDrain (seconds_in rows))
+
+abbrev pub reload_asked : List Row → Asked
+reload_asked rows = AskedSteer (config_or_default_in rows) AskedReload
 
 -- the options that choose mail to withdraw
 abbrev pub choice_in : List Row → AskedChoice
@@ -418,6 +432,36 @@ abbrev pub save_asked : List Row → Asked
 save_asked rows =
     AskedSave (config_or_default_in rows) (message_number_in (codes "number") rows) (into_in rows)
 
+-- what a name asks for that is no task's: the subcommands that work on the standard streams alone
+abbrev pub streams_asked : Text → Asked
+streams_asked name = if bytes_eq name (codes "play") then AskedPlay else AskedSession
+
+-- what a name asks for: the subcommands that withdraw mail or save it, and those after them
+abbrev pub withdrawing_by : Text → List Row → Asked
+withdrawing_by name rows =
+    if bytes_eq name (codes "return") then withdraw_asked Return rows
+    else if bytes_eq name (codes "discard") then withdraw_asked Discard rows
+    else if bytes_eq name (codes "save") then save_asked rows
+    else streams_asked name
+
+-- the subcommands that steer a running relay, and those after them
+abbrev pub steering_by : Text → List Row → Asked
+steering_by name rows =
+    if bytes_eq name (codes "flush") then flush_asked rows
+    else if bytes_eq name (codes "hold") then hold_asked rows
+    else if bytes_eq name (codes "release") then release_asked rows
+    else if bytes_eq name (codes "drain") then drain_asked rows
+    else if bytes_eq name (codes "reload") then reload_asked rows
+    else withdrawing_by name rows
+
+-- the subcommands that serve clients and relay mail, and those after them
+abbrev pub relaying_by : Text → List Row → Asked
+relaying_by name rows =
+    if bytes_eq name (codes "run") then run_asked rows
+    else if bytes_eq name (codes "serve") then serve_asked rows
+    else if bytes_eq name (codes "push") then push_asked rows
+    else steering_by name rows
+
 -- what the subcommand of this name asks for
 abbrev pub asked_by : Text → List Row → Asked
 asked_by name rows =
@@ -427,18 +471,7 @@ asked_by name rows =
     else if bytes_eq name (codes "status") then status_asked rows
     else if bytes_eq name (codes "compact") then AskedCompact (config_in rows)
     else if bytes_eq name (codes "check") then check_asked rows
-    else if bytes_eq name (codes "run") then run_asked rows
-    else if bytes_eq name (codes "serve") then serve_asked rows
-    else if bytes_eq name (codes "push") then push_asked rows
-    else if bytes_eq name (codes "flush") then flush_asked rows
-    else if bytes_eq name (codes "hold") then hold_asked rows
-    else if bytes_eq name (codes "release") then release_asked rows
-    else if bytes_eq name (codes "drain") then drain_asked rows
-    else if bytes_eq name (codes "return") then withdraw_asked Return rows
-    else if bytes_eq name (codes "discard") then withdraw_asked Discard rows
-    else if bytes_eq name (codes "save") then save_asked rows
-    else if bytes_eq name (codes "play") then AskedPlay
-    else AskedSession
+    else relaying_by name rows
 
 -- a subcommand's name and its arguments; the argument parser requires a subcommand
 abbrev pub asked_of : Option (Text × List Row) → Asked
@@ -470,6 +503,7 @@ steering_value (Flush mail) = AskedFlush (option_map mail_value mail)
 steering_value (Hold mail) = AskedHold (mail_value mail)
 steering_value (Release mail) = AskedRelease (mail_value mail)
 steering_value (Drain seconds) = AskedDrain seconds
+steering_value Reload = AskedReload
 
 -- the meaning of the options that choose mail
 abbrev pub choice_value : Choice → AskedChoice
@@ -480,24 +514,40 @@ choice_value choice = record {
   to = option_copied choice.to;
 }
 
+-- the meaning of a look at the queue
+abbrev pub look_value : Look → Asked
+look_value (ListHeld file) = AskedList file.now
+look_value (ListRows file listing) = AskedListing file.now (rows_value listing)
+look_value (Show file number raw) = AskedShow file.now number raw
+look_value (Status file prometheus) = AskedStatus file.now prometheus
+
+-- the meaning of a way to serve clients and relay mail
+abbrev pub relaying_value : Relaying → Asked
+relaying_value (Run file quiet) = AskedRun file.now quiet
+relaying_value (Serve file rounds workers log) = AskedServe file.now rounds workers log
+relaying_value (Push file log) = AskedPush file.now log
+
+-- the meaning of what is done with a running relay and with queued mail by hand
+abbrev pub control_value : Control → Asked
+control_value (Steer file request) = AskedSteer file.now (steering_value request)
+control_value (Withdraw file removal choice folder confirmed) =
+    AskedWithdraw file.now removal (choice_value choice) (option_copied folder) confirmed
+control_value (Save file number into) = AskedSave file.now number into.now
+
+-- the meaning of a task
+abbrev pub task_value : Task → Asked
+task_value (Init file) = AskedInit file.now
+task_value (Compact file) = AskedCompact file.now
+task_value (Check file route) = AskedCheck file.now (option_map (λ address. address.now) route)
+task_value (OfLook look) = look_value look
+task_value (OfRelaying relaying) = relaying_value relaying
+task_value (OfControl control) = control_value control
+
 -- the meaning of a subcommand
 abbrev pub asked : Subcommand → Asked
 asked Session = AskedSession
 asked Play = AskedPlay
-asked (Init file) = AskedInit file.now
-asked (ListHeld file) = AskedList file.now
-asked (ListRows file listing) = AskedListing file.now (rows_value listing)
-asked (Show file number raw) = AskedShow file.now number raw
-asked (Status file prometheus) = AskedStatus file.now prometheus
-asked (Compact file) = AskedCompact file.now
-asked (Check file route) = AskedCheck file.now (option_map (λ address. address.now) route)
-asked (Run file quiet) = AskedRun file.now quiet
-asked (Serve file rounds workers log) = AskedServe file.now rounds workers log
-asked (Push file log) = AskedPush file.now log
-asked (Steer file request) = AskedSteer file.now (steering_value request)
-asked (Withdraw file removal choice folder confirmed) =
-    AskedWithdraw file.now removal (choice_value choice) (option_copied folder) confirmed
-asked (Save file number into) = AskedSave file.now number into.now
+asked (OfTask task) = task_value task
 
 -- the arguments of a subcommand with the file `c`, and more
 abbrev pub words_of : Text → Text → List Text → List Text
@@ -567,7 +617,7 @@ LooksAtQueue name =
     × (asked_in (name ∷ codes "status" ∷ []) ≡ AskedStatus (codes "/etc/relayd.toml") false)
 
 -- `flush` takes a next hop or a message, or neither; `hold` and `release` need one of them. `drain` takes 0 to 65,535
--- seconds.
+-- seconds, and `reload` nothing.
 abbrev pub Steers : Text → Type 0
 Steers name =
     (asked_in (name ∷ codes "flush" ∷ []) ≡ AskedSteer (codes "/etc/relayd.toml") (AskedFlush None))
@@ -584,9 +634,10 @@ Steers name =
     × (asked_in (words_of name (codes "drain") (codes "--seconds" ∷ codes "0" ∷ []))
     ≡ AskedSteer (codes "c") (AskedDrain 0))
     × (faults_in (words_of name (codes "drain") (codes "--seconds" ∷ codes "65536" ∷ [])) ≡ ValueValidation ∷ [])
+    × (asked_in (words_of name (codes "reload") []) ≡ AskedSteer (codes "c") AskedReload)
 
--- `return` and `discard` need an option that chooses mail; without `--yes` nothing is withdrawn, and with `--save` it is
--- saved in a folder before that. `save` requires a number and a file.
+-- `return` and `discard` need an option that chooses mail; without `--yes` nothing is withdrawn, and with `--save` it
+-- is saved in a folder before that. `save` requires a number and a file.
 abbrev pub Withdraws : Text → Type 0
 Withdraws name =
     (faults_in (words_of name (codes "return") (codes "--yes" ∷ [])) ≡ MissingRequiredArgument ∷ [])
@@ -594,7 +645,8 @@ Withdraws name =
     × (asked_in (words_of name (codes "return") (codes "--message" ∷ codes "15,16" ∷ []))
     ≡ AskedWithdraw (codes "c") Return
     (record { numbers = Some (codes "15,16"); hop = None; from = None; to = None }) None false)
-    × (asked_in (words_of name (codes "discard") (codes "--yes" ∷ codes "--from" ∷ codes "a" ∷ codes "--to" ∷ codes "b" ∷ []))
+    × (asked_in
+    (words_of name (codes "discard") (codes "--yes" ∷ codes "--from" ∷ codes "a" ∷ codes "--to" ∷ codes "b" ∷ []))
     ≡ AskedWithdraw (codes "c") Discard
     (record { numbers = None; hop = None; from = Some (codes "a"); to = Some (codes "b") }) None true)
     × (asked_in (words_of name (codes "discard") (codes "--hop" ∷ codes "a" ∷ codes "--save" ∷ codes "d" ∷ []))

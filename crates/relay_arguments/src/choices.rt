@@ -13,7 +13,7 @@ use clap::{ArgMatches, Error};
 use std::alloc::{AllocError, Global};
 
 /// What is wrong with the mail that is named.
-#[derive(Clone, Copy, Debug, Drop)]
+#[derive(Clone, Copy, Drop)]
 pub(crate) enum ChoiceFault {
     /// Both a next hop and a message are named.
     Both,

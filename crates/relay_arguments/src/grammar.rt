@@ -5,11 +5,12 @@ ghost use Rattle.relay_arguments.specs.Arguments.{checking, config_rule, configu
 ghost use Rattle.relay_arguments.specs.Arguments.{optional_config_rule, over_files, pushing, quiet_rule, relayd};
 ghost use Rattle.relay_arguments.specs.Arguments.{rounds_rule, route_rule, running, serving, with_check};
 ghost use Rattle.relay_arguments.specs.Arguments.{with_compact, with_discard, with_drain, with_hold, with_push};
-ghost use Rattle.relay_arguments.specs.Arguments.{with_queue, with_run, without_files};
+ghost use Rattle.relay_arguments.specs.Arguments.{with_queue, with_reload, with_run, without_files};
 ghost use Rattle.relay_arguments.specs.Arguments.{without_subcommands, workers_rule};
+ghost use Rattle.relay_arguments.specs.Grammar.{IsAdded};
 
 use crate::looks::{list, show, status};
-use crate::steering::{drain, flush, hold, release};
+use crate::steering::{drain, flush, hold, release, reload};
 use crate::withdrawing::{discard, return_mail, save};
 use crate::words::{MOST_ROUNDS, MOST_WORKERS};
 use clap::builder::ValueParser;
@@ -23,123 +24,104 @@ const VERSION: &str = "1.0.0";
 pub(crate) fn program<'a>(alloc: Global) -> Result<Command<'a>, AllocError>
     ensures { IfOk result (λ command. app_of command ≡ relayd) }
 {
-    let with_discard = with_discard(alloc)?;
-    let save = save(alloc)?;
-    with_discard.subcommand(save)
+    add(with_discard(alloc)?, save(alloc))
 }
 
 /// Returns the grammar with all subcommands but `save`. Fails if memory runs out.
 fn with_discard<'a>(alloc: Global) -> Result<Command<'a>, AllocError>
     ensures { IfOk result (λ command. app_of command ≡ with_discard) }
 {
-    let with_drain = with_drain(alloc)?;
-    let return_mail = return_mail(alloc)?;
-    let with_return = with_drain.subcommand(return_mail)?;
-    let discard = discard(alloc)?;
-    with_return.subcommand(discard)
+    let with_return = add(with_reload(alloc)?, return_mail(alloc))?;
+    add(with_return, discard(alloc))
+}
+
+/// Returns the grammar with the subcommands up to `reload`. Fails if memory runs out.
+fn with_reload<'a>(alloc: Global) -> Result<Command<'a>, AllocError>
+    ensures { IfOk result (λ command. app_of command ≡ with_reload) }
+{
+    add(with_drain(alloc)?, reload(alloc))
 }
 
 /// Returns the grammar with the subcommands up to `drain`. Fails if memory runs out.
 fn with_drain<'a>(alloc: Global) -> Result<Command<'a>, AllocError>
     ensures { IfOk result (λ command. app_of command ≡ with_drain) }
 {
-    let with_hold = with_hold(alloc)?;
-    let release = release(alloc)?;
-    let with_release = with_hold.subcommand(release)?;
-    let drain = drain(alloc)?;
-    with_release.subcommand(drain)
+    let with_release = add(with_hold(alloc)?, release(alloc))?;
+    add(with_release, drain(alloc))
 }
 
 /// Returns the grammar with the subcommands up to `hold`. Fails if memory runs out.
 fn with_hold<'a>(alloc: Global) -> Result<Command<'a>, AllocError>
     ensures { IfOk result (λ command. app_of command ≡ with_hold) }
 {
-    let with_push = with_push(alloc)?;
-    let flush = flush(alloc)?;
-    let with_flush = with_push.subcommand(flush)?;
-    let hold = hold(alloc)?;
-    with_flush.subcommand(hold)
+    let with_flush = add(with_push(alloc)?, flush(alloc))?;
+    add(with_flush, hold(alloc))
 }
 
 /// Returns the grammar with the subcommands up to `push`. Fails if memory runs out.
 fn with_push<'a>(alloc: Global) -> Result<Command<'a>, AllocError>
     ensures { IfOk result (λ command. app_of command ≡ with_push) }
 {
-    // Each subcommand is added as soon as it is made, so that few have to be dropped if memory runs out.
-    let with_run = with_run(alloc)?;
-    let serve = serve(alloc)?;
-    let with_serve = with_run.subcommand(serve)?;
-    let push = push(alloc)?;
-    with_serve.subcommand(push)
+    let with_serve = add(with_run(alloc)?, serve(alloc))?;
+    add(with_serve, push(alloc))
 }
 
 /// Returns the grammar with the subcommands up to `run`. Fails if memory runs out.
 fn with_run<'a>(alloc: Global) -> Result<Command<'a>, AllocError>
     ensures { IfOk result (λ command. app_of command ≡ with_run) }
 {
-    let with_check = with_check(alloc)?;
-    let run = run(alloc)?;
-    with_check.subcommand(run)
+    add(with_check(alloc)?, run(alloc))
 }
 
 /// Returns the grammar with the subcommands that need no socket. Fails if memory runs out.
 fn with_check<'a>(alloc: Global) -> Result<Command<'a>, AllocError>
     ensures { IfOk result (λ command. app_of command ≡ with_check) }
 {
-    let with_compact = with_compact(alloc)?;
-    let check = check(alloc)?;
-    with_compact.subcommand(check)
+    add(with_compact(alloc)?, check(alloc))
 }
 
 /// Returns the grammar with the subcommands over a spool without sockets. Fails if memory runs out.
 fn with_compact<'a>(alloc: Global) -> Result<Command<'a>, AllocError>
     ensures { IfOk result (λ command. app_of command ≡ with_compact) }
 {
-    let with_queue = with_queue(alloc)?;
-    let compact = with_file(
-        alloc,
-        "compact",
-        "Write the spool anew, and print its size before and after",
-        "Example: relayd compact --config /etc/relayd.toml",
-    )?;
-    with_queue.subcommand(compact)
+    add(with_queue(alloc)?, compact(alloc))
 }
 
 /// Returns the grammar with the subcommands that make and show a spool. Fails if memory runs out.
 fn with_queue<'a>(alloc: Global) -> Result<Command<'a>, AllocError>
     ensures { IfOk result (λ command. app_of command ≡ with_queue) }
 {
-    let over_files = over_files(alloc)?;
-    let show = show(alloc)?;
-    let with_show = over_files.subcommand(show)?;
-    let status = status(alloc)?;
-    with_show.subcommand(status)
+    let with_show = add(over_files(alloc)?, show(alloc))?;
+    add(with_show, status(alloc))
 }
 
 /// Returns the grammar with the subcommands that make and list a spool. Fails if memory runs out.
 fn over_files<'a>(alloc: Global) -> Result<Command<'a>, AllocError>
     ensures { IfOk result (λ command. app_of command ≡ over_files) }
 {
-    let without_files = without_files(alloc)?;
-    let init = with_file(
-        alloc,
-        "init",
-        "Make the spool that the configuration names",
-        "Example: relayd init --config /etc/relayd.toml",
-    )?;
-    let with_init = without_files.subcommand(init)?;
-    let list = list(alloc)?;
-    with_init.subcommand(list)
+    let with_init = add(without_files(alloc)?, init(alloc))?;
+    add(with_init, list(alloc))
 }
 
 /// Returns the grammar with the subcommands that need no file. Fails if memory runs out.
 fn without_files<'a>(alloc: Global) -> Result<Command<'a>, AllocError>
     ensures { IfOk result (λ command. app_of command ≡ without_files) }
 {
-    let session = session(alloc);
-    let with_session = without_subcommands(alloc).subcommand(session)?;
-    let play = play(alloc);
-    with_session.subcommand(play)
+    let with_session = without_subcommands(alloc).subcommand(session(alloc))?;
+    with_session.subcommand(play(alloc))
+}
+
+/// Adds a subcommand, if there was memory to make it. Fails if memory runs out.
+fn add<'a>(
+    command: Command<'a>,
+    subcommand: Result<Command<'a>, AllocError>,
+) -> Result<Command<'a>, AllocError>
+    ensures { IfOk result (λ grown. IsAdded (app_of command.entry) subcommand.entry (app_of grown)) }
+{
+    match subcommand {
+        Ok(subcommand) => command.subcommand(subcommand),
+        Err(error) => Err(error),
+    }
 }
 
 /// Returns the grammar without subcommands, one of which is required.
@@ -171,6 +153,30 @@ fn play<'a>(alloc: Global) -> Command<'a>
             "Play a script of 2 to 16 relays from standard input, and tell what is seen of each line",
         )
         .after_help("Example: relayd play < docs/plays/lost_reply.play")
+}
+
+/// `init --config FILE`. Fails if memory runs out.
+fn init<'a>(alloc: Global) -> Result<Command<'a>, AllocError>
+    ensures { IfOk result (λ command. app_of command ≡ configured (codes "init")) }
+{
+    with_file(
+        alloc,
+        "init",
+        "Make the spool that the configuration names",
+        "Example: relayd init --config /etc/relayd.toml",
+    )
+}
+
+/// `compact --config FILE`. Fails if memory runs out.
+fn compact<'a>(alloc: Global) -> Result<Command<'a>, AllocError>
+    ensures { IfOk result (λ command. app_of command ≡ configured (codes "compact")) }
+{
+    with_file(
+        alloc,
+        "compact",
+        "Write the spool anew, and print its size before and after",
+        "Example: relayd compact --config /etc/relayd.toml",
+    )
 }
 
 /// Returns a subcommand of this name with a required configuration file. Fails if memory runs out.

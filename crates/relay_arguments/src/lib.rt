@@ -5,10 +5,12 @@ mod choices;
 mod grammar;
 mod looks;
 mod steering;
+mod tasks;
 mod withdrawing;
 mod words;
 
 pub use looks::Listing;
 pub use steering::{Mail, Steering};
+pub use tasks::{Control, Look, Relaying, Task};
 pub use withdrawing::{Choice, Removal};
 pub use words::{Subcommand, arguments, words_are_taken};

@@ -2,18 +2,20 @@
 ghost use Rattle.std.specs.Prelude.{◌≡◌, codes, false, is_some, IfOk};
 ghost use Rattle.std.specs.Option.{option_copied};
 ghost use Rattle.clap.specs.Words.{app_of, first_of, found_of, rows_of, rule_of};
-ghost use Rattle.relay_arguments.specs.Arguments.{asked, is_plain, list_asked, listing, message_number_in};
+ghost use Rattle.relay_arguments.specs.Arguments.{is_plain, list_asked, listing, message_number_in};
 ghost use Rattle.relay_arguments.specs.Arguments.{number_rule, option_rule, reporting, rows_asked_in, rows_value};
-ghost use Rattle.relay_arguments.specs.Arguments.{show_asked, showing, status_asked, switch_rule, with_forms};
+ghost use Rattle.relay_arguments.specs.Arguments.{show_asked, showing, status_asked, switch_rule, task_value};
+ghost use Rattle.relay_arguments.specs.Arguments.{with_forms};
 
 use crate::grammar::{with_default_file, with_file};
-use crate::words::{Subcommand, config, config_or_default, is_given, number_of};
+use crate::tasks::{Look, Task};
+use crate::words::{config, config_or_default, is_given, number_of};
 use clap::builder::ValueParser;
 use clap::{Arg, ArgAction, ArgMatches, Command};
 use std::alloc::{AllocError, Global};
 
 /// Which queued recipients are listed, and how.
-#[derive(Clone, Copy, Debug, Drop)]
+#[derive(Clone, Copy, Drop)]
 pub struct Listing<'a> {
     /// As JSON objects instead of a table.
     pub json: bool,
@@ -28,37 +30,37 @@ pub struct Listing<'a> {
 }
 
 /// Returns the subcommand `list`; with one of its options it is a listing.
-pub(crate) fn list_asked<'a>(matches: &ArgMatches<'a>) -> Subcommand<'a>
-    ensures { asked result ≡ list_asked (rows_of (found_of matches.now)) }
+pub(crate) fn list_asked<'a>(matches: &ArgMatches<'a>) -> Task<'a>
+    ensures { task_value result ≡ list_asked (rows_of (found_of matches.now)) }
 {
     let file = config(matches);
     let asked = rows_asked(matches);
     if is_plain(&asked) && !is_given(matches, "long") {
-        Subcommand::List(file)
+        Task::Look(Look::List(file))
     } else {
-        Subcommand::Listing { file, asked }
+        Task::Look(Look::Listing { file, asked })
     }
 }
 
 /// Returns the subcommand `show`.
-pub(crate) fn show_asked<'a>(matches: &ArgMatches<'a>) -> Subcommand<'a>
-    ensures { asked result ≡ show_asked (rows_of (found_of matches.now)) }
+pub(crate) fn show_asked<'a>(matches: &ArgMatches<'a>) -> Task<'a>
+    ensures { task_value result ≡ show_asked (rows_of (found_of matches.now)) }
 {
-    Subcommand::Show {
+    Task::Look(Look::Show {
         file: config_or_default(matches),
         number: message_number(matches, "number"),
         raw: is_given(matches, "raw"),
-    }
+    })
 }
 
 /// Returns the subcommand `status`.
-pub(crate) fn status_asked<'a>(matches: &ArgMatches<'a>) -> Subcommand<'a>
-    ensures { asked result ≡ status_asked (rows_of (found_of matches.now)) }
+pub(crate) fn status_asked<'a>(matches: &ArgMatches<'a>) -> Task<'a>
+    ensures { task_value result ≡ status_asked (rows_of (found_of matches.now)) }
 {
-    Subcommand::Status {
+    Task::Look(Look::Status {
         file: config_or_default(matches),
         prometheus: is_given(matches, "prometheus"),
-    }
+    })
 }
 
 /// Returns which recipients are listed, and how.

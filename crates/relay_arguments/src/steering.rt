@@ -1,13 +1,17 @@
 //! The arguments of the subcommands that steer a running relay.
 ghost use Rattle.std.specs.Prelude.{◌≡◌, codes, false, option_map, IfOk};
+ghost use Rattle.std.specs.Option.{option_map_or};
 ghost use Rattle.clap.specs.Words.{app_of, found_of, rows_of, rule_of};
-ghost use Rattle.relay_arguments.specs.Arguments.{asked, drain_asked, draining, flush_asked, hold_asked, mail_in};
-ghost use Rattle.relay_arguments.specs.Arguments.{mail_value, message_rule, named_mail_in, names_mail, release_asked};
-ghost use Rattle.relay_arguments.specs.Arguments.{seconds_in, seconds_rule, steering};
+ghost use Rattle.relay_arguments.specs.Arguments.{configurable, drain_asked, draining, flush_asked, hold_asked};
+ghost use Rattle.relay_arguments.specs.Arguments.{mail_in, mail_value, message_rule, named_mail_in, names_mail};
+ghost use Rattle.relay_arguments.specs.Arguments.{release_asked, reload_asked, seconds_in, seconds_rule, steering};
+ghost use Rattle.relay_arguments.specs.Arguments.{steering_by, streams_asked, task_value};
 
 use crate::grammar::with_default_file;
 use crate::looks::{is_some_text, message_number, option, text_of};
-use crate::words::{Subcommand, config_or_default, number_of};
+use crate::tasks::{Control, Task};
+use crate::withdrawing::withdrawing_named;
+use crate::words::{config_or_default, number_of};
 use clap::builder::ValueParser;
 use clap::{Arg, ArgAction, ArgMatches, Command};
 use std::alloc::{AllocError, Global};
@@ -38,46 +42,78 @@ pub enum Steering<'a> {
     Release(Mail<'a>),
     /// Stop when all attempts have ended, or after this many seconds.
     Drain(u16),
+    /// Read the configuration again, and serve by it.
+    Reload,
+}
+
+/// Returns the task of this name, if it is one that steers a running relay, or one of [`withdrawing_named`].
+pub(crate) fn steering_named<'a>(name: &str, matches: &ArgMatches<'a>) -> Option<Task<'a>>
+    ensures { option_map_or task_value result (streams_asked name.now)
+        ≡ steering_by name.now (rows_of (found_of matches.now)) }
+{
+    if name == "flush" {
+        Some(flush_asked(matches))
+    } else if name == "hold" {
+        Some(hold_asked(matches))
+    } else if name == "release" {
+        Some(release_asked(matches))
+    } else if name == "drain" {
+        Some(drain_asked(matches))
+    } else if name == "reload" {
+        Some(reload_asked(matches))
+    } else {
+        withdrawing_named(name, matches)
+    }
 }
 
 /// Returns the subcommand `flush`.
-pub(crate) fn flush_asked<'a>(matches: &ArgMatches<'a>) -> Subcommand<'a>
-    ensures { asked result ≡ flush_asked (rows_of (found_of matches.now)) }
+fn flush_asked<'a>(matches: &ArgMatches<'a>) -> Task<'a>
+    ensures { task_value result ≡ flush_asked (rows_of (found_of matches.now)) }
 {
-    Subcommand::Steer {
+    Task::Control(Control::Steer {
         file: config_or_default(matches),
         asked: Steering::Flush(named_mail(matches)),
-    }
+    })
 }
 
 /// Returns the subcommand `hold`.
-pub(crate) fn hold_asked<'a>(matches: &ArgMatches<'a>) -> Subcommand<'a>
-    ensures { asked result ≡ hold_asked (rows_of (found_of matches.now)) }
+fn hold_asked<'a>(matches: &ArgMatches<'a>) -> Task<'a>
+    ensures { task_value result ≡ hold_asked (rows_of (found_of matches.now)) }
 {
-    Subcommand::Steer {
+    Task::Control(Control::Steer {
         file: config_or_default(matches),
         asked: Steering::Hold(mail_given(matches)),
-    }
+    })
 }
 
 /// Returns the subcommand `release`.
-pub(crate) fn release_asked<'a>(matches: &ArgMatches<'a>) -> Subcommand<'a>
-    ensures { asked result ≡ release_asked (rows_of (found_of matches.now)) }
+fn release_asked<'a>(matches: &ArgMatches<'a>) -> Task<'a>
+    ensures { task_value result ≡ release_asked (rows_of (found_of matches.now)) }
 {
-    Subcommand::Steer {
+    Task::Control(Control::Steer {
         file: config_or_default(matches),
         asked: Steering::Release(mail_given(matches)),
-    }
+    })
 }
 
 /// Returns the subcommand `drain`.
-pub(crate) fn drain_asked<'a>(matches: &ArgMatches<'a>) -> Subcommand<'a>
-    ensures { asked result ≡ drain_asked (rows_of (found_of matches.now)) }
+fn drain_asked<'a>(matches: &ArgMatches<'a>) -> Task<'a>
+    ensures { task_value result ≡ drain_asked (rows_of (found_of matches.now)) }
 {
-    Subcommand::Steer {
+    Task::Control(Control::Steer {
         file: config_or_default(matches),
         asked: Steering::Drain(seconds(matches)),
-    }
+    })
+}
+
+/// Returns the subcommand `reload`.
+fn reload_asked<'a>(matches: &ArgMatches<'a>) -> Task<'a>
+    ensures { task_value result ≡ reload_asked (rows_of (found_of matches.now)) }
+{
+    Task::Control(Control::Steer {
+        file: config_or_default(matches),
+        asked: Steering::Reload,
+    })
 }
 
 /// Returns whether a next hop or a message is named.
@@ -165,6 +201,18 @@ pub(crate) fn drain<'a>(alloc: Global) -> Result<Command<'a>, AllocError>
         "Example: relayd drain --seconds 30",
     )?
     .arg(seconds_argument(alloc))
+}
+
+/// `reload [--config FILE]`. Fails if memory runs out.
+pub(crate) fn reload<'a>(alloc: Global) -> Result<Command<'a>, AllocError>
+    ensures { IfOk result (λ command. app_of command ≡ configurable (codes "reload")) }
+{
+    with_default_file(
+        alloc,
+        "reload",
+        "Read the configuration again, and serve by it",
+        "Example: relayd reload",
+    )
 }
 
 /// Returns a subcommand of this name with an optional next hop and an optional message. Fails if memory runs out.

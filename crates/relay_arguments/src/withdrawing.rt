@@ -1,12 +1,15 @@
 //! The arguments of the subcommands that withdraw queued mail or save it.
 ghost use Rattle.std.specs.Prelude.{◌≡◌, codes, false, IfOk};
+ghost use Rattle.std.specs.Option.{option_map_or};
 ghost use Rattle.clap.specs.Words.{app_of, found_of, rows_of, rule_of};
-ghost use Rattle.relay_arguments.specs.Arguments.{asked, chooses_mail, choice_in, choice_value, file_rule, into_in};
-ghost use Rattle.relay_arguments.specs.Arguments.{save_asked, saving, with_choice, withdraw_asked, withdrawing};
+ghost use Rattle.relay_arguments.specs.Arguments.{chooses_mail, choice_in, choice_value, file_rule, into_in};
+ghost use Rattle.relay_arguments.specs.Arguments.{save_asked, saving, streams_asked, task_value, with_choice};
+ghost use Rattle.relay_arguments.specs.Arguments.{withdraw_asked, withdrawing, withdrawing_by};
 
 use crate::grammar::with_default_file;
 use crate::looks::{is_some_text, message_number, number_argument, option, switch, text_of};
-use crate::words::{Subcommand, config_or_default, is_given};
+use crate::tasks::{Control, Task};
+use crate::words::{config_or_default, is_given};
 use clap::{Arg, ArgAction, ArgMatches, Command};
 use std::alloc::{AllocError, Global};
 
@@ -32,28 +35,44 @@ pub struct Choice<'a> {
     pub to: Option<&'a str>,
 }
 
-/// Returns the subcommand `return` or `discard`.
-pub(crate) fn withdraw_asked<'a>(removal: Removal, matches: &ArgMatches<'a>) -> Subcommand<'a>
-    ensures { asked result ≡ withdraw_asked removal (rows_of (found_of matches.now)) }
+/// Returns the task of this name, if it is one that withdraws mail or saves it.
+pub(crate) fn withdrawing_named<'a>(name: &str, matches: &ArgMatches<'a>) -> Option<Task<'a>>
+    ensures { option_map_or task_value result (streams_asked name.now)
+        ≡ withdrawing_by name.now (rows_of (found_of matches.now)) }
 {
-    Subcommand::Withdraw {
+    if name == "return" {
+        Some(withdraw_asked(Removal::Return, matches))
+    } else if name == "discard" {
+        Some(withdraw_asked(Removal::Discard, matches))
+    } else if name == "save" {
+        Some(save_asked(matches))
+    } else {
+        None
+    }
+}
+
+/// Returns the subcommand `return` or `discard`.
+fn withdraw_asked<'a>(removal: Removal, matches: &ArgMatches<'a>) -> Task<'a>
+    ensures { task_value result ≡ withdraw_asked removal (rows_of (found_of matches.now)) }
+{
+    Task::Control(Control::Withdraw {
         file: config_or_default(matches),
         removal,
         choice: choice_given(matches),
         folder: text_of(matches, "save"),
         yes: is_given(matches, "yes"),
-    }
+    })
 }
 
 /// Returns the subcommand `save`.
-pub(crate) fn save_asked<'a>(matches: &ArgMatches<'a>) -> Subcommand<'a>
-    ensures { asked result ≡ save_asked (rows_of (found_of matches.now)) }
+fn save_asked<'a>(matches: &ArgMatches<'a>) -> Task<'a>
+    ensures { task_value result ≡ save_asked (rows_of (found_of matches.now)) }
 {
-    Subcommand::Save {
+    Task::Control(Control::Save {
         file: config_or_default(matches),
         number: message_number(matches, "number"),
         into: into(matches),
-    }
+    })
 }
 
 /// Returns whether an option chooses mail.

@@ -1,116 +1,29 @@
 ghost use Rattle.std.specs.Prelude.{◌≡◌, ◌≤◌, codes, map, option_map, IfOk};
+ghost use Rattle.std.specs.Option.{option_map_or};
 ghost use Rattle.clap.specs.Words.{FailsBy, first_of, found_of, rows_of, subcommand_rows_of};
 ghost use Rattle.relay_arguments.specs.Arguments.{WordsAreTaken, asked, asked_by, asked_in, asked_of, config_in};
 ghost use Rattle.relay_arguments.specs.Arguments.{check_asked, config_or_default_in, faults_in, is_given_in};
-ghost use Rattle.relay_arguments.specs.Arguments.{number_of, push_asked, rounds_in, run_asked, serve_asked};
-ghost use Rattle.relay_arguments.specs.Arguments.{workers_in};
+ghost use Rattle.relay_arguments.specs.Arguments.{number_of, push_asked, relaying_by, rounds_in, run_asked};
+ghost use Rattle.relay_arguments.specs.Arguments.{serve_asked, streams_asked, task_value, workers_in};
 
 use crate::choices::choice_fault;
 use crate::grammar::program;
-use crate::looks::{Listing, list_asked, show_asked, status_asked};
-use crate::steering::{Steering, drain_asked, flush_asked, hold_asked, release_asked};
-use crate::withdrawing::{Choice, Removal, save_asked, withdraw_asked};
+use crate::looks::{list_asked, show_asked, status_asked};
+use crate::steering::steering_named;
+use crate::tasks::{Relaying, Task};
 use clap::{ArgMatches, Error};
 use std::alloc::Global;
 use std::convert::AsStr;
 
 /// What the program shall do.
-#[derive(Clone, Copy, Debug, Drop)]
+#[derive(Clone, Copy, Drop)]
 pub enum Subcommand<'a> {
     /// Run one session from standard input to standard output.
     Session,
     /// Play a script for 2 to 16 relays from standard input.
     Play,
-    /// Make a spool, with the configuration in this file.
-    Init(&'a str),
-    /// List the spool, with the configuration in this file.
-    List(&'a str),
-    /// List queued recipients in detail.
-    Listing {
-        /// The configuration file.
-        file: &'a str,
-        /// Which recipients, and how.
-        asked: Listing<'a>,
-    },
-    /// Show a message.
-    Show {
-        /// The configuration file.
-        file: &'a str,
-        /// The number of the message.
-        number: u64,
-        /// Whether to write only its text, octet by octet.
-        raw: bool,
-    },
-    /// Sum up the queue by next hop.
-    Status {
-        /// The configuration file.
-        file: &'a str,
-        /// Whether to write metrics for Prometheus.
-        prometheus: bool,
-    },
-    /// Compact the spool, with the configuration in this file.
-    Compact(&'a str),
-    /// Check a configuration.
-    Check {
-        /// The configuration file.
-        file: &'a str,
-        /// The address to find the next hop of, instead of the check.
-        route: Option<&'a str>,
-    },
-    /// Serve clients and relay mail, until the process is stopped.
-    Run {
-        /// The configuration file.
-        file: &'a str,
-        /// Whether to log nothing.
-        quiet: bool,
-    },
-    /// Serve clients in rounds, and relay mail after each.
-    Serve {
-        /// The configuration file.
-        file: &'a str,
-        /// How many rounds of connections are served, 1 to 1,000,000.
-        rounds: u32,
-        /// How many connections a round takes, 1 to 64.
-        workers: u8,
-        /// Whether to log to standard error.
-        log: bool,
-    },
-    /// Send a request to a running relay.
-    Steer {
-        /// The configuration file.
-        file: &'a str,
-        /// The request.
-        asked: Steering<'a>,
-    },
-    /// Withdraw queued mail.
-    Withdraw {
-        /// The configuration file.
-        file: &'a str,
-        /// How it is withdrawn.
-        removal: Removal,
-        /// Which mail is withdrawn.
-        choice: Choice<'a>,
-        /// The folder in which each of the messages is saved before that, if any.
-        folder: Option<&'a str>,
-        /// Whether to withdraw it, instead of printing what would be withdrawn.
-        yes: bool,
-    },
-    /// Save the text of a message to a new file.
-    Save {
-        /// The configuration file.
-        file: &'a str,
-        /// The number of the message.
-        number: u64,
-        /// The file to make.
-        into: &'a str,
-    },
-    /// Relay due mail once.
-    Push {
-        /// The configuration file.
-        file: &'a str,
-        /// Whether to log to standard error.
-        log: bool,
-    },
+    /// Work on the files of a configuration.
+    Task(Task<'a>),
 }
 
 /// The configuration file of subcommands that need not be given one.
@@ -149,85 +62,91 @@ fn asked_for<'a>(matches: &ArgMatches<'a>) -> Subcommand<'a>
 fn named<'a>(name: &str, matches: &ArgMatches<'a>) -> Subcommand<'a>
     ensures { asked result ≡ asked_by name.now (rows_of (found_of matches.now)) }
 {
+    match task_named(name, matches) {
+        Some(task) => Subcommand::Task(task),
+        None if name == "play" => Subcommand::Play,
+        None => Subcommand::Session,
+    }
+}
+
+/// Returns the task of this name, if it is one.
+fn task_named<'a>(name: &str, matches: &ArgMatches<'a>) -> Option<Task<'a>>
+    ensures { option_map_or task_value result (streams_asked name.now)
+        ≡ asked_by name.now (rows_of (found_of matches.now)) }
+{
     if name == "init" {
-        Subcommand::Init(config(matches))
+        Some(Task::Init(config(matches)))
     } else if name == "list" {
-        list_asked(matches)
+        Some(list_asked(matches))
     } else if name == "show" {
-        show_asked(matches)
+        Some(show_asked(matches))
     } else if name == "status" {
-        status_asked(matches)
+        Some(status_asked(matches))
     } else if name == "compact" {
-        Subcommand::Compact(config(matches))
+        Some(Task::Compact(config(matches)))
     } else if name == "check" {
-        check_asked(matches)
-    } else if name == "run" {
-        run_asked(matches)
-    } else if name == "serve" {
-        serve_asked(matches)
-    } else if name == "push" {
-        push_asked(matches)
-    } else if name == "flush" {
-        flush_asked(matches)
-    } else if name == "hold" {
-        hold_asked(matches)
-    } else if name == "release" {
-        release_asked(matches)
-    } else if name == "drain" {
-        drain_asked(matches)
-    } else if name == "return" {
-        withdraw_asked(Removal::Return, matches)
-    } else if name == "discard" {
-        withdraw_asked(Removal::Discard, matches)
-    } else if name == "save" {
-        save_asked(matches)
-    } else if name == "play" {
-        Subcommand::Play
+        Some(check_asked(matches))
     } else {
-        Subcommand::Session
+        relaying_named(name, matches)
+    }
+}
+
+/// Returns the task of this name, if it is one that serves clients and relays mail, or one of [`steering_named`].
+fn relaying_named<'a>(name: &str, matches: &ArgMatches<'a>) -> Option<Task<'a>>
+    ensures { option_map_or task_value result (streams_asked name.now)
+        ≡ relaying_by name.now (rows_of (found_of matches.now)) }
+{
+    if name == "run" {
+        Some(run_asked(matches))
+    } else if name == "serve" {
+        Some(serve_asked(matches))
+    } else if name == "push" {
+        Some(push_asked(matches))
+    } else {
+        steering_named(name, matches)
     }
 }
 
 /// Returns the subcommand `check`.
-fn check_asked<'a>(matches: &ArgMatches<'a>) -> Subcommand<'a>
-    ensures { asked result ≡ check_asked (rows_of (found_of matches.now)) }
+fn check_asked<'a>(matches: &ArgMatches<'a>) -> Task<'a>
+    ensures { task_value result ≡ check_asked (rows_of (found_of matches.now)) }
 {
-    Subcommand::Check {
+    Task::Check {
         file: config_or_default(matches),
         route: route(matches),
     }
 }
 
 /// Returns the subcommand `run`.
-fn run_asked<'a>(matches: &ArgMatches<'a>) -> Subcommand<'a>
-    ensures { asked result ≡ run_asked (rows_of (found_of matches.now)) }
+fn run_asked<'a>(matches: &ArgMatches<'a>) -> Task<'a>
+    ensures { task_value result ≡ run_asked (rows_of (found_of matches.now)) }
 {
-    Subcommand::Run {
+    Task::Relay(Relaying::Run {
         file: config_or_default(matches),
         quiet: is_given(matches, "quiet"),
-    }
+    })
 }
 
 /// Returns the subcommand `serve`.
-fn serve_asked<'a>(matches: &ArgMatches<'a>) -> Subcommand<'a>
-    ensures { asked result ≡ serve_asked (rows_of (found_of matches.now)) }
+fn serve_asked<'a>(matches: &ArgMatches<'a>) -> Task<'a>
+    ensures { task_value result ≡ serve_asked (rows_of (found_of matches.now)) }
 {
-    Subcommand::Serve {
+    Task::Relay(Relaying::Serve {
         file: config(matches),
         rounds: rounds(matches),
         workers: workers(matches),
         log: is_given(matches, "log"),
-    }
+    })
 }
 
 /// Returns the subcommand `push`.
-fn push_asked<'a>(matches: &ArgMatches<'a>) -> Subcommand<'a>
-    ensures { asked result ≡ push_asked (rows_of (found_of matches.now)) }
+fn push_asked<'a>(matches: &ArgMatches<'a>) -> Task<'a>
+    ensures { task_value result ≡ push_asked (rows_of (found_of matches.now)) }
 {
-    Subcommand::Push {
+    Task::Relay(Relaying::Push {
         file: config(matches),
         log: is_given(matches, "log"),
-    }
+    })
 }
 
 /// Returns the file of `--config`, which the argument parser requires.

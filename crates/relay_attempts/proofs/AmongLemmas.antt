@@ -102,15 +102,15 @@ module _ (host : List ℕ) (table : RouteTable) (queue : Queue) (number : ℕ) (
       (λ hop. not_itself n other is (serves.once n number other run (still n other is) its same (sym hop)))
       (subst (λ (m : Message). AllGoTo table run.hop m run.places.items) one mine.its_hop) other.places.items runs.its_hop
 
-  once_behind : NoneTwice after.runs
-  once_behind n other one another here there = serves.once n other one another (still n one here) (still other another there)
+  once_after : NoneTwice after.runs
+  once_after n other one another here there = serves.once n other one another (still n one here) (still other another there)
 
   -- nothing was added
   pub dropped_serves : after.stranded ≡ before.stranded → Serves host table after queue
   dropped_serves known = record {
     stranded = known ∙ serves.stranded;
     runs = λ n other is. serves.runs n other (still n other is);
-    once = once_behind;
+    once = once_after;
   }
 
   -- its outcome was refused, and the queue is the same
@@ -133,7 +133,7 @@ module _ (host : List ℕ) (table : RouteTable) (queue : Queue) (number : ℕ) (
         (run_goes_on host table queue (record outcome { report = report }) other runs
         (λ same. subst (λ (o : Outcome). AreApart o.rulings other.places.items) (sym is)
         (apart n other verdicts at runs (same ∙ ap (λ (o : Outcome). o.message) is))));
-    once = once_behind;
+    once = once_after;
   }
 
 some_run : (run other : Run) → Some run ≡ Some other → run ≡ other

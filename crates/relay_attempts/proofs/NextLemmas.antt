@@ -73,12 +73,12 @@ module _ (table : RouteTable) (runs : List (Option Run)) where
     free : is_running runs number hop ≡ false
     among : is_among hop hops ≡ true
 
-  free_behind : (number : ℕ) (first hops : List (List ℕ)) → HasFree number hops → HasFree number (first ++ hops)
-  free_behind number first hops has = record { hop = has.hop; free = has.free; among = behind first }
+  free_after : (number : ℕ) (first hops : List (List ℕ)) → HasFree number hops → HasFree number (first ++ hops)
+  free_after number first hops has = record { hop = has.hop; free = has.free; among = after first }
     where
-      behind : (first : List (List ℕ)) → is_among has.hop (first ++ hops) ≡ true
-      behind [] = has.among
-      behind (other ∷ first) = or_true (bytes_eq other has.hop) (behind first)
+      after : (first : List (List ℕ)) → is_among has.hop (first ++ hops) ≡ true
+      after [] = has.among
+      after (other ∷ first) = or_true (bytes_eq other has.hop) (after first)
         where
           or_true : (b : Bool) {c : Bool} → c ≡ true → (b || c) ≡ true
           or_true true e = refl
@@ -153,11 +153,11 @@ module _ (table : RouteTable) (runs : List (Option Run)) where
 
         here : (b : Bool) → is_due_at now place ≡ b → HasFree number rest → HasFree number (filter_map (hop_of_place table recipients) ((if b then n ∷ [] else []) ++ places_where due (suc n) places))
         here false e has = has
-        here true e has = behind (hop_of_place table recipients n)
+        here true e has = after (hop_of_place table recipients n)
           where
-            behind : (hop : Option (List ℕ)) → HasFree number (cons_option hop rest)
-            behind None = has
-            behind (Some name) = free_behind number (name ∷ []) rest has
+            after : (hop : Option (List ℕ)) → HasFree number (cons_option hop rest)
+            after None = has
+            after (Some name) = free_after number (name ∷ []) rest has
 
         due_now : place.held ≡ true → place.due ≤ now → is_due_at now place ≡ true
         due_now held low = and_from place.held (nat_le place.due now) held (le-leb place.due now low)

@@ -117,24 +117,24 @@ some_is : {A : Type 0} (x y : A) → Some x ≡ Some y → x ≡ y
 some_is x y e = cc
 
 module _ (host : List ℕ) (table : RouteTable) (queue : Queue) (outcome : Outcome) where
-  abbrev behind : Queue
-  behind = step queue (change.Outcome outcome)
+  abbrev afterwards : Queue
+  afterwards = step queue (change.Outcome outcome)
 
   -- an attempt none of whose places is ruled on goes on
-  pub run_goes_on : (run : Run) (runs : RunsFor host table queue run) → (run.message ≡ outcome.message → AreApart outcome.rulings run.places.items) → RunsFor host table behind run
+  pub run_goes_on : (run : Run) (runs : RunsFor host table queue run) → (run.message ≡ outcome.message → AreApart outcome.rulings run.places.items) → RunsFor host table afterwards run
   run_goes_on run runs apart = by (cases_eq run.message outcome.message)
     where
       more : List (ℕ × Message)
       more = reported queue.next outcome outcome.report (message_of queue.messages outcome.message)
 
-      by : (run.message ≡ outcome.message) ⊎ (run.message ≡ outcome.message → ⊥) → RunsFor host table behind run
+      by : (run.message ≡ outcome.message) ⊎ (run.message ≡ outcome.message → ⊥) → RunsFor host table afterwards run
       by (inl same) =
           let held = stay_held outcome runs.message 0 run.places.items (apart same) runs.held in
           let found = ap (message_of queue.messages) (sym same) ∙ runs.found in
           let kept = same_ruled outcome queue.messages runs.message found (first_is_held outcome runs.message 0 run.places.items runs.some held) in
           record {
             message = message_after outcome runs.message;
-            found = ap (message_of behind.messages) same
+            found = ap (message_of afterwards.messages) same
                 ∙ found_first (ruled outcome queue.messages) (reported queue.next outcome outcome.report (message_of queue.messages outcome.message)) outcome.message (message_after outcome runs.message) kept;
             held = held;
             some = runs.some;

@@ -14,7 +14,7 @@ use Rattle.relay_records.specs.Staged.{Awaits, RefusesToStage, Row, Stages}
 use Rattle.relay_report.specs.Report.{ReportedFrom, Reporter}
 use Rattle.relay_attempts.specs.AddedOutcome.{IsReported, reported_as}
 use Rattle.relay_attempts.specs.Attempts.{AttemptTable}
-use Rattle.relay_attempts.specs.Staging.{GrowsRowBy, HasNoRoomBehind, NoNumber, RefusesToHearBehind, RefusesToStageOutcome, StagesOutcome, TooLarge}
+use Rattle.relay_attempts.specs.Staging.{GrowsRowBy, HasNoRoomAfter, NoNumber, RefusesToHearAfter, RefusesToStageOutcome, StagesOutcome, TooLarge}
 
 module _ {D : Type 0} (reporter : Reporter) (outcome : Outcome) (change : Change) (old : Kept D)
     (is : IsReported reporter old.queue outcome change) where
@@ -59,11 +59,11 @@ module _ {D : Type 0} (reporter : Reporter) (outcome : Outcome) (change : Change
   }
 
   -- there is no room for the outcome where there is none for its record
-  no_room_behind : (octets : List ℕ) (row : Row) → octets ≡ encode change
+  no_room_after : (octets : List ℕ) (row : Row) → octets ≡ encode change
       → (2 ^ 62 < old.queue.next) ⊎ (2 ^ 40 < old.spool.size + room_of row.bodies + 5 + length octets)
-      → HasNoRoomBehind reporter outcome old row
-  no_room_behind octets row octets_are (inl many) = NoNumber many
-  no_room_behind octets row octets_are (inr large) =
+      → HasNoRoomAfter reporter outcome old row
+  no_room_after octets row octets_are (inl many) = NoNumber many
+  no_room_after octets row octets_are (inr large) =
       TooLarge is.report reported_from
       (subst (λ (text : List ℕ). 2 ^ 40 < old.spool.size + room_of row.bodies + 5 + length text)
       (octets_are ∙ ap encode is.change_is) large)
@@ -84,12 +84,12 @@ module _ {D : Type 0} (reporter : Reporter) (outcome : Outcome) (change : Change
   refused_staged octets new row left (Err (Open cause)) octets_are full refused = refused
   refused_staged octets new row left (Err NoSecond) octets_are full refused = refused
   refused_staged octets new row left (Err Full) octets_are full refused =
-      (refused.0, refused.1, no_room_behind octets row octets_are (full.0 refl))
+      (refused.0, refused.1, no_room_after octets row octets_are (full.0 refl))
 
 module _ {D : Type 0} (reporter : Reporter) (outcome : Outcome) (old new : Kept D) (row left : Row) where
   -- where there is no room, it is for this outcome
   pub full_for_staged : (fault : NodeFault) → fault ≡ Full
-      → RefusesToStageOutcome reporter outcome old new row left fault → HasNoRoomBehind reporter outcome old row
+      → RefusesToStageOutcome reporter outcome old new row left fault → HasNoRoomAfter reporter outcome old row
   full_for_staged fault is refused =
       let at_full : RefusesToStageOutcome reporter outcome old new row left Full =
       subst (λ (f : NodeFault). RefusesToStageOutcome reporter outcome old new row left f) is refused in
@@ -109,16 +109,16 @@ module _ {D : Type 0} (reporter : Reporter) (outcome : Outcome) (old new : Kept 
   queue_unstaged Full refused = ap (λ (r : Kept D). r.queue) refused.0
 
   -- the attempt is gone where it isn't staged
-  pub refused_behind : (number : ℕ) (before after : AttemptTable) (fault : NodeFault)
+  pub refused_after : (number : ℕ) (before after : AttemptTable) (fault : NodeFault)
       → slot_at before.runs number ≢ None → slot_at after.runs number ≡ None
       → RefusesToStageOutcome reporter outcome old new row left fault
-      → RefusesToHearBehind number before after old new row left fault
-  refused_behind number before after NoMemory was gone refused = (was, gone, refused.0, refused.1)
-  refused_behind number before after Stopped was gone refused = absurd refused
-  refused_behind number before after Unknown was gone refused = absurd refused
-  refused_behind number before after TooMany was gone refused = absurd refused
-  refused_behind number before after NotDue was gone refused = absurd refused
-  refused_behind number before after Busy was gone refused = absurd refused
-  refused_behind number before after (Open cause) was gone refused = absurd refused
-  refused_behind number before after NoSecond was gone refused = absurd refused
-  refused_behind number before after Full was gone refused = (was, gone, refused.0, refused.1)
+      → RefusesToHearAfter number before after old new row left fault
+  refused_after number before after NoMemory was gone refused = (was, gone, refused.0, refused.1)
+  refused_after number before after Stopped was gone refused = absurd refused
+  refused_after number before after Unknown was gone refused = absurd refused
+  refused_after number before after TooMany was gone refused = absurd refused
+  refused_after number before after NotDue was gone refused = absurd refused
+  refused_after number before after Busy was gone refused = absurd refused
+  refused_after number before after (Open cause) was gone refused = absurd refused
+  refused_after number before after NoSecond was gone refused = absurd refused
+  refused_after number before after Full was gone refused = (was, gone, refused.0, refused.1)

@@ -148,8 +148,8 @@ module _ (table : RouteTable) (outcome : Outcome) where
       differs : (entry.0 == outcome.message) ≡ false → entry.0 ≡ outcome.message → ⊥
       differs is e = false≢true (sym is ∙ eq-eqb entry.0 outcome.message e)
 
-      none_behind : (entry.0 == outcome.message) ≡ true → message_of entries outcome.message ≡ None
-      none_behind is = none_before (suc entry.0) next entries outcome.message rise.1 (let e = same is in omega (arith, e))
+      none_after : (entry.0 == outcome.message) ≡ true → message_of entries outcome.message ≡ None
+      none_after is = none_before (suc entry.0) next entries outcome.message rise.1 (let e = same is in omega (arith, e))
 
       gone : (entry.0 == outcome.message) ≡ true → without outcome.message (stranded_of table (entry ∷ entries)) ≡ stranded_of table entries
       gone is =
@@ -175,7 +175,7 @@ module _ (table : RouteTable) (outcome : Outcome) where
           ∙ ap (λ (o : Option Message). left (lost_at o) (stranded_of table (entry ∷ entries)))
           (sym (cond-true (entry.0 == outcome.message) (Some (after entry.1)) (message_of entries outcome.message) is))
       here is false held =
-          sym (gone is) ∙ ap (λ (o : Option Message). left (lost_at o) (stranded_of table (entry ∷ entries))) (sym (none_behind is))
+          sym (gone is) ∙ ap (λ (o : Option Message). left (lost_at o) (stranded_of table (entry ∷ entries))) (sym (none_after is))
 
       there : (entry.0 == outcome.message) ≡ false
           → stranded_of table (ruled outcome entries) ≡ left (is_stranded_at table (ruled outcome entries) outcome.message) (stranded_of table entries)
@@ -263,10 +263,10 @@ module _ (table : RouteTable) (outcome : Outcome) (queue : Queue) (rise : Rise 0
       (sym (found_last ruled_on added queue.next (ruled_none_at_next outcome 0 queue.next queue.messages rise)))
 
   -- what is noted after it is what is stranded
-  pub known_behind : (new : Queue) (number : ℕ) (old mid all : List ℕ) → new ≡ step queue (change.Outcome outcome) → number ≡ queue.next → old ≡ stranded_of table queue.messages
+  pub known_after : (new : Queue) (number : ℕ) (old mid all : List ℕ) → new ≡ step queue (change.Outcome outcome) → number ≡ queue.next → old ≡ stranded_of table queue.messages
       → mid ≡ (if is_stranded_at table new.messages outcome.message then old else without outcome.message old)
       → all ≡ mid ++ (if is_stranded_at table new.messages number then number ∷ [] else []) → all ≡ stranded_of table new.messages
-  known_behind new number old mid all new_is number_is old_is mid_is all_is =
+  known_after new number old mid all new_is number_is old_is mid_is all_is =
       all_is
       ∙ ap (λ (l : List ℕ). l ++ one_if (is_stranded_at table new.messages number) number) mid_is
       ∙ ap (λ (l : List ℕ). left table outcome (is_stranded_at table new.messages outcome.message) l ++ one_if (is_stranded_at table new.messages number) number) old_is

@@ -17,12 +17,15 @@ use Rattle.relay_book.specs.Record.{AreOfVersion, IsRuling}
 use Rattle.relay_records.specs.declared.fault.NodeFault.{NodeFault}
 use Rattle.relay_records.specs.declared.fault.NodeFault.TheVariants.{NoMemory, Stopped, Unknown, TooMany, NotDue, Busy, Open, Full, NoSecond}
 use Rattle.relay_records.specs.Records.{Kept}
+use Rattle.relay_records.specs.Staged.{Row}
 use Rattle.relay_report.specs.Report.{Reporter}
 use Rattle.relay_attempts.specs.AddedOutcome.{HasNoRoom, MayCome, RefusesOutcome, RulesOn}
 use Rattle.relay_attempts.specs.declared.runs.Run.{Run}
 use Rattle.relay_attempts.specs.Attempts.{AttemptTable, Serves}
 use Rattle.relay_attempts.specs.Hops.{places_where, stranded_of}
 use Rattle.relay_attempts.specs.Runs.{AreHeld, RunsFor}
+use Rattle.relay_attempts.specs.Staging.{HasNoRoomAfter, RefusesToStageOutcome}
+use Rattle.relay_attempts.specs.StagedWithdrawals.{RefusesToStageWithdrawal}
 use Rattle.relay_attempts.specs.Withdrawals.{NamesHeld, RefusesToWithdraw, is_held_of, is_named, is_tried, named_places, tries_one, withdrawal_of, withdrawn}
 use Rattle.relay_attempts.proofs.MessageLemmas.{is_ruled}
 use Rattle.relay_attempts.proofs.OutcomeLemmas.{AreApart, held_are_few, holds_within, run_goes_on}
@@ -221,4 +224,26 @@ refused_to_withdraw words reporter runs number at withdrawal names message outco
   free,
   refused.0,
   record { message = message; found = found; named = named; room = subst (λ (o : Outcome). HasNoRoom reporter o old) is refused.1 },
+)
+
+-- why none is staged
+pub refused_to_stage : {D : Type 0} (words : DiskWords D) (reporter : Reporter) (runs : List (Option Run)) (number at : ℕ) (withdrawal : Withdrawal)
+    (names : List ℕ) (message : Message) (outcome : Outcome) (old new : Kept D) (row left : Row) (fault : NodeFault)
+    → message_of old.queue.messages number ≡ Some message → NamesHeld names message
+    → is_tried runs number names ≡ false → outcome ≡ withdrawal_of number at withdrawal names message
+    → RefusesToStageOutcome reporter outcome old new row left fault → RefusesToStageWithdrawal words reporter runs number at withdrawal names old new row left fault
+refused_to_stage words reporter runs number at withdrawal names message outcome old new row left NoMemory found named free is refused =
+    (record { message = message; found = found; named = named }, free, refused.0, refused.1)
+refused_to_stage words reporter runs number at withdrawal names message outcome old new row left Stopped found named free is refused = absurd refused
+refused_to_stage words reporter runs number at withdrawal names message outcome old new row left Unknown found named free is refused = absurd refused
+refused_to_stage words reporter runs number at withdrawal names message outcome old new row left TooMany found named free is refused = absurd refused
+refused_to_stage words reporter runs number at withdrawal names message outcome old new row left NotDue found named free is refused = absurd refused
+refused_to_stage words reporter runs number at withdrawal names message outcome old new row left Busy found named free is refused = absurd refused
+refused_to_stage words reporter runs number at withdrawal names message outcome old new row left (Open cause) found named free is refused = absurd refused
+refused_to_stage words reporter runs number at withdrawal names message outcome old new row left NoSecond found named free is refused = absurd refused
+refused_to_stage words reporter runs number at withdrawal names message outcome old new row left Full found named free is refused = (
+  free,
+  refused.0,
+  refused.1,
+  record { message = message; found = found; named = named; room = subst (λ (o : Outcome). HasNoRoomAfter reporter o old row) is refused.2 },
 )

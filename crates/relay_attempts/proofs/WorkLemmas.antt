@@ -135,9 +135,9 @@ module _ (runs : List (Option Run)) (number : ℕ) where
       → new ≡ start ++ tries runs number (due_hops table now recipients (take (i + 1) places))
   tries_step table now recipients places i first place hop start works new hop_is at first_is works_is new_is =
       let so_far = due_hops table now recipients (take i places) in
-      let behind = ap (drop first) works_is ∙ drop_at start (tries runs number so_far) first (sym first_is) in
+      let after = ap (drop first) works_is ∙ drop_at start (tries runs number so_far) first (sym first_is) in
       new_is
-      ∙ ap (λ (l : List Work). works ++ option_map_or (one_try runs number l) hop []) behind
+      ∙ ap (λ (l : List Work). works ++ option_map_or (one_try runs number l) hop []) after
       ∙ ap (λ (l : List Work). l ++ option_map_or (one_try runs number (tries runs number so_far)) hop []) works_is
       ∙ append_assoc start (tries runs number so_far) (option_map_or (one_try runs number (tries runs number so_far)) hop [])
       ∙ ap (λ (l : List Work). start ++ l) (sym (tries_with so_far hop))

@@ -6,6 +6,7 @@ pub mod Next
 pub mod AddedOutcome
 pub mod Outcomes
 pub mod Withdrawals
+pub mod StagedWithdrawals
 pub mod Attempts
 pub mod Reply
 pub mod Hearing

@@ -39,7 +39,7 @@ module _ {D : Type 0} (honest : Type 0) (words : DiskWords D) (reporter : Report
   -- The words below are of a call at a time, for the attempt of a number, of which this is told.
   module _ (now number : ℕ) (told : Told) where
     -- it goes on after the whole piece, and nothing was staged
-    pub record GoesOnBehind (piece : List ℕ) (old new : Kept D) (left : Row) (runs : List (Option Run))
+    pub record GoesOnAfter (piece : List ℕ) (old new : Kept D) (left : Row) (runs : List (Option Run))
         (replied : Replied) : Type 0 where
       pub used : replied.used ≡ length piece
       pub same : new ≡ old
@@ -48,17 +48,17 @@ module _ {D : Type 0} (honest : Type 0) (words : DiskWords D) (reporter : Report
           (told_more told (take replied.used piece) replied.out.items)
 
     -- it has ended, and its outcome was staged, as the change of this number
-    pub record HasEndedBehind (piece : List ℕ) (new : Kept D) (left : Row) (runs : List (Option Run))
+    pub record HasEndedAfter (piece : List ℕ) (new : Kept D) (left : Row) (runs : List (Option Run))
         (replied : Replied) (change : ℕ) : Type 0 where
       pub verdicts : List Verdict
       pub course : IsItsCourse reporter.host (told_more told (take replied.used piece) replied.out.items) false verdicts
       pub stages : StagesOutcome (outcome_at now told verdicts) replied.used new left change
       pub gone : slot_at runs number ≡ None
 
-    abbrev pub RepliesBehind
+    abbrev pub RepliesAfter
         : List ℕ → Kept D → Kept D → Row → List (Option Run) → Replied → Option ℕ → Type 0
-    RepliesBehind piece old new left runs replied None = GoesOnBehind piece old new left runs replied
-    RepliesBehind piece old new left runs replied (Some change) = HasEndedBehind piece new left runs replied change
+    RepliesAfter piece old new left runs replied None = GoesOnAfter piece old new left runs replied
+    RepliesAfter piece old new left runs replied (Some change) = HasEndedAfter piece new left runs replied change
 
 -- what an outcome that was staged, with the report that is owed, did to records and row, whatever they keep
 pub record GrowsRowBy {D : Type 0} (reporter : Reporter) (outcome : Outcome) (used : ℕ) (old new : Kept D)
@@ -70,31 +70,31 @@ pub record GrowsRowBy {D : Type 0} (reporter : Reporter) (outcome : Outcome) (us
 
 -- changes have no numbers any more, or the outcome, with the report that is owed, would bring the spool past 2^40
 -- octets with the row before it
-pub data HasNoRoomBehind {D : Type 0} (reporter : Reporter) (outcome : Outcome) (old : Kept D) (row : Row)
+pub data HasNoRoomAfter {D : Type 0} (reporter : Reporter) (outcome : Outcome) (old : Kept D) (row : Row)
     : Type 0 where
-  NoNumber : 2 ^ 62 < old.queue.next → HasNoRoomBehind reporter outcome old row
+  NoNumber : 2 ^ 62 < old.queue.next → HasNoRoomAfter reporter outcome old row
   TooLarge : (report : List ℕ) → ReportedFrom reporter old.queue (reported_as outcome report)
       → 2 ^ 40 < old.spool.size + room_of row.bodies + 5 + length (encode (reported_as outcome report))
-      → HasNoRoomBehind reporter outcome old row
+      → HasNoRoomAfter reporter outcome old row
 
 -- what is left where no outcome is staged
 abbrev pub RefusesToStageOutcome
     : {D : Type 0} → Reporter → Outcome → Kept D → Kept D → Row → Row → NodeFault → Type 0
 RefusesToStageOutcome reporter outcome old new row left NoMemory = (new ≡ old) × (left ≡ row)
 RefusesToStageOutcome reporter outcome old new row left Full =
-    (new ≡ old) × (left ≡ row) × HasNoRoomBehind reporter outcome old row
+    (new ≡ old) × (left ≡ row) × HasNoRoomAfter reporter outcome old row
 RefusesToStageOutcome reporter outcome old new row left other = ⊥
 
 -- there is no room for the outcome with which it ends, after a row
-pub record HasNoRoomAtEndBehind {D : Type 0} (reporter : Reporter) (now : ℕ) (told : Told) (piece : List ℕ)
+pub record HasNoRoomAtEndAfter {D : Type 0} (reporter : Reporter) (now : ℕ) (told : Told) (piece : List ℕ)
     (old : Kept D) (row : Row) : Type 0 where
   pub ends : ReadsToEnd reporter.host told piece
-  pub room : HasNoRoomBehind reporter (outcome_at now told ends.verdicts) old row
+  pub room : HasNoRoomAfter reporter (outcome_at now told ends.verdicts) old row
 
 -- The words below are of the same, whatever is told of the attempt.
 module _ {D : Type 0} (reporter : Reporter) (now number : ℕ) where
   -- it has ended: of its message, hop and places an outcome was staged, as the change of this number
-  pub record EndsBehind (before after : List (Option Run)) (used : ℕ) (old new : Kept D) (row left : Row)
+  pub record EndsAfter (before after : List (Option Run)) (used : ℕ) (old new : Kept D) (row left : Row)
       (change : ℕ) : Type 0 where
     pub run : Run
     pub was : slot_at before number ≡ Some run
@@ -105,28 +105,28 @@ module _ {D : Type 0} (reporter : Reporter) (now number : ℕ) where
         old new row left change
 
   -- the change that a reply staged, if it staged one
-  abbrev pub MakesBehind
+  abbrev pub MakesAfter
       : List (Option Run) → List (Option Run) → ℕ → Kept D → Kept D → Row → Row → Option ℕ → Type 0
-  MakesBehind before after used old new row left None =
+  MakesAfter before after used old new row left None =
       (slot_at before number ≢ None) × (new ≡ old) × (left ≡ row)
-  MakesBehind before after used old new row left (Some change) =
-      EndsBehind before after used old new row left change
+  MakesAfter before after used old new row left (Some change) =
+      EndsAfter before after used old new row left change
 
   -- it used octets of a piece of this length: all, unless it has ended
-  pub record HasHeardBehind (len : ℕ) (before after : List (Option Run)) (old new : Kept D) (row left : Row)
+  pub record HasHeardAfter (len : ℕ) (before after : List (Option Run)) (old new : Kept D) (row left : Row)
       (replied : Replied) : Type 0 where
     pub within : replied.used ≤ len
     pub whole : replied.change ≡ None → replied.used ≡ len
-    pub makes : MakesBehind before after replied.used old new row left replied.change
+    pub makes : MakesAfter before after replied.used old new row left replied.change
 
 -- what is left where a reply to the attempt of a number is refused by live records: the attempt is gone, unless there
 -- was none, and records and row are the same
-abbrev pub RefusesToHearBehind
+abbrev pub RefusesToHearAfter
     : {D : Type 0} → ℕ → AttemptTable → AttemptTable → Kept D → Kept D → Row → Row → NodeFault → Type 0
-RefusesToHearBehind number before after old new row left NoMemory =
+RefusesToHearAfter number before after old new row left NoMemory =
     (slot_at before.runs number ≢ None) × (slot_at after.runs number ≡ None) × (new ≡ old) × (left ≡ row)
-RefusesToHearBehind number before after old new row left Unknown =
+RefusesToHearAfter number before after old new row left Unknown =
     (slot_at before.runs number ≡ None) × (after ≡ before) × (new ≡ old) × (left ≡ row)
-RefusesToHearBehind number before after old new row left Full =
+RefusesToHearAfter number before after old new row left Full =
     (slot_at before.runs number ≢ None) × (slot_at after.runs number ≡ None) × (new ≡ old) × (left ≡ row)
-RefusesToHearBehind number before after old new row left other = ⊥
+RefusesToHearAfter number before after old new row left other = ⊥

@@ -15,6 +15,7 @@ mod runs;
 mod start;
 mod stranded;
 mod withdraw;
+mod withdraw_into;
 mod work;
 
 pub use attempts::Attempts;

@@ -5,8 +5,8 @@ ghost use Rattle.relay_attempts.specs.Attempts.{Serves};
 ghost use Rattle.relay_attempts.specs.Reply.{CutsReply, HasHeard, HasNoRoomAtEnd, RefusesToHear, Replies, TellsAt};
 ghost use Rattle.relay_attempts.specs.Reply.{Told};
 ghost use Rattle.relay_attempts.specs.Reply.{CutsLoss, EndsBy, HasNoRoomAtLoss, IsLost};
-ghost use Rattle.relay_attempts.specs.Staging.{HasHeardBehind, HasNoRoomAtEndBehind, RefusesToHearBehind};
-ghost use Rattle.relay_attempts.specs.Staging.{RepliesBehind};
+ghost use Rattle.relay_attempts.specs.Staging.{HasHeardAfter, HasNoRoomAtEndAfter, RefusesToHearAfter};
+ghost use Rattle.relay_attempts.specs.Staging.{RepliesAfter};
 ghost use Rattle.relay_book.specs.declared.change.Change.{Change};
 ghost use Rattle.relay_records.specs.Records.{Keeps};
 ghost use Rattle.relay_records.specs.Staged.{Awaits};
@@ -21,7 +21,7 @@ use relay_trace::Moment;
 use std::alloc::Global;
 
 /// The result of a reply to an attempt.
-#[derive(Debug, Drop)]
+#[derive(Drop)]
 pub struct Replied {
     /// How many octets of the piece were used: all, unless the attempt has ended.
     pub used: usize,
@@ -106,14 +106,14 @@ impl Attempts {
         ensures replies { (changes pending : List Change) (told : Told)
             → Awaits D.honest D.words records.old changes pending row.old
             → TellsAt config.now.host records.old.queue self.old.runs attempt told
-            → IfOk result (λ replied. RepliesBehind D.honest D.words (reporter_of config.now) changes pending row.old
+            → IfOk result (λ replied. RepliesAfter D.honest D.words (reporter_of config.now) changes pending row.old
             now attempt told piece.now records.old records.new row.new self.new.runs replied replied.change) }
         ensures full { (told : Told) → TellsAt config.now.host records.old.queue self.old.runs attempt told
             → result ≡ Err NodeFault.Full
-            → HasNoRoomAtEndBehind (reporter_of config.now) now told piece.now records.old row.old }
-        ensures heard { IfOk result (HasHeardBehind (reporter_of config.now) now attempt (length piece.now)
+            → HasNoRoomAtEndAfter (reporter_of config.now) now told piece.now records.old row.old }
+        ensures heard { IfOk result (HasHeardAfter (reporter_of config.now) now attempt (length piece.now)
             self.old.runs self.new.runs records.old records.new row.old row.new) }
-        ensures refused { IfErr result (RefusesToHearBehind attempt self.old self.new records.old records.new
+        ensures refused { IfErr result (RefusesToHearAfter attempt self.old self.new records.old records.new
             row.old row.new) }
         ensures others { OthersStay self.old.runs self.new.runs attempt }
         ensures serves { Serves config.now.host config.now.routes self.new records.new.queue }

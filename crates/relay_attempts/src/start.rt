@@ -15,7 +15,7 @@ use relay_trace::Moment;
 use std::alloc::{AllocError, Global};
 
 /// An attempt that has begun.
-#[derive(Debug, Drop)]
+#[derive(Drop)]
 pub struct Started {
     /// Its number, 0 to 63.
     pub attempt: usize,

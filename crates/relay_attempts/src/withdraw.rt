@@ -75,7 +75,7 @@ impl Attempts {
 }
 
 /// Returns whether a place of a message is named, and each that is named is held.
-fn names_held(message: &Message, names: &[u8]) -> bool
+pub(crate) fn names_held(message: &Message, names: &[u8]) -> bool
     ensures held { IsTrue result ↔ NamesHeld names.now message.now }
     ensures within { length message.now.places ≤ 100 }
 {
@@ -118,7 +118,7 @@ fn is_held_of(names: &[u8], index: usize, place: Place) -> bool
 }
 
 /// Returns whether a running attempt for a message tries one of these places.
-fn is_tried(runs: &Slots<Run>, number: u64, names: &[u8]) -> bool
+pub(crate) fn is_tried(runs: &Slots<Run>, number: u64, names: &[u8]) -> bool
     ensures { result ≡ is_tried runs.now number names.now }
 {
     runs.as_slice()
@@ -146,7 +146,7 @@ fn has_named(places: &[u8], names: &[u8]) -> bool
 }
 
 /// Returns the outcome by which the postmaster ends the named places of a message. Fails if memory runs out.
-fn withdrawal_of(
+pub(crate) fn withdrawal_of(
     alloc: Global,
     message: &Message,
     number: u64,

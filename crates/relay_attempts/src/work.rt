@@ -19,7 +19,7 @@ use std::alloc::{AllocError, Global};
 use std::collections::BTreeSet;
 
 /// Work for a message.
-#[derive(Debug, Drop)]
+#[derive(Drop)]
 pub enum Work {
     /// A held place of the message of this number has no hop.
     NoRoute(u64),

@@ -2,7 +2,7 @@
 use Rattle.std.proofs.Common.{◌≡◌, ◌<◌, ◌+◌, ◌==◌, ℕ, Bool, zero, suc, true, false, List, [], ◌∷◌, length, drop, take, get_or, None, Some, refl, sym, ap, ◌∙◌, if◌then◌else◌, arith}
 use Rattle.std.proofs.lemmas.Bool.{false_from_ne_true}
 use Rattle.memchr.specs.Find.{IsFirstByte, is_byte}
-use Rattle.relay_backlog.specs.Waiting.{Waiting, behind_octet, line_length, lines_of, with_line, with_lines}
+use Rattle.relay_backlog.specs.Waiting.{Waiting, after_octet, line_length, lines_of, with_line, with_lines}
 
 -- no octet is an LF
 no_line : (octets : List ℕ) → ((at : ℕ) → at < length octets → (get_or octets at 0 == 10) ≡ false) → line_length octets ≡ length octets
@@ -34,13 +34,13 @@ Cut octets = lines_of octets ≡ take (line_length octets) octets ∷ lines_of (
 
 -- the first octet is no LF
 cut_later : (octet : ℕ) (octets : List ℕ) → (0 < length octets → Cut octets)
-    → behind_octet octet (lines_of octets) ≡ (octet ∷ take (line_length octets) octets) ∷ lines_of (drop (line_length octets) octets)
+    → after_octet octet (lines_of octets) ≡ (octet ∷ take (line_length octets) octets) ∷ lines_of (drop (line_length octets) octets)
 cut_later octet [] rest = refl
-cut_later octet (next ∷ more) rest = ap (behind_octet octet) (rest (omega arith))
+cut_later octet (next ∷ more) rest = ap (after_octet octet) (rest (omega arith))
 
 -- the first octet is an LF or not
 cut_either : (octet : ℕ) (octets : List ℕ) (is : Bool) → (0 < length octets → Cut octets)
-    → (if is then (octet ∷ []) ∷ lines_of octets else behind_octet octet (lines_of octets))
+    → (if is then (octet ∷ []) ∷ lines_of octets else after_octet octet (lines_of octets))
     ≡ take (if is then 1 else suc (line_length octets)) (octet ∷ octets)
     ∷ lines_of (drop (if is then 1 else suc (line_length octets)) (octet ∷ octets))
 cut_either octet octets true rest = refl

@@ -35,12 +35,12 @@ line_length [] = 0
 line_length (octet ∷ octets) = if octet == 10 then 1 else suc (line_length octets)
 
 -- lines with an octet more in front of the first
-abbrev pub behind_octet : ℕ → List (List ℕ) → List (List ℕ)
-behind_octet octet [] = (octet ∷ []) ∷ []
-behind_octet octet (line ∷ lines) = (octet ∷ line) ∷ lines
+abbrev pub after_octet : ℕ → List (List ℕ) → List (List ℕ)
+after_octet octet [] = (octet ∷ []) ∷ []
+after_octet octet (line ∷ lines) = (octet ∷ line) ∷ lines
 
 -- the octets, cut after each LF
 abbrev pub lines_of : List ℕ → List (List ℕ)
 lines_of [] = []
 lines_of (octet ∷ octets) =
-    if octet == 10 then (octet ∷ []) ∷ lines_of octets else behind_octet octet (lines_of octets)
+    if octet == 10 then (octet ∷ []) ∷ lines_of octets else after_octet octet (lines_of octets)

@@ -53,8 +53,8 @@ of_lines (octet ∷ next ∷ more) none = by (octet == 13) (next == 10) refl ref
 
     by : (cr lf : Bool) → (octet == 13) ≡ cr → (next == 10) ≡ lf → (has_bare_end more ≡ false → IsOfLines more)
         → (has_bare_end (next ∷ more) ≡ false → IsOfLines (next ∷ more)) → IsOfLines (octet ∷ next ∷ more)
-    by true true c l behind rest =
-        let of = behind (sym (ap (λ (b : Bool). whole b (next == 10)) c ∙ ap (λ (b : Bool). whole true b) l) ∙ none) in
+    by true true c l after rest =
+        let of = after (sym (ap (λ (b : Bool). whole b (next == 10)) c ∙ ap (λ (b : Bool). whole true b) l) ∙ none) in
         record {
           lines = [] ∷ of.lines;
           rest = of.rest;
@@ -65,10 +65,10 @@ of_lines (octet ∷ next ∷ more) none = by (octet == 13) (next == 10) refl ref
               let lf = eqb-true next 10 l in
               ap (λ n. n ∷ next ∷ more) cr ∙ ap (λ n. 13 ∷ n ∷ more) lf ∙ ap (λ (l : List ℕ). 13 ∷ 10 ∷ l) of.content_is;
         }
-    by true false c l behind rest =
+    by true false c l after rest =
         let parts = or_parts (is_cr_or_lf octet) (has_bare_end (next ∷ more)) (sym (ap (λ (b : Bool). whole b (next == 10)) c ∙ ap (λ (b : Bool). whole true b) l) ∙ none) in
         before_lines octet (next ∷ more) parts.0 (rest parts.1)
-    by false lf c l behind rest =
+    by false lf c l after rest =
         let parts = or_parts (is_cr_or_lf octet) (has_bare_end (next ∷ more)) (sym (ap (λ (b : Bool). whole b (next == 10)) c) ∙ none) in
         before_lines octet (next ∷ more) parts.0 (rest parts.1)
 
@@ -92,10 +92,10 @@ pass_over (octet ∷ octets) (suc place) within none =
     ∙ pass_over octets place (omega (arith, within)) (λ k low. none (suc k) (omega (arith, low)))
 
 -- what begins with CR LF goes on after it
-behind_crlf : (octets : List ℕ) → begins_with_crlf octets ≡ true → has_bare_end octets ≡ has_bare_end (drop 2 octets)
-behind_crlf [] begins = absurd (false≢true begins)
-behind_crlf (octet ∷ []) begins = absurd (false≢true begins)
-behind_crlf (octet ∷ next ∷ more) begins = ap (λ (b : Bool). cond b (has_bare_end more) (is_cr_or_lf octet || has_bare_end (next ∷ more))) begins
+after_crlf : (octets : List ℕ) → begins_with_crlf octets ≡ true → has_bare_end octets ≡ has_bare_end (drop 2 octets)
+after_crlf [] begins = absurd (false≢true begins)
+after_crlf (octet ∷ []) begins = absurd (false≢true begins)
+after_crlf (octet ∷ next ∷ more) begins = ap (λ (b : Bool). cond b (has_bare_end more) (is_cr_or_lf octet || has_bare_end (next ∷ more))) begins
 
 -- a CR or an LF that begins no CR LF stands alone
 alone : (octets : List ℕ) → 0 < length octets → is_cr_or_lf (get_or octets 0 0) ≡ true → begins_with_crlf octets ≡ false → has_bare_end octets ≡ true
@@ -133,7 +133,7 @@ goes_on octets from place next so_far first begins two is = record {
       omega (arith, two, is, length_is);
   same =
       stands_at octets from place so_far first
-      ∙ behind_crlf (drop (from + place) octets) begins
+      ∙ after_crlf (drop (from + place) octets) begins
       ∙ ap has_bare_end (drop-drop 2 (from + place) octets ∙ ap (λ n. drop n octets) (let e : from + place + 2 ≡ next = omega (arith, is) in e));
 }
 

@@ -35,42 +35,42 @@ end_is_line octets rest e = record {
 }
 
 -- two readings of a text, each with something after it, have the same lines
-pub texts_agree : (lines others : List (List ℕ)) (behind rest : List ℕ) → AreTextLines lines
+pub texts_agree : (lines others : List (List ℕ)) (after rest : List ℕ) → AreTextLines lines
     → AreTextLines others
-    → lines_text lines ++ (end_of_data ++ behind) ≡ lines_text others ++ (end_of_data ++ rest)
-    → (lines ≡ others) × (behind ≡ rest)
-texts_agree [] [] behind rest h k e = (refl, ap (drop 3) e)
-texts_agree [] (other ∷ others) behind rest h k e =
+    → lines_text lines ++ (end_of_data ++ after) ≡ lines_text others ++ (end_of_data ++ rest)
+    → (lines ≡ others) × (after ≡ rest)
+texts_agree [] [] after rest h k e = (refl, ap (drop 3) e)
+texts_agree [] (other ∷ others) after rest h k e =
     let stream = lines_text (other ∷ others) ++ (end_of_data ++ rest) in
     let same =
-    first_line_is_one stream other (lines_text others ++ (end_of_data ++ rest)) (46 ∷ []) behind
+    first_line_is_one stream other (lines_text others ++ (end_of_data ++ rest)) (46 ∷ []) after
     (first_of_lines other others (end_of_data ++ rest) k.0.no_crlf)
-    (end_is_line stream behind (sym e)) in
+    (end_is_line stream after (sym e)) in
     absurd (k.0.not_end same.0)
-texts_agree (line ∷ lines) [] behind rest h k e =
-    let stream = lines_text (line ∷ lines) ++ (end_of_data ++ behind) in
+texts_agree (line ∷ lines) [] after rest h k e =
+    let stream = lines_text (line ∷ lines) ++ (end_of_data ++ after) in
     let same =
-    first_line_is_one stream line (lines_text lines ++ (end_of_data ++ behind)) (46 ∷ []) rest
-    (first_of_lines line lines (end_of_data ++ behind) h.0.no_crlf) (end_is_line stream rest e) in
+    first_line_is_one stream line (lines_text lines ++ (end_of_data ++ after)) (46 ∷ []) rest
+    (first_of_lines line lines (end_of_data ++ after) h.0.no_crlf) (end_is_line stream rest e) in
     absurd (h.0.not_end same.0)
-texts_agree (line ∷ lines) (other ∷ others) behind rest h k e =
-    let stream = lines_text (line ∷ lines) ++ (end_of_data ++ behind) in
+texts_agree (line ∷ lines) (other ∷ others) after rest h k e =
+    let stream = lines_text (line ∷ lines) ++ (end_of_data ++ after) in
     let same =
-    first_line_is_one stream line (lines_text lines ++ (end_of_data ++ behind)) other
+    first_line_is_one stream line (lines_text lines ++ (end_of_data ++ after)) other
     (lines_text others ++ (end_of_data ++ rest))
-    (first_of_lines line lines (end_of_data ++ behind) h.0.no_crlf)
+    (first_of_lines line lines (end_of_data ++ after) h.0.no_crlf)
     (first_along stream other others (end_of_data ++ rest) k.0.no_crlf e) in
-    let later = texts_agree lines others behind rest h.1 k.1 same.1 in
+    let later = texts_agree lines others after rest h.1 k.1 same.1 in
     (ap (λ l. l ∷ lines) same.0 ∙ ap (λ ls. other ∷ ls) later.0, later.1)
 
 -- no text begins another, and what stands after it is the same
 pub no_text_begins_another : NoTextBeginsAnother
-no_text_begins_another text content other more behind rest one two e =
+no_text_begins_another text content other more after rest one two e =
     let texts =
-    sym (append_assoc (lines_text one.lines) end_of_data behind)
-    ∙ ap (λ t. t ++ behind) (sym one.text_is) ∙ e ∙ ap (λ t. t ++ rest) two.text_is
+    sym (append_assoc (lines_text one.lines) end_of_data after)
+    ∙ ap (λ t. t ++ after) (sym one.text_is) ∙ e ∙ ap (λ t. t ++ rest) two.text_is
     ∙ append_assoc (lines_text two.lines) end_of_data rest in
-    let same = texts_agree one.lines two.lines behind rest one.each two.each texts in
+    let same = texts_agree one.lines two.lines after rest one.each two.each texts in
     (one.text_is ∙ ap (λ ls. lines_text ls ++ end_of_data) same.0 ∙ sym two.text_is, same.1)
 
 -- a text has one content
@@ -127,8 +127,8 @@ with_period_off (octet ∷ octets) = elim (cases_Bool (octet == 46)) [
 ]
 
 -- a period before a line makes no CR LF
-no_crlf_behind_period : (line : List ℕ) → HasNoCrlf line → HasNoCrlf (46 ∷ line)
-no_crlf_behind_period line none = no_crlf_joined (46 ∷ []) line (no_crlf_one 46) none refl
+no_crlf_after_period : (line : List ℕ) → HasNoCrlf line → HasNoCrlf (46 ∷ line)
+no_crlf_after_period line none = no_crlf_joined (46 ∷ []) line (no_crlf_one 46) none refl
 
 -- a line with its period is a line of mail text
 with_period_is_text : (line : List ℕ) → HasNoCrlf line → IsTextLine (with_period line)
@@ -136,7 +136,7 @@ with_period_is_text [] none = record { no_crlf = none; not_end = λ e. cc }
 with_period_is_text (octet ∷ octets) none = elim (cases_Bool (octet == 46)) [
   | inl period ↦
       rw period
-      (record { no_crlf = no_crlf_behind_period (octet ∷ octets) none; not_end = λ e. cc })
+      (record { no_crlf = no_crlf_after_period (octet ∷ octets) none; not_end = λ e. cc })
   | inr other ↦
       rw other
       (record { no_crlf = none; not_end = λ e. let same : octet ≡ 46 = cc in false≢true (sym other ∙ eq-eqb octet 46 same) })
@@ -200,32 +200,32 @@ ends_in_line_end-more octet (one ∷ []) two = absurd (omega arith)
 ends_in_line_end-more octet (one ∷ next ∷ more) two = refl
 
 -- what follows a line end is all that matters
-ends_behind_crlf : (rest : List ℕ) → ends_in_line_end (crlf ++ rest) ≡ ends_in_line_end rest
-ends_behind_crlf [] = refl
-ends_behind_crlf (one ∷ []) = refl
-ends_behind_crlf (one ∷ next ∷ more) = refl
+ends_after_crlf : (rest : List ℕ) → ends_in_line_end (crlf ++ rest) ≡ ends_in_line_end rest
+ends_after_crlf [] = refl
+ends_after_crlf (one ∷ []) = refl
+ends_after_crlf (one ∷ next ∷ more) = refl
 
 -- what follows a line is all that matters
-pub ends_behind_line : (line rest : List ℕ)
+pub ends_after_line : (line rest : List ℕ)
     → ends_in_line_end ((line ++ crlf) ++ rest) ≡ ends_in_line_end rest
-ends_behind_line [] rest = ends_behind_crlf rest
-ends_behind_line (octet ∷ line) rest =
+ends_after_line [] rest = ends_after_crlf rest
+ends_after_line (octet ∷ line) rest =
     let long = length-append (line ++ crlf) rest ∙ ap (λ n. n + length rest) (length-append line crlf) in
-    ends_in_line_end-more octet ((line ++ crlf) ++ rest) (omega (arith, long)) ∙ ends_behind_line line rest
+    ends_in_line_end-more octet ((line ++ crlf) ++ rest) (omega (arith, long)) ∙ ends_after_line line rest
 
 -- lines end in a line end
 ends_in_line_end-lines : (lines : List (List ℕ)) → ends_in_line_end (lines_text lines) ≡ true
 ends_in_line_end-lines [] = refl
 ends_in_line_end-lines (line ∷ lines) =
-    ends_behind_line line (lines_text lines) ∙ ends_in_line_end-lines lines
+    ends_after_line line (lines_text lines) ∙ ends_in_line_end-lines lines
 
 -- what follows lines is all that matters
-pub ends_behind_lines : (lines : List (List ℕ)) (rest : List ℕ)
+pub ends_after_lines : (lines : List (List ℕ)) (rest : List ℕ)
     → ends_in_line_end (lines_text lines ++ rest) ≡ ends_in_line_end rest
-ends_behind_lines [] rest = refl
-ends_behind_lines (line ∷ lines) rest =
+ends_after_lines [] rest = refl
+ends_after_lines (line ∷ lines) rest =
     ap ends_in_line_end (append_assoc (line ++ crlf) (lines_text lines) rest)
-    ∙ ends_behind_line line (lines_text lines ++ rest) ∙ ends_behind_lines lines rest
+    ∙ ends_after_line line (lines_text lines ++ rest) ∙ ends_after_lines lines rest
 
 -- whatever is read is empty or ends in CR LF
 pub content_ends_in_line_end : ContentEndsInLineEnd
@@ -313,7 +313,7 @@ each_content_is_written content ends =
     let cut = splits content in
     let nothing =
     nothing_ends_so cut.part cut.none
-    (sym (ends_behind_lines cut.lines cut.part) ∙ ap ends_in_line_end (sym cut.octets_are) ∙ ends) in (
+    (sym (ends_after_lines cut.lines cut.part) ∙ ap ends_in_line_end (sym cut.octets_are) ∙ ends) in (
       lines_text (map with_period cut.lines) ++ end_of_data,
       record {
         lines = cut.lines;
@@ -354,7 +354,7 @@ reading_is_open reader limit octets reading = (
 pub line_end_is_seen : LineEndIsSeen
 line_end_is_seen content front (inl none) = ap ends_in_line_end none
 line_end_is_seen content front (inr ends) =
-    ap ends_in_line_end (ends ∙ sym (append-nil (front ++ crlf))) ∙ ends_behind_line front []
+    ap ends_in_line_end (ends ∙ sym (append-nil (front ++ crlf))) ∙ ends_after_line front []
 
 -- lines are none, or end in the CR LF of the last
 lines_end : (content : List ℕ) (lines : List (List ℕ)) → content ≡ lines_text lines
@@ -374,6 +374,6 @@ seen_is_line_end content seen =
     let cut = splits content in
     let nothing =
     nothing_ends_so cut.part cut.none
-    (sym (ends_behind_lines cut.lines cut.part) ∙ ap ends_in_line_end (sym cut.octets_are) ∙ seen) in
+    (sym (ends_after_lines cut.lines cut.part) ∙ ap ends_in_line_end (sym cut.octets_are) ∙ seen) in
     lines_end content cut.lines
     (cut.octets_are ∙ ap (λ l. lines_text cut.lines ++ l) nothing ∙ append-nil (lines_text cut.lines))

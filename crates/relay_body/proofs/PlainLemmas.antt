@@ -8,12 +8,12 @@ use Rattle.relay_octets.proofs.Theorems.{no_crlf_front, no_crlf_joined, no_crlf_
 use Rattle.relay_body.specs.DotText.{end_of_data, ends_in_line_end, without_period, with_period, content_of, WritesDotText}
 use Rattle.relay_body.specs.Gathering.{KeepsContent}
 use Rattle.relay_body.specs.DotReading.{BeginsTextLine, IsPart, Uses}
-use Rattle.relay_body.specs.DotSteps.{StandsForItself, phase_behind}
+use Rattle.relay_body.specs.DotSteps.{StandsForItself, phase_after}
 use Rattle.relay_body.specs.declared.gathered.Gathering.{Gathering}
 use Rattle.relay_body.specs.declared.dot_reader.Phase.{Phase}
 use Rattle.relay_body.specs.declared.dot_reader.Phase.TheVariants.{LineStart, Period, PeriodCr, Within, WithinCr, Done, Failed}
 use Rattle.relay_body.specs.declared.dot_reader.DotReader.{DotReader}
-use Rattle.relay_body.proofs.DotTextLemmas.{ends_behind_lines, nothing_ends_so}
+use Rattle.relay_body.proofs.DotTextLemmas.{ends_after_lines, nothing_ends_so}
 use Rattle.relay_body.proofs.ReadingLemmas.{begins_more, begun_is_some, cr_off, ends_in_cr-append, is_part_by, line_goes_on, lines_text-more, uses_both, without_period-append}
 use Rattle.relay_body.proofs.WritingLemmas.{with_period-crlf}
 
@@ -73,11 +73,11 @@ plain_is_content Failed part content octet plain is = absurd plain
 
 -- such an octet goes on within the line
 pub plain_stays : (old : DotReader) (phase : Phase) (gathering : Gathering) (octet : ℕ)
-    → StandsForItself old.phase octet → phase ≡ phase_behind octet
+    → StandsForItself old.phase octet → phase ≡ phase_after octet
     →
     ((limit : ℕ) (content : List ℕ) → KeepsContent old.gathering limit content → KeepsContent gathering limit (content ++ octet ∷ []))
     → Uses old (record { phase = phase; gathering = gathering }) (octet ∷ []) false
-plain_stays old phase gathering octet plain behind keeps = record {
+plain_stays old phase gathering octet plain after keeps = record {
   stands = λ limit before reading.
       let begins = plain_begins old.phase reading.part reading.content octet plain reading.part_is in
       let last = ends_in_cr-append reading.part (octet ∷ []) (omega arith) in
@@ -87,7 +87,7 @@ plain_stays old phase gathering octet plain behind keeps = record {
       (reading.content ++ octet ∷ []) begins last content in
       let here =
       subst (λ (p : Phase). IsPart p (reading.part ++ octet ∷ []) (reading.content ++ octet ∷ []))
-      (sym behind) part in
+      (sym after) part in
       line_goes_on old phase gathering limit before (octet ∷ []) (octet ∷ []) reading here
       (keeps limit (content_of reading.lines ++ reading.content) reading.keeps);
 }
@@ -102,7 +102,7 @@ abbrev pub octet_text : Bool → ℕ → List ℕ
 octet_text begins octet = if begins then with_period (octet ∷ []) else octet ∷ []
 
 -- the text so far is what is sent for this front of a content: lines, and a part of one
-pub record WritesFront (front text : List ℕ) (begins behind_cr : Bool) : Type 0 where
+pub record WritesFront (front text : List ℕ) (begins after_cr : Bool) : Type 0 where
   pub lines : List (List ℕ)
   pub part : List ℕ
   pub each : AreLines lines
@@ -110,7 +110,7 @@ pub record WritesFront (front text : List ℕ) (begins behind_cr : Bool) : Type 
   pub front_is : front ≡ lines_text lines ++ part
   pub text_is : text ≡ lines_text (map with_period lines) ++ with_period part
   pub begins_is : begins ≡ is_nothing part
-  pub cr_is : behind_cr ≡ ends_in_cr part
+  pub cr_is : after_cr ≡ ends_in_cr part
 
 -- of no content nothing is sent
 pub writes_nothing : WritesFront [] [] true false
@@ -130,22 +130,22 @@ more_is_something [] octet = refl
 more_is_something (first ∷ part) octet = refl
 
 -- an octet after others doesn't touch the period in front of them
-octet_behind : (test : Bool) (first octet : ℕ) (octets : List ℕ)
+octet_after : (test : Bool) (first octet : ℕ) (octets : List ℕ)
     → ◌≡◌ {A = List ℕ} ((if test then 46 ∷ first ∷ octets else first ∷ octets) ++ octet ∷ [])
     (if test then 46 ∷ first ∷ (octets ++ octet ∷ []) else first ∷ (octets ++ octet ∷ []))
-octet_behind true first octet octets = refl
-octet_behind false first octet octets = refl
+octet_after true first octet octets = refl
+octet_after false first octet octets = refl
 
 with_period-more : (part : List ℕ) (octet : ℕ)
     → with_period part ++ octet_text (is_nothing part) octet ≡ with_period (part ++ octet ∷ [])
 with_period-more [] octet = refl
-with_period-more (first ∷ octets) octet = octet_behind (first == 46) first octet octets
+with_period-more (first ∷ octets) octet = octet_after (first == 46) first octet octets
 
 -- one octet more is written
-pub writes_octet : (front text written : List ℕ) (begins behind_cr : Bool) (octet : ℕ)
-    → WritesFront front text begins behind_cr → written ≡ text ++ octet_text begins octet
-    → WritesFront (front ++ octet ∷ []) written (behind_cr && octet == 10) (octet == 13)
-writes_octet front text written begins behind_cr octet so_far adds =
+pub writes_octet : (front text written : List ℕ) (begins after_cr : Bool) (octet : ℕ)
+    → WritesFront front text begins after_cr → written ≡ text ++ octet_text begins octet
+    → WritesFront (front ++ octet ∷ []) written (after_cr && octet == 10) (octet == 13)
+writes_octet front text written begins after_cr octet so_far adds =
     let sent = lines_text (map with_period so_far.lines) in
     let texts : written ≡ sent ++ with_period (so_far.part ++ octet ∷ []) =
     adds ∙ ap (λ t. t ++ octet_text begins octet) so_far.text_is
@@ -155,9 +155,9 @@ writes_octet front text written begins behind_cr octet so_far adds =
     let fronts : front ++ octet ∷ [] ≡ lines_text so_far.lines ++ (so_far.part ++ octet ∷ []) =
     ap (λ t. t ++ octet ∷ []) so_far.front_is
     ∙ append_assoc (lines_text so_far.lines) so_far.part (octet ∷ []) in
-    elim (cases_Bool (behind_cr && octet == 10)) [
+    elim (cases_Bool (after_cr && octet == 10)) [
       | inl ends ↦
-          let parts = and_parts behind_cr (octet == 10) ends in
+          let parts = and_parts after_cr (octet == 10) ends in
           let lf = eqb-true octet 10 parts.1 in
           let shorter = cr_off so_far.part (sym so_far.cr_is ∙ parts.0) in
           let line = shorter.0 in
@@ -199,27 +199,27 @@ writes_octet front text written begins behind_cr octet so_far adds =
     ]
 
 -- the same, of the octets of a content up to a place
-pub writes_next : (content text written : List ℕ) (place : ℕ) (begins behind_cr : Bool)
-    → WritesFront (take place content) text begins behind_cr → place < length content
+pub writes_next : (content text written : List ℕ) (place : ℕ) (begins after_cr : Bool)
+    → WritesFront (take place content) text begins after_cr → place < length content
     → written ≡ text ++ octet_text begins (get_or content place 0)
-    → WritesFront (take (place + 1) content) written (behind_cr && get_or content place 0 == 10)
+    → WritesFront (take (place + 1) content) written (after_cr && get_or content place 0 == 10)
     (get_or content place 0 == 13)
-writes_next content text written place begins behind_cr so_far some adds =
+writes_next content text written place begins after_cr so_far some adds =
     let octet = get_or content place 0 in
-    subst (λ (front : List ℕ). WritesFront front written (behind_cr && octet == 10) (octet == 13))
+    subst (λ (front : List ℕ). WritesFront front written (after_cr && octet == 10) (octet == 13))
     (sym (take_more content place 0 some))
-    (writes_octet (take place content) text written begins behind_cr octet so_far adds)
+    (writes_octet (take place content) text written begins after_cr octet so_far adds)
 
 -- after the whole content, the end of mail data makes the text whole
-pub writes_whole : (content front text written : List ℕ) (begins behind_cr : Bool)
-    → WritesFront front text begins behind_cr → front ≡ content → ends_in_line_end content ≡ true
+pub writes_whole : (content front text written : List ℕ) (begins after_cr : Bool)
+    → WritesFront front text begins after_cr → front ≡ content → ends_in_line_end content ≡ true
     → written ≡ text ++ end_of_data → WritesDotText content written
-writes_whole content front text written begins behind_cr so_far all ends adds =
+writes_whole content front text written begins after_cr so_far all ends adds =
     let content_is = sym all ∙ so_far.front_is in
     let sent = lines_text (map with_period so_far.lines) in
     let nothing =
     nothing_ends_so so_far.part so_far.none
-    (sym (ends_behind_lines so_far.lines so_far.part) ∙ ap ends_in_line_end (sym content_is) ∙ ends) in
+    (sym (ends_after_lines so_far.lines so_far.part) ∙ ap ends_in_line_end (sym content_is) ∙ ends) in
     record {
       lines = so_far.lines;
       each = so_far.each;

@@ -8,7 +8,7 @@ use Rattle.relay_octets.proofs.Theorems.{no_crlf_joined, no_crlf_one, no_crlf_fr
 use Rattle.relay_body.specs.DotText.{end_of_data, IsTextLine, without_period, content_of}
 use Rattle.relay_body.specs.Gathering.{KeepsContent}
 use Rattle.relay_body.specs.DotReading.{BeginsTextLine, IsPart, IsReading, HasRead, HasUsed, Uses, Feeds}
-use Rattle.relay_body.specs.DotSteps.{begins_with_period, RunsOn, phase_behind}
+use Rattle.relay_body.specs.DotSteps.{begins_with_period, RunsOn, phase_after}
 use Rattle.relay_body.specs.declared.gathered.Gathering.{Gathering}
 use Rattle.relay_body.specs.declared.dot_reader.Phase.{Phase}
 use Rattle.relay_body.specs.declared.dot_reader.Phase.TheVariants.{LineStart, Period, PeriodCr, Within, WithinCr, Done, Failed}
@@ -236,11 +236,11 @@ lf_ends_line old gathering octet phase lf keeps = record {
 
 -- another octet after a CR stays within the line
 pub octet_stays : (old : DotReader) (phase : Phase) (gathering : Gathering) (octet : ℕ)
-    → old.phase ≡ WithinCr → octet ≢ 10 → phase ≡ phase_behind octet
+    → old.phase ≡ WithinCr → octet ≢ 10 → phase ≡ phase_after octet
     →
     ((limit : ℕ) (content : List ℕ) → KeepsContent old.gathering limit content → KeepsContent gathering limit (content ++ octet ∷ []))
     → Uses old (record { phase = phase; gathering = gathering }) (octet ∷ []) false
-octet_stays old phase gathering octet within other behind keeps = record {
+octet_stays old phase gathering octet within other after keeps = record {
   stands = λ limit before reading.
       let is = subst (λ (p : Phase). IsPart p reading.part reading.content) within reading.part_is in
       let apart = ap (λ b. b && (octet == 10)) is.1 ∙ ne_eqb octet 10 other in
@@ -255,7 +255,7 @@ octet_stays old phase gathering octet within other behind keeps = record {
       (reading.content ++ octet ∷ []) begins last content in
       let here =
       subst (λ (p : Phase). IsPart p (reading.part ++ octet ∷ []) (reading.content ++ octet ∷ []))
-      (sym behind) part in
+      (sym after) part in
       line_goes_on old phase gathering limit before (octet ∷ []) (octet ∷ []) reading here
       (keeps limit (content_of reading.lines ++ reading.content) reading.keeps);
 }
@@ -272,17 +272,17 @@ begins_with_cr octet other = record {
 
 -- a CR that was held back is content where no LF follows
 pub cr_stays : (old : DotReader) (phase : Phase) (gathering : Gathering) (octet : ℕ)
-    → old.phase ≡ PeriodCr → octet ≢ 10 → phase ≡ phase_behind octet
+    → old.phase ≡ PeriodCr → octet ≢ 10 → phase ≡ phase_after octet
     →
     ((limit : ℕ) (content : List ℕ) → KeepsContent old.gathering limit content → KeepsContent gathering limit (content ++ 13 ∷ octet ∷ []))
     → Uses old (record { phase = phase; gathering = gathering }) (octet ∷ []) false
-cr_stays old phase gathering octet held other behind keeps = record {
+cr_stays old phase gathering octet held other after keeps = record {
   stands = λ limit before reading.
       let is = subst (λ (p : Phase). IsPart p reading.part reading.content) held reading.part_is in
       let part =
       is_part_by (octet == 13) (46 ∷ 13 ∷ octet ∷ []) (13 ∷ octet ∷ []) (begins_with_cr octet other)
       refl refl in
-      let here = subst (λ (p : Phase). IsPart p (46 ∷ 13 ∷ octet ∷ []) (13 ∷ octet ∷ [])) (sym behind) part in
+      let here = subst (λ (p : Phase). IsPart p (46 ∷ 13 ∷ octet ∷ []) (13 ∷ octet ∷ [])) (sym after) part in
       record {
         lines = reading.lines;
         part = 46 ∷ 13 ∷ octet ∷ [];

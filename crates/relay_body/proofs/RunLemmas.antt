@@ -8,15 +8,15 @@ use Rattle.memchr.proofs.lemmas.MatchLemmas.{OccursAt-split, OccursAt-from_part}
 use Rattle.relay_octets.specs.Line.{crlf, AreLines, line_text, lines_text}
 use Rattle.relay_body.specs.DotText.{end_of_data, ends_in_line_end, with_period, AddsDotText}
 use Rattle.relay_body.specs.DotSteps.{begins_with_period, period_line, period_for, HasNoPeriodLine, EndsRun, AddsSoFar}
-use Rattle.relay_body.proofs.DotTextLemmas.{each_content_is_written, ends_behind_line, line_end_is_seen}
+use Rattle.relay_body.proofs.DotTextLemmas.{each_content_is_written, ends_after_line, line_end_is_seen}
 
 -- A search
 
 -- such a place, after some octets, stands at their number
-stands_behind : (octets before after : List ℕ) → octets ≡ before ++ period_line ++ after
+stands_after : (octets before after : List ℕ) → octets ≡ before ++ period_line ++ after
     → (length octets ≡ length before + 3 + length after) × OccursAt octets period_line
     (length before)
-stands_behind octets before after e =
+stands_after octets before after e =
     let here : drop (length before) octets ≡ period_line ++ after =
     ap (drop (length before)) (e ∙ append_assoc before period_line after)
     ∙ drop_at before (period_line ++ after) (length before) refl in
@@ -30,7 +30,7 @@ pub none_found : (octets : List ℕ) → Nowhere (OccursAt octets period_line) 0
     → HasNoPeriodLine octets
 none_found octets nowhere = record {
   nowhere = λ before after e.
-      let here = stands_behind octets before after e in
+      let here = stands_after octets before after e in
       let long = here.0 in
       nowhere (length before) (omega arith) (omega arith) here.1;
 }
@@ -43,10 +43,10 @@ none_before octets place before_it = record {
       let whole : octets ≡ before ++ period_line ++ (after ++ drop (place + 2) octets) =
       sym (take-append-drop (place + 2) octets) ∙ ap (λ l. l ++ drop (place + 2) octets) e
       ∙ append_assoc (before ++ period_line) after (drop (place + 2) octets) in
-      let long = (stands_behind (take (place + 2) octets) before after e).0 in
+      let long = (stands_after (take (place + 2) octets) before after e).0 in
       let short = length-take (place + 2) octets in
       before_it (length before) (omega arith) (omega (arith, short, long))
-      (stands_behind octets before (after ++ drop (place + 2) octets) whole).1;
+      (stands_after octets before (after ++ drop (place + 2) octets) whole).1;
 }
 
 -- where a search finds the first, the run ends with the line end
@@ -94,9 +94,9 @@ with_period-is (octet ∷ octets) = by_test (octet == 46) octet octets where
   by_test false octet octets = refl
 
 -- the first octet of a line tells whether a period is put before it and what follows
-period_for-front : (line behind : List ℕ) → period_for ((line ++ crlf) ++ behind) ≡ period_for line
-period_for-front [] behind = refl
-period_for-front (octet ∷ octets) behind = refl
+period_for-front : (line afterwards : List ℕ) → period_for ((line ++ crlf) ++ afterwards) ≡ period_for line
+period_for-front [] afterwards = refl
+period_for-front (octet ∷ octets) afterwards = refl
 
 -- what begins with a period is one and the rest
 period_off : (octets : List ℕ) → begins_with_period octets ≡ true
@@ -105,19 +105,19 @@ period_off [] begins = absurd (cc begins)
 period_off (octet ∷ octets) begins = (octets, ap (λ o. o ∷ octets) (eqb-true octet 46 begins))
 
 -- after a line end no line begins with a period
-pub no_period_behind : (front behind : List ℕ) → HasNoPeriodLine ((front ++ crlf) ++ behind)
-    → begins_with_period behind ≡ false
-no_period_behind front behind none = elim (cases_Bool (begins_with_period behind)) [
+pub no_period_after : (front afterwards : List ℕ) → HasNoPeriodLine ((front ++ crlf) ++ afterwards)
+    → begins_with_period afterwards ≡ false
+no_period_after front afterwards none = elim (cases_Bool (begins_with_period afterwards)) [
   | inl begins ↦
-      let off = period_off behind begins in
+      let off = period_off afterwards begins in
       absurd
       (none.nowhere front off.0 (ap (λ l. (front ++ crlf) ++ l) off.1 ∙ append_assoc front crlf (46 ∷ off.0) ∙ sym (append_assoc front period_line off.0)))
   | inr other ↦ other
 ]
 
 -- nor does one in what follows
-pub none_in_rest : (front behind : List ℕ) → HasNoPeriodLine (front ++ behind) → HasNoPeriodLine behind
-none_in_rest front behind none = record {
+pub none_in_rest : (front afterwards : List ℕ) → HasNoPeriodLine (front ++ afterwards) → HasNoPeriodLine afterwards
+none_in_rest front afterwards none = record {
   nowhere = λ before after e.
       none.nowhere (front ++ before) after
       (ap (λ l. front ++ l) (e ∙ append_assoc before period_line after) ∙ sym (append_assoc front before (period_line ++ after)) ∙ sym (append_assoc (front ++ before) period_line after));
@@ -128,16 +128,16 @@ sent_for_run : (lines : List (List ℕ)) → HasNoPeriodLine (lines_text lines)
     → lines_text (map with_period lines) ≡ period_for (lines_text lines) ++ lines_text lines
 sent_for_run [] none = refl
 sent_for_run (line ∷ lines) none =
-    let behind = lines_text lines in
-    let first_is_none : period_for behind ≡ [] =
-    ap (λ b. if b then 46 ∷ [] else []) (no_period_behind line behind none) in
-    let rest : lines_text (map with_period lines) ≡ behind =
-    sent_for_run lines (none_in_rest (line ++ crlf) behind none) ∙ ap (λ l. l ++ behind) first_is_none in
+    let afterwards = lines_text lines in
+    let first_is_none : period_for afterwards ≡ [] =
+    ap (λ b. if b then 46 ∷ [] else []) (no_period_after line afterwards none) in
+    let rest : lines_text (map with_period lines) ≡ afterwards =
+    sent_for_run lines (none_in_rest (line ++ crlf) afterwards none) ∙ ap (λ l. l ++ afterwards) first_is_none in
     let first : with_period line ++ crlf ≡ period_for line ++ (line ++ crlf) =
     ap (λ l. l ++ crlf) (with_period-is line) ∙ append_assoc (period_for line) line crlf in
-    ap (λ l. (with_period line ++ crlf) ++ l) rest ∙ ap (λ l. l ++ behind) first
-    ∙ append_assoc (period_for line) (line ++ crlf) behind
-    ∙ ap (λ l. l ++ ((line ++ crlf) ++ behind)) (sym (period_for-front line behind))
+    ap (λ l. (with_period line ++ crlf) ++ l) rest ∙ ap (λ l. l ++ afterwards) first
+    ∙ append_assoc (period_for line) (line ++ crlf) afterwards
+    ∙ ap (λ l. l ++ ((line ++ crlf) ++ afterwards)) (sym (period_for-front line afterwards))
 
 -- the lines of a run, and what is sent for them
 record SendsRun (run : List ℕ) : Type 0 where
@@ -177,10 +177,10 @@ begins_sending content old new ends added = record {
 }
 
 -- the period for a run stands for its first line
-run_begins : (run behind front : List ℕ) → run ≡ front ++ crlf
-    → period_for (run ++ behind) ≡ period_for run
-run_begins run behind front run_is =
-    ap (λ r. period_for (r ++ behind)) run_is ∙ period_for-front front behind
+run_begins : (run afterwards front : List ℕ) → run ≡ front ++ crlf
+    → period_for (run ++ afterwards) ≡ period_for run
+run_begins run afterwards front run_is =
+    ap (λ r. period_for (r ++ afterwards)) run_is ∙ period_for-front front afterwards
     ∙ sym (ap period_for (sym (append-nil (front ++ crlf))) ∙ period_for-front front [])
     ∙ ap period_for (sym run_is)
 
@@ -190,14 +190,14 @@ pub sends_next : (content old so_far rest new : List ℕ) (end : ℕ)
     → new ≡ (so_far ++ take end rest) ++ 46 ∷ [] → AddsSoFar content old new (drop end rest)
 sends_next content old so_far rest new end adds run new_is =
     let here = take end rest in
-    let behind = drop end rest in
-    let whole : rest ≡ here ++ behind = sym (take-append-drop end rest) in
+    let afterwards = drop end rest in
+    let whole : rest ≡ here ++ afterwards = sym (take-append-drop end rest) in
     let run_ends : ends_in_line_end here ≡ true = line_end_is_seen here run.front (inr run.run_is) in
     let sends = sends_run here run_ends run.no_period in
     let sent = lines_text (map with_period adds.lines) in
-    let period : 46 ∷ [] ≡ period_for behind = sym (ap (λ b. if b then 46 ∷ [] else []) run.period) in
+    let period : 46 ∷ [] ≡ period_for afterwards = sym (ap (λ b. if b then 46 ∷ [] else []) run.period) in
     let before : period_for rest ≡ period_for here =
-    ap period_for whole ∙ run_begins here behind run.front run.run_is in
+    ap period_for whole ∙ run_begins here afterwards run.front run.run_is in
     let more : lines_text (map with_period (adds.lines ++ sends.lines)) ≡ sent ++ (period_for here ++ here) =
     ap lines_text (map-append with_period adds.lines sends.lines)
     ∙ flat_map-append line_text (map with_period adds.lines) (map with_period sends.lines)
@@ -207,9 +207,9 @@ sends_next content old so_far rest new end adds run new_is =
       each = all_lines adds.lines sends.lines adds.each sends.each;
       content_is =
           adds.content_is
-          ∙ ap (λ l. lines_text adds.lines ++ l) (whole ∙ ap (λ l. l ++ behind) sends.run_is)
-          ∙ sym (append_assoc (lines_text adds.lines) (lines_text sends.lines) behind)
-          ∙ ap (λ l. l ++ behind) (sym (flat_map-append line_text adds.lines sends.lines));
+          ∙ ap (λ l. lines_text adds.lines ++ l) (whole ∙ ap (λ l. l ++ afterwards) sends.run_is)
+          ∙ sym (append_assoc (lines_text adds.lines) (lines_text sends.lines) afterwards)
+          ∙ ap (λ l. l ++ afterwards) (sym (flat_map-append line_text adds.lines sends.lines));
       added =
           new_is
           ∙ ap (λ l. (l ++ here) ++ 46 ∷ []) (adds.added ∙ ap (λ p. old ++ (sent ++ p)) before)
@@ -217,8 +217,8 @@ sends_next content old so_far rest new end adds run new_is =
           ∙ ap (λ l. old ++ (l ++ 46 ∷ [])) (sym more)
           ∙ ap (λ p. old ++ (lines_text (map with_period (adds.lines ++ sends.lines)) ++ p)) period;
       rest_ends =
-          sym (ends_behind_line run.front behind)
-          ∙ ap (λ l. ends_in_line_end (l ++ behind)) (sym run.run_is)
+          sym (ends_after_line run.front afterwards)
+          ∙ ap (λ l. ends_in_line_end (l ++ afterwards)) (sym run.run_is)
           ∙ ap ends_in_line_end (sym whole) ∙ adds.rest_ends;
     } where
       regroup : (a b c d e : List ℕ) → ((a ++ (b ++ c)) ++ d) ++ e ≡ a ++ ((b ++ (c ++ d)) ++ e)

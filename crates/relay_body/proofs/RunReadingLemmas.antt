@@ -7,14 +7,14 @@ use Rattle.relay_octets.specs.Line.{crlf, HasNoCrlf, AreLines, lines_text}
 use Rattle.relay_body.specs.DotText.{IsTextLine, AreTextLines, content_of, ends_in_line_end}
 use Rattle.relay_body.specs.Gathering.{KeepsContent}
 use Rattle.relay_body.specs.DotReading.{BeginsTextLine, IsPart, Uses}
-use Rattle.relay_body.specs.DotSteps.{begins_with_period, HasNoPeriodLine, RunsOn, phase_behind}
+use Rattle.relay_body.specs.DotSteps.{begins_with_period, HasNoPeriodLine, RunsOn, phase_after}
 use Rattle.relay_body.specs.declared.gathered.Gathering.{Gathering}
 use Rattle.relay_body.specs.declared.dot_reader.Phase.{Phase}
 use Rattle.relay_body.specs.declared.dot_reader.Phase.TheVariants.{LineStart}
 use Rattle.relay_body.specs.declared.dot_reader.DotReader.{DotReader}
-use Rattle.relay_body.proofs.DotTextLemmas.{ends_behind_lines, nothing_ends_so, splits}
+use Rattle.relay_body.proofs.DotTextLemmas.{ends_after_lines, nothing_ends_so, splits}
 use Rattle.relay_body.proofs.ReadingLemmas.{lines_text-more, content_of-more, is_part_by, runs_front, run_content, run_has_no_crlf, run_is_no_end, ends_in_cr-append, ends_in_cr-last}
-use Rattle.relay_body.proofs.RunLemmas.{no_period_behind, none_in_rest}
+use Rattle.relay_body.proofs.RunLemmas.{no_period_after, none_in_rest}
 
 -- the octets are lines of mail text and a part of one, and this is their content
 record Reads (phase : Phase) (octets content : List ℕ) : Type 0 where
@@ -62,7 +62,7 @@ line_read phase octets content line read runs none =
 -- a part of a line more
 part_read : (phase : Phase) (octets content run : List ℕ) → Reads phase octets content
     → RunsOn phase run → 0 < length run → HasNoCrlf run
-    → Reads (phase_behind (get_or run (length run - 1) 0)) (octets ++ run) (content ++ run)
+    → Reads (phase_after (get_or run (length run - 1) 0)) (octets ++ run) (content ++ run)
 part_read phase octets content run read runs some none =
     let begins : BeginsTextLine (read.part ++ run) = record {
       no_crlf = run_has_no_crlf phase read.part read.tail run runs read.part_is none;
@@ -85,41 +85,41 @@ part_read phase octets content run read runs some none =
     }
 
 -- lines more, after which no line begins with a period
-record ReadsTo (octets content lines_read behind : List ℕ) : Type 0 where
+record ReadsTo (octets content lines_read after : List ℕ) : Type 0 where
   read : Reads LineStart (octets ++ lines_read) (content ++ lines_read)
-  no_period : begins_with_period behind ≡ false
+  no_period : begins_with_period after ≡ false
 
 lines_read : (phase : Phase) (line : List ℕ) (lines : List (List ℕ))
-    (behind octets content : List ℕ)
-    → HasNoCrlf line → AreLines lines → HasNoPeriodLine (lines_text (line ∷ lines) ++ behind)
-    → RunsOn phase (lines_text (line ∷ lines) ++ behind) → Reads phase octets content
-    → ReadsTo octets content (lines_text (line ∷ lines)) behind
-lines_read phase line [] behind octets content no_crlf each none runs read =
+    (after octets content : List ℕ)
+    → HasNoCrlf line → AreLines lines → HasNoPeriodLine (lines_text (line ∷ lines) ++ after)
+    → RunsOn phase (lines_text (line ∷ lines) ++ after) → Reads phase octets content
+    → ReadsTo octets content (lines_text (line ∷ lines)) after
+lines_read phase line [] after octets content no_crlf each none runs read =
     let here = line ++ crlf in
     let alone : here ++ [] ≡ here = append-nil here in
-    let none_here : HasNoPeriodLine (here ++ behind) =
-    subst (λ (l : List ℕ). HasNoPeriodLine (l ++ behind)) alone none in
+    let none_here : HasNoPeriodLine (here ++ after) =
+    subst (λ (l : List ℕ). HasNoPeriodLine (l ++ after)) alone none in
     let runs_here : RunsOn phase here =
-    runs_front phase here behind (subst (λ (l : List ℕ). RunsOn phase (l ++ behind)) alone runs) in
+    runs_front phase here after (subst (λ (l : List ℕ). RunsOn phase (l ++ after)) alone runs) in
     record {
       read =
           subst (λ (l : List ℕ). Reads LineStart (octets ++ l) (content ++ l)) (sym alone)
           (line_read phase octets content line read runs_here no_crlf);
-      no_period = no_period_behind line behind none_here;
+      no_period = no_period_after line after none_here;
     }
-lines_read phase line (next ∷ lines) behind octets content no_crlf each none runs read =
+lines_read phase line (next ∷ lines) after octets content no_crlf each none runs read =
     let here = line ++ crlf in
     let others = lines_text (next ∷ lines) in
-    let regrouped : (here ++ others) ++ behind ≡ here ++ (others ++ behind) =
-    append_assoc here others behind in
-    let none_here : HasNoPeriodLine (here ++ (others ++ behind)) =
+    let regrouped : (here ++ others) ++ after ≡ here ++ (others ++ after) =
+    append_assoc here others after in
+    let none_here : HasNoPeriodLine (here ++ (others ++ after)) =
     subst (λ (l : List ℕ). HasNoPeriodLine l) regrouped none in
     let runs_here : RunsOn phase here =
-    runs_front phase here (others ++ behind) (subst (λ (l : List ℕ). RunsOn phase l) regrouped runs) in
+    runs_front phase here (others ++ after) (subst (λ (l : List ℕ). RunsOn phase l) regrouped runs) in
     let rest =
-    lines_read LineStart next lines behind (octets ++ here) (content ++ here) each.0 each.1
-    (none_in_rest here (others ++ behind) none_here)
-    (no_period_behind line (others ++ behind) none_here)
+    lines_read LineStart next lines after (octets ++ here) (content ++ here) each.0 each.1
+    (none_in_rest here (others ++ after) none_here)
+    (no_period_after line (others ++ after) none_here)
     (line_read phase octets content line read runs_here no_crlf) in
     record {
       read =
@@ -153,7 +153,7 @@ reads_part : (phase : Phase) (octets content : List ℕ) (lines : List (List ℕ
     → AreLines lines → HasNoCrlf part → 0 < length part
     → HasNoPeriodLine (lines_text lines ++ part) → RunsOn phase (lines_text lines ++ part)
     → Reads phase octets content
-    → Reads (phase_behind (get_or part (length part - 1) 0)) (octets ++ (lines_text lines ++ part))
+    → Reads (phase_after (get_or part (length part - 1) 0)) (octets ++ (lines_text lines ++ part))
     (content ++ (lines_text lines ++ part))
 reads_part phase octets content [] part each no_crlf some none runs read =
     part_read phase octets content part read runs some no_crlf
@@ -161,9 +161,9 @@ reads_part phase octets content (line ∷ lines) part each no_crlf some none run
     let run = lines_text (line ∷ lines) in
     let to = lines_read phase line lines part octets content each.0 each.1 none runs read in
     let last = part_read LineStart (octets ++ run) (content ++ run) part to.read to.no_period some no_crlf in
-    let behind = phase_behind (get_or part (length part - 1) 0) in
-    subst (λ (l : List ℕ). Reads behind l (content ++ (run ++ part))) (append_assoc octets run part)
-    (subst (λ (l : List ℕ). Reads behind ((octets ++ run) ++ part) l) (append_assoc content run part) last)
+    let after = phase_after (get_or part (length part - 1) 0) in
+    subst (λ (l : List ℕ). Reads after l (content ++ (run ++ part))) (append_assoc octets run part)
+    (subst (λ (l : List ℕ). Reads after ((octets ++ run) ++ part) l) (append_assoc content run part) last)
 
 -- octets without a CR LF don't end in one
 part_is_open : (octet : ℕ) (more : List ℕ) → HasNoCrlf (octet ∷ more)
@@ -174,45 +174,45 @@ part_is_open octet more no_crlf = elim (cases_Bool (ends_in_line_end (octet ∷ 
 ]
 
 -- the phase after a run, by whether it ends in a line end
-pub record IsBehind (phase : Phase) (run : List ℕ) : Type 0 where
+pub record IsAfter (phase : Phase) (run : List ℕ) : Type 0 where
   pub at_line_end : ends_in_line_end run ≡ true → phase ≡ LineStart
-  pub within : ends_in_line_end run ≡ false → phase ≡ phase_behind (get_or run (length run - 1) 0)
+  pub within : ends_in_line_end run ≡ false → phase ≡ phase_after (get_or run (length run - 1) 0)
 
 -- a run
 reads_run : (phase new : Phase) (octets content run : List ℕ) → 0 < length run
-    → HasNoPeriodLine run → RunsOn phase run → IsBehind new run → Reads phase octets content
+    → HasNoPeriodLine run → RunsOn phase run → IsAfter new run → Reads phase octets content
     → Reads new (octets ++ run) (content ++ run)
-reads_run phase new octets content run some none runs behind read =
+reads_run phase new octets content run some none runs after read =
     let cut = splits run in
     let ends : ends_in_line_end run ≡ ends_in_line_end cut.part =
-    ap ends_in_line_end cut.octets_are ∙ ends_behind_lines cut.lines cut.part in
+    ap ends_in_line_end cut.octets_are ∙ ends_after_lines cut.lines cut.part in
     by_part cut.lines cut.part cut.each cut.none cut.octets_are ends where
       by_part : (lines : List (List ℕ)) (part : List ℕ) → AreLines lines → HasNoCrlf part
           → run ≡ lines_text lines ++ part → ends_in_line_end run ≡ ends_in_line_end part
           → Reads new (octets ++ run) (content ++ run)
       by_part lines [] each no_crlf is ends =
           let all : run ≡ lines_text lines = is ∙ append-nil (lines_text lines) in
-          subst (λ (p : Phase). Reads p (octets ++ run) (content ++ run)) (sym (behind.at_line_end ends))
+          subst (λ (p : Phase). Reads p (octets ++ run) (content ++ run)) (sym (after.at_line_end ends))
           (subst (λ (l : List ℕ). Reads LineStart (octets ++ l) (content ++ l)) (sym all)
           (reads_lines phase octets content lines each (subst (λ (l : List ℕ). 0 < length l) all some) (subst (λ (l : List ℕ). HasNoPeriodLine l) all none) (subst (λ (l : List ℕ). RunsOn phase l) all runs) read))
       by_part lines (octet ∷ more) each no_crlf is ends =
           let part : List ℕ = octet ∷ more in
           let within : ends_in_line_end run ≡ false = ends ∙ part_is_open octet more no_crlf in
-          let last : new ≡ phase_behind (get_or part (length part - 1) 0) =
-          behind.within within
-          ∙ ap phase_behind (ap (λ l. get_or l (length l - 1) 0) is ∙ last_of_back (lines_text lines) part (omega arith)) in
+          let last : new ≡ phase_after (get_or part (length part - 1) 0) =
+          after.within within
+          ∙ ap phase_after (ap (λ l. get_or l (length l - 1) 0) is ∙ last_of_back (lines_text lines) part (omega arith)) in
           subst (λ (p : Phase). Reads p (octets ++ run) (content ++ run)) (sym last)
-          (subst (λ (l : List ℕ). Reads (phase_behind (get_or part (length part - 1) 0)) (octets ++ l) (content ++ l)) (sym is)
+          (subst (λ (l : List ℕ). Reads (phase_after (get_or part (length part - 1) 0)) (octets ++ l) (content ++ l)) (sym is)
           (reads_part phase octets content lines part each no_crlf (omega arith) (subst (λ (l : List ℕ). HasNoPeriodLine l) is none) (subst (λ (l : List ℕ). RunsOn phase l) is runs) read))
 
 -- a run that is kept is used
 pub uses_run : (old : DotReader) (new : Phase) (gathering : Gathering) (rest : List ℕ) (used : ℕ)
     → (0 < used) × (used ≤ length rest) → HasNoPeriodLine (take used rest) → RunsOn old.phase rest
-    → IsBehind new (take used rest)
+    → IsAfter new (take used rest)
     →
     ((limit : ℕ) (content : List ℕ) → KeepsContent old.gathering limit content → KeepsContent gathering limit (content ++ take used rest))
     → Uses old (record { phase = new; gathering = gathering }) (take used rest) false
-uses_run old new gathering rest used within none runs behind keeps = record {
+uses_run old new gathering rest used within none runs after keeps = record {
   stands = λ limit before reading.
       let run = take used rest in
       let low = within.0 in
@@ -231,7 +231,7 @@ uses_run old new gathering rest used within none runs behind keeps = record {
         content_is = refl;
       } in
       let read =
-      reads_run old.phase new before content run (omega (arith, low, short)) none runs_here behind so_far in
+      reads_run old.phase new before content run (omega (arith, low, short)) none runs_here after so_far in
       record {
         lines = read.lines;
         part = read.part;

@@ -13,8 +13,8 @@ OneContent =
 -- no dot text begins another
 abbrev pub NoTextBeginsAnother : Type 0
 NoTextBeginsAnother =
-    (text content other more behind rest : List ℕ) → ReadsDotText text content → ReadsDotText other more
-    → text ++ behind ≡ other ++ rest → (text ≡ other) × (behind ≡ rest)
+    (text content other more after rest : List ℕ) → ReadsDotText text content → ReadsDotText other more
+    → text ++ after ≡ other ++ rest → (text ≡ other) × (after ≡ rest)
 
 -- what is written is read
 abbrev pub WrittenIsRead : Type 0

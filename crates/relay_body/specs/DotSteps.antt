@@ -43,8 +43,8 @@ StandsForItself Done octet = ⊥
 StandsForItself Failed octet = ⊥
 
 -- the phase within a line, after its last octet
-abbrev pub phase_behind : ℕ → Phase
-phase_behind octet = if octet == 13 then WithinCr else Within
+abbrev pub phase_after : ℕ → Phase
+phase_after octet = if octet == 13 then WithinCr else Within
 
 -- a line end, and a period that begins the next line
 abbrev pub period_line : List ℕ

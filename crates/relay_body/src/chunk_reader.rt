@@ -8,7 +8,7 @@ use crate::gathered::{BodyFault, Gathered, Gathering};
 use std::alloc::Global;
 
 /// What a reader of chunks waits for.
-#[derive(Clone, Copy, Debug, PartialEq, Eq)]
+#[derive(Clone, Copy, PartialEq, Eq)]
 enum Stage {
     /// This many octets of the current chunk. At 0 it is whole.
     Awaits(u32),
@@ -17,7 +17,7 @@ enum Stage {
 }
 
 /// What a feed has done.
-#[derive(Clone, Copy, Debug, PartialEq, Eq)]
+#[derive(Clone, Copy, PartialEq, Eq)]
 pub struct ChunkCut {
     /// How many octets of the piece belong to the chunk.
     pub used: usize,
@@ -26,7 +26,6 @@ pub struct ChunkCut {
 }
 
 /// A reader of the chunks of one message, which may come in any pieces (RFC 3030, section 2).
-#[derive(Debug)]
 pub struct ChunkReader {
     stage: Stage,
     gathering: Gathering,
@@ -87,7 +86,7 @@ impl ChunkReader {
         ensures within { IfOk result (λ cut. cut.used ≤ length piece.now) }
         ensures progress { 0 < length piece.now → ¬ IsBetweenChunks self.old
             → IfOk result (λ cut. 0 < cut.used) }
-        ensures behind { IsBetweenChunks self.old
+        ensures after { IsBetweenChunks self.old
             → (result ≡ Ok (record { used = 0; done = true })) × (self.new ≡ self.old) }
         ensures failed { OnErr result (HasNoMemory self.new) }
         ensures again { HasNoMemory self.old → IsErr result }

@@ -1,6 +1,6 @@
 ghost use Rattle.std.specs.Prelude.{◌≡◌, ◌-◌, ◌<◌, ◌≤◌, ◌↔◌, ℕ, List, [], ◌∷◌, true, false, length, slice_index, take};
 ghost use Rattle.std.specs.Prelude.{Ok, IfOk, OnOk, OnErr, IsErr, IsTrue, MatchBool};
-ghost use Rattle.relay_body.specs.DotSteps.{IsOpen, RunsOn, phase_behind};
+ghost use Rattle.relay_body.specs.DotSteps.{IsOpen, RunsOn, phase_after};
 ghost use Rattle.relay_body.specs.DotText.{ends_in_line_end};
 ghost use Rattle.relay_body.specs.Gathering.{IsWithin, gathered_of};
 ghost use Rattle.relay_body.specs.DotReading.{IsReading, IsDone, HasFailed, HasRead, Feeds, Uses, limit_of};
@@ -11,7 +11,7 @@ use crate::run::run_len;
 use std::alloc::{AllocError, Global};
 
 /// Where in a line of mail text a reader is.
-#[derive(Clone, Copy, Debug, PartialEq, Eq)]
+#[derive(Clone, Copy, PartialEq, Eq)]
 pub(crate) enum Phase {
     LineStart,
     /// A period at the start of the line, and no more.
@@ -28,8 +28,8 @@ pub(crate) enum Phase {
 
 impl Phase {
     /// Returns the phase within a line after this octet.
-    pub(crate) fn behind(octet: u8) -> Phase
-        ensures { result ≡ phase_behind octet }
+    pub(crate) fn after(octet: u8) -> Phase
+        ensures { result ≡ phase_after octet }
     {
         match octet {
             b'\r' => Phase::WithinCr,
@@ -38,23 +38,23 @@ impl Phase {
     }
 
     /// Returns the phase after a run that isn't empty.
-    fn behind_run(run: &[u8]) -> Phase
+    fn after_run(run: &[u8]) -> Phase
         requires { 0 < length run.now }
         ensures line { ends_in_line_end run.now ≡ true → result ≡ Phase.LineStart }
         ensures within { ends_in_line_end run.now ≡ false
-            → result ≡ phase_behind (slice_index run.now (length run.now - 1)) }
+            → result ≡ phase_after (slice_index run.now (length run.now - 1)) }
         ensures phase { IsOpen result }
     {
         if ends_in_line_end(run) {
             Phase::LineStart
         } else {
-            Phase::behind(run[run.len() - 1])
+            Phase::after(run[run.len() - 1])
         }
     }
 }
 
 /// What a feed has done.
-#[derive(Clone, Copy, Debug, PartialEq, Eq)]
+#[derive(Clone, Copy, PartialEq, Eq)]
 pub struct DotCut {
     /// How many octets of the piece belong to the text.
     pub used: usize,
@@ -72,7 +72,6 @@ impl DotCut {
 }
 
 /// A reader of one dot text, which may come in any pieces (RFC 5321, section 4.5.2).
-#[derive(Debug)]
 pub struct DotReader {
     pub(crate) phase: Phase,
     pub(crate) gathering: Gathering,
@@ -114,7 +113,7 @@ impl DotReader {
         ensures within { IfOk result (λ cut. cut.used ≤ length piece.now) }
         ensures progress { 0 < length piece.now → ¬ IsDone self.old
             → IfOk result (λ cut. 0 < cut.used) }
-        ensures behind { IsDone self.old
+        ensures after { IsDone self.old
             → (result ≡ Ok (record { used = 0; done = true })) × (self.new ≡ self.old) }
         ensures failed { OnErr result (HasFailed self.new) }
         ensures again { HasFailed self.old → IsErr result }
@@ -196,16 +195,16 @@ impl DotReader {
         match self.phase {
             Phase::LineStart => Ok(DotCut::open(self.begin_line(rest)?)),
             Phase::Period => {
-                self.behind_period(rest[0])?;
+                self.after_period(rest[0])?;
                 Ok(DotCut::open(1))
             }
             Phase::PeriodCr => {
-                let done = self.behind_period_cr(rest[0])?;
+                let done = self.after_period_cr(rest[0])?;
                 Ok(DotCut { used: 1, done })
             }
             Phase::Within => Ok(DotCut::open(self.take_run(rest)?)),
             Phase::WithinCr => {
-                self.behind_cr(rest[0])?;
+                self.after_cr(rest[0])?;
                 Ok(DotCut::open(1))
             }
             Phase::Done | Phase::Failed => unreachable!(),
@@ -241,12 +240,12 @@ impl DotReader {
         let used = run_len(rest);
         let run = &rest[..used];
         self.gathering.keep(run)?;
-        self.phase = Phase::behind_run(run);
+        self.phase = Phase::after_run(run);
         Ok(used)
     }
 
     /// Uses the octet after a period that a line begins with.
-    fn behind_period(&mut self, octet: u8) -> Result<(), AllocError>
+    fn after_period(&mut self, octet: u8) -> Result<(), AllocError>
         requires { self.old.phase ≡ Phase.Period }
         ensures uses { OnOk result (Uses self.old self.new (octet ∷ []) false) }
         ensures phase { OnOk result (IsOpen self.new.phase) }
@@ -264,7 +263,7 @@ impl DotReader {
 
     /// Uses the octet after a period and a CR that a line begins with. The CR was held back, and is content unless an
     /// LF follows.
-    fn behind_period_cr(&mut self, octet: u8) -> Result<bool, AllocError>
+    fn after_period_cr(&mut self, octet: u8) -> Result<bool, AllocError>
         requires { self.old.phase ≡ Phase.PeriodCr }
         ensures uses { IfOk result (λ done. Uses self.old self.new (octet ∷ []) done) }
         ensures done { IfOk result
@@ -276,13 +275,13 @@ impl DotReader {
             Ok(true)
         } else {
             self.gathering.keep(&[b'\r', octet])?;
-            self.phase = Phase::behind(octet);
+            self.phase = Phase::after(octet);
             Ok(false)
         }
     }
 
     /// Uses the octet after a CR within a line.
-    fn behind_cr(&mut self, octet: u8) -> Result<(), AllocError>
+    fn after_cr(&mut self, octet: u8) -> Result<(), AllocError>
         requires { self.old.phase ≡ Phase.WithinCr }
         ensures uses { OnOk result (Uses self.old self.new (octet ∷ []) false) }
         ensures phase { OnOk result (IsOpen self.new.phase) }
@@ -293,7 +292,7 @@ impl DotReader {
             self.phase = Phase::LineStart;
             return Ok(());
         }
-        self.phase = Phase::behind(octet);
+        self.phase = Phase::after(octet);
         Ok(())
     }
 }

@@ -6,7 +6,7 @@ use std::alloc::{AllocError, Global};
 use thiserror::Error;
 
 /// The result of a content that has come whole.
-#[derive(Debug, Drop)]
+#[derive(Drop)]
 pub enum Gathered {
     /// The content, which is within the limit.
     Whole(Octets),
@@ -34,7 +34,6 @@ impl From<AllocError> for BodyFault {
 }
 
 /// A content that is coming in: kept up to a limit, and dropped once it passes that.
-#[derive(Debug)]
 pub(crate) struct Gathering {
     /// The greatest length, in octets, of a content that is kept.
     limit: usize,

@@ -13,7 +13,7 @@ use std::alloc::{AllocError, Global};
 use std::marker::Model;
 
 /// A reader of one dot text, which may come in any pieces (RFC 5321, section 4.5.2).
-#[derive(Debug, Drop)]
+#[derive(Drop)]
 pub struct DotReader {
     reader: dot_reader::DotReader,
 }
@@ -51,7 +51,7 @@ impl DotReader {
         ensures within { IfOk result (λ cut. cut.used ≤ length piece.now) }
         ensures progress { 0 < length piece.now → ¬ IsDone self.old
             → IfOk result (λ cut. 0 < cut.used) }
-        ensures behind { IsDone self.old
+        ensures after { IsDone self.old
             → (result ≡ Ok (record { used = 0; done = true })) × (self.new ≡ self.old) }
         ensures failed { OnErr result (HasFailed self.new) }
         ensures again { HasFailed self.old → IsErr result }
@@ -78,7 +78,7 @@ fn feed(reader: &mut dot_reader::DotReader, piece: &[u8]) -> Result<DotCut, Body
     ensures within { IfOk result (λ cut. cut.used ≤ length piece.now) }
     ensures progress { 0 < length piece.now → ¬ IsDone reader.old
         → IfOk result (λ cut. 0 < cut.used) }
-    ensures behind { IsDone reader.old
+    ensures after { IsDone reader.old
         → (result ≡ Ok (record { used = 0; done = true })) × (reader.new ≡ reader.old) }
     ensures failed { OnErr result (HasFailed reader.new) }
     ensures again { HasFailed reader.old → IsErr result }
@@ -155,7 +155,7 @@ fn step(reader: &mut dot_reader::DotReader, octet: u8) -> Result<bool, AllocErro
         }
         Phase::PeriodCr => {
             reader.gathering.keep(&[b'\r', octet])?;
-            reader.phase = Phase::behind(octet);
+            reader.phase = Phase::after(octet);
             Ok(false)
         }
         Phase::WithinCr if octet == b'\n' => {
@@ -179,7 +179,7 @@ fn stay(reader: &mut dot_reader::DotReader, octet: u8) -> Result<(), AllocError>
     ensures limit { limit_of reader.new ≡ limit_of reader.old }
 {
     reader.gathering.keep(&[octet])?;
-    reader.phase = Phase::behind(octet);
+    reader.phase = Phase::after(octet);
     Ok(())
 }
 
@@ -190,13 +190,13 @@ pub fn write_dots(alloc: Global, content: &[u8]) -> Result<Vec<u8>, AllocError>
 {
     let mut text = Vec::new(alloc);
     let mut begins_line = true;
-    let mut behind_cr = false;
+    let mut after_cr = false;
     let mut place = 0;
     while place < content.len() {
         let octet = content[place];
         write_octet(&mut text, begins_line, octet)?;
-        begins_line = behind_cr && octet == b'\n';
-        behind_cr = octet == b'\r';
+        begins_line = after_cr && octet == b'\n';
+        after_cr = octet == b'\r';
         place += 1;
     }
     text.extend_from_slice(b".\r\n")?;

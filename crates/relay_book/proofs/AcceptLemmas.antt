@@ -34,16 +34,16 @@ long_8 text n rest e =
 pub no_last_short : (text : List ℕ) → length text < 4 → IsNoSized text
 no_last_short text short = record { none = λ field fits e. let long = long_4 text (length field) field e in omega (arith, short, long) }
 
-pub no_last_other : (text : List ℕ) (n : ℕ) (behind : List ℕ) → text ≡ octets_4 n ++ behind → n < 2 ^ 32 → length behind ≢ n → IsNoSized text
-no_last_other text n behind is small other = record {
+pub no_last_other : (text : List ℕ) (n : ℕ) (after : List ℕ) → text ≡ octets_4 n ++ after → n < 2 ^ 32 → length after ≢ n → IsNoSized text
+no_last_other text n after is small other = record {
   none = λ field fits e.
-      let same = code_4 n (length field) behind field small fits (sym is ∙ e) in
+      let same = code_4 n (length field) after field small fits (sym is ∙ e) in
       other (ap length same.1 ∙ sym same.0);
 }
 
 -- what stands after the moment, and after what MAIL says
-behind_moment : List ℕ → ℕ → List ℕ → List Recipient → List ℕ → List ℕ
-behind_moment path ret envid recipients stored = sized_2 path ++ (ret ∷ (sized_2 envid ++ (counted recipient_octets recipients ++ sized_4 stored)))
+after_this_moment : List ℕ → ℕ → List ℕ → List Recipient → List ℕ → List ℕ
+after_this_moment path ret envid recipients stored = sized_2 path ++ (ret ∷ (sized_2 envid ++ (counted recipient_octets recipients ++ sized_4 stored)))
 
 -- an accept spells its fields
 pub spells_accept : (text : List ℕ) (accept : AcceptFields) → IsAccept accept → text ≡ accept_octets accept
@@ -58,10 +58,10 @@ spells_accept text accept valid e = record {
 }
 
 -- what stands after a moment
-pub behind_at : (text : List ℕ) (at : ℕ) (rest : List ℕ) (other : ℕ) (path : List ℕ) (ret : ℕ) (envid : List ℕ) (recipients : List Recipient) (stored : List ℕ)
+pub after_at : (text : List ℕ) (at : ℕ) (rest : List ℕ) (other : ℕ) (path : List ℕ) (ret : ℕ) (envid : List ℕ) (recipients : List Recipient) (stored : List ℕ)
     → text ≡ octets_8 at ++ rest → at < 2 ^ 64 → SpellsAccept text other path ret envid recipients stored
     → (at ≡ other) × SpellsFields rest path ret envid (counted recipient_octets recipients ++ sized_4 stored)
-behind_at text at rest other path ret envid recipients stored is small spelled =
+after_at text at rest other path ret envid recipients stored is small spelled =
     let same = code_8 at other rest _ small spelled.at_fits (sym is ∙ spelled.text_is) in
     (same.0, record { text_is = same.1; first_fits = spelled.path_fits; second_fits = spelled.envid_fits })
 
@@ -79,7 +79,7 @@ pub accepts_are_one : (text : List ℕ) (at : ℕ) (path : List ℕ) (ret : ℕ)
     → SpellsAccept text at path ret envid recipients stored → SpellsAccept text other path2 ret2 envid2 recipients2 stored2
     → AreSameAccepts at other path path2 ret ret2 envid envid2 recipients recipients2 stored stored2
 accepts_are_one text at path ret envid recipients stored other path2 ret2 envid2 recipients2 stored2 one two =
-    let first = behind_at text at _ other path2 ret2 envid2 recipients2 stored2 one.text_is one.at_fits two in
+    let first = after_at text at _ other path2 ret2 envid2 recipients2 stored2 one.text_is one.at_fits two in
     let mine : SpellsFields _ path ret envid (counted recipient_octets recipients ++ sized_4 stored) = record { text_is = refl; first_fits = one.path_fits; second_fits = one.envid_fits } in
     let second = fields_are_one _ path ret envid _ path2 ret2 envid2 _ mine first.1 in
     let third = counted_are_one IsRecipient recipient_octets code_recipient recipients recipients2 (sized_4 stored) (sized_4 stored2) one.are_recipients two.are_recipients second.3 in
@@ -92,40 +92,40 @@ no_moment text short = record { none = λ accept valid e. let long = long_8 text
 
 pub no_mail_fields : (text : List ℕ) (at : ℕ) (rest : List ℕ) → text ≡ octets_8 at ++ rest → at < 2 ^ 64 → HasNoFields rest → SpellsNoAccept text
 no_mail_fields text at rest is small out = record {
-  none = λ accept valid e. out.none _ _ _ _ (behind_at text at rest _ _ _ _ _ _ is small (spells_accept text accept valid e)).1;
+  none = λ accept valid e. out.none _ _ _ _ (after_at text at rest _ _ _ _ _ _ is small (spells_accept text accept valid e)).1;
 }
 
 -- what stands after the fields of MAIL
-behind_mail : (text : List ℕ) (at : ℕ) (rest path : List ℕ) (ret : ℕ) (envid behind : List ℕ) (accept : AcceptFields)
-    → text ≡ octets_8 at ++ rest → at < 2 ^ 64 → SpellsFields rest path ret envid behind → IsAccept accept → text ≡ accept_octets accept
-    → behind ≡ counted recipient_octets accept.envelope.recipients ++ sized_4 accept.stored_text
-behind_mail text at rest path ret envid behind accept is small fields valid e =
-    (fields_are_one rest path ret envid behind _ _ _ _ fields (behind_at text at rest _ _ _ _ _ _ is small (spells_accept text accept valid e)).1).3
+after_mail : (text : List ℕ) (at : ℕ) (rest path : List ℕ) (ret : ℕ) (envid after : List ℕ) (accept : AcceptFields)
+    → text ≡ octets_8 at ++ rest → at < 2 ^ 64 → SpellsFields rest path ret envid after → IsAccept accept → text ≡ accept_octets accept
+    → after ≡ counted recipient_octets accept.envelope.recipients ++ sized_4 accept.stored_text
+after_mail text at rest path ret envid after accept is small fields valid e =
+    (fields_are_one rest path ret envid after _ _ _ _ fields (after_at text at rest _ _ _ _ _ _ is small (spells_accept text accept valid e)).1).3
 
 are_recipients : (accept : AcceptFields) → IsAccept accept → AreSome IsRecipient accept.envelope.recipients
 are_recipients accept valid = record { some = valid.envelope.some; within = valid.envelope.within; valid = valid.envelope.recipients }
 
-pub no_recipients : (text : List ℕ) (at : ℕ) (rest path : List ℕ) (ret : ℕ) (envid behind : List ℕ) → text ≡ octets_8 at ++ rest → at < 2 ^ 64 → SpellsFields rest path ret envid behind
-    → HasNoCounted IsRecipient recipient_octets behind → SpellsNoAccept text
-no_recipients text at rest path ret envid behind is small fields out = record {
-  none = λ accept valid e. out.none accept.envelope.recipients (sized_4 accept.stored_text) (are_recipients accept valid) (behind_mail text at rest path ret envid behind accept is small fields valid e);
+pub no_recipients : (text : List ℕ) (at : ℕ) (rest path : List ℕ) (ret : ℕ) (envid after : List ℕ) → text ≡ octets_8 at ++ rest → at < 2 ^ 64 → SpellsFields rest path ret envid after
+    → HasNoCounted IsRecipient recipient_octets after → SpellsNoAccept text
+no_recipients text at rest path ret envid after is small fields out = record {
+  none = λ accept valid e. out.none accept.envelope.recipients (sized_4 accept.stored_text) (are_recipients accept valid) (after_mail text at rest path ret envid after accept is small fields valid e);
 }
 
-pub no_stored_text : (text : List ℕ) (at : ℕ) (rest path : List ℕ) (ret : ℕ) (envid behind : List ℕ) (recipients : List Recipient) (last : List ℕ)
-    → text ≡ octets_8 at ++ rest → at < 2 ^ 64 → SpellsFields rest path ret envid behind
-    → behind ≡ counted recipient_octets recipients ++ last → AreSome IsRecipient recipients → IsNoSized last → SpellsNoAccept text
-no_stored_text text at rest path ret envid behind recipients last is small fields counted_is valid_recipients out = record {
+pub no_stored_text : (text : List ℕ) (at : ℕ) (rest path : List ℕ) (ret : ℕ) (envid after : List ℕ) (recipients : List Recipient) (last : List ℕ)
+    → text ≡ octets_8 at ++ rest → at < 2 ^ 64 → SpellsFields rest path ret envid after
+    → after ≡ counted recipient_octets recipients ++ last → AreSome IsRecipient recipients → IsNoSized last → SpellsNoAccept text
+no_stored_text text at rest path ret envid after recipients last is small fields counted_is valid_recipients out = record {
   none = λ accept valid e.
       let same = counted_are_one IsRecipient recipient_octets code_recipient recipients accept.envelope.recipients last (sized_4 accept.stored_text)
-      valid_recipients (are_recipients accept valid) (sym counted_is ∙ behind_mail text at rest path ret envid behind accept is small fields valid e) in
+      valid_recipients (are_recipients accept valid) (sym counted_is ∙ after_mail text at rest path ret envid after accept is small fields valid e) in
       out.none accept.stored_text (text_fits accept valid) same.1;
 }
 
-pub accept_spelled : (text : List ℕ) (at : ℕ) (rest path : List ℕ) (ret : ℕ) (envid behind : List ℕ) (recipients : List Recipient) (last stored : List ℕ)
-    → text ≡ octets_8 at ++ rest → at < 2 ^ 64 → SpellsFields rest path ret envid behind
-    → behind ≡ counted recipient_octets recipients ++ last → AreSome IsRecipient recipients → last ≡ sized_4 stored → length stored < 2 ^ 32
+pub accept_spelled : (text : List ℕ) (at : ℕ) (rest path : List ℕ) (ret : ℕ) (envid after : List ℕ) (recipients : List Recipient) (last stored : List ℕ)
+    → text ≡ octets_8 at ++ rest → at < 2 ^ 64 → SpellsFields rest path ret envid after
+    → after ≡ counted recipient_octets recipients ++ last → AreSome IsRecipient recipients → last ≡ sized_4 stored → length stored < 2 ^ 32
     → SpellsAccept text at path ret envid recipients stored
-accept_spelled text at rest path ret envid behind recipients last stored is small fields counted_is valid last_is fits = record {
+accept_spelled text at rest path ret envid after recipients last stored is small fields counted_is valid last_is fits = record {
   text_is = is ∙ ap (λ (l : List ℕ). octets_8 at ++ l) fields.text_is
       ∙ ap (λ (l : List ℕ). octets_8 at ++ (sized_2 path ++ (ret ∷ (sized_2 envid ++ l)))) (counted_is ∙ ap (λ (l : List ℕ). counted recipient_octets recipients ++ l) last_is);
   at_fits = small;

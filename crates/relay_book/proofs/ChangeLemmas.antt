@@ -45,10 +45,10 @@ change_other changes change (suc n) out = by (cases_lt n (length changes))
   where
     by : (n < length changes) ⊎ (length changes ≤ n) → slice_get (changes ++ change ∷ []) n ≡ slice_get changes n
     by (inl below) = get_left changes (change ∷ []) n below
-    by (inr behind) =
+    by (inr after) =
         let parts = length-append changes (change ∷ []) in
-        let beyond : suc (length changes) ≤ n = (elim (cases_eq n (length changes)) [ inl same ↦ absurd (out (ap suc same)) | inr off ↦ omega (arith, off, behind) ]) in
-        slice_get_past (changes ++ change ∷ []) n (omega (arith, parts, beyond)) ∙ sym (slice_get_past changes n behind)
+        let beyond : suc (length changes) ≤ n = (elim (cases_eq n (length changes)) [ inl same ↦ absurd (out (ap suc same)) | inr off ↦ omega (arith, off, after) ]) in
+        slice_get_past (changes ++ change ∷ []) n (omega (arith, parts, beyond)) ∙ sym (slice_get_past changes n after)
 
 -- the message of an outcome came before it
 abbrev pub Back : List Change → Type 0

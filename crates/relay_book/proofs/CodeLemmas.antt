@@ -69,8 +69,8 @@ too_short text field rest short e =
     omega (arith, short, long)
 
 -- nor octets that are fewer than the length says
-pub cut_short : (text : List ℕ) (n : ℕ) (behind field rest : List ℕ) → text ≡ octets_2 n ++ behind → n < 2 ^ 16 → length behind < n → length field < 2 ^ 16 → text ≡ sized_2 field ++ rest → ⊥
-cut_short text n behind field rest e small less within other =
-    let f = code_2 n (length field) behind (field ++ rest) small within (sym e ∙ other ∙ append_assoc (octets_2 (length field)) field rest) in
-    let long : length behind ≡ length field + length rest = ap length f.1 ∙ length-append field rest in
+pub cut_short : (text : List ℕ) (n : ℕ) (after field rest : List ℕ) → text ≡ octets_2 n ++ after → n < 2 ^ 16 → length after < n → length field < 2 ^ 16 → text ≡ sized_2 field ++ rest → ⊥
+cut_short text n after field rest e small less within other =
+    let f = code_2 n (length field) after (field ++ rest) small within (sym e ∙ other ∙ append_assoc (octets_2 (length field)) field rest) in
+    let long : length after ≡ length field + length rest = ap length f.1 ∙ length-append field rest in
     omega (arith, less, f.0, long)

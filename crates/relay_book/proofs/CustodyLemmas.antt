@@ -19,7 +19,7 @@ use Rattle.relay_book.specs.declared.fate.Way.{Way}
 use Rattle.relay_book.specs.Marks.{change_at, own_accept, report_for, message_at, Added, LeavesAt, Left}
 use Rattle.relay_book.specs.Book.{Rise}
 use Rattle.relay_book.proofs.PlaceLemmas.{none_some, some_is, stays, way_among, ruled_holds, ruled_way, way_ruled}
-use Rattle.relay_book.proofs.EntryLemmas.{holds, none_behind, message_below, joined_other, joined_here, rise_joined, rise_more, rise_ruled, ruled_other, ruled_same, ruled_comes}
+use Rattle.relay_book.proofs.EntryLemmas.{holds, none_after, message_below, joined_other, joined_here, rise_joined, rise_more, rise_ruled, ruled_other, ruled_same, ruled_comes}
 use Rattle.relay_book.proofs.ChangeLemmas.{joined, last, last_joined, change_last, change_other, Back, message_other, message_last, own_from, added_was, leaves_before, leaves_still, leaves_was}
 
 -- what the queue's messages are
@@ -148,7 +148,7 @@ accept_moves changes accept queue knows = record {
   came = λ place added.
       let is = some_is accept added.0 (sym (message_last changes (Accept accept)) ∙ added.1) in
       came_held queue.messages queue.next (last changes) place accept knows.next
-      (none_behind 0 queue.next queue.messages queue.next knows.rise (omega arith))
+      (none_after 0 queue.next queue.messages queue.next knows.rise (omega arith))
       (subst (λ (a : AcceptFields). place < length a.envelope.recipients) (sym is) added.2);
   one = λ number place way other leaves _. absurd (none number place way leaves);
   was = λ number place way leaves. absurd (none number place way leaves);
@@ -181,7 +181,7 @@ accept_known changes accept queue knows = record {
         → (queue.next ≡ number) ⊎ (queue.next ≡ number → ⊥)
         → (message_at (joined changes (Accept accept)) number ≡ Some message.accept) × (length message.places ≡ length message.accept.envelope.recipients) × (message.number ≡ number)
     by number message is (inl same) =
-        let none = none_behind 0 queue.next queue.messages queue.next knows.rise (omega arith) in
+        let none = none_after 0 queue.next queue.messages queue.next knows.rise (omega arith) in
         let here = some_is (accepted queue.next accept) message (sym (joined_here queue.messages queue.next (accepted queue.next accept) none) ∙ subst (λ n. message_of (queue.messages ++ (queue.next, accepted queue.next accept) ∷ []) n ≡ Some message) (sym same) is) in (
           subst (λ n. message_at (joined changes (Accept accept)) n ≡ Some message.accept) (sym knows.next ∙ same)
               (message_last changes (Accept accept) ∙ ap (λ (m : Message). Some m.accept) here),
@@ -201,8 +201,8 @@ record Meets (changes : List Change) (outcome : OutcomeFields) (queue : Queue) (
   is : message_of queue.messages outcome.message ≡ Some message
   fits : FitsMessage message outcome
 
-abbrev behind : OutcomeFields → Queue → Message → List (ℕ × Message)
-behind outcome queue message = ruled outcome queue.messages ++ reported queue.next outcome outcome.report (Some message)
+abbrev after : OutcomeFields → Queue → Message → List (ℕ × Message)
+after outcome queue message = ruled outcome queue.messages ++ reported queue.next outcome outcome.report (Some message)
 
 -- there is a report, or none
 pub report_or_not : (P : List (ℕ × Message) → Type 0) (next : ℕ) (outcome : OutcomeFields) (report : List ℕ) (message : Message)
@@ -303,8 +303,8 @@ make_leaves changes outcome queue message place way meets is =
     }
 
 -- what is held after it
-behind_other : (outcome : OutcomeFields) (queue : Queue) (message : Message) (number place : ℕ) → (queue.next ≡ number → ⊥) → holds (behind outcome queue message) number place ≡ holds (ruled outcome queue.messages) number place
-behind_other outcome queue message number place off =
+after_other : (outcome : OutcomeFields) (queue : Queue) (message : Message) (number place : ℕ) → (queue.next ≡ number → ⊥) → holds (after outcome queue message) number place ≡ holds (ruled outcome queue.messages) number place
+after_other outcome queue message number place off =
     report_or_not (λ tail. holds (ruled outcome queue.messages ++ tail) number place ≡ holds (ruled outcome queue.messages) number place) queue.next outcome outcome.report message
     (λ _. ap (λ (l : List (ℕ × Message)). holds l number place) (append-nil (ruled outcome queue.messages)))
     (λ _ _ _. came_other (ruled outcome queue.messages) queue.next number place (report_of message.accept outcome) off)
@@ -314,39 +314,39 @@ was_held : (changes : List Change) (outcome : OutcomeFields) (queue : Queue) (me
 was_held changes outcome queue message place meets = ap (λ (o : Option Message). option_map_or (λ message. holds_at message.places place) o false) meets.is
 
 is_held_now : (changes : List Change) (outcome : OutcomeFields) (queue : Queue) (message : Message) (place : ℕ) → Meets changes outcome queue message
-    → holds (behind outcome queue message) outcome.message place ≡ (holds_at message.places place && stays (way_among message.accept.at outcome.at outcome.rulings place))
+    → holds (after outcome queue message) outcome.message place ≡ (holds_at message.places place && stays (way_among message.accept.at outcome.at outcome.rulings place))
 is_held_now changes outcome queue message place meets =
     let below = its_number changes outcome queue message meets in
     let next = meets.knows.next in
-    behind_other outcome queue message outcome.message place (λ e. omega (arith, e, below, next))
+    after_other outcome queue message outcome.message place (λ e. omega (arith, e, below, next))
     ∙ ruled_same outcome 0 queue.next queue.messages place meets.knows.rise
     ∙ ap (λ (o : Option Message). option_map_or (λ message. holds_at (message_after outcome message).places place) o false) meets.is
     ∙ ruled_holds outcome.version message.accept outcome.at message.places 0 outcome.rulings place meets.fits.rulings
 
 is_held_elsewhere : (outcome : OutcomeFields) (queue : Queue) (message : Message) (number place : ℕ) → (queue.next ≡ number → ⊥) → (outcome.message ≡ number → ⊥)
-    → holds (behind outcome queue message) number place ≡ holds queue.messages number place
+    → holds (after outcome queue message) number place ≡ holds queue.messages number place
 is_held_elsewhere outcome queue message number place off other =
-    behind_other outcome queue message number place off
+    after_other outcome queue message number place off
     ∙ ap (λ (o : Option Message). option_map_or (λ message. holds_at message.places place) o false) (ruled_other outcome queue.messages number other)
 
 outcome_moves : (changes : List Change) (outcome : OutcomeFields) (queue : Queue) (message : Message) → Meets changes outcome queue message
-    → Moves changes (Outcome outcome) queue.messages (behind outcome queue message)
+    → Moves changes (Outcome outcome) queue.messages (after outcome queue message)
 outcome_moves changes outcome queue message meets = record { kept = kept; stayed = stayed; went = went; came = came; one = one; was = was }
   where
-    kept : (number place : ℕ) → (number ≡ last changes → ⊥) → holds (behind outcome queue message) number place ≡ true → holds queue.messages number place ≡ true
+    kept : (number place : ℕ) → (number ≡ last changes → ⊥) → holds (after outcome queue message) number place ≡ true → holds queue.messages number place ≡ true
     kept number place off held = by (cases_eq outcome.message number)
       where
         by : (outcome.message ≡ number) ⊎ (outcome.message ≡ number → ⊥) → holds queue.messages number place ≡ true
         by (inl same) =
-            let here = subst (λ n. holds (behind outcome queue message) n place ≡ true) (sym same) held in
+            let here = subst (λ n. holds (after outcome queue message) n place ≡ true) (sym same) held in
             let parts = and_parts (holds_at message.places place) (stays (way_among message.accept.at outcome.at outcome.rulings place)) (sym (is_held_now changes outcome queue message place meets) ∙ here) in
             subst (λ n. holds queue.messages n place ≡ true) same (was_held changes outcome queue message place meets ∙ parts.0)
         by (inr other) = sym (is_held_elsewhere outcome queue message number place (λ e. off (sym e ∙ meets.knows.next)) other) ∙ held
 
-    stayed : (number place : ℕ) (way : Way) → holds (behind outcome queue message) number place ≡ true → LeavesAt (joined changes (Outcome outcome)) (last changes) number place way → ⊥
+    stayed : (number place : ℕ) (way : Way) → holds (after outcome queue message) number place ≡ true → LeavesAt (joined changes (Outcome outcome)) (last changes) number place way → ⊥
     stayed number place way held leaves =
         let now = leaves_now changes outcome queue message number place way meets leaves in
-        let here = subst (λ n. holds (behind outcome queue message) n place ≡ true) (sym now.number_is) held in
+        let here = subst (λ n. holds (after outcome queue message) n place ≡ true) (sym now.number_is) held in
         let parts = and_parts (holds_at message.places place) (stays (way_among message.accept.at outcome.at outcome.rulings place)) (sym (is_held_now changes outcome queue message place meets) ∙ here) in
         false≢true (sym (ap stays now.way_is) ∙ parts.1)
 
@@ -355,7 +355,7 @@ outcome_moves changes outcome queue message meets = record { kept = kept; stayed
     gone place None is e = absurd (false≢true (sym e))
     gone place (Some way) is e = (way, make_leaves changes outcome queue message place way meets is)
 
-    went : (number place : ℕ) → (number ≡ last changes → ⊥) → Added changes number place → holds (behind outcome queue message) number place ≡ false
+    went : (number place : ℕ) → (number ≡ last changes → ⊥) → Added changes number place → holds (after outcome queue message) number place ≡ false
         → (holds queue.messages number place ≡ false) ⊎ ((way : Way) × LeavesAt (joined changes (Outcome outcome)) (last changes) number place way)
     went number place off added out = by (cases_eq outcome.message number)
       where
@@ -370,18 +370,18 @@ outcome_moves changes outcome queue message meets = record { kept = kept; stayed
         by : (outcome.message ≡ number) ⊎ (outcome.message ≡ number → ⊥)
             → (holds queue.messages number place ≡ false) ⊎ ((way : Way) × LeavesAt (joined changes (Outcome outcome)) (last changes) number place way)
         by (inl same) =
-            let here = subst (λ n. holds (behind outcome queue message) n place ≡ false) (sym same) out in
+            let here = subst (λ n. holds (after outcome queue message) n place ≡ false) (sym same) out in
             split same (and_cases (holds_at message.places place) (stays (way_among message.accept.at outcome.at outcome.rulings place)) (sym (is_held_now changes outcome queue message place meets) ∙ here))
         by (inr other) = inl (sym (is_held_elsewhere outcome queue message number place (λ e. off (sym e ∙ meets.knows.next)) other) ∙ out)
 
-    came : (place : ℕ) → Added (joined changes (Outcome outcome)) (last changes) place → holds (behind outcome queue message) (last changes) place ≡ true
+    came : (place : ℕ) → Added (joined changes (Outcome outcome)) (last changes) place → holds (after outcome queue message) (last changes) place ≡ true
     came place added =
         report_or_not (λ tail. holds (ruled outcome queue.messages ++ tail) (last changes) place ≡ true) queue.next outcome outcome.report message
         (λ none. absurd (no_report_made changes outcome added.0 none added.1))
         (λ octet rest is.
         let same = some_is (report_of message.accept outcome) added.0 (sym (report_made changes outcome queue message octet rest meets is) ∙ added.1) in
         came_held (ruled outcome queue.messages) queue.next (last changes) place (report_of message.accept outcome) meets.knows.next
-        (none_behind 0 queue.next (ruled outcome queue.messages) queue.next (rise_ruled outcome 0 queue.next queue.messages meets.knows.rise) (omega arith))
+        (none_after 0 queue.next (ruled outcome queue.messages) queue.next (rise_ruled outcome 0 queue.next queue.messages meets.knows.rise) (omega arith))
         (subst (λ (a : AcceptFields). place < length a.envelope.recipients) (sym same) added.2))
 
     one : (number place : ℕ) (way other : Way) → LeavesAt (joined changes (Outcome outcome)) (last changes) number place way
@@ -395,7 +395,7 @@ outcome_moves changes outcome queue message meets = record { kept = kept; stayed
         subst (λ n. holds queue.messages n place ≡ true) now.number_is (was_held changes outcome queue message place meets ∙ now.held)
 
 outcome_known : (changes : List Change) (outcome : OutcomeFields) (queue : Queue) (message : Message) → Meets changes outcome queue message
-    → Knows (joined changes (Outcome outcome)) (record { next = queue.next + 1; messages = behind outcome queue message })
+    → Knows (joined changes (Outcome outcome)) (record { next = queue.next + 1; messages = after outcome queue message })
 outcome_known changes outcome queue message meets = record {
   next = let next = meets.knows.next in let more = last_joined changes (Outcome outcome) in omega (arith, next, more);
   back = back_more changes (Outcome outcome) meets.knows.back
@@ -429,7 +429,7 @@ outcome_known changes outcome queue message meets = record {
         → message_of (ruled outcome queue.messages ++ (queue.next, accepted queue.next (report_of message.accept outcome)) ∷ []) number ≡ Some one
         → (queue.next ≡ number) ⊎ (queue.next ≡ number → ⊥) → IsKnown number one
     new number one octet rest report is (inl same) =
-        let none = none_behind 0 queue.next (ruled outcome queue.messages) queue.next up (omega arith) in
+        let none = none_after 0 queue.next (ruled outcome queue.messages) queue.next up (omega arith) in
         let here = some_is (accepted queue.next (report_of message.accept outcome)) one
         (sym (joined_here (ruled outcome queue.messages) queue.next (accepted queue.next (report_of message.accept outcome)) none)
         ∙ subst (λ n. message_of (ruled outcome queue.messages ++ (queue.next, accepted queue.next (report_of message.accept outcome)) ∷ []) n ≡ Some one) (sym same) is) in (
@@ -465,5 +465,5 @@ grows changes (Outcome outcome) queue knows tells fits = by (message_of queue.me
         let same = ap (λ (o : Option Message). ruled outcome queue.messages ++ reported queue.next outcome outcome.report o) is in
         record {
           knows = subst (λ (l : List (ℕ × Message)). Knows (joined changes (Outcome outcome)) (record { next = queue.next + 1; messages = l })) (sym same) (outcome_known changes outcome queue message meets);
-          tells = subst (Tells (joined changes (Outcome outcome))) (sym same) (tells_more changes (Outcome outcome) queue.messages (behind outcome queue message) knows.back tells (outcome_moves changes outcome queue message meets));
+          tells = subst (Tells (joined changes (Outcome outcome))) (sym same) (tells_more changes (Outcome outcome) queue.messages (after outcome queue message) knows.back tells (outcome_moves changes outcome queue message meets));
         }

@@ -109,12 +109,12 @@ abbrev pub AreMarked : (ℕ → Bool) → List Place → Type 0
 AreMarked marks places = (n : ℕ) (place : Place) → slice_get places n ≡ Some place → place.held ≡ true → place.delayed ≡ marks n
 
 -- the marks after one ruling
-abbrev pub marks_behind : Version → AcceptFields → ℕ → (ℕ → Bool) → Ruling → ℕ → Bool
-marks_behind version accept at marks ruling n =
+abbrev pub marks_after : Version → AcceptFields → ℕ → (ℕ → Bool) → Ruling → ℕ → Bool
+marks_after version accept at marks ruling n =
     if ruling.place == n && is_later ruling.verdict then marks n || is_delay version accept at n else marks n
 
 marked_after : (version : Version) (accept : AcceptFields) (at : ℕ) (marks : ℕ → Bool) (places : List Place) (ruling : Ruling) → holds_at places ruling.place ≡ true
-    → AreMarked marks places → AreMarked (marks_behind version accept at marks ruling) (places_after version accept at places ruling)
+    → AreMarked marks places → AreMarked (marks_after version accept at marks ruling) (places_after version accept at places ruling)
 marked_after version accept at marks places ruling holds marked n place = by (slice_get places ruling.place) refl holds
   where
     new : Place → Place
@@ -122,7 +122,7 @@ marked_after version accept at marks places ruling holds marked n place = by (sl
 
     after : (old : Place) → slice_get places ruling.place ≡ Some old → old.held ≡ true
         → slice_get (slice_set places ruling.place (place_ruled version accept at old ruling)) n ≡ Some place → place.held ≡ true
-        → (ruling.place ≡ n) ⊎ (ruling.place ≡ n → ⊥) → place.delayed ≡ marks_behind version accept at marks ruling n
+        → (ruling.place ≡ n) ⊎ (ruling.place ≡ n → ⊥) → place.delayed ≡ marks_after version accept at marks ruling n
     after old is was got held (inl same) =
         let here = some_is (place_ruled version accept at old ruling) place
         (sym (get_here places ruling.place old (place_ruled version accept at old ruling) is)
@@ -132,7 +132,7 @@ marked_after version accept at marks places ruling holds marked n place = by (sl
         sym (ap (λ (p : Place). p.delayed) here) ∙ now
         ∙ ap (λ (b : Bool). if is_later ruling.verdict then b || is_delay version accept at ruling.place else b) before
         ∙ subst (λ m. (if is_later ruling.verdict then marks ruling.place || is_delay version accept at ruling.place else marks ruling.place)
-        ≡ marks_behind version accept at marks ruling m) same
+        ≡ marks_after version accept at marks ruling m) same
         (ap (λ (test : Bool). if test && is_later ruling.verdict then marks ruling.place || is_delay version accept at ruling.place else marks ruling.place)
         (sym (eq-eqb ruling.place ruling.place refl)))
     after old is was got held (inr out) =
@@ -141,7 +141,7 @@ marked_after version accept at marks places ruling holds marked n place = by (sl
 
     by : (o : Option Place) → slice_get places ruling.place ≡ o → option_map_or is_held o false ≡ true
         → slice_get (option_map_or (λ place. slice_set places ruling.place (place_ruled version accept at place ruling)) o places) n ≡ Some place
-        → place.held ≡ true → place.delayed ≡ marks_behind version accept at marks ruling n
+        → place.held ≡ true → place.delayed ≡ marks_after version accept at marks ruling n
     by None is was got held = absurd (false≢true was)
     by (Some old) is was got held = after old is was got held (cases_eq ruling.place n)
 
@@ -159,7 +159,7 @@ marked_ruled version accept at marks places least [] are marked n place got held
 marked_ruled version accept at marks places least (ruling ∷ rulings) are marked n place got held =
     let stay = rulings_stay version accept at places ruling (ruling.place + 1) rulings (omega arith) are.2 in
     let now = marked_after version accept at marks places ruling are.1 marked in
-    marked_ruled version accept at (marks_behind version accept at marks ruling) (places_after version accept at places ruling) (ruling.place + 1) rulings stay now n place got held
+    marked_ruled version accept at (marks_after version accept at marks ruling) (places_after version accept at places ruling) (ruling.place + 1) rulings stay now n place got held
     ∙ merged (marks n) (is_delay version accept at n) (ruling.place == n && is_later ruling.verdict) (waits_in n rulings) (first_only places ruling rulings n are.2)
 
 -- a message as it is accepted

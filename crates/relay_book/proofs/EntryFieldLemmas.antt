@@ -31,27 +31,27 @@ message_from number at envelope recipients stored places = record {
 
 module _ (version : SnapshotVersion) where
   -- what stands after a message's moment
-  abbrev behind_moment : ℕ × Message → List ℕ → List ℕ
-  behind_moment entry rest =
+  abbrev after_this_moment : ℕ × Message → List ℕ → List ℕ
+  after_this_moment entry rest =
       sized_2 entry.1.accept.envelope.reverse_path
       ++ (ret_number entry.1.accept.envelope.ret
       ∷ (sized_2 (written entry.1.accept.envelope.envid)
       ++ (counted (placed_octets version) (zip entry.1.accept.envelope.recipients entry.1.places) ++ (sized_4 entry.1.accept.stored_text ++ rest))))
 
-  after_number : (text : List ℕ) (number : ℕ) (behind : List ℕ) (entry : ℕ × Message) (rest : List ℕ) → text ≡ octets_8 number ++ behind → number < 2 ^ 64
-      → IsQueuedBy version entry → text ≡ entry_octets version entry ++ rest → behind ≡ octets_8 entry.1.accept.at ++ behind_moment entry rest
-  after_number text number behind entry rest is small valid e =
+  after_number : (text : List ℕ) (number : ℕ) (after : List ℕ) (entry : ℕ × Message) (rest : List ℕ) → text ≡ octets_8 number ++ after → number < 2 ^ 64
+      → IsQueuedBy version entry → text ≡ entry_octets version entry ++ rest → after ≡ octets_8 entry.1.accept.at ++ after_this_moment entry rest
+  after_number text number after entry rest is small valid e =
       let spelled = spells_entry version text rest entry valid e in
-      (code_8 number entry.0 behind _ small valid.is.number_fits (sym is ∙ spelled.text_is)).1
+      (code_8 number entry.0 after _ small valid.is.number_fits (sym is ∙ spelled.text_is)).1
 
-  after_moment : (behind : List ℕ) (at : ℕ) (more : List ℕ) (entry : ℕ × Message) (rest : List ℕ) → behind ≡ octets_8 at ++ more → at < 2 ^ 64
-      → IsQueuedBy version entry → behind ≡ octets_8 entry.1.accept.at ++ behind_moment entry rest → more ≡ behind_moment entry rest
-  after_moment behind at more entry rest is small valid e =
+  after_moment : (after : List ℕ) (at : ℕ) (more : List ℕ) (entry : ℕ × Message) (rest : List ℕ) → after ≡ octets_8 at ++ more → at < 2 ^ 64
+      → IsQueuedBy version entry → after ≡ octets_8 entry.1.accept.at ++ after_this_moment entry rest → more ≡ after_this_moment entry rest
+  after_moment after at more entry rest is small valid e =
       let moment = valid.is.accept.moment in
       (code_8 at entry.1.accept.at more _ small (omega (arith, moment)) (sym is ∙ e)).1
 
   -- a message's fields of MAIL
-  mail_fields : (more : List ℕ) (entry : ℕ × Message) (rest text : List ℕ) → IsQueuedBy version entry → text ≡ entry_octets version entry ++ rest → more ≡ behind_moment entry rest
+  mail_fields : (more : List ℕ) (entry : ℕ × Message) (rest text : List ℕ) → IsQueuedBy version entry → text ≡ entry_octets version entry ++ rest → more ≡ after_this_moment entry rest
       → SpellsFields more entry.1.accept.envelope.reverse_path (ret_number entry.1.accept.envelope.ret) (written entry.1.accept.envelope.envid)
       (counted (placed_octets version) (zip entry.1.accept.envelope.recipients entry.1.places) ++ (sized_4 entry.1.accept.stored_text ++ rest))
   mail_fields more entry rest text valid e is =
@@ -67,54 +67,54 @@ module _ (version : SnapshotVersion) where
         omega (arith, short, long);
   }
 
-  pub no_moment : (text : List ℕ) (number : ℕ) (behind : List ℕ) → text ≡ octets_8 number ++ behind → number < 2 ^ 64 → length behind < 8
+  pub no_moment : (text : List ℕ) (number : ℕ) (after : List ℕ) → text ≡ octets_8 number ++ after → number < 2 ^ 64 → length after < 8
       → HasNone (IsQueuedBy version) (entry_octets version) text
-  no_moment text number behind is small short = record {
+  no_moment text number after is small short = record {
     none = λ entry rest valid e.
-        let long = long_8 behind entry.1.accept.at _ (after_number text number behind entry rest is small valid e) in
+        let long = long_8 after entry.1.accept.at _ (after_number text number after entry rest is small valid e) in
         omega (arith, short, long);
   }
 
-  pub no_mail_fields : (text : List ℕ) (number : ℕ) (behind : List ℕ) (at : ℕ) (more : List ℕ) → text ≡ octets_8 number ++ behind → number < 2 ^ 64
-      → behind ≡ octets_8 at ++ more → at < 2 ^ 64 → HasNoFields more → HasNone (IsQueuedBy version) (entry_octets version) text
-  no_mail_fields text number behind at more is small then less out = record {
+  pub no_mail_fields : (text : List ℕ) (number : ℕ) (after : List ℕ) (at : ℕ) (more : List ℕ) → text ≡ octets_8 number ++ after → number < 2 ^ 64
+      → after ≡ octets_8 at ++ more → at < 2 ^ 64 → HasNoFields more → HasNone (IsQueuedBy version) (entry_octets version) text
+  no_mail_fields text number after at more is small then less out = record {
     none = λ entry rest valid e.
         out.none _ _ _ _
-        (mail_fields more entry rest text valid e (after_moment behind at more entry rest then less valid (after_number text number behind entry rest is small valid e)));
+        (mail_fields more entry rest text valid e (after_moment after at more entry rest then less valid (after_number text number after entry rest is small valid e)));
   }
 
-  after_mail : (text : List ℕ) (number : ℕ) (behind : List ℕ) (at : ℕ) (more path : List ℕ) (ret : ℕ) (envid last : List ℕ) (entry : ℕ × Message) (rest : List ℕ)
-      → text ≡ octets_8 number ++ behind → number < 2 ^ 64 → behind ≡ octets_8 at ++ more → at < 2 ^ 64 → SpellsFields more path ret envid last
+  after_mail : (text : List ℕ) (number : ℕ) (after : List ℕ) (at : ℕ) (more path : List ℕ) (ret : ℕ) (envid last : List ℕ) (entry : ℕ × Message) (rest : List ℕ)
+      → text ≡ octets_8 number ++ after → number < 2 ^ 64 → after ≡ octets_8 at ++ more → at < 2 ^ 64 → SpellsFields more path ret envid last
       → IsQueuedBy version entry → text ≡ entry_octets version entry ++ rest
       → last ≡ counted (placed_octets version) (zip entry.1.accept.envelope.recipients entry.1.places) ++ (sized_4 entry.1.accept.stored_text ++ rest)
-  after_mail text number behind at more path ret envid last entry rest is small then less fields valid e =
+  after_mail text number after at more path ret envid last entry rest is small then less fields valid e =
       (fields_are_one more path ret envid last entry.1.accept.envelope.reverse_path (ret_number entry.1.accept.envelope.ret) (written entry.1.accept.envelope.envid) _ fields
-      (mail_fields more entry rest text valid e (after_moment behind at more entry rest then less valid (after_number text number behind entry rest is small valid e)))).3
+      (mail_fields more entry rest text valid e (after_moment after at more entry rest then less valid (after_number text number after entry rest is small valid e)))).3
 
-  pub no_placed : (text : List ℕ) (number : ℕ) (behind : List ℕ) (at : ℕ) (more path : List ℕ) (ret : ℕ) (envid last : List ℕ)
-      → text ≡ octets_8 number ++ behind → number < 2 ^ 64 → behind ≡ octets_8 at ++ more → at < 2 ^ 64 → SpellsFields more path ret envid last
+  pub no_placed : (text : List ℕ) (number : ℕ) (after : List ℕ) (at : ℕ) (more path : List ℕ) (ret : ℕ) (envid last : List ℕ)
+      → text ≡ octets_8 number ++ after → number < 2 ^ 64 → after ≡ octets_8 at ++ more → at < 2 ^ 64 → SpellsFields more path ret envid last
       → HasNoCounted (IsPlacedBy version) (placed_octets version) last → HasNone (IsQueuedBy version) (entry_octets version) text
-  no_placed text number behind at more path ret envid last is small then less fields out = record {
+  no_placed text number after at more path ret envid last is small then less fields out = record {
     none = λ entry rest valid e.
-        out.none _ _ (spells_entry version text rest entry valid e).are_placed (after_mail text number behind at more path ret envid last entry rest is small then less fields valid e);
+        out.none _ _ (spells_entry version text rest entry valid e).are_placed (after_mail text number after at more path ret envid last entry rest is small then less fields valid e);
   }
 
-  pub no_stored_text : (text : List ℕ) (number : ℕ) (behind : List ℕ) (at : ℕ) (more path : List ℕ) (ret : ℕ) (envid last : List ℕ) (recipients : List Recipient) (places : List Place) (end : List ℕ)
-      → text ≡ octets_8 number ++ behind → number < 2 ^ 64 → behind ≡ octets_8 at ++ more → at < 2 ^ 64 → SpellsFields more path ret envid last
+  pub no_stored_text : (text : List ℕ) (number : ℕ) (after : List ℕ) (at : ℕ) (more path : List ℕ) (ret : ℕ) (envid last : List ℕ) (recipients : List Recipient) (places : List Place) (end : List ℕ)
+      → text ≡ octets_8 number ++ after → number < 2 ^ 64 → after ≡ octets_8 at ++ more → at < 2 ^ 64 → SpellsFields more path ret envid last
       → ReadsPlaced version last recipients places end → HasNoLong end → HasNone (IsQueuedBy version) (entry_octets version) text
-  no_stored_text text number behind at more path ret envid last recipients places end is small then less fields reads out = record {
+  no_stored_text text number after at more path ret envid last recipients places end is small then less fields reads out = record {
     none = λ entry rest valid e.
         let spelled = spells_entry version text rest entry valid e in
         let same = counted_are_one (IsPlacedBy version) (placed_octets version) (code_placed version) (zip recipients places) (zip entry.1.accept.envelope.recipients entry.1.places) end _
-        reads.are spelled.are_placed (sym reads.text_is ∙ after_mail text number behind at more path ret envid last entry rest is small then less fields valid e) in
+        reads.are spelled.are_placed (sym reads.text_is ∙ after_mail text number after at more path ret envid last entry rest is small then less fields valid e) in
         out.none _ _ spelled.stored_fits same.1;
   }
 
-  pub entry_spelled : (text : List ℕ) (number : ℕ) (behind : List ℕ) (at : ℕ) (more path : List ℕ) (ret : ℕ) (envid last : List ℕ) (recipients : List Recipient) (places : List Place)
-      (end stored rest : List ℕ) → text ≡ octets_8 number ++ behind → number < 2 ^ 64 → behind ≡ octets_8 at ++ more → at < 2 ^ 64 → SpellsFields more path ret envid last
+  pub entry_spelled : (text : List ℕ) (number : ℕ) (after : List ℕ) (at : ℕ) (more path : List ℕ) (ret : ℕ) (envid last : List ℕ) (recipients : List Recipient) (places : List Place)
+      (end stored rest : List ℕ) → text ≡ octets_8 number ++ after → number < 2 ^ 64 → after ≡ octets_8 at ++ more → at < 2 ^ 64 → SpellsFields more path ret envid last
       → ReadsPlaced version last recipients places end → end ≡ sized_4 stored ++ rest → length stored < 2 ^ 32
       → SpellsEntry version text number at path ret envid recipients places stored rest
-  entry_spelled text number behind at more path ret envid last recipients places end stored rest is small then less fields reads ends fits = record {
+  entry_spelled text number after at more path ret envid last recipients places end stored rest is small then less fields reads ends fits = record {
     text_is = is ∙ ap (λ (l : List ℕ). octets_8 number ++ l) (then ∙ ap (λ (l : List ℕ). octets_8 at ++ l) fields.text_is)
         ∙ ap (λ (l : List ℕ). octets_8 number ++ (octets_8 at ++ (sized_2 path ++ (ret ∷ (sized_2 envid ++ l)))))
         (reads.text_is ∙ ap (λ (l : List ℕ). counted (placed_octets version) (zip recipients places) ++ l) ends);
@@ -128,40 +128,40 @@ module _ (version : SnapshotVersion) where
   }
 
   -- where a field is not as it may be
-  pub bad_mail : (text : List ℕ) (number at : ℕ) (path : List ℕ) (ret : ℕ) (envid : List ℕ) (recipients : List Recipient) (places : List Place) (stored behind : List ℕ)
-      → SpellsEntry version text number at path ret envid recipients places stored behind → IsNoMail path ret envid → HasNone (IsQueuedBy version) (entry_octets version) text
-  bad_mail text number at path ret envid recipients places stored behind spelled out = record {
+  pub bad_mail : (text : List ℕ) (number at : ℕ) (path : List ℕ) (ret : ℕ) (envid : List ℕ) (recipients : List Recipient) (places : List Place) (stored after : List ℕ)
+      → SpellsEntry version text number at path ret envid recipients places stored after → IsNoMail path ret envid → HasNone (IsQueuedBy version) (entry_octets version) text
+  bad_mail text number at path ret envid recipients places stored after spelled out = record {
     none = λ entry rest valid e.
-        let same = same_entry version text number at path ret envid recipients places stored behind entry rest spelled valid e in
+        let same = same_entry version text number at path ret envid recipients places stored after entry rest spelled valid e in
         out.none entry.1.accept.envelope (record { reverse_path = valid.is.accept.envelope.reverse_path; envid = valid.is.accept.envelope.envid })
         (record { path_is = same.path_is; ret_is = same.ret_is; envid_is = same.envid_is });
   }
 
-  pub bad_moment : (text : List ℕ) (number at : ℕ) (path : List ℕ) (ret : ℕ) (envid : List ℕ) (recipients : List Recipient) (places : List Place) (stored behind : List ℕ)
-      → SpellsEntry version text number at path ret envid recipients places stored behind → LAST_SECOND < at → HasNone (IsQueuedBy version) (entry_octets version) text
-  bad_moment text number at path ret envid recipients places stored behind spelled late = record {
+  pub bad_moment : (text : List ℕ) (number at : ℕ) (path : List ℕ) (ret : ℕ) (envid : List ℕ) (recipients : List Recipient) (places : List Place) (stored after : List ℕ)
+      → SpellsEntry version text number at path ret envid recipients places stored after → LAST_SECOND < at → HasNone (IsQueuedBy version) (entry_octets version) text
+  bad_moment text number at path ret envid recipients places stored after spelled late = record {
     none = λ entry rest valid e.
-        let same = (same_entry version text number at path ret envid recipients places stored behind entry rest spelled valid e).at_is in
+        let same = (same_entry version text number at path ret envid recipients places stored after entry rest spelled valid e).at_is in
         let moment = valid.is.accept.moment in
         omega (arith, same, moment, late);
   }
 
-  pub bad_text : (text : List ℕ) (number at : ℕ) (path : List ℕ) (ret : ℕ) (envid : List ℕ) (recipients : List Recipient) (places : List Place) (stored behind : List ℕ)
-      → SpellsEntry version text number at path ret envid recipients places stored behind → text_limit path < length stored → HasNone (IsQueuedBy version) (entry_octets version) text
-  bad_text text number at path ret envid recipients places stored behind spelled long = record {
+  pub bad_text : (text : List ℕ) (number at : ℕ) (path : List ℕ) (ret : ℕ) (envid : List ℕ) (recipients : List Recipient) (places : List Place) (stored after : List ℕ)
+      → SpellsEntry version text number at path ret envid recipients places stored after → text_limit path < length stored → HasNone (IsQueuedBy version) (entry_octets version) text
+  bad_text text number at path ret envid recipients places stored after spelled long = record {
     none = λ entry rest valid e.
-        let same = same_entry version text number at path ret envid recipients places stored behind entry rest spelled valid e in
+        let same = same_entry version text number at path ret envid recipients places stored after entry rest spelled valid e in
         let length_is = ap length same.stored_is in
         let limit_is = ap text_limit same.path_is in
         let within = valid.is.accept.text in
         omega (arith, length_is, limit_is, within, long);
   }
 
-  pub bad_places : (text : List ℕ) (number at : ℕ) (path : List ℕ) (ret : ℕ) (envid : List ℕ) (recipients : List Recipient) (places : List Place) (stored behind : List ℕ)
-      → SpellsEntry version text number at path ret envid recipients places stored behind → list_any is_held places ≡ false → HasNone (IsQueuedBy version) (entry_octets version) text
-  bad_places text number at path ret envid recipients places stored behind spelled none_held = record {
+  pub bad_places : (text : List ℕ) (number at : ℕ) (path : List ℕ) (ret : ℕ) (envid : List ℕ) (recipients : List Recipient) (places : List Place) (stored after : List ℕ)
+      → SpellsEntry version text number at path ret envid recipients places stored after → list_any is_held places ≡ false → HasNone (IsQueuedBy version) (entry_octets version) text
+  bad_places text number at path ret envid recipients places stored after spelled none_held = record {
     none = λ entry rest valid e.
-        let same = same_entry version text number at path ret envid recipients places stored behind entry rest spelled valid e in
+        let same = same_entry version text number at path ret envid recipients places stored after entry rest spelled valid e in
         false≢true (sym none_held ∙ ap (list_any is_held) same.places_are ∙ valid.is.some);
   }
 
@@ -179,11 +179,11 @@ module _ (version : SnapshotVersion) where
   are_places [] all = tt
   are_places (place ∷ places) all = (all.0.is, are_places places all.1)
 
-  pub is_queued : (text : List ℕ) (number at : ℕ) (path : List ℕ) (ret : ℕ) (envid : List ℕ) (recipients : List Recipient) (places : List Place) (stored behind : List ℕ)
-      (envelope : Envelope) → SpellsEntry version text number at path ret envid recipients places stored behind → IsMail envelope → HasMailFields envelope path ret envid
+  pub is_queued : (text : List ℕ) (number at : ℕ) (path : List ℕ) (ret : ℕ) (envid : List ℕ) (recipients : List Recipient) (places : List Place) (stored after : List ℕ)
+      (envelope : Envelope) → SpellsEntry version text number at path ret envid recipients places stored after → IsMail envelope → HasMailFields envelope path ret envid
       → at ≤ LAST_SECOND → length stored ≤ text_limit path → list_any is_held places ≡ true
       → IsQueuedBy version (numbered (message_from number at envelope recipients stored places))
-  is_queued text number at path ret envid recipients places stored behind envelope spelled mail has moment short some =
+  is_queued text number at path ret envid recipients places stored after envelope spelled mail has moment short some =
       let zipped = length-zip recipients places in
       let many = spelled.as_many in
       let least = spelled.are_placed.some in
@@ -211,16 +211,16 @@ module _ (version : SnapshotVersion) where
         places = may;
       }
 
-  pub entry_is : (text : List ℕ) (number at : ℕ) (path : List ℕ) (ret : ℕ) (envid : List ℕ) (recipients : List Recipient) (places : List Place) (stored behind : List ℕ)
-      (envelope : Envelope) → SpellsEntry version text number at path ret envid recipients places stored behind → HasMailFields envelope path ret envid
-      → text ≡ entry_octets version (numbered (message_from number at envelope recipients stored places)) ++ behind
-  entry_is text number at path ret envid recipients places stored behind envelope spelled has =
-      spelled_entry version text behind (numbered (message_from number at envelope recipients stored places)) (record {
+  pub entry_is : (text : List ℕ) (number at : ℕ) (path : List ℕ) (ret : ℕ) (envid : List ℕ) (recipients : List Recipient) (places : List Place) (stored after : List ℕ)
+      (envelope : Envelope) → SpellsEntry version text number at path ret envid recipients places stored after → HasMailFields envelope path ret envid
+      → text ≡ entry_octets version (numbered (message_from number at envelope recipients stored places)) ++ after
+  entry_is text number at path ret envid recipients places stored after envelope spelled has =
+      spelled_entry version text after (numbered (message_from number at envelope recipients stored places)) (record {
         text_is = spelled.text_is
             ∙ (λ i. octets_8 number
             ++ (octets_8 at
             ++ (sized_2 (has.path_is i)
-            ++ (has.ret_is i ∷ (sized_2 (has.envid_is i) ++ (counted (placed_octets version) (zip recipients places) ++ (sized_4 stored ++ behind)))))));
+            ++ (has.ret_is i ∷ (sized_2 (has.envid_is i) ++ (counted (placed_octets version) (zip recipients places) ++ (sized_4 stored ++ after)))))));
         number_fits = spelled.number_fits;
         at_fits = spelled.at_fits;
         path_fits = let same = ap length has.path_is in let fits = spelled.path_fits in omega (arith, same, fits);
@@ -231,30 +231,30 @@ module _ (version : SnapshotVersion) where
       })
 
   -- the message that was made of the fields
-  pub entry_found : (text : List ℕ) (number at : ℕ) (path : List ℕ) (ret : ℕ) (envid : List ℕ) (recipients : List Recipient) (places : List Place) (stored behind : List ℕ)
-      (given envelope : Envelope) (moment : ℕ) (copy : List ℕ) → SpellsEntry version text number at path ret envid recipients places stored behind
+  pub entry_found : (text : List ℕ) (number at : ℕ) (path : List ℕ) (ret : ℕ) (envid : List ℕ) (recipients : List Recipient) (places : List Place) (stored after : List ℕ)
+      (given envelope : Envelope) (moment : ℕ) (copy : List ℕ) → SpellsEntry version text number at path ret envid recipients places stored after
       → IsMail given → HasMailFields given path ret envid → moment ≡ at → moment ≤ LAST_SECOND → length stored ≤ text_limit path → list_any is_held places ≡ true
       → envelope ≡ given → copy ≡ stored
       → IsQueuedBy version (numbered (message_from number moment envelope recipients copy places))
-      × (text ≡ entry_octets version (numbered (message_from number moment envelope recipients copy places)) ++ behind)
-  entry_found text number at path ret envid recipients places stored behind given envelope moment copy spelled mail has moment_is late short some envelope_is copy_is =
+      × (text ≡ entry_octets version (numbered (message_from number moment envelope recipients copy places)) ++ after)
+  entry_found text number at path ret envid recipients places stored after given envelope moment copy spelled mail has moment_is late short some envelope_is copy_is =
       let made : message_from number at given recipients stored places ≡ message_from number moment envelope recipients copy places =
       (λ i. message_from number (sym moment_is i) (sym envelope_is i) recipients (sym copy_is i) places) in (
         subst (λ (m : Message). IsQueuedBy version (numbered m)) made
-            (is_queued text number at path ret envid recipients places stored behind given spelled mail has (omega (arith, moment_is, late)) short some),
-        subst (λ (m : Message). text ≡ entry_octets version (numbered m) ++ behind) made
-            (entry_is text number at path ret envid recipients places stored behind given spelled has),
+            (is_queued text number at path ret envid recipients places stored after given spelled mail has (omega (arith, moment_is, late)) short some),
+        subst (λ (m : Message). text ≡ entry_octets version (numbered m) ++ after) made
+            (entry_is text number at path ret envid recipients places stored after given spelled has),
       )
 
   -- a message out of a row's numbers
   pub none_in : (text : List ℕ) (least next : ℕ) → HasNone (IsQueuedBy version) (entry_octets version) text → HasNone (IsQueuedIn version least next) (entry_octets version) text
   none_in text least next out = record { none = λ entry rest valid e. out.none entry rest valid.queued e }
 
-  pub out_of_row : (text : List ℕ) (least next : ℕ) (message : Message) (behind : List ℕ) → IsQueuedBy version (numbered message) → text ≡ entry_octets version (numbered message) ++ behind
+  pub out_of_row : (text : List ℕ) (least next : ℕ) (message : Message) (after : List ℕ) → IsQueuedBy version (numbered message) → text ≡ entry_octets version (numbered message) ++ after
       → (least ≤ message.number → message.number < next → ⊥) → HasNone (IsQueuedIn version least next) (entry_octets version) text
-  out_of_row text least next message behind valid is out = record {
+  out_of_row text least next message after valid is out = record {
     none = λ entry rest also e.
-        let same = code_entry version (numbered message) entry behind rest valid also.queued (sym is ∙ e) in
+        let same = code_entry version (numbered message) entry after rest valid also.queued (sym is ∙ e) in
         let number_is = ap (λ (n : ℕ × Message). n.0) same.0 in
         let low = also.low in
         let high = also.high in

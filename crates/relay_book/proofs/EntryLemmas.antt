@@ -117,12 +117,12 @@ none_before least next (entry ∷ entries) number rise below =
     cond-false (entry.0 == number) _ _ (ne_eqb entry.0 number (λ same. omega (arith, same, below, rise.0)))
     ∙ none_before (suc entry.0) next entries number rise.1 (omega (arith, below, rise.0))
 
-pub none_behind : (least next : ℕ) (entries : List (ℕ × Message)) (number : ℕ) → Rise least next entries → next ≤ number → message_of entries number ≡ None
-none_behind least next [] number rise behind = refl
-none_behind least next (entry ∷ entries) number rise behind =
+pub none_after : (least next : ℕ) (entries : List (ℕ × Message)) (number : ℕ) → Rise least next entries → next ≤ number → message_of entries number ≡ None
+none_after least next [] number rise after = refl
+none_after least next (entry ∷ entries) number rise after =
     let up = entry_below (suc entry.0) next entries rise.1 in
-    cond-false (entry.0 == number) _ _ (ne_eqb entry.0 number (λ same. omega (arith, same, behind, up)))
-    ∙ none_behind (suc entry.0) next entries number rise.1 behind
+    cond-false (entry.0 == number) _ _ (ne_eqb entry.0 number (λ same. omega (arith, same, after, up)))
+    ∙ none_after (suc entry.0) next entries number rise.1 after
   where
     entry_below : (least next : ℕ) (entries : List (ℕ × Message)) → Rise least next entries → least ≤ next
     entry_below least next [] rise = rise
@@ -133,7 +133,7 @@ message_below least next entries number message rise is = by (cases_lt number ne
   where
     by : (number < next) ⊎ (next ≤ number) → number < next
     by (inl below) = below
-    by (inr behind) = absurd (none_some message (sym (none_behind least next entries number rise behind) ∙ is))
+    by (inr after) = absurd (none_some message (sym (none_after least next entries number rise after) ∙ is))
 
 -- a message more
 pub joined_other : (entries : List (ℕ × Message)) (next number : ℕ) (message : Message) → (next ≡ number → ⊥) → message_of (entries ++ (next, message) ∷ []) number ≡ message_of entries number

@@ -37,18 +37,18 @@ spells text rest recipient valid e = record {
 pub none_without_fields : (text : List ℕ) → HasNoFields text → HasNone IsRecipient recipient_octets text
 none_without_fields text out = record { none = λ recipient rest valid e. out.none _ _ _ _ (spells text rest recipient valid e) }
 
-pub none_of_fields : (text path : List ℕ) (number : ℕ) (orcpt behind : List ℕ) → SpellsFields text path number orcpt behind → IsNoRecipient path number orcpt → HasNone IsRecipient recipient_octets text
-none_of_fields text path number orcpt behind one out = record {
+pub none_of_fields : (text path : List ℕ) (number : ℕ) (orcpt after : List ℕ) → SpellsFields text path number orcpt after → IsNoRecipient path number orcpt → HasNone IsRecipient recipient_octets text
+none_of_fields text path number orcpt after one out = record {
   none = λ recipient rest valid e.
-      let same = fields_are_one text path number orcpt behind recipient.path (notify_number recipient.notify) (written recipient.orcpt) rest one (spells text rest recipient valid e) in
+      let same = fields_are_one text path number orcpt after recipient.path (notify_number recipient.notify) (written recipient.orcpt) rest one (spells text rest recipient valid e) in
       out.none recipient valid (record { path_is = same.0; notify_is = same.1; orcpt_is = same.2 });
 }
 
 pub none_short : (text : List ℕ) → length text < 2 → HasNoSized text
 none_short text short = record { none = λ field rest fits e. too_short text field rest short e }
 
-pub none_cut : (text : List ℕ) (n : ℕ) (behind : List ℕ) → text ≡ octets_2 n ++ behind → n < 2 ^ 16 → length behind < n → HasNoSized text
-none_cut text n behind e small less = record { none = λ field rest fits other. cut_short text n behind field rest e small less fits other }
+pub none_cut : (text : List ℕ) (n : ℕ) (after : List ℕ) → text ≡ octets_2 n ++ after → n < 2 ^ 16 → length after < n → HasNoSized text
+none_cut text n after e small less = record { none = λ field rest fits other. cut_short text n after field rest e small less fits other }
 
 pub none_path : (path : List ℕ) (number : ℕ) (orcpt : List ℕ) → (IsWrittenPath is_forward path → ⊥) → IsNoRecipient path number orcpt
 none_path path number orcpt out = record { none = λ recipient valid has. out (subst (IsWrittenPath is_forward) (sym has.path_is) valid.path) }
@@ -59,33 +59,33 @@ none_notify path number orcpt out = record { none = λ recipient valid has. out 
 pub none_orcpt : (path : List ℕ) (number : ℕ) (orcpt : List ℕ) → ((given : Option (List ℕ)) → may_be_orcpt given ≡ true → orcpt ≢ written given) → IsNoRecipient path number orcpt
 none_orcpt path number orcpt out = record { none = λ recipient valid has. out recipient.orcpt valid.orcpt has.orcpt_is }
 
-pub spelled : (text path : List ℕ) (number : ℕ) (orcpt behind : List ℕ) (recipient : Recipient) → SpellsFields text path number orcpt behind → HasFields recipient path number orcpt → text ≡ recipient_octets recipient ++ behind
-spelled text path number orcpt behind recipient one has =
+pub spelled : (text path : List ℕ) (number : ℕ) (orcpt after : List ℕ) (recipient : Recipient) → SpellsFields text path number orcpt after → HasFields recipient path number orcpt → text ≡ recipient_octets recipient ++ after
+spelled text path number orcpt after recipient one has =
     one.text_is
-    ∙ (λ i. sized_2 (has.path_is i) ++ (has.notify_is i ∷ (sized_2 (has.orcpt_is i) ++ behind)))
-    ∙ sym (append_assoc (sized_2 recipient.path) (notify_number recipient.notify ∷ sized_2 (written recipient.orcpt)) behind)
+    ∙ (λ i. sized_2 (has.path_is i) ++ (has.notify_is i ∷ (sized_2 (has.orcpt_is i) ++ after)))
+    ∙ sym (append_assoc (sized_2 recipient.path) (notify_number recipient.notify ∷ sized_2 (written recipient.orcpt)) after)
 
 -- where a field is missing
 pub no_path : (text : List ℕ) → HasNoSized text → HasNoFields text
 no_path text out = record { none = λ path number orcpt rest two. out.none path _ two.first_fits two.text_is }
 
-pub no_notify : (text front behind : List ℕ) → text ≡ sized_2 front ++ behind → length front < 2 ^ 16 → length behind ≡ 0 → HasNoFields text
-no_notify text front behind e fits empty = record {
+pub no_notify : (text front after : List ℕ) → text ≡ sized_2 front ++ after → length front < 2 ^ 16 → length after ≡ 0 → HasNoFields text
+no_notify text front after e fits empty = record {
   none = λ path number orcpt rest two.
-      let first = code_sized octets_2 (2 ^ 16) code_2 front path behind (number ∷ (sized_2 orcpt ++ rest)) fits two.first_fits (sym e ∙ two.text_is) in
-      let long : length behind ≡ suc (length (sized_2 orcpt ++ rest)) = ap length first.1 in
+      let first = code_sized octets_2 (2 ^ 16) code_2 front path after (number ∷ (sized_2 orcpt ++ rest)) fits two.first_fits (sym e ∙ two.text_is) in
+      let long : length after ≡ suc (length (sized_2 orcpt ++ rest)) = ap length first.1 in
       omega (arith, long, empty);
 }
 
-pub no_orcpt : (text front : List ℕ) (octet : ℕ) (behind : List ℕ) → text ≡ sized_2 front ++ octet ∷ behind → length front < 2 ^ 16 → HasNoSized behind → HasNoFields text
-no_orcpt text front octet behind e fits out = record {
+pub no_orcpt : (text front : List ℕ) (octet : ℕ) (after : List ℕ) → text ≡ sized_2 front ++ octet ∷ after → length front < 2 ^ 16 → HasNoSized after → HasNoFields text
+no_orcpt text front octet after e fits out = record {
   none = λ path number orcpt rest two.
-      let first = code_sized octets_2 (2 ^ 16) code_2 front path (octet ∷ behind) (number ∷ (sized_2 orcpt ++ rest)) fits two.first_fits (sym e ∙ two.text_is) in
-      out.none orcpt rest two.second_fits (same_head octet number behind (sized_2 orcpt ++ rest) first.1).1;
+      let first = code_sized octets_2 (2 ^ 16) code_2 front path (octet ∷ after) (number ∷ (sized_2 orcpt ++ rest)) fits two.first_fits (sym e ∙ two.text_is) in
+      out.none orcpt rest two.second_fits (same_head octet number after (sized_2 orcpt ++ rest) first.1).1;
 }
 
-pub fields_are : (text path : List ℕ) (octet : ℕ) (behind orcpt rest : List ℕ) → text ≡ sized_2 path ++ octet ∷ behind → behind ≡ sized_2 orcpt ++ rest → length path < 2 ^ 16 → length orcpt < 2 ^ 16 → SpellsFields text path octet orcpt rest
-fields_are text path octet behind orcpt rest e more path_short orcpt_short = record {
+pub fields_are : (text path : List ℕ) (octet : ℕ) (after orcpt rest : List ℕ) → text ≡ sized_2 path ++ octet ∷ after → after ≡ sized_2 orcpt ++ rest → length path < 2 ^ 16 → length orcpt < 2 ^ 16 → SpellsFields text path octet orcpt rest
+fields_are text path octet after orcpt rest e more path_short orcpt_short = record {
   text_is = e ∙ ap (λ (xs : List ℕ). sized_2 path ++ octet ∷ xs) more;
   first_fits = path_short;
   second_fits = orcpt_short;

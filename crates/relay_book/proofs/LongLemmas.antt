@@ -12,10 +12,10 @@ none_short text short = record {
       omega (arith, short, long);
 }
 
-pub none_cut : (text : List ℕ) (n : ℕ) (behind : List ℕ) → text ≡ octets_4 n ++ behind → n < 2 ^ 32 → length behind < n → HasNoLong text
-none_cut text n behind e small less = record {
+pub none_cut : (text : List ℕ) (n : ℕ) (after : List ℕ) → text ≡ octets_4 n ++ after → n < 2 ^ 32 → length after < n → HasNoLong text
+none_cut text n after e small less = record {
   none = λ field rest fits other.
-      let f = code_4 n (length field) behind (field ++ rest) small fits (sym e ∙ other ∙ append_assoc (octets_4 (length field)) field rest) in
-      let long : length behind ≡ length field + length rest = ap length f.1 ∙ length-append field rest in
+      let f = code_4 n (length field) after (field ++ rest) small fits (sym e ∙ other ∙ append_assoc (octets_4 (length field)) field rest) in
+      let long : length after ≡ length field + length rest = ap length f.1 ∙ length-append field rest in
       omega (arith, less, f.0, long);
 }

@@ -152,8 +152,8 @@ module _ (test : ℕ → Message → ℕ → Bool) where
       in_none {A = ℕ × ℕ} (due, keyed.number) (subst (λ (l : List (ℕ × ℕ)). Contains {X = ℕ × ℕ} l (due, keyed.number)) is (left (due, keyed.number) keyed.told keyed.waits)))
 
   -- a key is not after those that follow it
-  not_behind : (key other : ℕ × ℕ) → pair_cmp key other ≡ Less → key.0 ≤ other.0
-  not_behind key other less = by (cases_order key.0 other.0)
+  not_after : (key other : ℕ × ℕ) → pair_cmp key other ≡ Less → key.0 ≤ other.0
+  not_after key other less = by (cases_order key.0 other.0)
     where
       by : (key.0 ≡ other.0) ⊎ ((key.0 < other.0) ⊎ (other.0 < key.0)) → key.0 ≤ other.0
       by (inl same) = omega (arith, same)
@@ -187,6 +187,6 @@ module _ (test : ℕ → Message → ℕ → Bool) where
           by : (first ≡ (other, keyed.number)) ⊎ Contains {X = ℕ × ℕ} after (other, keyed.number) → first.0 ≤ other
           by (inl same) = let e = ap (λ (k : ℕ × ℕ). k.0) same in omega (arith, e)
           by (inr more) =
-              not_behind first (other, keyed.number)
+              not_after first (other, keyed.number)
               (all_of (λ key. pair_cmp first key ≡ Less) after (other, keyed.number)
               (sorted_head pair_cmp first after (subst (IsStrictlySortedBy pair_cmp) is sorted)) more)

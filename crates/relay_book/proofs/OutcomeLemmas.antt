@@ -49,25 +49,25 @@ heads_are_one text message at hop rest message2 at2 hop2 rest2 one two =
 pub no_message : (text : List ℕ) → length text < 8 → HasNoHead text
 no_message text short = record { none = λ message at hop rest two. let long = long_8 text message _ two.text_is in omega (arith, short, long) }
 
-pub no_moment : (text : List ℕ) (message : ℕ) (behind : List ℕ) → text ≡ octets_8 message ++ behind → message < 2 ^ 64 → length behind < 8 → HasNoHead text
-no_moment text message behind is small short = record {
+pub no_moment : (text : List ℕ) (message : ℕ) (after : List ℕ) → text ≡ octets_8 message ++ after → message < 2 ^ 64 → length after < 8 → HasNoHead text
+no_moment text message after is small short = record {
   none = λ other at hop rest two.
-      let long = long_8 behind at _ (code_8 message other behind _ small two.message_fits (sym is ∙ two.text_is)).1 in
+      let long = long_8 after at _ (code_8 message other after _ small two.message_fits (sym is ∙ two.text_is)).1 in
       omega (arith, short, long);
 }
 
-pub no_hop : (text : List ℕ) (message : ℕ) (behind : List ℕ) (at : ℕ) (more : List ℕ) → text ≡ octets_8 message ++ behind → message < 2 ^ 64 → behind ≡ octets_8 at ++ more → at < 2 ^ 64
+pub no_hop : (text : List ℕ) (message : ℕ) (after : List ℕ) (at : ℕ) (more : List ℕ) → text ≡ octets_8 message ++ after → message < 2 ^ 64 → after ≡ octets_8 at ++ more → at < 2 ^ 64
     → HasNoSized more → HasNoHead text
-no_hop text message behind at more is small at_is at_small out = record {
+no_hop text message after at more is small at_is at_small out = record {
   none = λ other at2 hop rest two.
-      let first = code_8 message other behind _ small two.message_fits (sym is ∙ two.text_is) in
+      let first = code_8 message other after _ small two.message_fits (sym is ∙ two.text_is) in
       let second = code_8 at at2 more _ at_small two.at_fits (sym at_is ∙ first.1) in
       out.none hop rest two.hop_fits second.1;
 }
 
-pub head_is : (text : List ℕ) (message : ℕ) (behind : List ℕ) (at : ℕ) (more hop rest : List ℕ) → text ≡ octets_8 message ++ behind → message < 2 ^ 64 → behind ≡ octets_8 at ++ more → at < 2 ^ 64
+pub head_is : (text : List ℕ) (message : ℕ) (after : List ℕ) (at : ℕ) (more hop rest : List ℕ) → text ≡ octets_8 message ++ after → message < 2 ^ 64 → after ≡ octets_8 at ++ more → at < 2 ^ 64
     → more ≡ sized_2 hop ++ rest → length hop < 2 ^ 16 → SpellsHead text message at hop rest
-head_is text message behind at more hop rest is small at_is at_small hop_is hop_small = record {
+head_is text message after at more hop rest is small at_is at_small hop_is hop_small = record {
   text_is = is ∙ ap (λ (l : List ℕ). octets_8 message ++ l) (at_is ∙ ap (λ (l : List ℕ). octets_8 at ++ l) hop_is);
   message_fits = small;
   at_fits = at_small;
@@ -78,13 +78,13 @@ head_is text message behind at more hop rest is small at_is at_small hop_is hop_
 pub no_head : (text : List ℕ) → HasNoHead text → SpellsNoOutcome text
 no_head text out = record { none = λ outcome valid e. out.none _ _ _ _ (outcome_head text outcome valid e) }
 
-behind_head : (text : List ℕ) (message at : ℕ) (hop rest : List ℕ) (outcome : OutcomeFields) → SpellsHead text message at hop rest → IsOutcome outcome → text ≡ outcome_octets outcome
+after_head : (text : List ℕ) (message at : ℕ) (hop rest : List ℕ) (outcome : OutcomeFields) → SpellsHead text message at hop rest → IsOutcome outcome → text ≡ outcome_octets outcome
     → rest ≡ counted ruling_octets outcome.rulings ++ sized_4 outcome.report
-behind_head text message at hop rest outcome head valid e = (heads_are_one text message at hop rest _ _ _ _ head (outcome_head text outcome valid e)).3
+after_head text message at hop rest outcome head valid e = (heads_are_one text message at hop rest _ _ _ _ head (outcome_head text outcome valid e)).3
 
 pub no_rulings : (text : List ℕ) (message at : ℕ) (hop rest : List ℕ) → SpellsHead text message at hop rest → HasNoCounted IsRuling ruling_octets rest → SpellsNoOutcome text
 no_rulings text message at hop rest head out = record {
-  none = λ outcome valid e. out.none outcome.rulings (sized_4 outcome.report) (are_rulings outcome valid) (behind_head text message at hop rest outcome head valid e);
+  none = λ outcome valid e. out.none outcome.rulings (sized_4 outcome.report) (are_rulings outcome valid) (after_head text message at hop rest outcome head valid e);
 }
 
 pub no_report : (text : List ℕ) (message at : ℕ) (hop rest : List ℕ) (rulings : List Ruling) (last : List ℕ) → SpellsHead text message at hop rest
@@ -92,7 +92,7 @@ pub no_report : (text : List ℕ) (message at : ℕ) (hop rest : List ℕ) (ruli
 no_report text message at hop rest rulings last head counted_is some out = record {
   none = λ outcome valid e.
       let same = counted_are_one IsRuling ruling_octets code_ruling rulings outcome.rulings last (sized_4 outcome.report) some (are_rulings outcome valid)
-      (sym counted_is ∙ behind_head text message at hop rest outcome head valid e) in
+      (sym counted_is ∙ after_head text message at hop rest outcome head valid e) in
       let report = valid.report in
       out.none outcome.report (omega (arith, report)) same.1;
 }

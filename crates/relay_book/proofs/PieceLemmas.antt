@@ -11,8 +11,8 @@ use Rattle.relay_book.specs.SnapshotFields.{SpellsNoSnapshot, SpellsSnapshot, is
 use Rattle.relay_book.proofs.LengthLemmas.{length_8}
 
 -- what follows a first part is not longer than the text
-pub behind_first : (front first rest : List ℕ) → front ≡ first ++ rest → length rest ≤ length front
-behind_first front first rest is =
+pub after_first : (front first rest : List ℕ) → front ≡ first ++ rest → length rest ≤ length front
+after_first front first rest is =
     let all = ap length is in
     let parts = length-append first rest in
     omega (arith, all, parts)
@@ -26,18 +26,18 @@ rest_is front first rest is =
     ap (drop (length front - length rest)) is ∙ drop_at first rest (length front - length rest) long
 
 -- a first part of what is held, which is let go, is a first part of the text
-pub first_behind : (old new : InPieces) (first rest : List ℕ) → old.front ≡ first ++ rest → new.front ≡ drop (length old.front - length rest) old.front → new.behind ≡ old.behind
+pub first_after : (old new : InPieces) (first rest : List ℕ) → old.front ≡ first ++ rest → new.front ≡ drop (length old.front - length rest) old.front → new.after ≡ old.after
     → text_of old ≡ first ++ text_of new
-first_behind old new first rest is left stays =
-    ap (λ (l : List ℕ). l ++ old.behind) is ∙ append_assoc first rest old.behind
+first_after old new first rest is left stays =
+    ap (λ (l : List ℕ). l ++ old.after) is ∙ append_assoc first rest old.after
     ∙ (λ i. first ++ (sym (left ∙ rest_is old.front first rest is) i ++ sym stays i))
 
 -- the text is what is held, where nothing stands after that
-pub text_is_front : (pieces : InPieces) → pieces.behind ≡ [] → text_of pieces ≡ pieces.front
+pub text_is_front : (pieces : InPieces) → pieces.after ≡ [] → text_of pieces ≡ pieces.front
 text_is_front pieces none = ap (λ (l : List ℕ). pieces.front ++ l) none ∙ append-nil pieces.front
 
 -- no value begins the text, where none begins what is held and that is all
-pub none_in_all : {A : Type 0} (Valid : A → Type 0) (octets_of : A → List ℕ) (text : List ℕ) (pieces : InPieces) → HasNone Valid octets_of pieces.front → pieces.behind ≡ []
+pub none_in_all : {A : Type 0} (Valid : A → Type 0) (octets_of : A → List ℕ) (text : List ℕ) (pieces : InPieces) → HasNone Valid octets_of pieces.front → pieces.after ≡ []
     → text_of pieces ≡ text → HasNone Valid octets_of text
 none_in_all Valid octets_of text pieces out none same = subst (HasNone Valid octets_of) (sym (text_is_front pieces none) ∙ same) out
 
@@ -62,28 +62,28 @@ head_and_rest : (version : SnapshotVersion) (next count : ℕ) (rest : List ℕ)
 unfolding head
 head_and_rest version next count rest = λ i. snapshot_kind version ∷ sym (append_assoc (octets_8 next) (octets_4 count) rest) i
 
-pub head_behind : (version : SnapshotVersion) (front : List ℕ) (next count : ℕ) (rest : List ℕ) → SpellsSnapshot version front next count rest → length rest ≤ length front
-head_behind version front next count rest spelled =
-    behind_first front (head version next count) rest (spelled.octets_are ∙ head_and_rest version next count rest)
+pub head_after : (version : SnapshotVersion) (front : List ℕ) (next count : ℕ) (rest : List ℕ) → SpellsSnapshot version front next count rest → length rest ≤ length front
+head_after version front next count rest spelled =
+    after_first front (head version next count) rest (spelled.octets_are ∙ head_and_rest version next count rest)
 
 -- the head that stands at the front of what is held is that of the text
 pub head_in_all : (version : SnapshotVersion) (text : List ℕ) (old new : InPieces) (next count : ℕ) (rest : List ℕ) → SpellsSnapshot version old.front next count rest → text_of old ≡ text
-    → new.front ≡ drop (length old.front - length rest) old.front → new.behind ≡ old.behind → SpellsSnapshot version text next count (text_of new)
+    → new.front ≡ drop (length old.front - length rest) old.front → new.after ≡ old.after → SpellsSnapshot version text next count (text_of new)
 head_in_all version text old new next count rest spelled same left stays = record {
-  octets_are = sym same ∙ first_behind old new (head version next count) rest (spelled.octets_are ∙ head_and_rest version next count rest) left stays
+  octets_are = sym same ∙ first_after old new (head version next count) rest (spelled.octets_are ∙ head_and_rest version next count rest) left stays
       ∙ sym (head_and_rest version next count (text_of new));
   next_fits = spelled.next_fits;
   count_fits = spelled.count_fits;
 }
 
 -- a first part that isn't longer than what is held is a first part of that
-within_front : (front behind first rest : List ℕ) → length first ≤ length front → front ++ behind ≡ first ++ rest → front ≡ first ++ drop (length first) front
-within_front front behind first rest fits is =
-    let begins : take (length first) front ≡ first = sym (take-append-le (length first) front behind fits) ∙ ap (take (length first)) is ∙ take_at first rest (length first) refl in
+within_front : (front after first rest : List ℕ) → length first ≤ length front → front ++ after ≡ first ++ rest → front ≡ first ++ drop (length first) front
+within_front front after first rest fits is =
+    let begins : take (length first) front ≡ first = sym (take-append-le (length first) front after fits) ∙ ap (take (length first)) is ∙ take_at first rest (length first) refl in
     sym (take-append-drop (length first) front) ∙ ap (λ (l : List ℕ). l ++ drop (length first) front) begins
 
 -- no head begins the text, where none begins what is held, and that is 13 octets or all
-pub no_head_in_all : (text : List ℕ) (pieces : InPieces) → SpellsNoSnapshot pieces.front → (length pieces.front < 13 → pieces.behind ≡ []) → text_of pieces ≡ text → SpellsNoSnapshot text
+pub no_head_in_all : (text : List ℕ) (pieces : InPieces) → SpellsNoSnapshot pieces.front → (length pieces.front < 13 → pieces.after ≡ []) → text_of pieces ≡ text → SpellsNoSnapshot text
 no_head_in_all text pieces out short same = subst SpellsNoSnapshot same (by (cases_lt (length pieces.front) 13))
   where
     by : (length pieces.front < 13) ⊎ (13 ≤ length pieces.front) → SpellsNoSnapshot (text_of pieces)
@@ -93,7 +93,7 @@ no_head_in_all text pieces out short same = subst SpellsNoSnapshot same (by (cas
           let first = head version next count in
           let long = head_long version next count in
           out.none version next count (drop (length first) pieces.front) (record {
-            octets_are = within_front pieces.front pieces.behind first rest (omega (arith, enough, long)) (spelled.octets_are ∙ head_and_rest version next count rest)
+            octets_are = within_front pieces.front pieces.after first rest (omega (arith, enough, long)) (spelled.octets_are ∙ head_and_rest version next count rest)
                 ∙ sym (head_and_rest version next count (drop (length first) pieces.front));
             next_fits = spelled.next_fits;
             count_fits = spelled.count_fits;
@@ -101,12 +101,12 @@ no_head_in_all text pieces out short same = subst SpellsNoSnapshot same (by (cas
     }
 
 -- the first octet of what is held is that of the text
-pub kind_in_all : (pieces : InPieces) → (length pieces.front < 1 → pieces.behind ≡ []) → is_of_snapshot pieces.front ≡ is_of_snapshot (text_of pieces)
-kind_in_all pieces held = by pieces.front pieces.behind held
+pub kind_in_all : (pieces : InPieces) → (length pieces.front < 1 → pieces.after ≡ []) → is_of_snapshot pieces.front ≡ is_of_snapshot (text_of pieces)
+kind_in_all pieces held = by pieces.front pieces.after held
   where
-    by : (front behind : List ℕ) → (length front < 1 → behind ≡ []) → is_of_snapshot front ≡ is_of_snapshot (front ++ behind)
-    by [] behind held = ap is_of_snapshot (sym (held (omega arith)))
-    by (octet ∷ front) behind held = refl
+    by : (front after : List ℕ) → (length front < 1 → after ≡ []) → is_of_snapshot front ≡ is_of_snapshot (front ++ after)
+    by [] after held = ap is_of_snapshot (sym (held (omega arith)))
+    by (octet ∷ front) after held = refl
 
 -- the head of a snapshot in pieces
-pub ruleset heads_in_pieces = (head_in_all, no_head_in_all, head_behind)
+pub ruleset heads_in_pieces = (head_in_all, no_head_in_all, head_after)

@@ -7,7 +7,7 @@ use Rattle.relay_envelope.specs.Envelope.{IsRecipient}
 use Rattle.relay_book.specs.declared.version.SnapshotVersion.{SnapshotVersion}
 use Rattle.relay_book.specs.declared.version.SnapshotVersion.TheVariants.{WithoutDelay, WithDelay}
 use Rattle.relay_book.specs.declared.message.Place.{Place}
-use Rattle.relay_book.specs.Fields.{AreSoMany, HasNone, HasNoRow}
+use Rattle.relay_book.specs.Fields.{HaveCount, HasNone, HasNoRow}
 use Rattle.relay_book.specs.Record.{counted, octets_8, recipient_octets, worth}
 use Rattle.relay_book.specs.Snapshot.{IsPlace, IsPlaceBy, MaySay, delay_octets, placed_octets, place_octets}
 use Rattle.relay_book.specs.SnapshotFields.{CountsAs, HasNoDelay, HasNoPlaceFields, HasPlaceFields, IsNoPlace, IsPlacedBy, ReadsPlaced, ReadsRow, SpellsDelay, SpellsPlace}
@@ -87,42 +87,42 @@ module _ (version : SnapshotVersion) where
         omega (arith, long, empty);
   }
 
-  pub no_laters : (text : List ℕ) (held : ℕ) (behind : List ℕ) → text ≡ held ∷ behind → length behind ≡ 0 → HasNoPlaceFields version text
-  no_laters text held behind is empty = record {
+  pub no_laters : (text : List ℕ) (held : ℕ) (after : List ℕ) → text ≡ held ∷ after → length after ≡ 0 → HasNoPlaceFields version text
+  no_laters text held after is empty = record {
     none = λ other laters delayed due rest spelled.
-        let long : length (held ∷ behind) ≡ suc (suc (length (delay_octets version delayed ++ (octets_8 due ++ rest)))) = ap length (sym is ∙ spelled.text_is) in
+        let long : length (held ∷ after) ≡ suc (suc (length (delay_octets version delayed ++ (octets_8 due ++ rest)))) = ap length (sym is ∙ spelled.text_is) in
         omega (arith, long, empty);
   }
 
-  behind_laters : (text : List ℕ) (held : ℕ) (more : List ℕ) (laters : ℕ) (behind : List ℕ) (other others delayed due : ℕ) (rest : List ℕ) → text ≡ held ∷ more
-      → more ≡ laters ∷ behind → SpellsPlace version text other others delayed due rest → behind ≡ delay_octets version delayed ++ (octets_8 due ++ rest)
-  behind_laters text held more laters behind other others delayed due rest is then spelled =
+  after_laters : (text : List ℕ) (held : ℕ) (more : List ℕ) (laters : ℕ) (after : List ℕ) (other others delayed due : ℕ) (rest : List ℕ) → text ≡ held ∷ more
+      → more ≡ laters ∷ after → SpellsPlace version text other others delayed due rest → after ≡ delay_octets version delayed ++ (octets_8 due ++ rest)
+  after_laters text held more laters after other others delayed due rest is then spelled =
       let first = same_head held other more (others ∷ (delay_octets version delayed ++ (octets_8 due ++ rest))) (sym is ∙ spelled.text_is) in
-      (same_head laters others behind (delay_octets version delayed ++ (octets_8 due ++ rest)) (sym then ∙ first.1)).1
+      (same_head laters others after (delay_octets version delayed ++ (octets_8 due ++ rest)) (sym then ∙ first.1)).1
 
-  pub no_delay : (text : List ℕ) (held : ℕ) (more : List ℕ) (laters : ℕ) (behind : List ℕ) → text ≡ held ∷ more → more ≡ laters ∷ behind
-      → HasNoDelay version behind → HasNoPlaceFields version text
-  no_delay text held more laters behind is then out = record {
+  pub no_delay : (text : List ℕ) (held : ℕ) (more : List ℕ) (laters : ℕ) (after : List ℕ) → text ≡ held ∷ more → more ≡ laters ∷ after
+      → HasNoDelay version after → HasNoPlaceFields version text
+  no_delay text held more laters after is then out = record {
     none = λ other others delayed due rest spelled.
         out.none delayed (octets_8 due ++ rest) (record {
-          text_is = behind_laters text held more laters behind other others delayed due rest is then spelled;
+          text_is = after_laters text held more laters after other others delayed due rest is then spelled;
           counts = spelled.counts;
         });
   }
 
-  pub no_due : (text : List ℕ) (held : ℕ) (more : List ℕ) (laters : ℕ) (behind : List ℕ) (delayed : ℕ) (last : List ℕ) → text ≡ held ∷ more → more ≡ laters ∷ behind
-      → SpellsDelay version behind delayed last → length last < 8 → HasNoPlaceFields version text
-  no_due text held more laters behind delayed last is then said short = record {
+  pub no_due : (text : List ℕ) (held : ℕ) (more : List ℕ) (laters : ℕ) (after : List ℕ) (delayed : ℕ) (last : List ℕ) → text ≡ held ∷ more → more ≡ laters ∷ after
+      → SpellsDelay version after delayed last → length last < 8 → HasNoPlaceFields version text
+  no_due text held more laters after delayed last is then said short = record {
     none = λ other others again due rest spelled.
         let same = delay_is_one version delayed again last (octets_8 due ++ rest) said.counts spelled.counts
-        (sym said.text_is ∙ behind_laters text held more laters behind other others again due rest is then spelled) in
+        (sym said.text_is ∙ after_laters text held more laters after other others again due rest is then spelled) in
         let long = long_8 last due rest same.1 in
         omega (arith, long, short);
   }
 
-  pub fields_are : (text : List ℕ) (held : ℕ) (more : List ℕ) (laters : ℕ) (behind : List ℕ) (delayed : ℕ) (last : List ℕ) (due : ℕ) (rest : List ℕ) → text ≡ held ∷ more
-      → more ≡ laters ∷ behind → SpellsDelay version behind delayed last → last ≡ octets_8 due ++ rest → due < 2 ^ 64 → SpellsPlace version text held laters delayed due rest
-  fields_are text held more laters behind delayed last due rest is then said last_is small = record {
+  pub fields_are : (text : List ℕ) (held : ℕ) (more : List ℕ) (laters : ℕ) (after : List ℕ) (delayed : ℕ) (last : List ℕ) (due : ℕ) (rest : List ℕ) → text ≡ held ∷ more
+      → more ≡ laters ∷ after → SpellsDelay version after delayed last → last ≡ octets_8 due ++ rest → due < 2 ^ 64 → SpellsPlace version text held laters delayed due rest
+  fields_are text held more laters after delayed last due rest is then said last_is small = record {
     text_is = is
         ∙ ap (λ (l : List ℕ). held ∷ l)
         (then ∙ ap (λ (l : List ℕ). laters ∷ l) (said.text_is ∙ ap (λ (l : List ℕ). delay_octets version delayed ++ l) last_is));
@@ -144,16 +144,16 @@ module _ (version : SnapshotVersion) where
         (record { text_is = e ∙ place_joined place rest; counts = said_counts version place.delayed valid.may; due_fits = valid.is.due });
   }
 
-  pub none_of_fields : (text : List ℕ) (held laters delayed due : ℕ) (behind : List ℕ) → SpellsPlace version text held laters delayed due behind
+  pub none_of_fields : (text : List ℕ) (held laters delayed due : ℕ) (after : List ℕ) → SpellsPlace version text held laters delayed due after
       → IsNoPlace held laters delayed due → HasNone (IsPlaceBy version) (place_octets version) text
-  none_of_fields text held laters delayed due behind spelled out = record {
+  none_of_fields text held laters delayed due after spelled out = record {
     none = λ place rest valid e.
-        let said = delay_octets version delayed ++ (octets_8 due ++ behind) in
+        let said = delay_octets version delayed ++ (octets_8 due ++ after) in
         let other = delay_octets version (worth place.delayed 1) ++ (octets_8 place.due ++ rest) in
         let first = same_head held (worth place.held 1) (laters ∷ said) (place.laters ∷ other) (sym spelled.text_is ∙ e ∙ place_joined place rest) in
         let second = same_head laters place.laters said other first.1 in
         let third = delay_is_one version delayed (worth place.delayed 1) _ _ spelled.counts (said_counts version place.delayed valid.may) second.1 in
-        let fourth = code_8 due place.due behind rest spelled.due_fits valid.is.due third.1 in
+        let fourth = code_8 due place.due after rest spelled.due_fits valid.is.due third.1 in
         out.none place valid.is (record { held_is = first.0; laters_are = second.0; delayed_is = third.0; due_is = fourth.0 });
   }
 
@@ -177,18 +177,18 @@ module _ (version : SnapshotVersion) where
         out.none placed.0 (place_octets version placed.1 ++ rest) valid.recipient (e ∙ append_assoc (recipient_octets placed.0) (place_octets version placed.1) rest);
   }
 
-  pub no_place_behind : (text : List ℕ) (recipient : Recipient) (behind : List ℕ) → IsRecipient recipient → text ≡ recipient_octets recipient ++ behind
-      → HasNone (IsPlaceBy version) (place_octets version) behind → HasNone (IsPlacedBy version) (placed_octets version) text
-  no_place_behind text recipient behind valid is out = record {
+  pub no_place_after : (text : List ℕ) (recipient : Recipient) (after : List ℕ) → IsRecipient recipient → text ≡ recipient_octets recipient ++ after
+      → HasNone (IsPlaceBy version) (place_octets version) after → HasNone (IsPlacedBy version) (placed_octets version) text
+  no_place_after text recipient after valid is out = record {
     none = λ placed rest also e.
-        let same = code_recipient recipient placed.0 behind (place_octets version placed.1 ++ rest) valid also.recipient
+        let same = code_recipient recipient placed.0 after (place_octets version placed.1 ++ rest) valid also.recipient
         (sym is ∙ e ∙ append_assoc (recipient_octets placed.0) (place_octets version placed.1) rest) in
         out.none placed.1 rest also.place same.1;
   }
 
-  pub placed_is : (text : List ℕ) (recipient : Recipient) (behind : List ℕ) (place : Place) (rest : List ℕ) → text ≡ recipient_octets recipient ++ behind
-      → behind ≡ place_octets version place ++ rest → text ≡ placed_octets version (recipient, place) ++ rest
-  placed_is text recipient behind place rest is then =
+  pub placed_is : (text : List ℕ) (recipient : Recipient) (after : List ℕ) (place : Place) (rest : List ℕ) → text ≡ recipient_octets recipient ++ after
+      → after ≡ place_octets version place ++ rest → text ≡ placed_octets version (recipient, place) ++ rest
+  placed_is text recipient after place rest is then =
       is ∙ ap (λ (l : List ℕ). recipient_octets recipient ++ l) then ∙ sym (append_assoc (recipient_octets recipient) (place_octets version place) rest)
 
 -- rows
@@ -202,44 +202,44 @@ zip_last (first ∷ recipients) (other ∷ places) recipient place many =
 
 module _ (version : SnapshotVersion) where
   pub no_row_read : (text : List ℕ) → ReadsRow version 0 text [] [] text
-  no_row_read text = record { as_many = refl; are = record { so_many = refl; valid = tt }; text_is = refl }
+  no_row_read text = record { as_many = refl; are = record { have_count = refl; valid = tt }; text_is = refl }
 
-  pub row_more : (count : ℕ) (text : List ℕ) (recipients : List Recipient) (places : List Place) (rest : List ℕ) (recipient : Recipient) (place : Place) (behind : List ℕ)
-      → ReadsRow version count text recipients places rest → IsPlacedBy version (recipient, place) → rest ≡ placed_octets version (recipient, place) ++ behind
-      → ReadsRow version (count + 1) text (recipients ++ recipient ∷ []) (places ++ place ∷ []) behind
-  row_more count text recipients places rest recipient place behind reads valid is =
+  pub row_more : (count : ℕ) (text : List ℕ) (recipients : List Recipient) (places : List Place) (rest : List ℕ) (recipient : Recipient) (place : Place) (after : List ℕ)
+      → ReadsRow version count text recipients places rest → IsPlacedBy version (recipient, place) → rest ≡ placed_octets version (recipient, place) ++ after
+      → ReadsRow version (count + 1) text (recipients ++ recipient ∷ []) (places ++ place ∷ []) after
+  row_more count text recipients places rest recipient place after reads valid is =
       let last = zip_last recipients places recipient place reads.as_many in
       let longer = length-append recipients (recipient ∷ []) in
       let also = length-append places (place ∷ []) in
       let many = reads.as_many in
       record {
         as_many = omega (arith, longer, also, many);
-        are = subst (AreSoMany (IsPlacedBy version) (count + 1)) (sym last) (one_more_valid (IsPlacedBy version) count (zip recipients places) (recipient, place) reads.are valid);
-        text_is = one_more_read (placed_octets version) text (zip recipients places) (recipient, place) rest behind reads.text_is is
-            ∙ ap (λ (l : List (Recipient × Place)). flat_map (placed_octets version) l ++ behind) (sym last);
+        are = subst (HaveCount (IsPlacedBy version) (count + 1)) (sym last) (one_more_valid (IsPlacedBy version) count (zip recipients places) (recipient, place) reads.are valid);
+        text_is = one_more_read (placed_octets version) text (zip recipients places) (recipient, place) rest after reads.text_is is
+            ∙ ap (λ (l : List (Recipient × Place)). flat_map (placed_octets version) l ++ after) (sym last);
       }
 
-  pub no_placed_row : (count done : ℕ) (text : List ℕ) (recipients : List Recipient) (places : List Place) (behind : List ℕ) → done < count
-      → ReadsRow version done text recipients places behind → HasNone (IsPlacedBy version) (placed_octets version) behind → HasNoRow (IsPlacedBy version) (placed_octets version) count text
-  no_placed_row count done text recipients places behind fewer reads out =
-      no_row (IsPlacedBy version) (placed_octets version) (code_placed version) count done text (zip recipients places) behind fewer reads.are reads.text_is out
+  pub no_placed_row : (count done : ℕ) (text : List ℕ) (recipients : List Recipient) (places : List Place) (after : List ℕ) → done < count
+      → ReadsRow version done text recipients places after → HasNone (IsPlacedBy version) (placed_octets version) after → HasNoRow (IsPlacedBy version) (placed_octets version) count text
+  no_placed_row count done text recipients places after fewer reads out =
+      no_row (IsPlacedBy version) (placed_octets version) (code_placed version) count done text (zip recipients places) after fewer reads.are reads.text_is out
 
   pub few_places : (count : ℕ) (text : List ℕ) (recipients : List Recipient) (places : List Place) (rest : List ℕ) → ReadsRow version count text recipients places rest
       → count ≤ 100 → length places ≤ 100
   few_places count text recipients places rest reads few =
       let zipped = length-zip recipients places in
       let many = reads.as_many in
-      let so_many = reads.are.so_many in
-      omega (arith, zipped, many, so_many, few)
+      let have_count = reads.are.have_count in
+      omega (arith, zipped, many, have_count, few)
 
-  pub reads_placed : (text : List ℕ) (count : ℕ) (behind : List ℕ) (recipients : List Recipient) (places : List Place) (rest : List ℕ) → text ≡ count ∷ behind
-      → ReadsRow version count behind recipients places rest → 1 ≤ count → count ≤ 100 → ReadsPlaced version text recipients places rest
-  reads_placed text count behind recipients places rest is reads some few =
-      let so_many = reads.are.so_many in
+  pub reads_placed : (text : List ℕ) (count : ℕ) (after : List ℕ) (recipients : List Recipient) (places : List Place) (rest : List ℕ) → text ≡ count ∷ after
+      → ReadsRow version count after recipients places rest → 1 ≤ count → count ≤ 100 → ReadsPlaced version text recipients places rest
+  reads_placed text count after recipients places rest is reads some few =
+      let have_count = reads.are.have_count in
       record {
         as_many = reads.as_many;
-        are = record { some = omega (arith, so_many, some); within = omega (arith, so_many, few); valid = reads.are.valid };
-        text_is = is_counted (IsPlacedBy version) (placed_octets version) text count behind (zip recipients places) rest is reads.are reads.text_is;
+        are = record { some = omega (arith, have_count, some); within = omega (arith, have_count, few); valid = reads.are.valid };
+        text_is = is_counted (IsPlacedBy version) (placed_octets version) text count after (zip recipients places) rest is reads.are reads.text_is;
       }
 
   -- a row that is written after its count
@@ -255,13 +255,13 @@ module _ (version : SnapshotVersion) where
       ∙ (λ i. old ++ same i ∷ flat_map (placed_octets version) (zip recipients places))
 
   -- one recipient and its place more were read
-  pub row_read : (count : ℕ) (text : List ℕ) (recipients : List Recipient) (places : List Place) (rest : List ℕ) (recipient given : Recipient) (place : Place) (behind : List ℕ)
-      (more : List Recipient) (others : List Place) → ReadsRow version count text recipients places rest → IsPlacedBy version (given, place) → rest ≡ placed_octets version (given, place) ++ behind
-      → recipient ≡ given → more ≡ recipients ++ recipient ∷ [] → others ≡ places ++ place ∷ [] → ReadsRow version (count + 1) text more others behind
-  row_read count text recipients places rest recipient given place behind more others reads valid is same more_are others_are =
-      subst (λ (ps : List Place). ReadsRow version (count + 1) text more ps behind) (sym others_are)
-      (subst (λ (rs : List Recipient). ReadsRow version (count + 1) text rs (places ++ place ∷ []) behind) (sym (more_are ∙ ap (λ (r : Recipient). recipients ++ r ∷ []) same))
-      (row_more count text recipients places rest given place behind reads valid is))
+  pub row_read : (count : ℕ) (text : List ℕ) (recipients : List Recipient) (places : List Place) (rest : List ℕ) (recipient given : Recipient) (place : Place) (after : List ℕ)
+      (more : List Recipient) (others : List Place) → ReadsRow version count text recipients places rest → IsPlacedBy version (given, place) → rest ≡ placed_octets version (given, place) ++ after
+      → recipient ≡ given → more ≡ recipients ++ recipient ∷ [] → others ≡ places ++ place ∷ [] → ReadsRow version (count + 1) text more others after
+  row_read count text recipients places rest recipient given place after more others reads valid is same more_are others_are =
+      subst (λ (ps : List Place). ReadsRow version (count + 1) text more ps after) (sym others_are)
+      (subst (λ (rs : List Recipient). ReadsRow version (count + 1) text rs (places ++ place ∷ []) after) (sym (more_are ∙ ap (λ (r : Recipient). recipients ++ r ∷ []) same))
+      (row_more count text recipients places rest given place after reads valid is))
 
 -- what is said of a delay, in the version that has it and in the one that has not
 pub ruleset said_of_delay = (nothing_said, one_said, none_said)
@@ -273,7 +273,7 @@ pub ruleset place_fields = (no_octet, no_laters, no_delay, no_due, fields_are)
 pub ruleset judged_places = (none_without_fields, none_of_fields, spelled, is_place_by)
 
 -- a recipient and its place, or octets without them
-pub ruleset placed_recipients = (no_recipient, no_place_behind, placed_is)
+pub ruleset placed_recipients = (no_recipient, no_place_after, placed_is)
 
 -- a row of recipients and their places
 pub ruleset placed_rows = (reads_placed, few_places)

@@ -44,13 +44,13 @@ pub is_ready_outcome : (book : Shown) (outcome : OutcomeFields) (message : Messa
     → entry_of book.queue.next queued ≡ reported book.queue.next outcome outcome.report (Some message)
     → 0 < book.room → AllTold book.told book.queue.messages → AreTold book.told outcome.message (message_after outcome message).places
     → AllTold book.told (entry_of book.queue.next queued) → IsReady book (record { change = change; message = queued })
-is_ready_outcome book outcome message change queued fits found is made room told behind also =
+is_ready_outcome book outcome message change queued fits found is made room told after also =
     subst (λ (c : Change). IsReady book (record { change = c; message = queued })) (sym is)
     (record {
       fits = fits;
       added = added;
       room = room;
-      told = told_both book.told (ruled outcome book.queue.messages) _ (told_ruled book.told outcome book.queue.messages message told found behind) (subst (AllTold book.told) (sym added) also);
+      told = told_both book.told (ruled outcome book.queue.messages) _ (told_ruled book.told outcome book.queue.messages message told found after) (subst (AllTold book.told) (sym added) also);
     })
   where
     added : reported book.queue.next outcome outcome.report (message_of book.queue.messages outcome.message) ≡ entry_of book.queue.next queued

@@ -23,44 +23,44 @@ none_short text short = record {
 }
 
 -- what stands after a code
-behind_code : (text : List ℕ) (code : ℕ) (behind : List ℕ) (other : ℕ) (field rest : List ℕ) → text ≡ octets_2 code ++ behind → code < 2 ^ 16 → IsRefusal other field
-    → text ≡ refusal_octets other field ++ rest → behind ≡ length field ∷ (field ++ rest)
-behind_code text code behind other field rest is small valid e =
-    (code_2 code other behind (length field ∷ (field ++ rest)) small (omega (arith, valid.high)) (sym is ∙ spelled text other field rest e)).1
+after_code : (text : List ℕ) (code : ℕ) (after : List ℕ) (other : ℕ) (field rest : List ℕ) → text ≡ octets_2 code ++ after → code < 2 ^ 16 → IsRefusal other field
+    → text ≡ refusal_octets other field ++ rest → after ≡ length field ∷ (field ++ rest)
+after_code text code after other field rest is small valid e =
+    (code_2 code other after (length field ∷ (field ++ rest)) small (omega (arith, valid.high)) (sym is ∙ spelled text other field rest e)).1
 
 -- a code that no reply has
-pub none_of_code : (text : List ℕ) (code : ℕ) (behind : List ℕ) → text ≡ octets_2 code ++ behind → code < 2 ^ 16 → ((200 ≤ code) × (code < 600) → ⊥) → HasNoRefusal text
-none_of_code text code behind is small out = record {
+pub none_of_code : (text : List ℕ) (code : ℕ) (after : List ℕ) → text ≡ octets_2 code ++ after → code < 2 ^ 16 → ((200 ≤ code) × (code < 600) → ⊥) → HasNoRefusal text
+none_of_code text code after is small out = record {
   none = λ other field rest valid e.
-      let same = (code_2 code other behind (length field ∷ (field ++ rest)) small (omega (arith, valid.high)) (sym is ∙ spelled text other field rest e)).0 in
+      let same = (code_2 code other after (length field ∷ (field ++ rest)) small (omega (arith, valid.high)) (sym is ∙ spelled text other field rest e)).0 in
       out (omega (arith, same, valid.low), omega (arith, same, valid.high));
 }
 
-pub none_without_length : (text : List ℕ) (code : ℕ) (behind : List ℕ) → text ≡ octets_2 code ++ behind → code < 2 ^ 16 → length behind ≡ 0 → HasNoRefusal text
-none_without_length text code behind is small empty = record {
+pub none_without_length : (text : List ℕ) (code : ℕ) (after : List ℕ) → text ≡ octets_2 code ++ after → code < 2 ^ 16 → length after ≡ 0 → HasNoRefusal text
+none_without_length text code after is small empty = record {
   none = λ other field rest valid e.
-      let long : length behind ≡ suc (length (field ++ rest)) = ap length (behind_code text code behind other field rest is small valid e) in
+      let long : length after ≡ suc (length (field ++ rest)) = ap length (after_code text code after other field rest is small valid e) in
       omega (arith, long, empty);
 }
 
 -- what stands after a length
-behind_length : (text : List ℕ) (code len : ℕ) (behind : List ℕ) (other : ℕ) (field rest : List ℕ) → text ≡ octets_2 code ++ (len ∷ behind) → code < 2 ^ 16 → IsRefusal other field
-    → text ≡ refusal_octets other field ++ rest → (len ≡ length field) × (behind ≡ field ++ rest)
-behind_length text code len behind other field rest is small valid e =
-    same_head len (length field) behind (field ++ rest) (behind_code text code (len ∷ behind) other field rest is small valid e)
+after_length : (text : List ℕ) (code len : ℕ) (after : List ℕ) (other : ℕ) (field rest : List ℕ) → text ≡ octets_2 code ++ (len ∷ after) → code < 2 ^ 16 → IsRefusal other field
+    → text ≡ refusal_octets other field ++ rest → (len ≡ length field) × (after ≡ field ++ rest)
+after_length text code len after other field rest is small valid e =
+    same_head len (length field) after (field ++ rest) (after_code text code (len ∷ after) other field rest is small valid e)
 
-pub none_cut : (text : List ℕ) (code len : ℕ) (behind : List ℕ) → text ≡ octets_2 code ++ (len ∷ behind) → code < 2 ^ 16 → length behind < len → HasNoRefusal text
-none_cut text code len behind is small less = record {
+pub none_cut : (text : List ℕ) (code len : ℕ) (after : List ℕ) → text ≡ octets_2 code ++ (len ∷ after) → code < 2 ^ 16 → length after < len → HasNoRefusal text
+none_cut text code len after is small less = record {
   none = λ other field rest valid e.
-      let same = behind_length text code len behind other field rest is small valid e in
-      let parts : length behind ≡ length field + length rest = ap length same.1 ∙ length-append field rest in
+      let same = after_length text code len after other field rest is small valid e in
+      let parts : length after ≡ length field + length rest = ap length same.1 ∙ length-append field rest in
       omega (arith, parts, less, same.0);
 }
 
-pub none_long : (text : List ℕ) (code len : ℕ) (behind : List ℕ) → text ≡ octets_2 code ++ (len ∷ behind) → code < 2 ^ 16 → 200 < len → HasNoRefusal text
-none_long text code len behind is small more = record {
+pub none_long : (text : List ℕ) (code len : ℕ) (after : List ℕ) → text ≡ octets_2 code ++ (len ∷ after) → code < 2 ^ 16 → 200 < len → HasNoRefusal text
+none_long text code len after is small more = record {
   none = λ other field rest valid e.
-      let same = behind_length text code len behind other field rest is small valid e in
+      let same = after_length text code len after other field rest is small valid e in
       let few = valid.text_fits in
       omega (arith, more, same.0, few);
 }
@@ -69,7 +69,7 @@ pub none_bad : (text : List ℕ) (code len : ℕ) (field rest : List ℕ) → te
     → (AllPass (is_in_range 32 126) field → ⊥) → HasNoRefusal text
 none_bad text code len field rest is small len_is out = record {
   none = λ other found more valid e.
-      let same = behind_length text code len (field ++ rest) other found more is small valid e in
+      let same = after_length text code len (field ++ rest) other found more is small valid e in
       let parts = fronts (length found) field found rest more (len_is ∙ same.0) refl same.1 in
       out (subst (AllPass (is_in_range 32 126)) (sym parts.0) valid.printable);
 }
@@ -132,8 +132,8 @@ no_place text empty = record {
       omega (arith, long, empty);
 }
 
-pub no_verdict : (text : List ℕ) (place : ℕ) (behind : List ℕ) → text ≡ place ∷ behind → HasNone IsVerdict verdict_octets behind → HasNone IsRuling ruling_octets text
-no_verdict text place behind is out = record {
+pub no_verdict : (text : List ℕ) (place : ℕ) (after : List ℕ) → text ≡ place ∷ after → HasNone IsVerdict verdict_octets after → HasNone IsRuling ruling_octets text
+no_verdict text place after is out = record {
   none = λ ruling rest valid e. out.none ruling.verdict rest valid.verdict (ap (drop 1) (sym is ∙ e));
 }
 

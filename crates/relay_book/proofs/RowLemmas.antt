@@ -6,7 +6,7 @@ use Rattle.relay_envelope.specs.declared.envelope.Recipient.{Recipient}
 use Rattle.relay_envelope.specs.Envelope.{IsRecipient}
 use Rattle.relay_book.specs.declared.change.Ruling.{Ruling}
 use Rattle.relay_book.specs.Record.{IsRuling, counted, recipient_octets, ruling_octets}
-use Rattle.relay_book.specs.Fields.{AreSome, AreSoMany, HasNone, HasNoCounted, HasNoRow}
+use Rattle.relay_book.specs.Fields.{AreSome, HaveCount, HasNone, HasNoCounted, HasNoRow}
 use Rattle.relay_book.proofs.CodeLemmas.{IsCode, code_list}
 use Rattle.relay_book.proofs.FieldLemmas.{same_head}
 use Rattle.relay_book.proofs.ValueLemmas.{code_recipient, code_ruling}
@@ -22,57 +22,57 @@ all_joined Valid [] value all valid = (valid, tt)
 all_joined Valid (first ∷ values) value all valid = (all.0, all_joined Valid values value all.1 valid)
 
 -- one value more is read
-pub one_more_read : {A : Type 0} (octets_of : A → List ℕ) (text : List ℕ) (values : List A) (value : A) (rest behind : List ℕ)
-    → text ≡ flat_map octets_of values ++ rest → rest ≡ octets_of value ++ behind → text ≡ flat_map octets_of (values ++ value ∷ []) ++ behind
-one_more_read octets_of text values value rest behind before is =
+pub one_more_read : {A : Type 0} (octets_of : A → List ℕ) (text : List ℕ) (values : List A) (value : A) (rest after : List ℕ)
+    → text ≡ flat_map octets_of values ++ rest → rest ≡ octets_of value ++ after → text ≡ flat_map octets_of (values ++ value ∷ []) ++ after
+one_more_read octets_of text values value rest after before is =
     before ∙ ap (λ (l : List ℕ). flat_map octets_of values ++ l) is
-    ∙ sym (append_assoc (flat_map octets_of values) (octets_of value) behind)
-    ∙ sym (ap (λ (l : List ℕ). l ++ behind) (flat_joined octets_of values value))
+    ∙ sym (append_assoc (flat_map octets_of values) (octets_of value) after)
+    ∙ sym (ap (λ (l : List ℕ). l ++ after) (flat_joined octets_of values value))
 
-pub one_more_valid : {A : Type 0} (Valid : A → Type 0) (count : ℕ) (values : List A) (value : A) → AreSoMany Valid count values → Valid value → AreSoMany Valid (count + 1) (values ++ value ∷ [])
+pub one_more_valid : {A : Type 0} (Valid : A → Type 0) (count : ℕ) (values : List A) (value : A) → HaveCount Valid count values → Valid value → HaveCount Valid (count + 1) (values ++ value ∷ [])
 one_more_valid Valid count values value are valid =
     let parts = length-append values (value ∷ []) in
-    let many = are.so_many in
-    record { so_many = omega (arith, parts, many); valid = all_joined Valid values value are.valid valid }
+    let many = are.have_count in
+    record { have_count = omega (arith, parts, many); valid = all_joined Valid values value are.valid valid }
 
 -- both of the value that was made of it
-pub one_more_row : {A : Type 0} (Valid : A → Type 0) (octets_of : A → List ℕ) (count : ℕ) (text : List ℕ) (values : List A) (rest : List ℕ) (value given : A) (behind : List ℕ) (more : List A)
-    → AreSoMany Valid count values × (text ≡ flat_map octets_of values ++ rest) → Valid given → rest ≡ octets_of given ++ behind → value ≡ given → more ≡ values ++ value ∷ []
-    → AreSoMany Valid (count + 1) more × (text ≡ flat_map octets_of more ++ behind)
-one_more_row {A} Valid octets_of count text values rest value given behind more before valid is same more_are =
+pub one_more_row : {A : Type 0} (Valid : A → Type 0) (octets_of : A → List ℕ) (count : ℕ) (text : List ℕ) (values : List A) (rest : List ℕ) (value given : A) (after : List ℕ) (more : List A)
+    → HaveCount Valid count values × (text ≡ flat_map octets_of values ++ rest) → Valid given → rest ≡ octets_of given ++ after → value ≡ given → more ≡ values ++ value ∷ []
+    → HaveCount Valid (count + 1) more × (text ≡ flat_map octets_of more ++ after)
+one_more_row {A} Valid octets_of count text values rest value given after more before valid is same more_are =
     let all : more ≡ values ++ given ∷ [] = more_are ∙ ap (λ (v : A). values ++ v ∷ []) same in (
-      subst (AreSoMany Valid (count + 1)) (sym all) (one_more_valid Valid count values given before.0 valid),
-      one_more_read octets_of text values given rest behind before.1 is ∙ ap (λ (l : List A). flat_map octets_of l ++ behind) (sym all),
+      subst (HaveCount Valid (count + 1)) (sym all) (one_more_valid Valid count values given before.0 valid),
+      one_more_read octets_of text values given rest after before.1 is ∙ ap (λ (l : List A). flat_map octets_of l ++ after) (sym all),
     )
 
 -- after fewer values than so many stands no further one
-row_from : {A : Type 0} (Valid : A → Type 0) (octets_of : A → List ℕ) → IsCode Valid octets_of → (done values : List A) (behind rest : List ℕ)
-    → length done < length values → AllByRecursion Valid done → AllByRecursion Valid values → HasNone Valid octets_of behind
-    → flat_map octets_of done ++ behind ≡ flat_map octets_of values ++ rest → ⊥
-row_from Valid octets_of code done [] behind rest fewer all valid none e = omega (arith, fewer)
-row_from Valid octets_of code [] (value ∷ values) behind rest fewer all valid none e =
+row_from : {A : Type 0} (Valid : A → Type 0) (octets_of : A → List ℕ) → IsCode Valid octets_of → (done values : List A) (after rest : List ℕ)
+    → length done < length values → AllByRecursion Valid done → AllByRecursion Valid values → HasNone Valid octets_of after
+    → flat_map octets_of done ++ after ≡ flat_map octets_of values ++ rest → ⊥
+row_from Valid octets_of code done [] after rest fewer all valid none e = omega (arith, fewer)
+row_from Valid octets_of code [] (value ∷ values) after rest fewer all valid none e =
     none.none value (flat_map octets_of values ++ rest) valid.0 (e ∙ append_assoc (octets_of value) (flat_map octets_of values) rest)
-row_from Valid octets_of code (first ∷ done) (value ∷ values) behind rest fewer all valid none e =
-    let same = code first value (flat_map octets_of done ++ behind) (flat_map octets_of values ++ rest) all.0 valid.0
-    (sym (append_assoc (octets_of first) (flat_map octets_of done) behind) ∙ e ∙ append_assoc (octets_of value) (flat_map octets_of values) rest) in
-    row_from Valid octets_of code done values behind rest (omega (arith, fewer)) all.1 valid.1 none same.1
+row_from Valid octets_of code (first ∷ done) (value ∷ values) after rest fewer all valid none e =
+    let same = code first value (flat_map octets_of done ++ after) (flat_map octets_of values ++ rest) all.0 valid.0
+    (sym (append_assoc (octets_of first) (flat_map octets_of done) after) ∙ e ∙ append_assoc (octets_of value) (flat_map octets_of values) rest) in
+    row_from Valid octets_of code done values after rest (omega (arith, fewer)) all.1 valid.1 none same.1
 
-pub no_row : {A : Type 0} (Valid : A → Type 0) (octets_of : A → List ℕ) → IsCode Valid octets_of → (count done : ℕ) (text : List ℕ) (values : List A) (behind : List ℕ)
-    → done < count → AreSoMany Valid done values → text ≡ flat_map octets_of values ++ behind → HasNone Valid octets_of behind → HasNoRow Valid octets_of count text
-no_row Valid octets_of code count done text values behind fewer are is none = record {
+pub no_row : {A : Type 0} (Valid : A → Type 0) (octets_of : A → List ℕ) → IsCode Valid octets_of → (count done : ℕ) (text : List ℕ) (values : List A) (after : List ℕ)
+    → done < count → HaveCount Valid done values → text ≡ flat_map octets_of values ++ after → HasNone Valid octets_of after → HasNoRow Valid octets_of count text
+no_row Valid octets_of code count done text values after fewer are is none = record {
   none = λ others rest many e.
-      let here = are.so_many in
-      let there = many.so_many in
-      row_from Valid octets_of code values others behind rest (omega (arith, here, there, fewer)) are.valid many.valid none (sym is ∙ e);
+      let here = are.have_count in
+      let there = many.have_count in
+      row_from Valid octets_of code values others after rest (omega (arith, here, there, fewer)) are.valid many.valid none (sym is ∙ e);
 }
 
-pub no_recipient_row : (count done : ℕ) (text : List ℕ) (values : List Recipient) (behind : List ℕ)
-    → done < count → AreSoMany IsRecipient done values → text ≡ flat_map recipient_octets values ++ behind → HasNone IsRecipient recipient_octets behind
+pub no_recipient_row : (count done : ℕ) (text : List ℕ) (values : List Recipient) (after : List ℕ)
+    → done < count → HaveCount IsRecipient done values → text ≡ flat_map recipient_octets values ++ after → HasNone IsRecipient recipient_octets after
     → HasNoRow IsRecipient recipient_octets count text
 no_recipient_row = no_row IsRecipient recipient_octets code_recipient
 
-pub no_ruling_row : (count done : ℕ) (text : List ℕ) (values : List Ruling) (behind : List ℕ)
-    → done < count → AreSoMany IsRuling done values → text ≡ flat_map ruling_octets values ++ behind → HasNone IsRuling ruling_octets behind
+pub no_ruling_row : (count done : ℕ) (text : List ℕ) (values : List Ruling) (after : List ℕ)
+    → done < count → HaveCount IsRuling done values → text ≡ flat_map ruling_octets values ++ after → HasNone IsRuling ruling_octets after
     → HasNoRow IsRuling ruling_octets count text
 no_ruling_row = no_row IsRuling ruling_octets code_ruling
 
@@ -82,28 +82,28 @@ no_count Valid octets_of text empty = record {
   none = λ values rest some e. let long : length text ≡ suc (length (flat_map octets_of values ++ rest)) = ap length e in omega (arith, long, empty);
 }
 
-pub no_such_count : {A : Type 0} (Valid : A → Type 0) (octets_of : A → List ℕ) (text : List ℕ) (count : ℕ) (behind : List ℕ)
-    → text ≡ count ∷ behind → (1 ≤ count → count ≤ 100 → ⊥) → HasNoCounted Valid octets_of text
-no_such_count Valid octets_of text count behind is out = record {
+pub no_such_count : {A : Type 0} (Valid : A → Type 0) (octets_of : A → List ℕ) (text : List ℕ) (count : ℕ) (after : List ℕ)
+    → text ≡ count ∷ after → (1 ≤ count → count ≤ 100 → ⊥) → HasNoCounted Valid octets_of text
+no_such_count Valid octets_of text count after is out = record {
   none = λ values rest some e.
-      let same = (same_head count (length values) behind (flat_map octets_of values ++ rest) (sym is ∙ e)).0 in
+      let same = (same_head count (length values) after (flat_map octets_of values ++ rest) (sym is ∙ e)).0 in
       let least = some.some in
       let most = some.within in
       out (omega (arith, same, least)) (omega (arith, same, most));
 }
 
-pub no_counted_row : {A : Type 0} (Valid : A → Type 0) (octets_of : A → List ℕ) (text : List ℕ) (count : ℕ) (behind : List ℕ)
-    → text ≡ count ∷ behind → HasNoRow Valid octets_of count behind → HasNoCounted Valid octets_of text
-no_counted_row Valid octets_of text count behind is none = record {
+pub no_counted_row : {A : Type 0} (Valid : A → Type 0) (octets_of : A → List ℕ) (text : List ℕ) (count : ℕ) (after : List ℕ)
+    → text ≡ count ∷ after → HasNoRow Valid octets_of count after → HasNoCounted Valid octets_of text
+no_counted_row Valid octets_of text count after is none = record {
   none = λ values rest some e.
-      let same = same_head count (length values) behind (flat_map octets_of values ++ rest) (sym is ∙ e) in
-      none.none values rest (record { so_many = sym same.0; valid = some.valid }) same.1;
+      let same = same_head count (length values) after (flat_map octets_of values ++ rest) (sym is ∙ e) in
+      none.none values rest (record { have_count = sym same.0; valid = some.valid }) same.1;
 }
 
-pub is_counted : {A : Type 0} (Valid : A → Type 0) (octets_of : A → List ℕ) (text : List ℕ) (count : ℕ) (behind : List ℕ) (values : List A) (rest : List ℕ)
-    → text ≡ count ∷ behind → AreSoMany Valid count values → behind ≡ flat_map octets_of values ++ rest → text ≡ counted octets_of values ++ rest
-is_counted Valid octets_of text count behind values rest is are more =
-    is ∙ (λ i. sym are.so_many i ∷ more i)
+pub is_counted : {A : Type 0} (Valid : A → Type 0) (octets_of : A → List ℕ) (text : List ℕ) (count : ℕ) (after : List ℕ) (values : List A) (rest : List ℕ)
+    → text ≡ count ∷ after → HaveCount Valid count values → after ≡ flat_map octets_of values ++ rest → text ≡ counted octets_of values ++ rest
+is_counted Valid octets_of text count after values rest is are more =
+    is ∙ (λ i. sym are.have_count i ∷ more i)
 
 -- rows after their counts are one
 pub counted_are_one : {A : Type 0} (Valid : A → Type 0) (octets_of : A → List ℕ) → IsCode Valid octets_of → (values others : List A) (x y : List ℕ)

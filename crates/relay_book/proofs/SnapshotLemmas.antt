@@ -162,12 +162,12 @@ module _ (version : SnapshotVersion) where
       }
 
   -- two messages spelled by one text
-  pub same_entry : (text : List ℕ) (number at : ℕ) (path : List ℕ) (ret : ℕ) (envid : List ℕ) (recipients : List Recipient) (places : List Place) (stored behind : List ℕ)
-      (entry : ℕ × Message) (rest : List ℕ) → SpellsEntry version text number at path ret envid recipients places stored behind → IsQueuedBy version entry → text ≡ entry_octets version entry ++ rest
+  pub same_entry : (text : List ℕ) (number at : ℕ) (path : List ℕ) (ret : ℕ) (envid : List ℕ) (recipients : List Recipient) (places : List Place) (stored after : List ℕ)
+      (entry : ℕ × Message) (rest : List ℕ) → SpellsEntry version text number at path ret envid recipients places stored after → IsQueuedBy version entry → text ≡ entry_octets version entry ++ rest
       → AreSameEntries number entry.0 at entry.1.accept.at path entry.1.accept.envelope.reverse_path ret (ret_number entry.1.accept.envelope.ret)
-      envid (written entry.1.accept.envelope.envid) recipients entry.1.accept.envelope.recipients places entry.1.places stored entry.1.accept.stored_text behind rest
-  same_entry text number at path ret envid recipients places stored behind entry rest spelled is e =
-      entries_spell_one text number at path ret envid recipients places stored behind entry.0 entry.1.accept.at entry.1.accept.envelope.reverse_path
+      envid (written entry.1.accept.envelope.envid) recipients entry.1.accept.envelope.recipients places entry.1.places stored entry.1.accept.stored_text after rest
+  same_entry text number at path ret envid recipients places stored after entry rest spelled is e =
+      entries_spell_one text number at path ret envid recipients places stored after entry.0 entry.1.accept.at entry.1.accept.envelope.reverse_path
       (ret_number entry.1.accept.envelope.ret) (written entry.1.accept.envelope.envid) entry.1.accept.envelope.recipients entry.1.places entry.1.accept.stored_text rest
       spelled (spells_entry text rest entry is e)
 

@@ -15,17 +15,17 @@ use Rattle.relay_book.proofs.LengthLemmas.{length_8, length_sized_2, length_size
 use Rattle.relay_book.proofs.MarkRowLemmas.{drop_past}
 use Rattle.relay_book.proofs.SnapshotWriteLemmas.{live_from}
 
-behind : (front rest : List ℕ) (n : ℕ) → n ≤ length rest → n ≤ length (front ++ rest)
-behind front rest n few = let all = length-append front rest in omega (arith, all, few)
+after : (front rest : List ℕ) (n : ℕ) → n ≤ length rest → n ≤ length (front ++ rest)
+after front rest n few = let all = length-append front rest in omega (arith, all, few)
 
 -- after a number of eight octets, and a text after its length
-behind_8 : (number : ℕ) (rest : List ℕ) (n : ℕ) → n ≤ length rest → n + 8 ≤ length (octets_8 number ++ rest)
+after_8 : (number : ℕ) (rest : List ℕ) (n : ℕ) → n ≤ length rest → n + 8 ≤ length (octets_8 number ++ rest)
 unfolding octets_8
-behind_8 number rest n few = omega (arith, few)
+after_8 number rest n few = omega (arith, few)
 
-behind_sized_2 : (text rest : List ℕ) (n : ℕ) → n ≤ length rest → n + 2 ≤ length (sized_2 text ++ rest)
+after_sized_2 : (text rest : List ℕ) (n : ℕ) → n ≤ length rest → n + 2 ≤ length (sized_2 text ++ rest)
 unfolding octets_2
-behind_sized_2 text rest n few = let all = length-append text rest in omega (arith, few, all)
+after_sized_2 text rest n few = let all = length-append text rest in omega (arith, few, all)
 
 sized_4_long : (text : List ℕ) → 4 ≤ length (sized_4 text)
 unfolding octets_4
@@ -37,12 +37,12 @@ unfolding entry_octets
 entry_long version entry =
     let accept = entry.1.accept in
     let placed = counted (placed_octets version) (zip accept.envelope.recipients entry.1.places) in
-    let stored = behind (flat_map (placed_octets version) (zip accept.envelope.recipients entry.1.places)) (sized_4 accept.stored_text) 4 (sized_4_long accept.stored_text) in
-    let envid = behind_sized_2 (written accept.envelope.envid) (placed ++ sized_4 accept.stored_text) 5 (omega (arith, stored)) in
-    let path = behind_sized_2 accept.envelope.reverse_path (ret_number accept.envelope.ret ∷ (sized_2 (written accept.envelope.envid) ++ (placed ++ sized_4 accept.stored_text))) 8
+    let stored = after (flat_map (placed_octets version) (zip accept.envelope.recipients entry.1.places)) (sized_4 accept.stored_text) 4 (sized_4_long accept.stored_text) in
+    let envid = after_sized_2 (written accept.envelope.envid) (placed ++ sized_4 accept.stored_text) 5 (omega (arith, stored)) in
+    let path = after_sized_2 accept.envelope.reverse_path (ret_number accept.envelope.ret ∷ (sized_2 (written accept.envelope.envid) ++ (placed ++ sized_4 accept.stored_text))) 8
     (omega (arith, envid)) in
-    let moment = behind_8 accept.at _ 10 path in
-    let number = behind_8 entry.0 _ 18 moment in
+    let moment = after_8 accept.at _ 10 path in
+    let number = after_8 entry.0 _ 18 moment in
     omega (arith, number)
 
 pub rows_long : (version : SnapshotVersion) (entries : List (ℕ × Message)) → 26 * length entries ≤ length (flat_map (entry_octets version) entries)
@@ -57,7 +57,7 @@ pub few_messages : (queue : Queue) → length (snapshot queue) < 2 ^ 32 → leng
 unfolding snapshot_by
 few_messages queue short =
     let rows = rows_long WithDelay queue.messages in
-    let all = behind (octets_8 queue.next) _ _ (behind (octets_4 (length queue.messages)) _ _ rows) in
+    let all = after (octets_8 queue.next) _ _ (after (octets_4 (length queue.messages)) _ _ rows) in
     omega (arith, all, short)
 
 -- exactly, where it has a place for each recipient

@@ -5,11 +5,11 @@ use Rattle.relay_book.specs.declared.version.SnapshotVersion.{SnapshotVersion}
 use Rattle.relay_book.specs.declared.version.SnapshotVersion.TheVariants.{WithoutDelay, WithDelay}
 use Rattle.relay_book.specs.declared.message.Message.{Message}
 use Rattle.relay_book.specs.Book.{Rise}
-use Rattle.relay_book.specs.Fields.{AreSoMany, HasNone}
+use Rattle.relay_book.specs.Fields.{HaveCount, HasNone}
 use Rattle.relay_book.specs.Queue.{Queue, empty_queue, last_number}
 use Rattle.relay_book.specs.Record.{octets_4, octets_8}
 use Rattle.relay_book.specs.Snapshot.{IsNoSnapshot, IsQueued, IsQueuedBy, IsSnapshotBy, IsSnapshotOf, entry_octets, snapshot_by, snapshot_kind}
-use Rattle.relay_book.specs.SnapshotFields.{AreEntries, HasNoEntries, IsQueuedIn, MayBeSnapshot, ReadsEntries, SpellsCounts, SpellsNoCounts, SpellsNoSnapshot, SpellsSnapshot, next_behind, numbered}
+use Rattle.relay_book.specs.SnapshotFields.{AreEntries, HasNoEntries, IsQueuedIn, MayBeSnapshot, ReadsEntries, SpellsCounts, SpellsNoCounts, SpellsNoSnapshot, SpellsSnapshot, next_after, numbered}
 use Rattle.relay_book.proofs.AcceptLemmas.{long_4, long_8}
 use Rattle.relay_book.proofs.CodeLemmas.{code_4, code_8, first_of}
 use Rattle.relay_book.proofs.FieldLemmas.{same_head}
@@ -29,23 +29,23 @@ no_kind octets empty = record {
 pub other_kind : (octets : List ℕ) (kind : ℕ) (rest : List ℕ) → octets ≡ kind ∷ rest → ((version : SnapshotVersion) → kind ≢ snapshot_kind version)
     → SpellsNoSnapshot octets
 other_kind octets kind rest is other = record {
-  none = λ version next count behind spelled.
-      other version (same_head kind (snapshot_kind version) rest (octets_8 next ++ (octets_4 count ++ behind)) (sym is ∙ spelled.octets_are)).0;
+  none = λ version next count after spelled.
+      other version (same_head kind (snapshot_kind version) rest (octets_8 next ++ (octets_4 count ++ after)) (sym is ∙ spelled.octets_are)).0;
 }
 
 pub no_counts : (octets : List ℕ) (kind : ℕ) (rest : List ℕ) → octets ≡ kind ∷ rest → SpellsNoCounts rest → SpellsNoSnapshot octets
 no_counts octets kind rest is out = record {
-  none = λ version next count behind spelled.
-      out.none next count behind (record {
-        text_is = (same_head kind (snapshot_kind version) rest (octets_8 next ++ (octets_4 count ++ behind)) (sym is ∙ spelled.octets_are)).1;
+  none = λ version next count after spelled.
+      out.none next count after (record {
+        text_is = (same_head kind (snapshot_kind version) rest (octets_8 next ++ (octets_4 count ++ after)) (sym is ∙ spelled.octets_are)).1;
         next_fits = spelled.next_fits;
         count_fits = spelled.count_fits;
       });
 }
 
-pub head_is : (version : SnapshotVersion) (octets rest : List ℕ) (kind next count : ℕ) (behind : List ℕ) → octets ≡ kind ∷ rest → kind ≡ snapshot_kind version
-    → SpellsCounts rest next count behind → SpellsSnapshot version octets next count behind
-head_is version octets rest kind next count behind is kind_is spelled = record {
+pub head_is : (version : SnapshotVersion) (octets rest : List ℕ) (kind next count : ℕ) (after : List ℕ) → octets ≡ kind ∷ rest → kind ≡ snapshot_kind version
+    → SpellsCounts rest next count after → SpellsSnapshot version octets next count after
+head_is version octets rest kind next count after is kind_is spelled = record {
   octets_are = is ∙ (λ i. kind_is i ∷ spelled.text_is i);
   next_fits = spelled.next_fits;
   count_fits = spelled.count_fits;
@@ -134,7 +134,7 @@ bad_entries version octets next count rest spelled out = record {
       let is = by_version version octets next count rest queue spelled any in
       let same = same_by_version version octets next count rest queue spelled is in
       out.none queue.messages (record {
-        are = record { so_many = sym same.count_is; valid = is.messages };
+        are = record { have_count = sym same.count_is; valid = is.messages };
         rise = subst (λ (n : ℕ). Rise 1 n queue.messages) (sym same.next_is) is.valid.rise;
         text_is = same.rest_is;
       });
@@ -149,7 +149,7 @@ pub is_snapshot : (version : SnapshotVersion) (octets : List ℕ) (next count : 
     → next ≤ last_number + 1 → queue.next ≡ next → AreEntries version count next rest queue.messages → IsSnapshotOf octets queue
 unfolding snapshot_by
 is_snapshot version octets next count rest queue spelled few is entries =
-    let so_many = entries.are.so_many in
+    let have_count = entries.are.have_count in
     let count_fits = spelled.count_fits in (
       version,
       record {
@@ -159,9 +159,9 @@ is_snapshot version octets next count rest queue spelled few is entries =
           messages = are_queued version queue.messages entries.are.valid;
         };
         messages = entries.are.valid;
-        few = omega (arith, so_many, count_fits);
+        few = omega (arith, have_count, count_fits);
         octets_are = spelled.octets_are
-            ∙ (λ i. snapshot_kind version ∷ (octets_8 (sym is i) ++ (octets_4 (sym so_many i) ++ entries.text_is i)));
+            ∙ (λ i. snapshot_kind version ∷ (octets_8 (sym is i) ++ (octets_4 (sym have_count i) ++ entries.text_is i)));
       },
     )
 
@@ -169,48 +169,48 @@ module _ (version : SnapshotVersion) where
   -- the messages, one after another
   pub none_read : (next : ℕ) (text : List ℕ) → 1 ≤ next → ReadsEntries version 0 next text empty_queue text
   none_read next text some = record {
-    are = record { so_many = refl; valid = tt };
+    are = record { have_count = refl; valid = tt };
     rise = omega arith;
-    behind = refl;
+    after = refl;
     below = some;
     text_is = refl;
   }
 
-  behind_last : (least : ℕ) (entries : List (ℕ × Message)) (entry : ℕ × Message) → next_behind least (entries ++ entry ∷ []) ≡ suc entry.0
-  behind_last least [] entry = refl
-  behind_last least (first ∷ entries) entry = behind_last (suc first.0) entries entry
+  after_last : (least : ℕ) (entries : List (ℕ × Message)) (entry : ℕ × Message) → next_after least (entries ++ entry ∷ []) ≡ suc entry.0
+  after_last least [] entry = refl
+  after_last least (first ∷ entries) entry = after_last (suc first.0) entries entry
 
-  pub one_read : (count next : ℕ) (text : List ℕ) (queue : Queue) (rest : List ℕ) (message : Message) (behind : List ℕ) (left : Queue)
-      → ReadsEntries version count next text queue rest → IsQueuedIn version queue.next next (numbered message) → rest ≡ entry_octets version (numbered message) ++ behind
-      → left.next ≡ message.number + 1 → left.messages ≡ queue.messages ++ numbered message ∷ [] → ReadsEntries version (count + 1) next text left behind
-  one_read count next text queue rest message behind left reads valid is next_is messages_are =
+  pub one_read : (count next : ℕ) (text : List ℕ) (queue : Queue) (rest : List ℕ) (message : Message) (after : List ℕ) (left : Queue)
+      → ReadsEntries version count next text queue rest → IsQueuedIn version queue.next next (numbered message) → rest ≡ entry_octets version (numbered message) ++ after
+      → left.next ≡ message.number + 1 → left.messages ≡ queue.messages ++ numbered message ∷ [] → ReadsEntries version (count + 1) next text left after
+  one_read count next text queue rest message after left reads valid is next_is messages_are =
       let high = valid.high in
       let up = rise_to 1 queue.next message.number queue.messages reads.rise valid.low in
       let rise = rise_last 1 message.number queue.messages message up in
       record {
-        are = subst (AreSoMany (IsQueuedBy version) (count + 1)) (sym messages_are) (one_more_valid (IsQueuedBy version) count queue.messages (numbered message) reads.are valid.queued);
+        are = subst (HaveCount (IsQueuedBy version) (count + 1)) (sym messages_are) (one_more_valid (IsQueuedBy version) count queue.messages (numbered message) reads.are valid.queued);
         rise = subst (λ (n : ℕ). Rise 1 n left.messages) (sym next_is) (subst (Rise 1 (message.number + 1)) (sym messages_are) rise);
-        behind = next_is ∙ add-one message.number ∙ sym (behind_last 1 queue.messages (numbered message)) ∙ ap (next_behind 1) (sym messages_are);
+        after = next_is ∙ add-one message.number ∙ sym (after_last 1 queue.messages (numbered message)) ∙ ap (next_after 1) (sym messages_are);
         below = omega (arith, next_is, high);
-        text_is = one_more_read (entry_octets version) text queue.messages (numbered message) rest behind reads.text_is is
-            ∙ ap (λ (l : List (ℕ × Message)). flat_map (entry_octets version) l ++ behind) (sym messages_are);
+        text_is = one_more_read (entry_octets version) text queue.messages (numbered message) rest after reads.text_is is
+            ∙ ap (λ (l : List (ℕ × Message)). flat_map (entry_octets version) l ++ after) (sym messages_are);
       }
 
   -- a row that begins with the octets of others begins with these
-  begins_so : (done values : List (ℕ × Message)) (behind rest : List ℕ) → length done ≤ length values → AllByRecursion (IsQueuedBy version) done → AllByRecursion (IsQueuedBy version) values
-      → flat_map (entry_octets version) done ++ behind ≡ flat_map (entry_octets version) values ++ rest
-      → (more : List (ℕ × Message)) × (values ≡ done ++ more) × (behind ≡ flat_map (entry_octets version) more ++ rest)
-  begins_so [] values behind rest fewer all also e = (values, refl, e)
-  begins_so (first ∷ done) [] behind rest fewer all also e = absurd (omega (arith, fewer))
-  begins_so (first ∷ done) (value ∷ values) behind rest fewer all also e =
-      let same = code_entry version first value (flat_map (entry_octets version) done ++ behind) (flat_map (entry_octets version) values ++ rest) all.0 also.0
-      (sym (append_assoc (entry_octets version first) (flat_map (entry_octets version) done) behind) ∙ e ∙ append_assoc (entry_octets version value) (flat_map (entry_octets version) values) rest) in
-      let rest_is = begins_so done values behind rest (omega (arith, fewer)) all.1 also.1 same.1 in
+  begins_so : (done values : List (ℕ × Message)) (after rest : List ℕ) → length done ≤ length values → AllByRecursion (IsQueuedBy version) done → AllByRecursion (IsQueuedBy version) values
+      → flat_map (entry_octets version) done ++ after ≡ flat_map (entry_octets version) values ++ rest
+      → (more : List (ℕ × Message)) × (values ≡ done ++ more) × (after ≡ flat_map (entry_octets version) more ++ rest)
+  begins_so [] values after rest fewer all also e = (values, refl, e)
+  begins_so (first ∷ done) [] after rest fewer all also e = absurd (omega (arith, fewer))
+  begins_so (first ∷ done) (value ∷ values) after rest fewer all also e =
+      let same = code_entry version first value (flat_map (entry_octets version) done ++ after) (flat_map (entry_octets version) values ++ rest) all.0 also.0
+      (sym (append_assoc (entry_octets version first) (flat_map (entry_octets version) done) after) ∙ e ∙ append_assoc (entry_octets version value) (flat_map (entry_octets version) values) rest) in
+      let rest_is = begins_so done values after rest (omega (arith, fewer)) all.1 also.1 same.1 in
       (rest_is.0, (λ i. sym same.0 i ∷ rest_is.1 i), rest_is.2)
 
   -- a number in the middle of a row
   rise_middle : (least next : ℕ) (done : List (ℕ × Message)) (entry : ℕ × Message) (more : List (ℕ × Message)) → Rise least next (done ++ entry ∷ more)
-      → (next_behind least done ≤ entry.0) × (entry.0 < next)
+      → (next_after least done ≤ entry.0) × (entry.0 < next)
   rise_middle least next [] entry more rise = let below = least_below (suc entry.0) next more rise.1 in (rise.0, omega (arith, below))
   rise_middle least next (first ∷ done) entry more rise = rise_middle (suc first.0) next done entry more rise.1
 
@@ -222,8 +222,8 @@ module _ (version : SnapshotVersion) where
       → ReadsEntries version done next text queue rest → AreEntries version count next text messages
       → (more : List (ℕ × Message)) × (messages ≡ queue.messages ++ more) × (rest ≡ flat_map (entry_octets version) more ++ [])
   read_so count next text done queue rest messages fewer reads entries =
-      let here = reads.are.so_many in
-      let there = entries.are.so_many in
+      let here = reads.are.have_count in
+      let there = entries.are.have_count in
       begins_so queue.messages messages rest [] (omega (arith, here, there, fewer)) reads.are.valid entries.are.valid
       (sym reads.text_is ∙ entries.text_is ∙ sym (append-nil (flat_map (entry_octets version) messages)))
 
@@ -239,17 +239,17 @@ module _ (version : SnapshotVersion) where
           → rest ≡ flat_map (entry_octets version) more ++ [] → ⊥
       by messages entries [] are is =
           let same = ap length (are ∙ append-nil queue.messages) in
-          let here = reads.are.so_many in
-          let there = entries.are.so_many in
+          let here = reads.are.have_count in
+          let there = entries.are.have_count in
           omega (arith, same, here, there, fewer)
       by messages entries (entry ∷ more) are is =
           let rise = rise_middle 1 next queue.messages entry more (subst (Rise 1 next) are entries.rise) in
-          let behind = reads.behind in
+          let after = reads.after in
           let low = rise.0 in
           out.none entry (flat_map (entry_octets version) more ++ [])
           (record {
             queued = valid_middle queue.messages entry more (subst (AllByRecursion (IsQueuedBy version)) are entries.are.valid);
-            low = subst (λ (n : ℕ). n ≤ entry.0) (sym behind) low;
+            low = subst (λ (n : ℕ). n ≤ entry.0) (sym after) low;
             high = rise.1;
           })
           (is ∙ append_assoc (entry_octets version entry) (flat_map (entry_octets version) more) [])
@@ -259,17 +259,17 @@ module _ (version : SnapshotVersion) where
     none = λ messages entries.
         let rows = rows_long version messages in
         let long = ap length entries.text_is in
-        let so_many = entries.are.so_many in
-        omega (arith, rows, long, so_many, many);
+        let have_count = entries.are.have_count in
+        omega (arith, rows, long, have_count, many);
   }
 
   -- by a count of octets that stops at a word's greatest number
   pub too_many_counted : (count next : ℕ) (text : List ℕ) → count < 2 ^ 32 → min (length text) (2 ^ 64 - 1) / 26 < count → HasNoEntries version count next text
   too_many_counted count next text small many = too_many count next text (omega (arith, small, many))
 
-  pub octets_behind : (count next : ℕ) (text : List ℕ) (queue : Queue) (rest : List ℕ) → ReadsEntries version count next text queue rest → length rest ≢ 0
+  pub octets_after : (count next : ℕ) (text : List ℕ) (queue : Queue) (rest : List ℕ) → ReadsEntries version count next text queue rest → length rest ≢ 0
       → HasNoEntries version count next text
-  octets_behind count next text queue rest reads some = record {
+  octets_after count next text queue rest reads some = record {
     none = λ messages entries.
         let so = read_so count next text count queue rest messages (omega arith) reads entries in
         by messages entries so.0 so.1 so.2;
@@ -281,14 +281,14 @@ module _ (version : SnapshotVersion) where
       by messages entries (entry ∷ more) are is =
           let same = ap length are in
           let longer = length-append queue.messages (entry ∷ more) in
-          let here = reads.are.so_many in
-          let there = entries.are.so_many in
+          let here = reads.are.have_count in
+          let there = entries.are.have_count in
           omega (arith, same, longer, here, there)
 
   pub all_read : (count next : ℕ) (text : List ℕ) (queue : Queue) (rest : List ℕ) (messages : List (ℕ × Message)) → ReadsEntries version count next text queue rest
       → length rest ≡ 0 → messages ≡ queue.messages → AreEntries version count next text messages
   all_read count next text queue [] messages reads none are = record {
-    are = subst (AreSoMany (IsQueuedBy version) count) (sym are) reads.are;
+    are = subst (HaveCount (IsQueuedBy version) count) (sym are) reads.are;
     rise = subst (Rise 1 next) (sym are) (rise_to 1 queue.next next queue.messages reads.rise reads.below);
     text_is = reads.text_is ∙ append-nil (flat_map (entry_octets version) queue.messages) ∙ ap (flat_map (entry_octets version)) (sym are);
   }

@@ -113,15 +113,15 @@ encodings_stand changes fits = record { fitting = fits; reads = all_read changes
 rest_front : (queue : Queue) (bodies rest : List (List ℕ)) (left : Queue) → ReadsQueue queue (bodies ++ rest) left → (mid : Queue) × ReadsQueue queue bodies mid
 rest_front queue [] rest left reads = (queue, refl)
 rest_front queue (body ∷ bodies) rest left reads =
-    let behind = rest_front reads.0 bodies rest left reads.2 in
-    (behind.0, (reads.0, reads.1, behind.1))
+    let after = rest_front reads.0 bodies rest left reads.2 in
+    (after.0, (reads.0, reads.1, after.1))
 
 -- what is read whole is read in front
 pub reads_front : (bodies rest : List (List ℕ)) (left : Queue) → ReadsAll (bodies ++ rest) left → (mid : Queue) × ReadsAll bodies mid
 reads_front [] rest left reads = (empty_queue, refl)
 reads_front (body ∷ bodies) rest left reads =
-    let behind = rest_front reads.0 bodies rest left reads.2 in
-    (behind.0, (reads.0, reads.1, behind.1))
+    let after = rest_front reads.0 bodies rest left reads.2 in
+    (after.0, (reads.0, reads.1, after.1))
 
 -- the second version says all of a place
 places_said : (places : List Place) → AllByRecursion IsPlace places → AllByRecursion (IsPlaceBy WithDelay) places

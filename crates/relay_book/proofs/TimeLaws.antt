@@ -13,7 +13,7 @@ use Rattle.relay_book.specs.DueLaw.{FoldDue}
 use Rattle.relay_book.specs.Queue.{Queue, FitsQueue, FitsFrom, FitsMessage, accepted, empty_queue, message_after, message_of, report_of, reported, ruled, step}
 use Rattle.relay_book.specs.Book.{Rise}
 use Rattle.relay_book.proofs.PlaceLemmas.{none_some, some_is}
-use Rattle.relay_book.proofs.EntryLemmas.{joined_here, joined_other, kept_or_not, message_below, none_before, none_behind, rise_ruled, ruled_at, ruled_other, ruled_past}
+use Rattle.relay_book.proofs.EntryLemmas.{joined_here, joined_other, kept_or_not, message_below, none_before, none_after, rise_ruled, ruled_at, ruled_other, ruled_past}
 use Rattle.relay_book.proofs.ChangeLemmas.{joined, Back, change_within}
 use Rattle.relay_book.proofs.CustodyLemmas.{Knows, grows, report_or_not}
 use Rattle.relay_book.proofs.MarkLaws.{Stands, none_known, none_told}
@@ -73,7 +73,7 @@ clocked_accept changes accept queue knows clocked = record { timed = λ number m
     by : (number : ℕ) (message : Message) → message_of (queue.messages ++ (queue.next, accepted queue.next accept) ∷ []) number ≡ Some message → (queue.next ≡ number) ⊎ (queue.next ≡ number → ⊥)
         → AreTimed message.accept.at (laters_of (joined changes (Accept accept)) number) message.places
     by number message is (inl same) =
-        let none = none_behind 0 queue.next queue.messages queue.next knows.rise (omega arith) in
+        let none = none_after 0 queue.next queue.messages queue.next knows.rise (omega arith) in
         let here = some_is (accepted queue.next accept) message (sym (joined_here queue.messages queue.next (accepted queue.next accept) none) ∙ subst (λ n. message_of (queue.messages ++ (queue.next, accepted queue.next accept) ∷ []) n ≡ Some message) (sym same) is) in
         let next = knows.next in
         timed_first (joined changes (Accept accept)) number queue.next accept message
@@ -129,7 +129,7 @@ clocked_outcome changes outcome queue message knows found fits clocked = record 
     new : (number : ℕ) (one : Message) → message_of (ruled outcome queue.messages ++ (queue.next, accepted queue.next (report_of message.accept outcome)) ∷ []) number ≡ Some one
         → (queue.next ≡ number) ⊎ (queue.next ≡ number → ⊥) → IsKnown number one
     new number one is (inl same) =
-        let none = none_behind 0 queue.next (ruled outcome queue.messages) queue.next (rise_ruled outcome 0 queue.next queue.messages knows.rise) (omega arith) in
+        let none = none_after 0 queue.next (ruled outcome queue.messages) queue.next (rise_ruled outcome 0 queue.next queue.messages knows.rise) (omega arith) in
         let here = some_is (accepted queue.next (report_of message.accept outcome)) one
         (sym (joined_here (ruled outcome queue.messages) queue.next (accepted queue.next (report_of message.accept outcome)) none)
         ∙ subst (λ n. message_of (ruled outcome queue.messages ++ (queue.next, accepted queue.next (report_of message.accept outcome)) ∷ []) n ≡ Some one) (sym same) is) in

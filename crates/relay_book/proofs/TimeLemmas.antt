@@ -76,24 +76,24 @@ get_other (place ∷ places) (suc n) zero new out = refl
 get_other (place ∷ places) (suc n) (suc m) new out = get_other places n m new (λ same. out (ap suc same))
 
 -- the Later verdicts after one ruling
-abbrev pub laters_behind : ℕ → (ℕ → List ℕ) → Ruling → ℕ → List ℕ
-laters_behind at laters ruling n = if ruling.place == n && is_later ruling.verdict then at ∷ laters n else laters n
+abbrev pub laters_after : ℕ → (ℕ → List ℕ) → Ruling → ℕ → List ℕ
+laters_after at laters ruling n = if ruling.place == n && is_later ruling.verdict then at ∷ laters n else laters n
 
 timed_after : (version : Version) (accept : AcceptFields) (at : ℕ) (laters : ℕ → List ℕ) (places : List Place) (ruling : Ruling) → holds_at places ruling.place ≡ true
-    → AreTimed accept.at laters places → AreTimed accept.at (laters_behind at laters ruling) (places_after version accept at places ruling)
+    → AreTimed accept.at laters places → AreTimed accept.at (laters_after at laters ruling) (places_after version accept at places ruling)
 timed_after version accept at laters places ruling holds timed n place = by (slice_get places ruling.place) refl holds
   where
     after : (old : Place) → slice_get places ruling.place ≡ Some old → old.held ≡ true
         → slice_get (slice_set places ruling.place (place_ruled version accept at old ruling)) n ≡ Some place → place.held ≡ true
-        → (ruling.place ≡ n) ⊎ (ruling.place ≡ n → ⊥) → IsTimed accept.at (laters_behind at laters ruling n) place
+        → (ruling.place ≡ n) ⊎ (ruling.place ≡ n → ⊥) → IsTimed accept.at (laters_after at laters ruling n) place
     after old is was got held (inl same) =
         let here = some_is (place_ruled version accept at old ruling) place
         (sym (get_here places ruling.place old (place_ruled version accept at old ruling) is)
         ∙ subst (λ m. slice_get (slice_set places ruling.place (place_ruled version accept at old ruling)) m ≡ Some place) (sym same) got) in
         let before = timed ruling.place old is was in
         let now = timed_later accept.at at (laters ruling.place) old ruling.verdict (due_for version accept at old ruling) before (subst (λ (p : Place). p.held ≡ true) (sym here) held) in
-        subst (IsTimed accept.at (laters_behind at laters ruling n)) here
-        (subst (λ m. IsTimed accept.at (laters_behind at laters ruling m) (place_ruled version accept at old ruling)) same
+        subst (IsTimed accept.at (laters_after at laters ruling n)) here
+        (subst (λ m. IsTimed accept.at (laters_after at laters ruling m) (place_ruled version accept at old ruling)) same
         (subst (λ (test : Bool). IsTimed accept.at (if test && is_later ruling.verdict then at ∷ laters ruling.place else laters ruling.place) (place_ruled version accept at old ruling))
         (sym (eq-eqb ruling.place ruling.place refl)) now))
     after old is was got held (inr out) =
@@ -102,16 +102,16 @@ timed_after version accept at laters places ruling holds timed n place = by (sli
 
     by : (o : Option Place) → slice_get places ruling.place ≡ o → option_map_or is_held o false ≡ true
         → slice_get (option_map_or (λ place. slice_set places ruling.place (place_ruled version accept at place ruling)) o places) n ≡ Some place
-        → place.held ≡ true → IsTimed accept.at (laters_behind at laters ruling n) place
+        → place.held ≡ true → IsTimed accept.at (laters_after at laters ruling n) place
     by None is was got held = absurd (false≢true was)
     by (Some old) is was got held = after old is was got held (cases_eq ruling.place n)
 
 -- an earlier place doesn't wait in later rulings
-waits_behind : (places : List Place) (least : ℕ) (rulings : List Ruling) (n : ℕ) → AreRulings places least rulings → n < least → waits_in n rulings ≡ false
-waits_behind places least [] n are below = refl
-waits_behind places least (ruling ∷ rulings) n are below =
+waits_after : (places : List Place) (least : ℕ) (rulings : List Ruling) (n : ℕ) → AreRulings places least rulings → n < least → waits_in n rulings ≡ false
+waits_after places least [] n are below = refl
+waits_after places least (ruling ∷ rulings) n are below =
     ap (λ (test : Bool). (test && is_later ruling.verdict) || waits_in n rulings) (ne_eqb ruling.place n (λ same. omega (arith, same, below, are.0)))
-    ∙ waits_behind places (ruling.place + 1) rulings n are.2 (omega (arith, below, are.0))
+    ∙ waits_after places (ruling.place + 1) rulings n are.2 (omega (arith, below, are.0))
 
 merged : (at : ℕ) (before : List ℕ) (first rest : Bool) → (first ≡ true → rest ≡ false)
     → (if rest then at ∷ (if first then at ∷ before else before) else (if first then at ∷ before else before)) ≡ (if first || rest then at ∷ before else before)
@@ -123,7 +123,7 @@ pub first_only : (places : List Place) (ruling : Ruling) (rulings : List Ruling)
 first_only places ruling rulings n are e = by (cases_eq ruling.place n)
   where
     by : (ruling.place ≡ n) ⊎ (ruling.place ≡ n → ⊥) → waits_in n rulings ≡ false
-    by (inl same) = waits_behind places (ruling.place + 1) rulings n are (omega (arith, same))
+    by (inl same) = waits_after places (ruling.place + 1) rulings n are (omega (arith, same))
     by (inr out) = absurd (false≢true (sym (ap (λ (test : Bool). test && is_later ruling.verdict) (ne_eqb ruling.place n out)) ∙ e))
 
 -- after all verdicts of an outcome
@@ -135,7 +135,7 @@ timed_ruled version accept at laters places least (ruling ∷ rulings) are timed
     let now = timed_after version accept at laters places ruling are.1 timed in
     subst (λ (l : List ℕ). IsTimed accept.at l place)
     (merged at (laters n) (ruling.place == n && is_later ruling.verdict) (waits_in n rulings) (first_only places ruling rulings n are.2))
-    (timed_ruled version accept at (laters_behind at laters ruling) (places_after version accept at places ruling) (ruling.place + 1) rulings stay now n place got held)
+    (timed_ruled version accept at (laters_after at laters ruling) (places_after version accept at places ruling) (ruling.place + 1) rulings stay now n place got held)
 
 -- a message as it is accepted
 pub timed_new : (at : ℕ) (recipients : List Recipient) (n : ℕ) (place : Place) → slice_get (map (λ recipient. held_place 0 false at) recipients) n ≡ Some place → IsTimed at [] place

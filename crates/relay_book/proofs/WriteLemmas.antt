@@ -23,9 +23,9 @@ mail_written old first second third new moment at reverse path number ret given 
     (grows first second new (sized_2 reverse) (number ∷ sized_2 given) two (grows second third new (number ∷ []) (sized_2 given) three four))
     ∙ (λ i. old ++ mail_octets (at_is i) (path_is i) (ret_is i) (envid_is i))
 
-behind_mail : (at : ℕ) (path : List ℕ) (ret : ℕ) (envid rest : List ℕ)
+after_mail : (at : ℕ) (path : List ℕ) (ret : ℕ) (envid rest : List ℕ)
     → mail_octets at path ret envid ++ rest ≡ octets_8 at ++ (sized_2 path ++ (ret ∷ (sized_2 envid ++ rest)))
-behind_mail at path ret envid rest =
+after_mail at path ret envid rest =
     append_assoc (octets_8 at) (sized_2 path ++ (ret ∷ sized_2 envid)) rest
     ∙ ap (λ (l : List ℕ). octets_8 at ++ l) (append_assoc (sized_2 path) (ret ∷ sized_2 envid) rest)
 
@@ -36,7 +36,7 @@ module _ (accept : AcceptFields) where
   fields_written old mid next new middle last one two three =
       grows old mid new (mail_octets accept.at accept.envelope.reverse_path (ret_number accept.envelope.ret) (written accept.envelope.envid)) (middle ++ last) one
       (grows mid next new middle last two three)
-      ∙ ap (λ (l : List ℕ). old ++ l) (behind_mail accept.at accept.envelope.reverse_path (ret_number accept.envelope.ret) (written accept.envelope.envid) (middle ++ last))
+      ∙ ap (λ (l : List ℕ). old ++ l) (after_mail accept.at accept.envelope.reverse_path (ret_number accept.envelope.ret) (written accept.envelope.envid) (middle ++ last))
 
   -- its recipients, and its stored text
   pub accept_written : (old mid next new : List ℕ) → mid ≡ old ++ mail_octets accept.at accept.envelope.reverse_path (ret_number accept.envelope.ret) (written accept.envelope.envid)

@@ -46,14 +46,14 @@ pub record HasNone {A : Type 0} (Valid : A → Type 0) (octets_of : A → List �
   pub none : (value : A) (rest : List ℕ) → Valid value → text ≢ octets_of value ++ rest
 
 -- this many values
-pub record AreSoMany {A : Type 0} (Valid : A → Type 0) (count : ℕ) (values : List A) : Type 0 where
-  pub so_many : length values ≡ count
+pub record HaveCount {A : Type 0} (Valid : A → Type 0) (count : ℕ) (values : List A) : Type 0 where
+  pub have_count : length values ≡ count
   pub valid : AllByRecursion Valid values
 
 -- this many valid values do not begin the text
 pub record HasNoRow {A : Type 0} (Valid : A → Type 0) (octets_of : A → List ℕ) (count : ℕ)
     (text : List ℕ) : Type 0 where
-  pub none : (values : List A) (rest : List ℕ) → AreSoMany Valid count values
+  pub none : (values : List A) (rest : List ℕ) → HaveCount Valid count values
       → text ≢ flat_map octets_of values ++ rest
 
 -- 1 to 100 valid values

@@ -10,7 +10,7 @@ use Rattle.relay_book.specs.declared.version.SnapshotVersion.TheVariants.{Withou
 use Rattle.relay_book.specs.declared.message.Place.{Place}
 use Rattle.relay_book.specs.declared.message.Message.{Message}
 use Rattle.relay_book.specs.Book.{Rise}
-use Rattle.relay_book.specs.Fields.{AreSome, AreSoMany}
+use Rattle.relay_book.specs.Fields.{AreSome, HaveCount}
 use Rattle.relay_book.specs.Queue.{Queue}
 use Rattle.relay_book.specs.Record.{counted, octets_4, octets_8, sized_2, sized_4, worth, written}
 use Rattle.relay_book.specs.Snapshot.{IsPlace, IsPlaceBy, IsQueuedBy, delay_octets, entry_octets, placed_octets}
@@ -65,7 +65,7 @@ pub record IsPlacedBy (version : SnapshotVersion) (placed : Recipient × Place) 
 pub record ReadsRow (version : SnapshotVersion) (count : ℕ) (text : List ℕ) (recipients : List Recipient)
     (places : List Place) (rest : List ℕ) : Type 0 where
   pub as_many : length places ≡ length recipients
-  pub are : AreSoMany (IsPlacedBy version) count (zip recipients places)
+  pub are : HaveCount (IsPlacedBy version) count (zip recipients places)
   pub text_is : text ≡ flat_map (placed_octets version) (zip recipients places) ++ rest
 
 -- 1 to 100 recipients and their places are read from the text after their count, up to the rest
@@ -104,23 +104,23 @@ pub record IsQueuedIn (version : SnapshotVersion) (least next : ℕ) (entry : �
   pub high : entry.0 < next
 
 -- the least number that may follow these messages
-abbrev pub next_behind : ℕ → List (ℕ × Message) → ℕ
-next_behind least [] = least
-next_behind least (entry ∷ entries) = next_behind (suc entry.0) entries
+abbrev pub next_after : ℕ → List (ℕ × Message) → ℕ
+next_after least [] = least
+next_after least (entry ∷ entries) = next_after (suc entry.0) entries
 
 -- this many messages are read from the text into a queue, up to the rest
 pub record ReadsEntries (version : SnapshotVersion) (count next : ℕ) (text : List ℕ) (queue : Queue) (rest : List ℕ)
     : Type 0 where
-  pub are : AreSoMany (IsQueuedBy version) count queue.messages
+  pub are : HaveCount (IsQueuedBy version) count queue.messages
   pub rise : Rise 1 queue.next queue.messages
-  pub behind : queue.next ≡ next_behind 1 queue.messages
+  pub after : queue.next ≡ next_after 1 queue.messages
   pub below : queue.next ≤ next
   pub text_is : text ≡ flat_map (entry_octets version) queue.messages ++ rest
 
 -- the text is this many messages of a queue with this next number
 pub record AreEntries (version : SnapshotVersion) (count next : ℕ) (text : List ℕ) (messages : List (ℕ × Message))
     : Type 0 where
-  pub are : AreSoMany (IsQueuedBy version) count messages
+  pub are : HaveCount (IsQueuedBy version) count messages
   pub rise : Rise 1 next messages
   pub text_is : text ≡ flat_map (entry_octets version) messages
 

@@ -30,7 +30,7 @@ use crate::message::{Message, Place};
 use crate::ready::{Made, Ready};
 use entries::{keep_queued, slot_after};
 use indexmap::IndexMap;
-use make::{accepted, made_of, moments_of, places_behind};
+use make::{accepted, made_of, moments_of, places_after};
 use questions::{held_places, numbers_until, push_due};
 use relay_trace::Moment;
 use std::alloc::{AllocError, Global};
@@ -269,7 +269,7 @@ impl Book {
         };
         let number = outcome.message;
         let were_due = moments_of(alloc, &message.places)?;
-        let places = places_behind(alloc, message, &outcome)?;
+        let places = places_after(alloc, message, &outcome)?;
         let made = made_of(alloc, self.next, message, outcome)?;
         self.tell_all(number, places.as_slice())?;
         self.tell_made(&made)?;

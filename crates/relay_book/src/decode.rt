@@ -29,7 +29,7 @@ use relay_octets::Octets;
 use relay_trace::Moment;
 use ruling::read_rulings;
 use std::alloc::Global;
-use tail::behind;
+use tail::after;
 
 /// Returns the change of which these octets are the record, with one copy of each text. It fails with `BadRecord`
 /// exactly if they are no record of a change, and if memory runs out. Memory is wanted first for the recipients or the
@@ -80,7 +80,7 @@ pub fn decode_record(alloc: Global, octets: Vec<u8>) -> Result<Change, BookFault
         Some((at, envelope, head)) => Ok(Change::Accept(Accept {
             at,
             envelope,
-            stored_text: Octets::new(behind(octets, head)),
+            stored_text: Octets::new(after(octets, head)),
         })),
         None => decode_change(alloc, octets.as_slice()),
     }

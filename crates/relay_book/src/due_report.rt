@@ -11,7 +11,7 @@ use relay_envelope::Notify;
 use relay_trace::Moment;
 
 /// The kind of a report on a place.
-#[derive(Clone, Copy, Debug)]
+#[derive(Clone, Copy)]
 pub enum DueReport {
     /// Delivery failed.
     OfFailure,

@@ -6,7 +6,7 @@ use crate::limits::{LATENESS, PATIENCE};
 use relay_trace::Moment;
 
 /// What a verdict makes of a held place.
-#[derive(Clone, Copy, Debug)]
+#[derive(Clone, Copy)]
 pub enum Fate {
     /// It is tried again.
     Waits,

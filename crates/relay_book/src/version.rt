@@ -11,7 +11,7 @@ pub enum Version {
 }
 
 /// The version of a snapshot. A node writes the second alone, and reads both.
-#[derive(Clone, Copy, Debug)]
+#[derive(Clone, Copy)]
 pub(crate) enum SnapshotVersion {
     /// The first, which says of no place that it was reported as delayed.
     WithoutDelay,

@@ -6,7 +6,7 @@ use strsim::levenshtein;
 use toml::Table;
 
 /// How many keys a configuration may have.
-pub(crate) const KEY_COUNT: usize = 19;
+pub(crate) const KEY_COUNT: usize = 20;
 
 /// The keys of a configuration.
 const KEYS: [&str; KEY_COUNT] = [
@@ -29,6 +29,7 @@ const KEYS: [&str; KEY_COUNT] = [
     "balancers",
     "clients",
     "control",
+    "control_group",
 ];
 
 /// The keys of a route's next hop.

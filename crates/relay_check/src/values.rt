@@ -4,7 +4,7 @@ use crate::findings::Findings;
 use crate::known_keys::KEY_COUNT;
 use crate::networks::{BALANCERS, CLIENTS, TRUSTED_CLIENTS};
 use crate::position::Place;
-use relay_limits::{AllowedClients, Balancers, Limit, Limits, control_path};
+use relay_limits::{AllowedClients, Balancers, Limit, Limits, control_group, control_path};
 use relay_routes::{Config, ConfigFault, Key};
 use std::alloc::{AllocError, Global};
 use std::fmt;
@@ -123,8 +123,8 @@ fn broken_rule(alloc: Global, document: &Table) -> Result<Option<Rule>, AllocErr
     }
 }
 
-/// Returns the rule of the first key that `run` reads after its limits and whose value breaks it: the networks, and the
-/// path of the control socket.
+/// Returns the rule of the first key that `run` reads after its limits and whose value breaks it: the networks, the
+/// path of the control socket, and its group.
 fn broken_last(alloc: Global, document: &Table) -> Result<Option<Rule>, AllocError> {
     if Balancers::of_document(alloc, document)?.is_none() {
         return Ok(Some(rule_of_limit(Limit::Balancers)));
@@ -134,6 +134,9 @@ fn broken_last(alloc: Global, document: &Table) -> Result<Option<Rule>, AllocErr
     }
     if control_path(alloc, document)?.is_none() {
         return Ok(Some(rule_of_limit(Limit::Control)));
+    }
+    if control_group(document).is_none() {
+        return Ok(Some(rule_of_limit(Limit::ControlGroup)));
     }
     Ok(None)
 }
@@ -219,6 +222,10 @@ fn rule_of_limit(limit: Limit) -> Rule {
         Limit::Control => (
             "the path of a socket, of 1 to 107 octets",
             Good::Text("/run/relayd/control"),
+        ),
+        Limit::ControlGroup => (
+            "the number of a group from 0 to 4294967294",
+            Good::Number(100),
         ),
     };
     Rule {

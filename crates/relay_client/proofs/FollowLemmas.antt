@@ -5,7 +5,7 @@ use Rattle.relay_body.specs.DotText.{WritesDotText, ends_in_line_end}
 use Rattle.relay_body.proofs.Theorems.{each_content_is_written}
 use Rattle.relay_envelope.specs.declared.envelope.Envelope.{Envelope}
 use Rattle.relay_book.specs.declared.change.Verdict.{Verdict}
-use Rattle.relay_course.specs.Course.{IsCourse, IsSentAs, errand_of}
+use Rattle.relay_course.specs.Course.{IsCourse, IsSentAs, delivery_of}
 use Rattle.relay_course.specs.VerdictTable.{all_later}
 use Rattle.relay_client.specs.declared.attempt.Attempt.{Attempt}
 use Rattle.relay_client.specs.declared.attempt.Stage.TheVariants.{Running}
@@ -54,7 +54,7 @@ begins_to_follow attempt host envelope text places reads g runs =
 -- what a feed of an attempt that runs leads to
 pub feed_follows : (attempt : Attempt) (host : List ℕ) (envelope : Envelope) (text places dot_text input output : List ℕ)
     (ended : Option (List Verdict)) → IsSentAs text dot_text → attempt.stage ≡ stage_by ended
-    → KeepsOn attempt.reader attempt.talk (errand_of host envelope text dot_text places) input output ended
+    → KeepsOn attempt.reader attempt.talk (delivery_of host envelope text dot_text places) input output ended
     → FollowsOn attempt host envelope text places input output ended
 feed_follows attempt host envelope text places dot_text input output None sent stage keeps =
     record { dot_text = dot_text; sent = sent; keeps = keeps; runs = stage }

@@ -1,4 +1,4 @@
--- What one feed of the reader is for an errand.
+-- What one feed of the reader is for a delivery.
 use Rattle.std.proofs.Common.{◌≡◌, ◌≤◌, ◌⊎◌, ℕ, ◌+◌, ◌-◌, true, false, List, [], ◌∷◌, ◌++◌, length, take, drop, Option, Some, None, MatchOption, refl, sym, ap, ◌∙◌, subst, inl, inr, arith}
 use Rattle.std.proofs.lemmas.List.{append_assoc, length-append, take-append-drop, take_all, take_rest, drop-take, take-take}
 use Rattle.std.proofs.lemmas.List.Concat.{flat_map-append}
@@ -11,7 +11,7 @@ use Rattle.relay_lines.specs.declared.reply_reader.ReplyFault.TheVariants.{NoMem
 use Rattle.relay_lines.proofs.Theorems.{cut_goes_on, held_is_unfinished}
 use Rattle.relay_book.specs.declared.change.Verdict.{Verdict}
 use Rattle.relay_course.specs.VerdictTable.{all_later}
-use Rattle.relay_course.specs.Progress.{Errand, Progress, behind_reply, progress}
+use Rattle.relay_course.specs.Progress.{Delivery, Progress, after_reply, progress}
 use Rattle.relay_course.specs.Course.{Concludes, Runs, joined}
 use Rattle.relay_client.specs.declared.conversation.Conversation.{Conversation}
 use Rattle.relay_client.specs.Conversation.{Does, Holds}
@@ -37,15 +37,15 @@ FindsFault reader piece fault =
     → (fault ≡ NoMemory) ⊎ HasFault (rest ++ piece) fault
 
 -- what a reply does
-abbrev pub Answers : Errand → Conversation → Conversation → Reply → Option (List Verdict) → List ℕ → List ℕ → Type 0
-Answers errand old new reply ended out more =
-    (now : Progress) → Holds old errand now → Does errand now (behind_reply errand now reply) new ended out more
+abbrev pub Answers : Delivery → Conversation → Conversation → Reply → Option (List Verdict) → List ℕ → List ℕ → Type 0
+Answers delivery old new reply ended out more =
+    (now : Progress) → Holds old delivery now → Does delivery now (after_reply delivery now reply) new ended out more
 
 -- the octets have a fault
-pub keeps_fault : (reader : ReplyReader) (talk : Conversation) (errand : Errand) (input output piece : List ℕ)
-    (fault : ReplyFault) → KeepsTo reader talk errand input output → FindsFault reader piece fault → ¬ (fault ≡ NoMemory)
-    → Runs errand (input ++ piece) false output (Some (all_later errand.places))
-keeps_fault reader talk errand input output piece fault k h other =
+pub keeps_fault : (reader : ReplyReader) (talk : Conversation) (delivery : Delivery) (input output piece : List ℕ)
+    (fault : ReplyFault) → KeepsTo reader talk delivery input output → FindsFault reader piece fault → ¬ (fault ≡ NoMemory)
+    → Runs delivery (input ++ piece) false output (Some (all_later delivery.places))
+keeps_fault reader talk delivery input output piece fault k h other =
     let found : HasFault (k.rest ++ piece) fault =
     elim (h input k.replies k.rest k.reads) [ inl e ↦ absurd (other e) | inr found ↦ found ] in
     record {
@@ -55,33 +55,33 @@ keeps_fault reader talk errand input output piece fault k h other =
       each = k.each;
       written = k.written;
       concludes = subst
-          (λ (v : Option (List Verdict)). Concludes errand.places false (k.rest ++ piece) v (Some (all_later errand.places)))
+          (λ (v : Option (List Verdict)). Concludes delivery.places false (k.rest ++ piece) v (Some (all_later delivery.places)))
           (sym k.holds.running) (inr (inr (refl, (fault, found), refl)));
     }
 
 -- the connection is lost
-pub keeps_broken : (reader : ReplyReader) (talk : Conversation) (errand : Errand) (input output : List ℕ)
-    → KeepsTo reader talk errand input output → Runs errand input true output (Some (all_later errand.places))
-keeps_broken reader talk errand input output k = record {
+pub keeps_broken : (reader : ReplyReader) (talk : Conversation) (delivery : Delivery) (input output : List ℕ)
+    → KeepsTo reader talk delivery input output → Runs delivery input true output (Some (all_later delivery.places))
+keeps_broken reader talk delivery input output k = record {
   replies = k.replies;
   rest = k.rest;
   cut = k.reads.cut;
   each = k.each;
   written = k.written;
-  concludes = subst (λ (v : Option (List Verdict)). Concludes errand.places true k.rest v (Some (all_later errand.places)))
+  concludes = subst (λ (v : Option (List Verdict)). Concludes delivery.places true k.rest v (Some (all_later delivery.places)))
       (sym k.holds.running) (inr (inl (refl, held_is_unfinished reader k.rest k.reads.holds, refl)));
 }
 
 -- more may come
-pub keeps_open : (reader : ReplyReader) (talk : Conversation) (errand : Errand) (input output : List ℕ)
-    → KeepsTo reader talk errand input output → Runs errand input false output None
-keeps_open reader talk errand input output k = record {
+pub keeps_open : (reader : ReplyReader) (talk : Conversation) (delivery : Delivery) (input output : List ℕ)
+    → KeepsTo reader talk delivery input output → Runs delivery input false output None
+keeps_open reader talk delivery input output k = record {
   replies = k.replies;
   rest = k.rest;
   cut = k.reads.cut;
   each = k.each;
   written = k.written;
-  concludes = subst (λ (v : Option (List Verdict)). Concludes errand.places false k.rest v None)
+  concludes = subst (λ (v : Option (List Verdict)). Concludes delivery.places false k.rest v None)
       (sym k.holds.running) (inl (refl, held_is_unfinished reader k.rest k.reads.holds, refl));
 }
 
@@ -94,61 +94,61 @@ written-more output out more old new commands e f g =
     ∙ sym (flat_map-append (λ (command : List ℕ). command) old commands) ∙ sym (ap joined f)
 
 -- one reply more was read and answered
-answered-more : (errand : Errand) (replies : List Reply) (reply : Reply) → (progress errand replies).verdicts ≡ None
-    → length (progress errand replies).answered ≡ length replies
-    → length (progress errand (replies ++ reply ∷ [])).answered ≡ length (replies ++ reply ∷ [])
-answered-more errand replies reply none e =
-    each_reply_answers errand replies reply none ∙ omega (arith, e, length-append replies (reply ∷ []))
+answered-more : (delivery : Delivery) (replies : List Reply) (reply : Reply) → (progress delivery replies).verdicts ≡ None
+    → length (progress delivery replies).answered ≡ length replies
+    → length (progress delivery (replies ++ reply ∷ [])).answered ≡ length (replies ++ reply ∷ [])
+answered-more delivery replies reply none e =
+    each_reply_answers delivery replies reply none ∙ omega (arith, e, length-append replies (reply ∷ []))
 
--- a reply ends with the piece, and the errand goes on, or ends
-keeps-reply : (old_reader new_reader : ReplyReader) (old new : Conversation) (errand : Errand)
+-- a reply ends with the piece, and the delivery goes on, or ends
+keeps-reply : (old_reader new_reader : ReplyReader) (old new : Conversation) (delivery : Delivery)
     (input output piece out more : List ℕ) (reply : Reply) (ended : Option (List Verdict))
-    → KeepsTo old_reader old errand input (output ++ out) → ReadsOne old_reader new_reader piece reply
-    → Answers errand old new reply ended out more
-    → KeepsOn new_reader new errand (input ++ piece) (output ++ more) ended
-keeps-reply old_reader new_reader old new errand input output piece out more reply None k h does =
-    let now : Progress = progress errand k.replies in
-    let next : Progress = behind_reply errand now reply in
-    let d : Does errand now next new None out more = does now k.holds in
-    let same : next ≡ progress errand (k.replies ++ reply ∷ []) = sym (reply_leads_on errand k.replies reply) in
+    → KeepsTo old_reader old delivery input (output ++ out) → ReadsOne old_reader new_reader piece reply
+    → Answers delivery old new reply ended out more
+    → KeepsOn new_reader new delivery (input ++ piece) (output ++ more) ended
+keeps-reply old_reader new_reader old new delivery input output piece out more reply None k h does =
+    let now : Progress = progress delivery k.replies in
+    let next : Progress = after_reply delivery now reply in
+    let d : Does delivery now next new None out more = does now k.holds in
+    let same : next ≡ progress delivery (k.replies ++ reply ∷ []) = sym (reply_leads_on delivery k.replies reply) in
     record {
       replies = k.replies ++ reply ∷ [];
       rest = [];
       reads = h input k.replies k.rest k.reads;
-      each = answered-more errand k.replies reply k.holds.running k.each;
+      each = answered-more delivery k.replies reply k.holds.running k.each;
       written = subst (λ (p : Progress). output ++ more ≡ joined p.commands) same
           (written-more output out more now.commands next.commands d.commands k.written d.commands_are d.written);
-      holds = subst (λ (p : Progress). Holds new errand p) same d.stands;
-      waits = (each_command_waits errand (k.replies ++ reply ∷ [])
+      holds = subst (λ (p : Progress). Holds new delivery p) same d.stands;
+      waits = (each_command_waits delivery (k.replies ++ reply ∷ [])
           (subst (λ (p : Progress). p.verdicts ≡ None) same d.stands.running)).0;
     }
-keeps-reply old_reader new_reader old new errand input output piece out more reply (Some verdicts) k h does =
-    let now : Progress = progress errand k.replies in
-    let next : Progress = behind_reply errand now reply in
-    let d : Does errand now next new (Some verdicts) out more = does now k.holds in
-    let same : next ≡ progress errand (k.replies ++ reply ∷ []) = sym (reply_leads_on errand k.replies reply) in
+keeps-reply old_reader new_reader old new delivery input output piece out more reply (Some verdicts) k h does =
+    let now : Progress = progress delivery k.replies in
+    let next : Progress = after_reply delivery now reply in
+    let d : Does delivery now next new (Some verdicts) out more = does now k.holds in
+    let same : next ≡ progress delivery (k.replies ++ reply ∷ []) = sym (reply_leads_on delivery k.replies reply) in
     let reads = h input k.replies k.rest k.reads in
     record {
       replies = k.replies ++ reply ∷ [];
       rest = [];
       cut = reads.cut;
-      each = answered-more errand k.replies reply k.holds.running k.each;
+      each = answered-more delivery k.replies reply k.holds.running k.each;
       written = subst (λ (p : Progress). output ++ more ≡ joined p.commands) same
           (written-more output out more now.commands next.commands d.commands k.written d.commands_are d.written);
-      concludes = subst (λ (p : Progress). Concludes errand.places false [] p.verdicts (Some verdicts)) same
-          (subst (λ (v : Option (List Verdict)). Concludes errand.places false [] v (Some verdicts)) (sym d.stands)
+      concludes = subst (λ (p : Progress). Concludes delivery.places false [] p.verdicts (Some verdicts)) same
+          (subst (λ (v : Option (List Verdict)). Concludes delivery.places false [] v (Some verdicts)) (sym d.stands)
           (refl, refl, refl));
     }
 
 -- the same, by a name of the reply
-pub keeps_reply : (old_reader new_reader : ReplyReader) (old new : Conversation) (errand : Errand)
+pub keeps_reply : (old_reader new_reader : ReplyReader) (old new : Conversation) (delivery : Delivery)
     (input output piece out more : List ℕ) (reply other : Reply) (ended : Option (List Verdict))
-    → KeepsTo old_reader old errand input (output ++ out) → ReadsOne old_reader new_reader piece reply → other ≡ reply
-    → Answers errand old new other ended out more
-    → KeepsOn new_reader new errand (input ++ piece) (output ++ more) ended
-keeps_reply old_reader new_reader old new errand input output piece out more reply other ended k h e does =
-    keeps-reply old_reader new_reader old new errand input output piece out more reply ended k h
-    (subst (λ (r : Reply). Answers errand old new r ended out more) e does)
+    → KeepsTo old_reader old delivery input (output ++ out) → ReadsOne old_reader new_reader piece reply → other ≡ reply
+    → Answers delivery old new other ended out more
+    → KeepsOn new_reader new delivery (input ++ piece) (output ++ more) ended
+keeps_reply old_reader new_reader old new delivery input output piece out more reply other ended k h e does =
+    keeps-reply old_reader new_reader old new delivery input output piece out more reply ended k h
+    (subst (λ (r : Reply). Answers delivery old new r ended out more) e does)
 
 -- what is left of a piece after its used octets
 abbrev pub left_of : List ℕ → ℕ → List ℕ
@@ -171,23 +171,23 @@ input-more input piece used more =
     ∙ ap (λ (p : List ℕ). input ++ p) (take-more piece used more)
 
 -- a step further in a piece
-pub on_in_piece : (reader : ReplyReader) (talk : Conversation) (errand : Errand) (input output piece : List ℕ)
+pub on_in_piece : (reader : ReplyReader) (talk : Conversation) (delivery : Delivery) (input output piece : List ℕ)
     (used more : ℕ) (ended : Option (List Verdict))
-    → KeepsOn reader talk errand ((input ++ take used piece) ++ take more (left_of piece used)) output ended
-    → KeepsOn reader talk errand (input ++ take (used + more) piece) output ended
-on_in_piece reader talk errand input output piece used more ended k =
-    subst (λ (i : List ℕ). KeepsOn reader talk errand i output ended) (input-more input piece used more) k
+    → KeepsOn reader talk delivery ((input ++ take used piece) ++ take more (left_of piece used)) output ended
+    → KeepsOn reader talk delivery (input ++ take (used + more) piece) output ended
+on_in_piece reader talk delivery input output piece used more ended k =
+    subst (λ (i : List ℕ). KeepsOn reader talk delivery i output ended) (input-more input piece used more) k
 
 -- the octets have a fault: all of them are used
-pub fault_step : (reader : ReplyReader) (talk : Conversation) (errand : Errand) (input output piece : List ℕ)
-    (fault : ReplyFault) (verdicts : List Verdict) → KeepsTo reader talk errand input output
+pub fault_step : (reader : ReplyReader) (talk : Conversation) (delivery : Delivery) (input output piece : List ℕ)
+    (fault : ReplyFault) (verdicts : List Verdict) → KeepsTo reader talk delivery input output
     → FindsFault reader piece fault → ¬ (fault ≡ NoMemory) → verdicts ≡ all_later talk.places.items
-    → Runs errand (input ++ take (length piece) piece) false output (Some verdicts)
-fault_step reader talk errand input output piece fault verdicts k h other e =
-    subst (λ (i : List ℕ). Runs errand i false output (Some verdicts))
+    → Runs delivery (input ++ take (length piece) piece) false output (Some verdicts)
+fault_step reader talk delivery input output piece fault verdicts k h other e =
+    subst (λ (i : List ℕ). Runs delivery i false output (Some verdicts))
     (ap (λ (p : List ℕ). input ++ p) (sym (take_all (length piece) piece (omega arith))))
-    (subst (λ (v : List Verdict). Runs errand (input ++ piece) false output (Some v))
-    (sym (e ∙ ap all_later k.holds.places_are)) (keeps_fault reader talk errand input output piece fault k h other))
+    (subst (λ (v : List Verdict). Runs delivery (input ++ piece) false output (Some v))
+    (sym (e ∙ ap all_later k.holds.places_are)) (keeps_fault reader talk delivery input output piece fault k h other))
 
 -- a feed gave this reply
 pub reads_one : (old new : ReplyReader) (cut : Option Reply) (reply : Reply) (piece front : List ℕ) → cut ≡ Some reply
@@ -199,15 +199,15 @@ reads_one old new cut reply piece front e f octets replies rest h =
     subst (λ (o : Option Reply). MatchOption o (HasRead new (octets ++ piece) replies (rest ++ piece))
     (λ r. HasRead new (octets ++ front) (replies ++ r ∷ []) [])) e (f octets replies rest h)
 
-pub on_ended : (reader : ReplyReader) (talk : Conversation) (errand : Errand) (input output : List ℕ)
+pub on_ended : (reader : ReplyReader) (talk : Conversation) (delivery : Delivery) (input output : List ℕ)
     (ended : Option (List Verdict)) (all other : List Verdict) → ended ≡ Some all → other ≡ all
-    → KeepsOn reader talk errand input output ended → Runs errand input false output (Some other)
-on_ended reader talk errand input output ended all other e same k =
-    subst (λ (v : List Verdict). Runs errand input false output (Some v)) (sym same)
-    (subst (λ (v : Option (List Verdict)). KeepsOn reader talk errand input output v) e k)
+    → KeepsOn reader talk delivery input output ended → Runs delivery input false output (Some other)
+on_ended reader talk delivery input output ended all other e same k =
+    subst (λ (v : List Verdict). Runs delivery input false output (Some v)) (sym same)
+    (subst (λ (v : Option (List Verdict)). KeepsOn reader talk delivery input output v) e k)
 
-pub on_running : (reader : ReplyReader) (talk : Conversation) (errand : Errand) (input output : List ℕ)
-    (ended : Option (List Verdict)) → ended ≡ None → KeepsOn reader talk errand input output ended
-    → KeepsTo reader talk errand input output
-on_running reader talk errand input output ended e k =
-    subst (λ (v : Option (List Verdict)). KeepsOn reader talk errand input output v) e k
+pub on_running : (reader : ReplyReader) (talk : Conversation) (delivery : Delivery) (input output : List ℕ)
+    (ended : Option (List Verdict)) → ended ≡ None → KeepsOn reader talk delivery input output ended
+    → KeepsTo reader talk delivery input output
+on_running reader talk delivery input output ended e k =
+    subst (λ (v : Option (List Verdict)). KeepsOn reader talk delivery input output v) e k

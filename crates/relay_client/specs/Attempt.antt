@@ -5,8 +5,8 @@ use Rattle.relay_lines.specs.ReplySteps.{HasRead}
 use Rattle.relay_lines.specs.declared.reply_reader.ReplyReader.{ReplyReader}
 use Rattle.relay_envelope.specs.declared.envelope.Envelope.{Envelope}
 use Rattle.relay_book.specs.declared.change.Verdict.{Verdict}
-use Rattle.relay_course.specs.Progress.{Errand, progress}
-use Rattle.relay_course.specs.Course.{IsCourse, IsSentAs, Runs, errand_of, joined}
+use Rattle.relay_course.specs.Progress.{Delivery, progress}
+use Rattle.relay_course.specs.Course.{IsCourse, IsSentAs, Runs, delivery_of, joined}
 use Rattle.relay_client.specs.declared.conversation.Conversation.{Conversation}
 use Rattle.relay_client.specs.declared.attempt.Attempt.{Attempt}
 use Rattle.relay_client.specs.declared.attempt.Driven.{Driven}
@@ -14,21 +14,22 @@ use Rattle.relay_client.specs.declared.attempt.Stage.{Stage}
 use Rattle.relay_client.specs.declared.attempt.Stage.TheVariants.{Running, Ended, Failed}
 use Rattle.relay_client.specs.Conversation.{Holds}
 
--- reader and conversation have read this input and written this output, and the errand goes on
-pub record KeepsTo (reader : ReplyReader) (talk : Conversation) (errand : Errand) (input output : List ℕ) : Type 0 where
+-- reader and conversation have read this input and written this output, and the delivery goes on
+pub record KeepsTo (reader : ReplyReader) (talk : Conversation) (delivery : Delivery) (input output : List ℕ)
+    : Type 0 where
   pub replies : List Reply
   pub rest : List ℕ
   pub reads : HasRead reader input replies rest
-  pub each : length (progress errand replies).answered ≡ length replies
-  pub written : output ≡ joined (progress errand replies).commands
-  pub holds : Holds talk errand (progress errand replies)
-  pub waits : 0 < length (progress errand replies).waits
+  pub each : length (progress delivery replies).answered ≡ length replies
+  pub written : output ≡ joined (progress delivery replies).commands
+  pub holds : Holds talk delivery (progress delivery replies)
+  pub waits : 0 < length (progress delivery replies).waits
 
--- they go on, or the errand has ended with these verdicts
+-- they go on, or the delivery has ended with these verdicts
 abbrev pub KeepsOn
-    : ReplyReader → Conversation → Errand → List ℕ → List ℕ → Option (List Verdict) → Type 0
-KeepsOn reader talk errand input output None = KeepsTo reader talk errand input output
-KeepsOn reader talk errand input output (Some verdicts) = Runs errand input false output (Some verdicts)
+    : ReplyReader → Conversation → Delivery → List ℕ → List ℕ → Option (List Verdict) → Type 0
+KeepsOn reader talk delivery input output None = KeepsTo reader talk delivery input output
+KeepsOn reader talk delivery input output (Some verdicts) = Runs delivery input false output (Some verdicts)
 
 -- the attempt relays a message of this envelope and stored text for this host and these places; it has read this input
 -- and written this output, and goes on
@@ -36,7 +37,7 @@ pub record Follows (attempt : Attempt) (host : List ℕ) (envelope : Envelope) (
     : Type 0 where
   pub dot_text : List ℕ
   pub sent : IsSentAs text dot_text
-  pub keeps : KeepsTo attempt.reader attempt.talk (errand_of host envelope text dot_text places) input output
+  pub keeps : KeepsTo attempt.reader attempt.talk (delivery_of host envelope text dot_text places) input output
   pub runs : attempt.stage ≡ Running
 
 -- it goes on, or it has ended, and what it has read and written is its course with these verdicts

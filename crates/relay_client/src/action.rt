@@ -1,7 +1,7 @@
 //! The table of a conversation: the client's action after each reply (RFC 5321, sections 3.1 to 3.3 and 4.2).
 ghost use Rattle.std.specs.Prelude.{◌≡◌};
 ghost use Rattle.relay_lines.specs.Reply.{Reply};
-ghost use Rattle.relay_course.specs.Progress.{Errand, Progress, behind_answer};
+ghost use Rattle.relay_course.specs.Progress.{Delivery, Progress, after_answer};
 ghost use Rattle.relay_client.specs.Action.{done_by};
 
 use relay_course::{Awaited, ReplyKind};
@@ -22,7 +22,7 @@ pub(crate) enum Action {
     /// The text.
     SendText,
     /// The end, by a reply of this kind to the content.
-    EndBehindContent(ReplyKind),
+    EndAfterContent(ReplyKind),
     /// The end: it may be tried again.
     PutOff,
     /// The end: it is refused for good.
@@ -30,9 +30,9 @@ pub(crate) enum Action {
 }
 
 /// Returns the table: by what waited and by the kind of the reply, what is done.
-pub(crate) fn action_behind(waited: Awaited, kind: ReplyKind) -> Action
-    ensures { (errand : Errand) (reply : Reply) (old : Progress)
-        → behind_answer errand waited kind reply old ≡ done_by errand result reply old }
+pub(crate) fn action_after(waited: Awaited, kind: ReplyKind) -> Action
+    ensures { (delivery : Delivery) (reply : Reply) (old : Progress)
+        → after_answer delivery waited kind reply old ≡ done_by delivery result reply old }
 {
     match (waited, kind) {
         (Awaited::Greeting, ReplyKind::Completion) => Action::Greet,
@@ -42,7 +42,7 @@ pub(crate) fn action_behind(waited: Awaited, kind: ReplyKind) -> Action
         (Awaited::Mail, ReplyKind::Completion) => Action::GoOn,
         (Awaited::Rcpt(_), _) => Action::GoOn,
         (Awaited::Data, ReplyKind::Intermediate) => Action::SendText,
-        (Awaited::Content, _) => Action::EndBehindContent(kind),
+        (Awaited::Content, _) => Action::EndAfterContent(kind),
         (Awaited::Greeting, ReplyKind::Intermediate) => Action::PutOff,
         (Awaited::Greeting, ReplyKind::Transient) => Action::PutOff,
         (Awaited::Greeting, ReplyKind::Permanent) => Action::Refuse,

@@ -2,8 +2,8 @@ ghost use Rattle.std.specs.Prelude.{◌≡◌, ◌<◌, ◌≤◌, ℕ, List, []
 ghost use Rattle.std.specs.Prelude.{true};
 ghost use Rattle.relay_envelope.specs.declared.envelope.Envelope.{Envelope};
 ghost use Rattle.relay_course.specs.Course.{IsCourse};
-ghost use Rattle.relay_course.specs.Progress.{Errand};
-ghost use Rattle.relay_client.specs.Conversation.{IsErrandOf};
+ghost use Rattle.relay_course.specs.Progress.{Delivery};
+ghost use Rattle.relay_client.specs.Conversation.{IsDeliveryOf};
 ghost use Rattle.relay_client.specs.Attempt.{Follows, FollowsOn, HasFailed, KeepsOn, KeepsTo, Turns, places_of};
 ghost use Rattle.relay_client.specs.Attempt.{stage_by};
 ghost use Rattle.relay_course.specs.VerdictTable.{all_later};
@@ -15,7 +15,7 @@ use relay_lines::{ReplyFault, ReplyReader};
 use std::alloc::{AllocError, Global};
 
 /// What a feed has done.
-#[derive(Debug, Drop)]
+#[derive(Drop)]
 pub struct Driven {
     /// How many octets of the piece it has used: all, unless the attempt ends.
     pub used: usize,
@@ -95,7 +95,7 @@ impl Attempt {
             Stage::Running => {
                 self.stage = Stage::Failed;
                 let driven = self.drive(mail, piece)?;
-                self.stage = stage_behind(&driven);
+                self.stage = stage_after(&driven);
                 Ok(driven)
             }
             Stage::Ended => Ok(Driven {
@@ -124,9 +124,10 @@ impl Attempt {
 
     /// Uses the piece up to the attempt's end, or all of it.
     fn drive(&mut self, mail: &MailObject<'_>, piece: &[u8]) -> Result<Driven, AllocError>
-        ensures keeps { IfOk result (λ driven. (errand : Errand) (input output : List ℕ) → IsErrandOf errand mail.now
-            → KeepsTo self.old.reader self.old.talk errand input output
-            → KeepsOn self.new.reader self.new.talk errand (input ++ take driven.used piece.now)
+        ensures keeps { IfOk result (λ driven. (delivery : Delivery) (input output : List ℕ)
+            → IsDeliveryOf delivery mail.now
+            → KeepsTo self.old.reader self.old.talk delivery input output
+            → KeepsOn self.new.reader self.new.talk delivery (input ++ take driven.used piece.now)
             (output ++ driven.out.items) driven.verdicts) }
         ensures whole { IfOk result (λ driven. driven.verdicts ≡ None → driven.used ≡ length piece.now) }
         ensures within { IfOk result (λ driven. driven.used ≤ length piece.now) }
@@ -160,9 +161,10 @@ impl Attempt {
         out: &mut Vec<u8>,
     ) -> Result<Step, AllocError>
         requires { 0 < length rest.now }
-        ensures keeps { IfOk result (λ step. (errand : Errand) (input output : List ℕ) → IsErrandOf errand mail.now
-            → KeepsTo self.old.reader self.old.talk errand input (output ++ out.old.items)
-            → KeepsOn self.new.reader self.new.talk errand (input ++ take step.used rest.now)
+        ensures keeps { IfOk result (λ step. (delivery : Delivery) (input output : List ℕ)
+            → IsDeliveryOf delivery mail.now
+            → KeepsTo self.old.reader self.old.talk delivery input (output ++ out.old.items)
+            → KeepsOn self.new.reader self.new.talk delivery (input ++ take step.used rest.now)
             (output ++ out.new.items) step.verdicts) }
         ensures within { IfOk result (λ step. (0 < step.used) × (step.used ≤ length rest.now)) }
         ensures stage { self.new.stage ≡ self.old.stage }
@@ -194,7 +196,7 @@ impl Attempt {
 }
 
 /// The stage of an attempt that was running and has done this.
-fn stage_behind(driven: &Driven) -> Stage
+fn stage_after(driven: &Driven) -> Stage
     ensures { result ≡ stage_by driven.now.verdicts }
 {
     match &driven.verdicts {

@@ -1,12 +1,12 @@
 ghost use Rattle.std.specs.Prelude.{◌≡◌, [], map, IfOk, OnOk, None};
-ghost use Rattle.relay_course.specs.Progress.{Errand, Progress, behind_answer, behind_hello, behind_reply, ended_by};
+ghost use Rattle.relay_course.specs.Progress.{Delivery, Progress, after_answer, after_hello, after_reply, ended_by};
 ghost use Rattle.relay_course.specs.Progress.{with_command};
 ghost use Rattle.relay_course.specs.VerdictTable.{all_later, content_verdict_by, kind_of, refusal};
 ghost use Rattle.relay_course.specs.WrittenLine.{ehlo_line, helo_line};
 ghost use Rattle.relay_client.specs.Action.{done_by};
-ghost use Rattle.relay_client.specs.Conversation.{Does, Holds, IsAtGreeting, IsErrandOf, SettlesOne};
+ghost use Rattle.relay_client.specs.Conversation.{Does, Holds, IsAtGreeting, IsDeliveryOf, SettlesOne};
 
-use crate::action::{Action, action_behind};
+use crate::action::{Action, action_after};
 use crate::command::{write_dot_text, write_ehlo, write_helo, write_quit};
 use crate::mail_object::MailObject;
 use crate::settled::Settled;
@@ -80,15 +80,15 @@ impl Conversation {
         reply: Reply,
         out: &mut Vec<u8>,
     ) -> Result<Option<Verdicts>, AllocError>
-        ensures { IfOk result (λ ended. (errand : Errand) (old : Progress)
-            → Holds self.old errand old → IsErrandOf errand mail.now
-            → Does errand old (behind_reply errand old reply) self.new ended out.old.items out.new.items) }
+        ensures { IfOk result (λ ended. (delivery : Delivery) (old : Progress)
+            → Holds self.old delivery old → IsDeliveryOf delivery mail.now
+            → Does delivery old (after_reply delivery old reply) self.new ended out.old.items out.new.items) }
     {
         let Some(waited) = self.waits.take_first() else {
             return Ok(None);
         };
         self.settle(waited, &reply)?;
-        self.behind_answer(mail, waited, &reply, out)
+        self.after_answer(mail, waited, &reply, out)
     }
 
     /// Keeps what a RCPT's reply says of its place.
@@ -107,19 +107,19 @@ impl Conversation {
     }
 
     /// What the table says of the reply is done.
-    fn behind_answer(
+    fn after_answer(
         &mut self,
         mail: &MailObject<'_>,
         waited: Awaited,
         reply: &Reply,
         out: &mut Vec<u8>,
     ) -> Result<Option<Verdicts>, AllocError>
-        ensures { IfOk result (λ ended. (errand : Errand) (old : Progress)
-            → Holds self.old errand old → IsErrandOf errand mail.now
-            → Does errand old (behind_answer errand waited (kind_of reply.now.code) reply.now old)
+        ensures { IfOk result (λ ended. (delivery : Delivery) (old : Progress)
+            → Holds self.old delivery old → IsDeliveryOf delivery mail.now
+            → Does delivery old (after_answer delivery waited (kind_of reply.now.code) reply.now old)
             self.new ended out.old.items out.new.items) }
     {
-        let action = action_behind(waited, kind_of(reply.code()));
+        let action = action_after(waited, kind_of(reply.code()));
         self.act(action, mail, reply, out)
     }
 
@@ -131,18 +131,18 @@ impl Conversation {
         reply: &Reply,
         out: &mut Vec<u8>,
     ) -> Result<Option<Verdicts>, AllocError>
-        ensures { IfOk result (λ ended. (errand : Errand) (old : Progress)
-            → Holds self.old errand old → IsErrandOf errand mail.now
-            → Does errand old (done_by errand action reply.now old) self.new ended out.old.items out.new.items) }
+        ensures { IfOk result (λ ended. (delivery : Delivery) (old : Progress)
+            → Holds self.old delivery old → IsDeliveryOf delivery mail.now
+            → Does delivery old (done_by delivery action reply.now old) self.new ended out.old.items out.new.items) }
     {
         match action {
             Action::Greet => self.greet(out),
             Action::TakeOffer => self.take_offer(mail, reply, out),
             Action::GreetPlainly => self.greet_plainly(out),
-            Action::Begin => self.behind_hello(mail, out),
+            Action::Begin => self.after_hello(mail, out),
             Action::GoOn => self.go_on(mail, out),
             Action::SendText => self.send_text(mail, out),
-            Action::EndBehindContent(kind) => self.end_behind_content(kind, reply, out),
+            Action::EndAfterContent(kind) => self.end_after_content(kind, reply, out),
             Action::PutOff => self.put_off(out),
             Action::Refuse => self.refuse(reply, out),
         }
@@ -150,8 +150,8 @@ impl Conversation {
 
     /// EHLO.
     fn greet(&mut self, out: &mut Vec<u8>) -> Result<Option<Verdicts>, AllocError>
-        ensures { IfOk result (λ ended. (errand : Errand) (old : Progress) → Holds self.old errand old
-            → Does errand old (with_command (ehlo_line errand.host) Awaited.Ehlo old)
+        ensures { IfOk result (λ ended. (delivery : Delivery) (old : Progress) → Holds self.old delivery old
+            → Does delivery old (with_command (ehlo_line delivery.host) Awaited.Ehlo old)
             self.new ended out.old.items out.new.items) }
     {
         write_ehlo(out, self.host.as_slice())?;
@@ -161,8 +161,8 @@ impl Conversation {
 
     /// HELO, since EHLO was refused (RFC 5321, section 3.2).
     fn greet_plainly(&mut self, out: &mut Vec<u8>) -> Result<Option<Verdicts>, AllocError>
-        ensures { IfOk result (λ ended. (errand : Errand) (old : Progress) → Holds self.old errand old
-            → Does errand old (with_command (helo_line errand.host) Awaited.Helo old)
+        ensures { IfOk result (λ ended. (delivery : Delivery) (old : Progress) → Holds self.old delivery old
+            → Does delivery old (with_command (helo_line delivery.host) Awaited.Helo old)
             self.new ended out.old.items out.new.items) }
     {
         write_helo(out, self.host.as_slice())?;
@@ -177,24 +177,24 @@ impl Conversation {
         reply: &Reply,
         out: &mut Vec<u8>,
     ) -> Result<Option<Verdicts>, AllocError>
-        ensures { IfOk result (λ ended. (errand : Errand) (old : Progress)
-            → Holds self.old errand old → IsErrandOf errand mail.now
-            → Does errand old (behind_answer errand Awaited.Ehlo ReplyKind.Completion reply.now old)
+        ensures { IfOk result (λ ended. (delivery : Delivery) (old : Progress)
+            → Holds self.old delivery old → IsDeliveryOf delivery mail.now
+            → Does delivery old (after_answer delivery Awaited.Ehlo ReplyKind.Completion reply.now old)
             self.new ended out.old.items out.new.items) }
     {
         self.extensions = extensions_of(reply);
-        self.behind_hello(mail, out)
+        self.after_hello(mail, out)
     }
 
     /// The server is greeted: a text that doesn't end in CR LF needs CHUNKING.
-    fn behind_hello(
+    fn after_hello(
         &mut self,
         mail: &MailObject<'_>,
         out: &mut Vec<u8>,
     ) -> Result<Option<Verdicts>, AllocError>
-        ensures { IfOk result (λ ended. (errand : Errand) (old : Progress)
-            → Holds self.old errand old → IsErrandOf errand mail.now
-            → Does errand old (behind_hello errand old) self.new ended out.old.items out.new.items) }
+        ensures { IfOk result (λ ended. (delivery : Delivery) (old : Progress)
+            → Holds self.old delivery old → IsDeliveryOf delivery mail.now
+            → Does delivery old (after_hello delivery old) self.new ended out.old.items out.new.items) }
     {
         if ends_in_line_end(mail.stored_text) || self.extensions.chunking {
             self.ask_mail(mail, out)?;
@@ -210,9 +210,9 @@ impl Conversation {
         mail: &MailObject<'_>,
         out: &mut Vec<u8>,
     ) -> Result<Option<Verdicts>, AllocError>
-        ensures { IfOk result (λ ended. (errand : Errand) (old : Progress)
-            → Holds self.old errand old → IsErrandOf errand mail.now
-            → Does errand old (with_command errand.dot_text Awaited.Content old)
+        ensures { IfOk result (λ ended. (delivery : Delivery) (old : Progress)
+            → Holds self.old delivery old → IsDeliveryOf delivery mail.now
+            → Does delivery old (with_command delivery.dot_text Awaited.Content old)
             self.new ended out.old.items out.new.items) }
     {
         write_dot_text(out, mail.stored_text)?;
@@ -221,14 +221,14 @@ impl Conversation {
     }
 
     /// Ends by the reply to the content.
-    fn end_behind_content(
+    fn end_after_content(
         &mut self,
         kind: ReplyKind,
         reply: &Reply,
         out: &mut Vec<u8>,
     ) -> Result<Option<Verdicts>, AllocError>
-        ensures { IfOk result (λ ended. (errand : Errand) (old : Progress) → Holds self.old errand old
-            → Does errand old (ended_by errand (content_verdict_by old.extensions.dsn kind reply.now) old)
+        ensures { IfOk result (λ ended. (delivery : Delivery) (old : Progress) → Holds self.old delivery old
+            → Does delivery old (ended_by delivery (content_verdict_by old.extensions.dsn kind reply.now) old)
             self.new ended out.old.items out.new.items) }
     {
         let last = content_verdict(self.alloc, self.extensions.dsn, kind, reply)?;
@@ -237,8 +237,8 @@ impl Conversation {
 
     /// Ends by a reply that refuses for good.
     fn refuse(&mut self, reply: &Reply, out: &mut Vec<u8>) -> Result<Option<Verdicts>, AllocError>
-        ensures { IfOk result (λ ended. (errand : Errand) (old : Progress) → Holds self.old errand old
-            → Does errand old (ended_by errand (refusal reply.now) old)
+        ensures { IfOk result (λ ended. (delivery : Delivery) (old : Progress) → Holds self.old delivery old
+            → Does delivery old (ended_by delivery (refusal reply.now) old)
             self.new ended out.old.items out.new.items) }
     {
         let last = refusal(self.alloc, reply)?;
@@ -247,8 +247,8 @@ impl Conversation {
 
     /// Ends by a reply after which it may be tried again.
     fn put_off(&mut self, out: &mut Vec<u8>) -> Result<Option<Verdicts>, AllocError>
-        ensures { IfOk result (λ ended. (errand : Errand) (old : Progress) → Holds self.old errand old
-            → Does errand old (ended_by errand Verdict.Later old)
+        ensures { IfOk result (λ ended. (delivery : Delivery) (old : Progress) → Holds self.old delivery old
+            → Does delivery old (ended_by delivery Verdict.Later old)
             self.new ended out.old.items out.new.items) }
     {
         Ok(Some(self.end(&Verdict::Later, out)?))
@@ -256,8 +256,8 @@ impl Conversation {
 
     /// QUIT, and the verdicts.
     pub(crate) fn end(&mut self, last: &Verdict, out: &mut Vec<u8>) -> Result<Verdicts, AllocError>
-        ensures { IfOk result (λ verdicts. (errand : Errand) (old : Progress) → Holds self.old errand old
-            → Does errand old (ended_by errand last.now old) self.new (Some verdicts)
+        ensures { IfOk result (λ verdicts. (delivery : Delivery) (old : Progress) → Holds self.old delivery old
+            → Does delivery old (ended_by delivery last.now old) self.new (Some verdicts)
             out.old.items out.new.items) }
     {
         write_quit(out)?;

@@ -1,9 +1,9 @@
 //! The commands of a mail transaction, alone or in groups (RFC 5321, section 3.3; RFC 2920, section 3.1).
 ghost use Rattle.std.specs.Prelude.{◌≡◌, ◌<◌, ◌+◌, ℕ, List, ◌∷◌, drop, length, IfOk, OnOk, None, Some};
-ghost use Rattle.relay_course.specs.Progress.{Errand, Progress, behind_rcpts, gone_on, with_command, with_content};
+ghost use Rattle.relay_course.specs.Progress.{Delivery, Progress, after_rcpts, gone_on, with_command, with_content};
 ghost use Rattle.relay_course.specs.Progress.{with_mail, with_rcpt, with_rcpts};
 ghost use Rattle.relay_course.specs.WrittenLine.{mail_line};
-ghost use Rattle.relay_client.specs.Conversation.{Does, Holds, IsErrandOf};
+ghost use Rattle.relay_client.specs.Conversation.{Does, Holds, IsDeliveryOf};
 
 use crate::command::{write_data, write_last_chunk, write_mail_line, write_rcpt_at};
 use crate::conversation::Conversation;
@@ -21,9 +21,9 @@ impl Conversation {
         mail: &MailObject<'_>,
         out: &mut Vec<u8>,
     ) -> Result<(), AllocError>
-        ensures { OnOk result ((errand : Errand) (old : Progress)
-            → Holds self.old errand old → IsErrandOf errand mail.now
-            → Does errand old (with_mail errand old) self.new None out.old.items out.new.items) }
+        ensures { OnOk result ((delivery : Delivery) (old : Progress)
+            → Holds self.old delivery old → IsDeliveryOf delivery mail.now
+            → Does delivery old (with_mail delivery old) self.new None out.old.items out.new.items) }
     {
         self.ask_mail_alone(mail, out)?;
         if self.extensions.pipelining {
@@ -35,9 +35,9 @@ impl Conversation {
 
     /// MAIL.
     fn ask_mail_alone(&mut self, mail: &MailObject<'_>, out: &mut Vec<u8>) -> Result<(), AllocError>
-        ensures { OnOk result ((errand : Errand) (old : Progress)
-            → Holds self.old errand old → IsErrandOf errand mail.now
-            → Does errand old (with_command (mail_line old.extensions.dsn errand.envelope) Awaited.Mail old)
+        ensures { OnOk result ((delivery : Delivery) (old : Progress)
+            → Holds self.old delivery old → IsDeliveryOf delivery mail.now
+            → Does delivery old (with_command (mail_line old.extensions.dsn delivery.envelope) Awaited.Mail old)
             self.new None out.old.items out.new.items) }
     {
         write_mail_line(self.alloc, out, self.extensions.dsn, mail.envelope)?;
@@ -47,9 +47,9 @@ impl Conversation {
 
     /// Returns the RCPTs of the places whose RCPT wasn't written yet.
     fn ask_rcpts(&mut self, mail: &MailObject<'_>, out: &mut Vec<u8>) -> Result<(), AllocError>
-        ensures { OnOk result ((errand : Errand) (old : Progress)
-            → Holds self.old errand old → IsErrandOf errand mail.now
-            → Does errand old (with_rcpts errand old.unasked old) self.new None out.old.items out.new.items) }
+        ensures { OnOk result ((delivery : Delivery) (old : Progress)
+            → Holds self.old delivery old → IsDeliveryOf delivery mail.now
+            → Does delivery old (with_rcpts delivery old.unasked old) self.new None out.old.items out.new.items) }
     {
         while self.asked < self.places.len() {
             let place = self.places[self.asked];
@@ -66,10 +66,10 @@ impl Conversation {
         out: &mut Vec<u8>,
     ) -> Result<(), AllocError>
         requires { self.old.asked < length self.old.places.items }
-        ensures does { OnOk result ((errand : Errand) (old : Progress) (more : List ℕ)
-            → Holds self.old errand old → IsErrandOf errand mail.now
+        ensures does { OnOk result ((delivery : Delivery) (old : Progress) (more : List ℕ)
+            → Holds self.old delivery old → IsDeliveryOf delivery mail.now
             → drop self.old.asked self.old.places.items ≡ place ∷ more
-            → Does errand old (with_rcpt errand place more old) self.new None out.old.items out.new.items) }
+            → Does delivery old (with_rcpt delivery place more old) self.new None out.old.items out.new.items) }
         ensures asked { OnOk result (self.new.asked ≡ self.old.asked + 1) }
         ensures places { self.new.places ≡ self.old.places }
     {
@@ -92,9 +92,9 @@ impl Conversation {
         mail: &MailObject<'_>,
         out: &mut Vec<u8>,
     ) -> Result<Option<Verdicts>, AllocError>
-        ensures { IfOk result (λ ended. (errand : Errand) (old : Progress)
-            → Holds self.old errand old → IsErrandOf errand mail.now
-            → Does errand old (gone_on errand old) self.new ended out.old.items out.new.items) }
+        ensures { IfOk result (λ ended. (delivery : Delivery) (old : Progress)
+            → Holds self.old delivery old → IsDeliveryOf delivery mail.now
+            → Does delivery old (gone_on delivery old) self.new ended out.old.items out.new.items) }
     {
         if !self.waits.is_empty() {
             return Ok(None);
@@ -104,18 +104,18 @@ impl Conversation {
             self.ask_rcpt(mail, place, out)?;
             return Ok(None);
         }
-        self.behind_rcpts(mail, out)
+        self.after_rcpts(mail, out)
     }
 
     /// All RCPTs are answered: the content where a place is left, and else the end.
-    fn behind_rcpts(
+    fn after_rcpts(
         &mut self,
         mail: &MailObject<'_>,
         out: &mut Vec<u8>,
     ) -> Result<Option<Verdicts>, AllocError>
-        ensures { IfOk result (λ ended. (errand : Errand) (old : Progress)
-            → Holds self.old errand old → IsErrandOf errand mail.now
-            → Does errand old (behind_rcpts errand old) self.new ended out.old.items out.new.items) }
+        ensures { IfOk result (λ ended. (delivery : Delivery) (old : Progress)
+            → Holds self.old delivery old → IsDeliveryOf delivery mail.now
+            → Does delivery old (after_rcpts delivery old) self.new ended out.old.items out.new.items) }
     {
         if self.settled.has_open() {
             self.ask_content(mail, out)?;
@@ -127,9 +127,9 @@ impl Conversation {
 
     /// DATA where the text ends in CR LF, and else the text as a chunk.
     fn ask_content(&mut self, mail: &MailObject<'_>, out: &mut Vec<u8>) -> Result<(), AllocError>
-        ensures { OnOk result ((errand : Errand) (old : Progress)
-            → Holds self.old errand old → IsErrandOf errand mail.now
-            → Does errand old (with_content errand old) self.new None out.old.items out.new.items) }
+        ensures { OnOk result ((delivery : Delivery) (old : Progress)
+            → Holds self.old delivery old → IsDeliveryOf delivery mail.now
+            → Does delivery old (with_content delivery old) self.new None out.old.items out.new.items) }
     {
         if ends_in_line_end(mail.stored_text) {
             write_data(out)?;

@@ -1,7 +1,7 @@
 use relay_envelope::Envelope;
 
 /// A mail object (RFC 5321, section 2.3.1), of which an attempt relays what never changes.
-#[derive(Clone, Copy, Debug)]
+#[derive(Clone, Copy)]
 pub struct MailObject<'a> {
     /// Who sent it to whom, and with which parameters.
     pub envelope: &'a Envelope,

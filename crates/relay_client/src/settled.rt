@@ -159,7 +159,7 @@ fn verdicts_of(
     for index in 0..places.len() {
         let one = said_at(said, index);
         verdicts.push(verdict_by(alloc, one, texts, last)?)?;
-        texts = behind_text(one, texts);
+        texts = after_text(one, texts);
     }
     Ok(verdicts)
 }
@@ -202,7 +202,7 @@ fn verdict_by(
 
 /// Returns the texts after the text of this one.
 #[tactic(auto, using(std::proofs::lemmas::List::drop_min))]
-fn behind_text(one: Option<Said>, texts: &[u8]) -> &[u8]
+fn after_text(one: Option<Said>, texts: &[u8]) -> &[u8]
     ensures { result.now ≡ drop (size_by one) texts.now }
 {
     match one {

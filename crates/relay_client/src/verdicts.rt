@@ -5,7 +5,6 @@ use std::alloc::{AllocError, Global};
 use std::marker::Model;
 
 /// The verdicts of an attempt, one for each of its places and in their order.
-#[derive(Debug)]
 pub struct Verdicts {
     items: Vec<Verdict>,
 }

@@ -36,6 +36,7 @@ use Rattle.relay_connections.proofs.CarriedLemmas.{carries_more}
 use Rattle.relay_connections.specs.declared.hearing.Hearing.{Hearing}
 use Rattle.relay_connections.proofs.DistinctLemmas.{AreDistinct, IsNoneOf, are_distinct}
 use Rattle.relay_connections.proofs.ExchangeLemmas.{some_is_not_none}
+use Rattle.relay_connections.proofs.RelayedLemmas.{relayed_heard, relayed_still}
 use Rattle.relay_connections.proofs.ServedLemmas.{serves_later, session_later, setup_is_at, setups_on}
 
 -- a row is laden, or isn't
@@ -319,23 +320,24 @@ own_of standing clients same (piece ∷ pieces) (own, owns) = (
 )
 
 -- the changes that are pending after the call, and what the relay has for each client after it
-pub record HaveAnsweredBehind {D S : Type 0} (honest : Type 0) (words : DiskWords D) (remaining contents : S → Option (List ℕ)) (changes : List Change) (setting : Setting)
+pub record HaveAnsweredAfter {D S : Type 0} (honest : Type 0) (words : DiskWords D) (remaining contents : S → Option (List ℕ)) (changes : List Change) (setting : Setting)
     (clients : List (Option (Box (Client S) Global))) (relay : RelayState D) (answers : List (ℕ × Result Heard NodeFault)) : Type 0 where
   pub pending : List Change
   pub answered : HaveAnswered honest words remaining contents (changes ++ pending) setting clients relay answers
 
 pub hears_answered : {D S : Type 0} (honest : Type 0) (words : DiskWords D) (remaining contents : S → Option (List ℕ)) (changes : List Change) (setting : Setting) (clients standing : List (Option (Box (Client S) Global))) (first : ℕ) (replies : List ReplyPiece) (at : ℕ) (old new : RelayState D) (hearing : Hearing)
     → ((number : ℕ) → slot_at standing number ≡ slot_at clients number) → AreServed honest words remaining contents changes setting clients old → HearOwn honest words standing first replies at old new hearing
-    → HaveAnsweredBehind honest words remaining contents changes setting clients new (zip hearing.sessions.items hearing.heard.items)
+    → HaveAnsweredAfter honest words remaining contents changes setting clients new (zip hearing.sessions.items hearing.heard.items)
 hears_answered honest words remaining contents changes setting clients standing first replies at old new hearing same served hears = record {
   pending = all.pending;
   answered = record {
     keeps = all.settles.keeps;
     setups_are = setups_on setting.setups old new (all.config ∙ replied.config ∙ heard.config) served.setups_are;
+    relayed = relayed_heard honest words changes at hears.pieces replies old new hears.group all served.relayed;
     apart = are_apart hearing.sessions.items hearing.heard.items (subst AreDistinct (sym hears.each) (are_distinct standing first));
     each = λ number.
         subst (λ (pairs : List (ℕ × Result Heard NodeFault)). HasAnsweredOr remaining contents (changes ++ all.pending) setting new number (slot_at clients number) (answer_to number pairs)) pairs_are
-        (or_alone remaining contents setting changes a.staged all.pending number a.between new (behind number) (slot_at clients number)
+        (or_alone remaining contents setting changes a.staged all.pending number a.between new (afterwards number) (slot_at clients number)
         (answer_to number (zip (map session_of hears.pieces) hears.group.heard.items))
         (each_answered honest words remaining contents changes setting at clients number hears.pieces hears.group.heard.items [] old no_row a.between a.beside a.staged owns distinct a.pieces_each served.setups_are
         (subst (λ (list : List Change). Serves remaining contents list setting old number (slot_at clients number)) (sym (append-nil changes)) (served.each number))));
@@ -365,8 +367,8 @@ hears_answered honest words remaining contents changes setting clients standing 
     heard : KeepsConfig old a.between
     heard = keeps_config honest words changes at hears.pieces hears.group.heard.items [] old no_row a.between a.beside a.staged a.pieces_each
 
-    behind : (number : ℕ) → LeavesAlone number a.staged a.between new all.pending
-    behind number =
+    afterwards : (number : ℕ) → LeavesAlone number a.staged a.between new all.pending
+    afterwards number =
         let so = replies_alone honest words changes at number replies hears.group.answered.items a.staged a.between a.beside all.before all.row all.pending a.replies_each in
         record {
           seat = ap (λ seats. slot_at seats number) all.seats ∙ so.seat;
@@ -389,6 +391,7 @@ pub answered_on : {D S : Type 0} (honest : Type 0) (words : DiskWords D) (remain
 answered_on honest words remaining contents changes setting clients later before after session answer rest have acts serves = record {
   keeps = subst (λ records. Keeps honest words records changes) (sym acts.rest.records) have.keeps;
   setups_are = setups_on setting.setups before after acts.rest.only.config have.setups_are;
+  relayed = relayed_still changes before after acts.rest.only.attempts acts.rest.only.hops acts.rest.only.config have.relayed;
   apart = have.apart.1;
   each = λ number. by number (cases_eq session number);
 }
@@ -418,7 +421,7 @@ pub answered_end : {D S : Type 0} (honest : Type 0) (words : DiskWords D) (remai
     → HaveAnswered honest words remaining contents changes setting clients relay (zip sessions answers) → AreServed honest words remaining contents changes setting clients relay
 answered_end honest words remaining contents changes setting clients relay sessions answers none have =
     let all : HaveAnswered honest words remaining contents changes setting clients relay [] = subst (λ (list : List (ℕ × Result Heard NodeFault)). HaveAnswered honest words remaining contents changes setting clients relay list) (empty sessions answers none) have in
-    record { keeps = all.keeps; setups_are = all.setups_are; each = all.each }
+    record { keeps = all.keeps; setups_are = all.setups_are; relayed = all.relayed; each = all.each }
   where
     empty : (sessions : List ℕ) (answers : List (Result Heard NodeFault)) → (sessions ≡ []) ⊎ (answers ≡ []) → zip sessions answers ≡ []
     empty [] answers none = refl

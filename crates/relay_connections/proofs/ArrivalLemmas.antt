@@ -12,7 +12,7 @@ use Rattle.relay_connections.specs.declared.arrival.Arrived.TheVariants.{Client,
 use Rattle.relay_slots.specs.Slots.{OthersStay, slot_at}
 use Rattle.relay_log.specs.declared.client_line.HeaderFault.{HeaderFault}
 use Rattle.relay_connections.proofs.HeaderFrontLemmas.{comes_on, comes_still}
-use Rattle.relay_connections.proofs.LeftLemmas.{below_or_behind}
+use Rattle.relay_connections.proofs.LeftLemmas.{below_or_after}
 
 -- a slot in which nothing stands has no deadline
 pub within_none : {S : Type 0} (tick : ℕ) (slot : Option (Box (Arrival S) Global)) → ((arrival : Box (Arrival S) Global) → slot ≡ Some arrival → ⊥) → Within tick slot
@@ -34,7 +34,7 @@ module _ {S : Type 0} (arrivals : List (Option (Box (Arrival S) Global))) where
 
   pub due_more : (otherwise tick sooner number : ℕ) (arrival : Box (Arrival S) Global) → slot_at arrivals number ≡ Some arrival → sooner ≡ min tick arrival.value.deadline
       → (tick ≡ otherwise) ⊎ IsDueAt tick arrivals → (sooner ≡ otherwise) ⊎ IsDueAt sooner arrivals
-  due_more otherwise tick sooner number arrival there is before = by (below_or_behind tick arrival.value.deadline) where
+  due_more otherwise tick sooner number arrival there is before = by (below_or_after tick arrival.value.deadline) where
     by : (tick < arrival.value.deadline) ⊎ (arrival.value.deadline ≤ tick) → (sooner ≡ otherwise) ⊎ IsDueAt sooner arrivals
     by (inl less) = subst (λ (at : ℕ). (at ≡ otherwise) ⊎ IsDueAt at arrivals) (omega (arith, is, less)) before
     by (inr past) = inr (record { number = number; arrival = arrival; there = there; due = omega (arith, is, past) })
@@ -108,14 +108,14 @@ module _ {S : Type 0} (remaining contents : S → Option (List ℕ)) where
       gone = has.gone;
       has = has.has;
     };
-    others = λ other apart. by other apart (below_or_behind other number);
+    others = λ other apart. by other apart (below_or_after other number);
   } where
     by : (other : ℕ) → other ≢ number → (other < number) ⊎ (number ≤ other) → MayReadOn remaining contents (slot_at first other) (slot_at new other)
     by other apart (inl below) =
         subst (λ (slot : Option (Box (Arrival S) Global)). MayReadOn remaining contents (slot_at first other) slot) (sym (others other apart))
         (may_wait tick (slot_at first other) (slot_at old other) (done other below))
-    by other apart (inr behind) =
-        subst (λ (slot : Option (Box (Arrival S) Global)). MayReadOn remaining contents (slot_at first other) slot) (sym (others other apart ∙ left other behind))
+    by other apart (inr after) =
+        subst (λ (slot : Option (Box (Arrival S) Global)). MayReadOn remaining contents (slot_at first other) slot) (sym (others other apart ∙ left other after))
         (may_stay (slot_at first other))
 
   pub reads_are_one : ReadsAreOne remaining contents

@@ -5,11 +5,9 @@ use Rattle.std.specs.Io.KnownBytes.{Appends, Consumes, Keeps, append_known, prep
 use Rattle.relay_slots.specs.Slots.{slot_at}
 use Rattle.relay_server.specs.Dialogue.{Said}
 use Rattle.relay_server.specs.Setup.{Setup}
-use Rattle.relay_loop.specs.Closing.{closing_of}
 use Rattle.relay_loop.specs.Outboxes.{unwritten_at}
 use Rattle.relay_loop.specs.Relay.{RelayState}
-use Rattle.relay_loop.specs.declared.closing.Closing.TheVariants.{Timeout}
-use Rattle.relay_connections.specs.Carried.{Beginning, Begins, Carries, CarriesLast, GetsDialogue, Setting, beginning_of, input_after, output_and, setup_at}
+use Rattle.relay_connections.specs.Carried.{Beginning, Begins, Carries, CarriesLast, GetsDialogue, IsLastLine, Setting, beginning_of, input_after, output_and, setup_at}
 use Rattle.relay_connections.specs.Channel.{KeepsInput, KeepsOutput, held_of, output_of, unread_of}
 use Rattle.relay_connections.specs.Exchange.{Hands, Uses}
 use Rattle.relay_connections.specs.Leaving.{ClientsJoin, MayJoin, MayTake, whole_output}
@@ -80,10 +78,10 @@ module _ {S : Type 0} (remaining contents : S → Option (List ℕ)) where
     where
       Its : Type 0
       Its = Carries remaining contents beginning heard before carries.said last
-          ⊎ (Carries remaining contents beginning heard before carries.said [] × (last ≡ closing_of setup.host Timeout))
+          ⊎ (Carries remaining contents beginning heard before carries.said [] × IsLastLine setup.host last)
 
       by : Its → Carries remaining contents beginning later after carries.said last
-          ⊎ (Carries remaining contents beginning later after carries.said [] × (last ≡ closing_of setup.host Timeout))
+          ⊎ (Carries remaining contents beginning later after carries.said [] × IsLastLine setup.host last)
       by (inl all) = inl (carries_on beginning heard later before after carries.said last last input (output last) all)
       by (inr (all, line)) = inr (carries_on beginning heard later before after carries.said [] [] input (output []) all, line)
 
@@ -97,13 +95,12 @@ module _ {S : Type 0} (remaining contents : S → Option (List ℕ)) where
   }
     where
       by : (Carries remaining contents beginning 0 channel carries.said last)
-          ⊎ (Carries remaining contents beginning 0 channel carries.said [] × (last ≡ closing_of setup.host Timeout))
+          ⊎ (Carries remaining contents beginning 0 channel carries.said [] × IsLastLine setup.host last)
           → Appends beginning.output (output_and remaining contents channel last) carries.said.output
-          ⊎ Appends beginning.output (output_and remaining contents channel last) (carries.said.output ++ closing_of setup.host Timeout)
+          ⊎ ((line : List ℕ) × IsLastLine setup.host line × Appends beginning.output (output_and remaining contents channel last) (carries.said.output ++ line))
       by (inl all) = inl all.output
       by (inr (all, line)) =
-          inr (appends_more beginning.output (output_of remaining contents channel) carries.said.output [] last (carries.said.output ++ closing_of setup.host Timeout) all.output refl
-          (ap (λ (octets : List ℕ). carries.said.output ++ octets) (sym line)))
+          inr (last, line, appends_more beginning.output (output_of remaining contents channel) carries.said.output [] last (carries.said.output ++ last) all.output refl refl)
 
   gets_on : (setup : Setup) (beginning : Beginning) (output later : Option (List ℕ)) → Keeps output later → GetsDialogue setup beginning output → GetsDialogue setup beginning later
   gets_on setup beginning output later keeps gets = record {
@@ -111,7 +108,7 @@ module _ {S : Type 0} (remaining contents : S → Option (List ℕ)) where
     dialogue = gets.dialogue;
     gets = elim gets.gets [
       | inl all ↦ inl (appends_on beginning.output output later gets.said.output all keeps)
-      | inr all ↦ inr (appends_on beginning.output output later (gets.said.output ++ closing_of setup.host Timeout) all keeps)
+      | inr all ↦ inr (all.0, all.1, appends_on beginning.output output later (gets.said.output ++ all.0) all.2 keeps)
     ];
   }
 

@@ -10,11 +10,11 @@ is_none some (Some value) holds nothing = absurd (nothing value refl)
 
 module _ (slots first step : ℕ) where
   -- the slots after the one that is looked at next
-  abbrev behind : List ℕ
-  behind = turned slots (first + (step + 1)) (slots - (step + 1))
+  abbrev after : List ℕ
+  after = turned slots (first + (step + 1)) (slots - (step + 1))
 
   -- the slot that is looked at next, and those after it
-  pub turned_next : step < slots → turned slots (first + step) (slots - step) ≡ (first + step) % slots ∷ behind
+  pub turned_next : step < slots → turned slots (first + step) (slots - step) ≡ (first + step) % slots ∷ after
   turned_next below = ap (turned slots (first + step)) left ∙ ap (λ number. (first + step) % slots ∷ turned slots number (slots - (step + 1))) next where
     left : slots - step ≡ suc (slots - (step + 1))
     left = omega (arith, below)
@@ -23,15 +23,15 @@ module _ (slots first step : ℕ) where
     next = omega arith
 
   -- where it has something to hear, it stands after those that were found before
-  pub found_next : (hears : ℕ → Bool) (found all : List ℕ) → step < slots → hears ((first + step) % slots) ≡ true → found ++ filter hears (turned slots (first + step) (slots - step)) ≡ all → (found ++ (first + step) % slots ∷ []) ++ filter hears behind ≡ all
+  pub found_next : (hears : ℕ → Bool) (found all : List ℕ) → step < slots → hears ((first + step) % slots) ≡ true → found ++ filter hears (turned slots (first + step) (slots - step)) ≡ all → (found ++ (first + step) % slots ∷ []) ++ filter hears after ≡ all
   found_next hears found all below does so_far =
-      append_assoc found ((first + step) % slots ∷ []) (filter hears behind) ∙ ap (λ numbers. found ++ numbers) (sym here) ∙ so_far
+      append_assoc found ((first + step) % slots ∷ []) (filter hears after) ∙ ap (λ numbers. found ++ numbers) (sym here) ∙ so_far
     where
-      here : filter hears (turned slots (first + step) (slots - step)) ≡ (first + step) % slots ∷ filter hears behind
-      here = ap (filter hears) (turned_next below) ∙ ap (λ is. if is then (first + step) % slots ∷ filter hears behind else filter hears behind) does
+      here : filter hears (turned slots (first + step) (slots - step)) ≡ (first + step) % slots ∷ filter hears after
+      here = ap (filter hears) (turned_next below) ∙ ap (λ is. if is then (first + step) % slots ∷ filter hears after else filter hears after) does
 
   -- where it hasn't, it is passed over
-  pub passed_next : (hears : ℕ → Bool) (found all : List ℕ) → step < slots → hears ((first + step) % slots) ≡ false → found ++ filter hears (turned slots (first + step) (slots - step)) ≡ all → found ++ filter hears behind ≡ all
+  pub passed_next : (hears : ℕ → Bool) (found all : List ℕ) → step < slots → hears ((first + step) % slots) ≡ false → found ++ filter hears (turned slots (first + step) (slots - step)) ≡ all → found ++ filter hears after ≡ all
   passed_next hears found all below not_here so_far = ap (λ numbers. found ++ numbers) (sym here) ∙ so_far where
-    here : filter hears (turned slots (first + step) (slots - step)) ≡ filter hears behind
-    here = ap (filter hears) (turned_next below) ∙ ap (λ is. if is then (first + step) % slots ∷ filter hears behind else filter hears behind) not_here
+    here : filter hears (turned slots (first + step) (slots - step)) ≡ filter hears after
+    here = ap (filter hears) (turned_next below) ∙ ap (λ is. if is then (first + step) % slots ∷ filter hears after else filter hears after) not_here

@@ -17,24 +17,24 @@ pub stands_there : {A : Type 0} (slots : List (Option A)) (number : ℕ) (found 
 stands_there slots number found below is = get_or_default slots number None found below ∙ sym is
 
 -- nothing stands after the last slot
-pub none_behind : {A : Type 0} (slots : List (Option A)) (number : ℕ) → length slots ≤ number → slot_at slots number ≡ None
-none_behind slots number behind = get_or-eq_default slots None behind
+pub none_after : {A : Type 0} (slots : List (Option A)) (number : ℕ) → length slots ≤ number → slot_at slots number ≡ None
+none_after slots number after = get_or-eq_default slots None after
 
-pub below_or_behind : (number next : ℕ) → (number < next) ⊎ (next ≤ number)
-below_or_behind zero zero = inr (omega arith)
-below_or_behind zero (suc next) = inl (omega arith)
-below_or_behind (suc number) zero = inr (omega arith)
-below_or_behind (suc number) (suc next) = by (below_or_behind number next) where
+pub below_or_after : (number next : ℕ) → (number < next) ⊎ (next ≤ number)
+below_or_after zero zero = inr (omega arith)
+below_or_after zero (suc next) = inl (omega arith)
+below_or_after (suc number) zero = inr (omega arith)
+below_or_after (suc number) (suc next) = by (below_or_after number next) where
   by : (number < next) ⊎ (next ≤ number) → (suc number < suc next) ⊎ (suc next ≤ suc number)
   by (inl below) = inl (omega (arith, below))
-  by (inr behind) = inr (omega (arith, behind))
+  by (inr after) = inr (omega (arith, after))
 
 -- where none of those that were passed over is left, none of all is
 pub none_at_all : {A : Type 0} (slots : List (Option A)) (P : ℕ → Type 0) (next : ℕ) → length slots ≤ next → ((number : ℕ) → P number → slot_at slots number ≢ None) → ((number : ℕ) → number < next → P number → ⊥) → (number : ℕ) → P number → ⊥
-none_at_all slots P next passed stands none number holds = by (below_or_behind number next) where
+none_at_all slots P next passed stands none number holds = by (below_or_after number next) where
   by : (number < next) ⊎ (next ≤ number) → ⊥
   by (inl below) = none number below holds
-  by (inr behind) = stands number holds (none_behind slots number (omega (arith, passed, behind)))
+  by (inr after) = stands number holds (none_after slots number (omega (arith, passed, after)))
 
 abbrev value_or : {A : Type 0} → A → Option A → A
 value_or other None = other

@@ -3,6 +3,7 @@ mod KnownLemmas
 mod CarriedLemmas
 mod ExchangeLemmas
 mod MatchedLemmas
+mod RelayedLemmas
 mod ServedLemmas
 mod NextLemmas
 mod DistinctLemmas

@@ -1,24 +1,26 @@
 -- What the relay has of a client, whose connection is to become this.
-use Rattle.std.proofs.Common.{◌≡◌, ◌≢◌, ◌↔◌, inr, ℕ, Bool, false, List, [], ◌∷◌, Option, None, Some, Box, Result, Ok, Err, IfOk, IsTrue, refl, sym, ap, ◌∙◌, subst}
+use Rattle.std.proofs.Common.{◌≡◌, ◌≢◌, ◌↔◌, inl, inr, ℕ, Bool, false, List, [], ◌∷◌, Option, None, Some, Box, Result, Ok, Err, IfOk, IsTrue, refl, sym, ap, ◌∙◌, subst}
 use Rattle.std.specs.Global.{Global}
 use Rattle.relay_book.specs.declared.change.Change.{Change}
 use Rattle.relay_records.specs.declared.fault.NodeFault.{NodeFault}
 use Rattle.relay_loop.specs.declared.clients.Heard.{Heard}
 use Rattle.relay_loop.specs.Relay.{RelayState}
 use Rattle.relay_loop.specs.Closing.{closing_of}
-use Rattle.relay_loop.specs.declared.closing.Closing.TheVariants.{Timeout}
+use Rattle.relay_loop.specs.declared.closing.Closing.{Closing}
+use Rattle.relay_loop.specs.declared.closing.Closing.TheVariants.{Stopping, Timeout, TooMany}
 use Rattle.relay_loop.specs.Outboxes.{octets_of, unwritten_at}
 use Rattle.relay_server.specs.Setup.{Setup}
-use Rattle.relay_connections.specs.Carried.{Carries, CarriesLast, Setting, setup_at}
+use Rattle.relay_connections.specs.Carried.{Carries, CarriesLast, IsLastLine, Setting, setup_at}
 use Rattle.relay_connections.specs.Channel.{KeepsOutput, held_of}
 use Rattle.relay_connections.specs.Exchange.{HandsAndReads, IsHanded, IsRead, Uses}
 use Rattle.relay_connections.specs.Matched.{IsFreed}
 use Rattle.relay_connections.proofs.CarriedLemmas.{carries_on, keeps_output, last_on, uses_heard}
 use Rattle.relay_connections.proofs.ServedLemmas.{dialogue_of, frees, rest_of_outbox, setup_is_at, works_on}
 use Rattle.relay_connections.specs.Served.{HasAnswered, HasEnded, HasHeard, HasNext, HasSession, IsUnused, Serves, StaysOrEnds, StaysSaid, WorksWith, address_of}
-use Rattle.relay_connections.specs.Sessions.{EndsLate, IsCutOff}
+use Rattle.relay_connections.specs.Sessions.{EndsCut, EndsFor, IsCutFor, IsCutOff, IsCutOffAfter}
 use Rattle.relay_connections.specs.declared.channel.Channel.{Channel}
 use Rattle.relay_connections.specs.declared.client.Client.{Client}
+use Rattle.relay_connections.specs.declared.clients.Clients.{Clients}
 use Rattle.relay_connections.specs.declared.client.Next.{Next}
 use Rattle.relay_connections.specs.declared.client.Next.TheVariants.{Stays, Leaves, Gone}
 
@@ -106,7 +108,7 @@ module _ {D S : Type 0} (remaining contents : S → Option (List ℕ)) (changes 
     by (Ok one) is = by_last one is one.last refl
     by (Err fault) is = same ((gone fault is).1)
 
--- a client that is late
+-- a client that is cut off
 module _ {D S : Type 0} (remaining contents : S → Option (List ℕ)) (changes : List Change) (setting : Setting) (old new : RelayState D) (number : ℕ) (address : List ℕ) (channel : Channel S)
     (works : WorksWith setting.setups old) (session : HasSession remaining contents changes setting old number 0 address channel) (freed : IsFreed number old new) where
   unused_late : IsUnused new number
@@ -118,33 +120,51 @@ module _ {D S : Type 0} (remaining contents : S → Option (List ℕ)) (changes 
   gone_late (Err fault) is = tt
 
   -- it is told so
-  pub cut_late : (result : Result Next NodeFault) → IfOk result (IsCutOff old number) → IfOk result (HasNext remaining contents changes setting new number address channel)
-  cut_late (Ok Stays) cut = absurd cut
-  cut_late (Ok (Leaves last)) (none, line) = record {
+  last_line : (why : Closing) → why ≢ TooMany → (host last : List ℕ) → last ≡ closing_of host why → IsLastLine host last
+  last_line Timeout other host last line = inl line
+  last_line Stopping other host last line = inr line
+  last_line TooMany other host last line = absurd (other refl)
+
+  pub cut_late : (why : Closing) → why ≢ TooMany → (result : Result Next NodeFault) → IfOk result (IsCutOff old number why) → IfOk result (HasNext remaining contents changes setting new number address channel)
+  cut_late why other (Ok Stays) cut = absurd cut
+  cut_late why other (Ok (Leaves last)) (none, line) = record {
     unused = unused_late;
     ends = record {
       said = session.said;
       dialogue = dialogue_of changes setting old number address session.said works.setups_are session.address_is session.has_said;
       carries = inr (
         subst (λ (waiting : List ℕ). Carries remaining contents (setting.beginnings number) 0 channel session.said waiting) (ap octets_of none) session.carries,
-        line ∙ ap (λ (setup : Setup). closing_of setup.host Timeout) (setup_is_at setting old number address works.setups_are session.address_is),
+        last_line why other (setup_at setting number).host last
+            (line ∙ ap (λ (setup : Setup). closing_of setup.host why) (setup_is_at setting old number address works.setups_are session.address_is)),
       );
     };
   }
-  cut_late (Ok Gone) cut = unused_late
-  cut_late (Err fault) cut = tt
+  cut_late why other (Ok Gone) cut = unused_late
+  cut_late why other (Err fault) cut = tt
 
 pub nothing_held : (octets : List ℕ) (is : Bool) → IsTrue is ↔ (octets ≢ []) → is ≡ false → octets ≡ []
 nothing_held [] is tells none = refl
 nothing_held (octet ∷ octets) is tells none = absurd (cc (sym none ∙ tells.1 (λ same. absurd (cc same))))
 
--- a client that is late
-pub told_late : {D S : Type 0} (old : RelayState D) (number : ℕ) (channel : Channel S) (next : Next) (result : Result Next NodeFault) → held_of channel ≡ [] → next ≡ Stays
-    → IfOk result (IsCutOff old number) → IfOk result (EndsLate old number channel next)
-told_late old number channel next (Ok Stays) held is cut = absurd cut
-told_late old number channel next (Ok (Leaves last)) held is cut = inr (is, (held, cut))
-told_late old number channel next (Ok Gone) held is cut = inr (is, tt)
-told_late old number channel next (Err fault) held is cut = tt
+-- a client that is told why it is cut off
+pub told_late : {D S : Type 0} (old : RelayState D) (number : ℕ) (channel : Channel S) (why : Closing) (result : Result Next NodeFault) → held_of channel ≡ []
+    → IfOk result (IsCutOff old number why) → IfOk result (IsCutOffAfter old number channel why)
+told_late old number channel why (Ok Stays) held cut = absurd cut
+told_late old number channel why (Ok (Leaves last)) held cut = (held, cut)
+told_late old number channel why (Ok Gone) held cut = tt
+told_late old number channel why (Err fault) held cut = tt
+
+-- a client that was to stay, after it was considered whether to cut it off
+pub ends_cut : {D S : Type 0} (clients : Clients S) (old : RelayState D) (session : ℕ) (client : Client S) (tick : ℕ) (next : Next) (why : Option Closing) (result : Result Next NodeFault) → next ≡ Stays
+    → IsCutFor clients old session client tick why → IfOk result (EndsFor old session client.channel why) → IfOk result (EndsCut clients old session client tick next)
+ends_cut clients old session client tick next why (Ok later) is cut ends = subst (λ (next : Next). EndsCut clients old session client tick next later) (sym is) (why, cut, ends)
+ends_cut clients old session client tick next why (Err fault) is cut ends = tt
+
+-- a client that was not to stay
+pub ends_same : {D S : Type 0} (clients : Clients S) (old : RelayState D) (session : ℕ) (client : Client S) (tick : ℕ) (next : Next) → (next ≡ Stays → ⊥) → EndsCut clients old session client tick next next
+ends_same clients old session client tick Stays not = absurd (not refl)
+ends_same clients old session client tick (Leaves last) not = refl
+ends_same clients old session client tick Gone not = refl
 
 -- nobody stands under the number
 module _ {D S : Type 0} (remaining contents : S → Option (List ℕ)) (changes : List Change) (setting : Setting) (relay : RelayState D) (number : ℕ) where

@@ -3,7 +3,7 @@ use Rattle.std.proofs.Common.{◌≡◌, ℕ, ◌<◌, zero, suc, Bool, true, fa
 use Rattle.std.proofs.Math.Seq.{lt-length-set}
 use Rattle.relay_slots.specs.Slots.{slot_at}
 use Rattle.relay_connections.specs.declared.refusals.Tally.{Tally}
-use Rattle.relay_connections.specs.Refusals.{behind, left_behind, over_at, told}
+use Rattle.relay_connections.specs.Refusals.{after, left_after, over_at, told}
 
 -- what was put into a slot before doesn't matter
 set_again : {A : Type 0} (slots : List A) (number : ℕ) (one other : A) → slice_set (slice_set slots number one) number other ≡ slice_set slots number other
@@ -26,8 +26,8 @@ put_again old new put number one other there empty stands =
 
 -- where something isn't told of an address, and nothing was told of it for a minute, it was told of just now
 pub left_told : (tick number : ℕ) (tally : Tally) (old : List (Option Tally)) → slot_at old number ≡ Some tally → nat_lt tick tally.until ≡ false → nat_lt 0 tally.count ≡ true
-    → left_behind tick old number ≡ slice_set old number (Some (told tally.peer tick))
+    → left_after tick old number ≡ slice_set old number (Some (told tally.peer tick))
 left_told tick number tally old there past some =
-    ap (λ slot. behind tick old number (over_at tick slot)) there
-    ∙ ap (λ (waits : Bool). behind tick old number (if waits then None else Some tally)) past
+    ap (λ slot. after tick old number (over_at tick slot)) there
+    ∙ ap (λ (waits : Bool). after tick old number (if waits then None else Some tally)) past
     ∙ ap (λ (counts : Bool). slice_set old number (if counts then Some (told tally.peer tick) else None)) some

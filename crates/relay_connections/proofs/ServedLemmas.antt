@@ -21,7 +21,7 @@ use Rattle.relay_connections.specs.Channel.{KeepsOctets}
 use Rattle.relay_connections.specs.Exchange.{HandsAndReads, IsRead, OnlyOutbox}
 use Rattle.relay_connections.specs.Matched.{IsFreed, IsMatched}
 use Rattle.relay_connections.specs.Readiness.{IsStill}
-use Rattle.relay_connections.specs.Served.{ActsOn, AreServed, AreServedBehind, FreeAreServed, HasNext, HasSaid, HasSession, HaveSetups, IsUnused, LeavesRest, NotedAreServed, ServedAreMatched, Serves, StaysOrEnds, StaysSaid, WorksWith, address_of, opened}
+use Rattle.relay_connections.specs.Served.{ActsOn, AreServed, AreServedAfter, FreeAreServed, HasNext, HasSaid, HasSession, HaveRelayed, HaveSetups, IsUnused, LeavesRest, LeavesThen, LeftAreServed, NotedAreServed, ServedAreMatched, ServedGoesOn, Serves, StaysOrEnds, StaysSaid, WorksWith, address_of, opened}
 use Rattle.std.specs.Io.KnownBytes.{append_known, prepend_known}
 use Rattle.relay_connections.specs.Sessions.{EndsAlone}
 use Rattle.relay_connections.specs.declared.channel.Channel.{Channel}
@@ -32,6 +32,7 @@ use Rattle.relay_connections.proofs.CarriedLemmas.{carries_first, carries_on}
 use Rattle.relay_connections.proofs.KnownLemmas.{keeps_same}
 use Rattle.relay_connections.proofs.ExchangeLemmas.{ends_on, some_is_not_none}
 use Rattle.relay_connections.proofs.LeftLemmas.{same_value}
+use Rattle.relay_connections.proofs.RelayedLemmas.{relayed_still}
 use Rattle.relay_connections.proofs.TableLemmas.{free_at}
 
 stands_still : {A : Type 0} (old new : Option A) → is_some new ≡ is_some old → old ≢ None → new ≢ None
@@ -183,6 +184,7 @@ module _ {D S : Type 0} (honest : Type 0) (words : DiskWords D) (remaining conte
   served_on clients later before after number served acts here = record {
     keeps = subst (λ records. Keeps honest words records changes) (sym acts.rest.records) served.keeps;
     setups_are = setups_on setting.setups before after acts.rest.only.config served.setups_are;
+    relayed = relayed_still changes before after acts.rest.only.attempts acts.rest.only.hops acts.rest.only.config served.relayed;
     each = λ other. by other (cases_eq other number);
   }
     where
@@ -193,26 +195,27 @@ module _ {D S : Type 0} (honest : Type 0) (words : DiskWords D) (remaining conte
           (serves_still remaining contents setting changes before after other (slot_at clients other) (acts.rest.only.seats other apart) (acts.rest.only.clients other apart) acts.rest.only.config (served.each other))
 
   -- what is served after changes is served after more
-  pub served_behind : (added : List Change) (clients : List (Option (Box (Client S) Global))) (relay : RelayState D)
-      → AreServedBehind honest words remaining contents (changes ++ added) setting clients relay → AreServedBehind honest words remaining contents changes setting clients relay
-  served_behind added clients relay behind = record {
-    added = added ++ behind.added;
-    served = subst (λ (list : List Change). AreServed honest words remaining contents list setting clients relay) (append_assoc changes added behind.added) behind.served;
+  pub served_after : (added : List Change) (clients : List (Option (Box (Client S) Global))) (relay : RelayState D)
+      → AreServedAfter honest words remaining contents (changes ++ added) setting clients relay → AreServedAfter honest words remaining contents changes setting clients relay
+  served_after added clients relay afterwards = record {
+    added = added ++ afterwards.added;
+    served = subst (λ (list : List Change). AreServed honest words remaining contents list setting clients relay) (append_assoc changes added afterwards.added) afterwards.served;
   }
 
   pub served_at_once : (clients : List (Option (Box (Client S) Global))) (relay : RelayState D) → AreServed honest words remaining contents changes setting clients relay
-      → AreServedBehind honest words remaining contents changes setting clients relay
+      → AreServedAfter honest words remaining contents changes setting clients relay
   served_at_once clients relay served = record {
     added = [];
     served = subst (λ (list : List Change). AreServed honest words remaining contents list setting clients relay) (sym (append-nil changes)) served;
   }
 
   -- a relay whose node and connections are as before serves the clients that it served
-  pub still_served : (clients : List (Option (Box (Client S) Global))) (old new : RelayState D) → new.clients ≡ old.clients → new.node ≡ old.node
+  pub still_served : (clients : List (Option (Box (Client S) Global))) (old new : RelayState D) → new.clients ≡ old.clients → new.hops ≡ old.hops → new.node ≡ old.node
       → AreServed honest words remaining contents changes setting clients old → AreServed honest words remaining contents changes setting clients new
-  still_served clients old new same node served = record {
+  still_served clients old new same hops node served = record {
     keeps = subst (λ (state : NodeState D). Keeps honest words state.records changes) (sym node) served.keeps;
     setups_are = setups_on setting.setups old new (ap (λ (state : NodeState D). state.config) node) served.setups_are;
+    relayed = relayed_still changes old new (ap (λ (state : NodeState D). state.attempts) node) hops (ap (λ (state : NodeState D). state.config) node) served.relayed;
     each = λ number.
         serves_still remaining contents setting changes old new number (slot_at clients number) (ap (λ (state : NodeState D). slot_at state.seats number) node) (ap (λ table. slot_at table number) same)
         (ap (λ (state : NodeState D). state.config) node) (served.each number);
@@ -224,6 +227,7 @@ module _ {D S : Type 0} (honest : Type 0) (words : DiskWords D) (remaining conte
   none_opened peer stream clients relay served = record {
     keeps = served.keeps;
     setups_are = served.setups_are;
+    relayed = served.relayed;
     each = λ number. by number (slot_at clients number) refl (served.each number);
   }
     where
@@ -261,19 +265,56 @@ served_are_matched honest words remaining contents changes setting clients relay
       }
 
 pub free_are_served : {D S : Type 0} (honest : Type 0) (words : DiskWords D) (remaining contents : S → Option (List ℕ)) → FreeAreServed honest words remaining contents
-free_are_served honest words remaining contents changes setting clients relay keeps setups free connections seats = record {
+free_are_served honest words remaining contents changes setting clients relay keeps setups free connections hops seats = record {
   keeps = keeps;
   setups_are = setups;
+  relayed = λ attempt stands. absurd (stands (free_at relay.hops hops attempt));
   each = λ number.
       subst (λ slot. Serves remaining contents changes setting relay number slot) (sym (free_at clients free number))
       (record { connection = free_at relay.clients connections number; seat = free_at relay.node.seats seats number });
 }
+
+-- clients are left alone
+pub left_are_served : {D S : Type 0} (honest : Type 0) (words : DiskWords D) (remaining contents : S → Option (List ℕ)) → LeftAreServed honest words remaining contents
+left_are_served honest words remaining contents changes setting clients old new leaves served =
+    let kept = leaves.keeps changes served.keeps served.relayed in
+    record {
+      added = kept.added;
+      served = record {
+        keeps = kept.keeps;
+        setups_are = setups_on setting.setups old new leaves.config served.setups_are;
+        relayed = kept.relayed;
+        each = λ number.
+            serves_later remaining contents setting changes kept.added old new number (slot_at clients number) (ap (λ seats. slot_at seats number) leaves.seats) (ap (λ table. slot_at table number) leaves.clients)
+            leaves.config (served.each number);
+      };
+    }
+
+pub leaves_then : {D : Type 0} (honest : Type 0) (words : DiskWords D) → LeavesThen honest words
+leaves_then honest words one two three first second = record {
+  clients = second.clients ∙ first.clients;
+  seats = second.seats ∙ first.seats;
+  config = second.config ∙ first.config;
+  keeps = λ changes keeps relayed.
+      let mid = first.keeps changes keeps relayed in
+      let last = second.keeps (changes ++ mid.added) mid.keeps mid.relayed in
+      let all : (changes ++ mid.added) ++ last.added ≡ changes ++ (mid.added ++ last.added) = append_assoc changes mid.added last.added in
+      record {
+        added = mid.added ++ last.added;
+        keeps = subst (λ (list : List Change). Keeps honest words three.node.records list) all last.keeps;
+        relayed = subst (λ (list : List Change). HaveRelayed list three) all last.relayed;
+      };
+}
+
+pub served_goes_on : {D S : Type 0} (honest : Type 0) (words : DiskWords D) (remaining contents : S → Option (List ℕ)) → ServedGoesOn honest words remaining contents
+served_goes_on honest words remaining contents changes added setting clients relay afterwards = served_after honest words remaining contents changes setting added clients relay afterwards
 
 -- the system told what a connection may be ready for
 pub noted_are_served : {D S : Type 0} (honest : Type 0) (words : DiskWords D) (remaining contents : S → Option (List ℕ)) → NotedAreServed honest words remaining contents
 noted_are_served honest words remaining contents changes setting old new relay number noted served = record {
   keeps = served.keeps;
   setups_are = served.setups_are;
+  relayed = served.relayed;
   each = λ other. by other (cases_eq other number);
 }
   where

@@ -4,7 +4,7 @@ use Rattle.std.proofs.Math.Nat.{eq-or-lt_of_le}
 use Rattle.std.proofs.lemmas.Bool.{cases_eq}
 use Rattle.relay_slots.specs.Slots.{AreFree, OthersStay, slot_at}
 use Rattle.relay_connections.specs.Table.{AreFreeFrom, count_of_such, is_such}
-use Rattle.relay_connections.proofs.LeftLemmas.{below_or_behind, none_behind}
+use Rattle.relay_connections.proofs.LeftLemmas.{below_or_after, none_after}
 
 -- in a free table nothing stands anywhere
 pub free_at : {A : Type 0} (slots : List (Option A)) → AreFree slots → (number : ℕ) → slot_at slots number ≡ None
@@ -20,7 +20,7 @@ none_of (Some value) not = absurd (cc not)
 
 -- where nothing stands after a slot, nor in it, nothing stands from it on
 pub free_from_before : {A : Type 0} (slots : List (Option A)) (end : ℕ) → 0 < end → AreFreeFrom slots end → slot_at slots (end - 1) ≡ None → AreFreeFrom slots (end - 1)
-free_from_before slots end some free none number behind = by (eq-or-lt_of_le behind) where
+free_from_before slots end some free none number after = by (eq-or-lt_of_le after) where
   by : (end - 1 ≡ number) ⊎ (end - 1 < number) → slot_at slots number ≡ None
   by (inl same) = subst (λ at. slot_at slots at ≡ None) same none
   by (inr past) = free number (omega (arith, some, past))
@@ -151,9 +151,9 @@ module _ {A : Type 0} (Becomes : Option A → Option A → Type 0) (first old ne
 pub all_done : {A : Type 0} (Becomes : Option A → Option A → Type 0) (standing first last : List (Option A)) (next : ℕ) → ((number : ℕ) → slot_at standing number ≡ slot_at first number) → length standing ≤ next
     → ((number : ℕ) → number < next → Becomes (slot_at first number) (slot_at last number)) → ((number : ℕ) → next ≤ number → slot_at last number ≡ slot_at first number) → Becomes None None
     → (number : ℕ) → Becomes (slot_at first number) (slot_at last number)
-all_done Becomes standing first last next same passed before left none number = by (below_or_behind number next) where
+all_done Becomes standing first last next same passed before left none number = by (below_or_after number next) where
   by : (number < next) ⊎ (next ≤ number) → Becomes (slot_at first number) (slot_at last number)
   by (inl below) = before number below
   by (inr past) =
-      let free : slot_at first number ≡ None = sym (same number) ∙ none_behind standing number (omega (arith, passed, past)) in
+      let free : slot_at first number ≡ None = sym (same number) ∙ none_after standing number (omega (arith, passed, past)) in
       subst (λ (slot : Option _). Becomes slot (slot_at last number)) (sym free) (subst (λ (slot : Option _). Becomes None slot) (sym (left number past ∙ free)) none)

@@ -1,5 +1,5 @@
--- Connections of balancers, each of which begins with a header of the PROXY protocol: how long its header is waited for,
--- and what becomes of it then.
+-- Connections of balancers, each of which begins with a header of the PROXY protocol: how long its header is waited
+-- for, and what becomes of it then.
 use Rattle.std.specs.Prelude.{◌≡◌, ◌≢◌, ◌≤◌, ◌+◌, ◌-◌, ◌*◌, ◌^◌, ◌||◌, ℕ, min, Bool, true, List, [], Option, None, Some}
 use Rattle.std.specs.Prelude.{Box, Result, Ok, Err}
 use Rattle.std.specs.Global.{Global}
@@ -52,7 +52,8 @@ pub record IsNotedArrival {S : Type 0} (reads : Bool) (old new : Arrival S) : Ty
   pub deadline : new.deadline ≡ old.deadline
 
 -- a slot is the same, except for its connection's readiness
-abbrev pub IsNotedSlot : {S : Type 0} → Bool → Option (Box (Arrival S) Global) → Option (Box (Arrival S) Global) → Type 0
+abbrev pub IsNotedSlot
+    : {S : Type 0} → Bool → Option (Box (Arrival S) Global) → Option (Box (Arrival S) Global) → Type 0
 IsNotedSlot reads None new = new ≡ None
 IsNotedSlot reads (Some arrival) None = ⊥
 IsNotedSlot reads (Some arrival) (Some later) = IsNotedArrival reads arrival.value later.value
@@ -149,7 +150,8 @@ module _ {S : Type 0} (remaining contents : S → Option (List ℕ)) where
   IsReadOne tick number old new (Some arrived) = HasLeft tick number old new arrived
 
   -- one connection has left, and all others are where they were
-  pub record OneLeaves (tick : ℕ) (old new : List (Option (Box (Arrival S) Global))) (arrived : Arrived S) : Type 0 where
+  pub record OneLeaves (tick : ℕ) (old new : List (Option (Box (Arrival S) Global))) (arrived : Arrived S)
+      : Type 0 where
     pub number : ℕ
     pub left : HasLeft tick number old new arrived
     pub others : (other : ℕ) → other ≢ number → MayReadOn (slot_at old other) (slot_at new other)
@@ -170,8 +172,8 @@ module _ {S : Type 0} (remaining contents : S → Option (List ℕ)) where
     pub deadline_is : arrival.deadline ≡ deadline_from tick
 
   -- it is in the slot that was the first free one
-  pub record IsTaken (stream : S) (balancer : SocketAddrV4) (tick : ℕ) (old new : List (Option (Box (Arrival S) Global)))
-      : Type 0 where
+  pub record IsTaken (stream : S) (balancer : SocketAddrV4) (tick : ℕ)
+      (old new : List (Option (Box (Arrival S) Global))) : Type 0 where
     pub number : ℕ
     pub arrival : Box (Arrival S) Global
     pub free : IsLeastFree old number
@@ -198,8 +200,9 @@ module _ {S : Type 0} (remaining contents : S → Option (List ℕ)) where
   -- This holds for each client from the start of its connection on, however many reads there were.
   abbrev pub ClientsFollowHeaders : Type 0
   ClientsFollowHeaders =
-      (begun stream : S) (balancer peer : SocketAddrV4) (tick : ℕ) (first last : Arrival S) → IsNew begun balancer tick first
-      → ReadsOn first last → IsClientOf last stream peer → FollowsHeader begun balancer stream peer
+      (begun stream : S) (balancer peer : SocketAddrV4) (tick : ℕ) (first last : Arrival S)
+      → IsNew begun balancer tick first → ReadsOn first last → IsClientOf last stream peer
+      → FollowsHeader begun balancer stream peer
 
   -- Two reads are as one, and noting readiness reads nothing.
   pub record ReadsAreOne : Type 0 where

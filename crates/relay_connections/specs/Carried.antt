@@ -7,7 +7,7 @@ use Rattle.std.specs.Io.KnownBytes.{Appends, Consumes, Keeps, append_known, prep
 use Rattle.relay_server.specs.Dialogue.{IsDialogue, Said}
 use Rattle.relay_server.specs.Setup.{Setup}
 use Rattle.relay_loop.specs.Closing.{closing_of}
-use Rattle.relay_loop.specs.declared.closing.Closing.TheVariants.{Timeout}
+use Rattle.relay_loop.specs.declared.closing.Closing.TheVariants.{Stopping, Timeout}
 use Rattle.relay_connections.specs.Channel.{input_left, output_of, unread_of}
 use Rattle.relay_connections.specs.declared.channel.Channel.{Channel}
 use Rattle.relay_connections.specs.declared.client.Client.{Client}
@@ -28,13 +28,18 @@ pub record Setting : Type 0 where
 abbrev pub setup_at : Setting → ℕ → Setup
 setup_at setting number = setting.setups (setting.beginnings number).address
 
+-- the line with which a relay of this host cuts a client off (RFC 5321, section 3.8): the client is late, or the relay
+-- ends its sessions
+abbrev pub IsLastLine : List ℕ → List ℕ → Type 0
+IsLastLine host line = (line ≡ closing_of host Timeout) ⊎ (line ≡ closing_of host Stopping)
+
 -- What a peer gets in all: the output of a dialogue, followed by at most the one line with which the relay cuts a
--- client off (RFC 5321, section 3.8).
+-- client off.
 pub record GetsDialogue (setup : Setup) (beginning : Beginning) (output : Option (List ℕ)) : Type 0 where
   pub said : Said
   pub dialogue : IsDialogue setup said
   pub gets : Appends beginning.output output said.output
-      ⊎ Appends beginning.output output (said.output ++ closing_of setup.host Timeout)
+      ⊎ ((line : List ℕ) × IsLastLine setup.host line × Appends beginning.output output (said.output ++ line))
 
 -- Below: given what is known of the streams of connections.
 module _ {S : Type 0} (remaining contents : S → Option (List ℕ)) where
@@ -69,7 +74,7 @@ module _ {S : Type 0} (remaining contents : S → Option (List ℕ)) where
     pub said : Said
     pub dialogue : IsDialogue setup said
     pub carries : Carries beginning heard channel said last
-        ⊎ (Carries beginning heard channel said [] × (last ≡ closing_of setup.host Timeout))
+        ⊎ (Carries beginning heard channel said [] × IsLastLine setup.host last)
 
   -- The connection of a stream has begun with this output, of which something may be written already.
   pub record Begins (stream : S) (output : List ℕ) (channel : Channel S) (waiting : List ℕ) : Type 0 where

@@ -42,7 +42,7 @@ module _ {D S : Type 0} (remaining contents : S → Option (List ℕ)) (session 
 
   -- The session has ended because its connection has, after all that was read from it. The octets that its client
   -- hasn't got yet are its last ones.
-  pub record LeavesBehindEnd (old new : RelayState D) (before after : Channel S) (last : List ℕ) : Type 0 where
+  pub record LeavesAfterEnd (old new : RelayState D) (before after : Channel S) (last : List ℕ) : Type 0 where
     pub ended : EndsAlone session old new
     pub said : Keeps (said_by old before) (append_known (output_of remaining contents after) last)
     pub input : Keeps (input_left remaining contents before) (input_left remaining contents after)
@@ -54,7 +54,7 @@ module _ {D S : Type 0} (remaining contents : S → Option (List ℕ)) (session 
   abbrev pub IsRead : RelayState D → RelayState D → Channel S → Channel S → Option Next → Type 0
   IsRead old new before after None = HandsAndReads old new before after × (unread_of after ≢ [])
   IsRead old new before after (Some Stays) = HandsAndReads old new before after
-  IsRead old new before after (Some (Leaves last)) = LeavesBehindEnd old new before after last
+  IsRead old new before after (Some (Leaves last)) = LeavesAfterEnd old new before after last
   IsRead old new before after (Some Gone) = EndsAlone session old new
 
 -- this many octets of what was read are used, and the rest of the input is left

@@ -47,9 +47,9 @@ over_at tick (Some tally) = if nat_lt tick tally.until then None else Some tally
 abbrev pub renewed : ℕ → Tally → Option Tally
 renewed tick tally = if nat_lt 0 tally.count then Some (told tally.peer tick) else None
 
-abbrev pub behind : ℕ → List (Option Tally) → ℕ → Option Tally → List (Option Tally)
-behind tick tallies number None = tallies
-behind tick tallies number (Some tally) = slice_set tallies number (renewed tick tally)
+abbrev pub after : ℕ → List (Option Tally) → ℕ → Option Tally → List (Option Tally)
+after tick tallies number None = tallies
+after tick tallies number (Some tally) = slice_set tallies number (renewed tick tally)
 
-abbrev pub left_behind : ℕ → List (Option Tally) → ℕ → List (Option Tally)
-left_behind tick tallies number = behind tick tallies number (over_at tick (slot_at tallies number))
+abbrev pub left_after : ℕ → List (Option Tally) → ℕ → List (Option Tally)
+left_after tick tallies number = after tick tallies number (over_at tick (slot_at tallies number))

@@ -1,6 +1,6 @@
 -- What the relay has for each client of the table: a session of the client's number, whose dialogue the client's
--- connection carries. Under a number without a client it has no session and no connection.
-use Rattle.std.specs.Prelude.{◌≡◌, true, ℕ, ◌==◌, List, [], ◌∷◌, ◌++◌, Option, None, Some, Result, Ok, Err, Box}
+-- connection carries. Under a number without a client it has no session and no connection. And what leaves that so.
+use Rattle.std.specs.Prelude.{◌≡◌, ◌≢◌, true, ℕ, ◌==◌, List, [], ◌∷◌, ◌++◌, Option, None, Some, Result, Ok, Err, Box}
 use Rattle.std.specs.Prelude.{if◌then◌else◌}
 use Rattle.std.specs.Global.{Global}
 use Rattle.std.specs.Net.Addr.{ipv4_octets}
@@ -10,11 +10,13 @@ use Rattle.relay_disk.specs.Device.{DiskWords}
 use Rattle.relay_slots.specs.Slots.{AreFree, OthersStay, slot_at}
 use Rattle.relay_server.specs.Dialogue.{Said}
 use Rattle.relay_server.specs.Setup.{Setup, setup_for}
+use Rattle.relay_attempts.specs.Reply.{Told}
 use Rattle.relay_book.specs.declared.change.Change.{Change}
 use Rattle.relay_records.specs.Records.{Keeps}
 use Rattle.relay_records.specs.declared.fault.NodeFault.{NodeFault}
 use Rattle.relay_loop.specs.Clients.{TalksTo}
 use Rattle.relay_loop.specs.declared.clients.Heard.{Heard}
+use Rattle.relay_loop.specs.Hops.{HandsTo}
 use Rattle.relay_loop.specs.Outboxes.{unwritten_at}
 use Rattle.relay_loop.specs.Relay.{OnlyClient, RelayState}
 use Rattle.relay_connections.specs.Carried.{Carries, CarriesLast, Setting, beginning_or, setup_at}
@@ -137,17 +139,51 @@ opened remaining contents setting clients peer stream = record {
       (ipv4_octets (v4_ip peer)) stream;
 }
 
+-- The attempt of this number has a history on its connection, by these changes: what it has read, and what it has
+-- written, of which some was written to the connection and the rest is unwritten.
+pub record HasRelayed {D : Type 0} (changes : List Change) (relay : RelayState D) (attempt : ℕ) : Type 0 where
+  pub told : Told
+  pub written : List ℕ
+  pub hands : HandsTo changes relay attempt told written
+
+-- each attempt with a connection has
+abbrev pub HaveRelayed : {D : Type 0} → List Change → RelayState D → Type 0
+HaveRelayed changes relay = (attempt : ℕ) → slot_at relay.hops attempt ≢ None → HasRelayed changes relay attempt
+
+-- Below: a relay on a disk with these words.
+module _ {D : Type 0} (honest : Type 0) (words : DiskWords D) where
+  -- the node keeps these changes and those that were added, by which each attempt with a connection has a history
+  pub record KeepsAfter (changes : List Change) (relay : RelayState D) : Type 0 where
+    pub added : List Change
+    pub keeps : Keeps honest words relay.node.records (changes ++ added)
+    pub relayed : HaveRelayed (changes ++ added) relay
+
+  -- Clients are left alone: their connections, their sessions and the configuration are the same. The node keeps all
+  -- changes that it kept, followed by those that were added.
+  pub record LeavesClients (old new : RelayState D) : Type 0 where
+    pub clients : new.clients ≡ old.clients
+    pub seats : new.node.seats ≡ old.node.seats
+    pub config : new.node.config ≡ old.node.config
+    pub keeps : (changes : List Change) → Keeps honest words old.node.records changes → HaveRelayed changes old
+        → KeepsAfter changes new
+
+  -- Calls that leave clients alone leave them alone together.
+  abbrev pub LeavesThen : Type 0
+  LeavesThen =
+      (one two three : RelayState D) → LeavesClients one two → LeavesClients two three → LeavesClients one three
+
 -- Below: the clients of a relay, by number.
 module _ {D S : Type 0} (honest : Type 0) (words : DiskWords D) (remaining contents : S → Option (List ℕ)) where
-  -- each client is served, and the node keeps these changes
+  -- each client is served, each attempt with a connection has a history, and the node keeps these changes
   pub record AreServed (changes : List Change) (setting : Setting) (clients : List (Option (Box (Client S) Global)))
       (relay : RelayState D) : Type 0 where
     pub keeps : Keeps honest words relay.node.records changes
     pub setups_are : HaveSetups setting.setups relay
+    pub relayed : HaveRelayed changes relay
     pub each : (number : ℕ) → Serves remaining contents changes setting relay number (slot_at clients number)
 
   -- the same after more changes
-  pub record AreServedBehind (changes : List Change) (setting : Setting)
+  pub record AreServedAfter (changes : List Change) (setting : Setting)
       (clients : List (Option (Box (Client S) Global))) (relay : RelayState D) : Type 0 where
     pub added : List Change
     pub served : AreServed (changes ++ added) setting clients relay
@@ -157,6 +193,7 @@ module _ {D S : Type 0} (honest : Type 0) (words : DiskWords D) (remaining conte
       (relay : RelayState D) (answers : List (ℕ × Result Heard NodeFault)) : Type 0 where
     pub keeps : Keeps honest words relay.node.records changes
     pub setups_are : HaveSetups setting.setups relay
+    pub relayed : HaveRelayed changes relay
     pub apart : AreApart answers
     pub each : (number : ℕ) → HasAnsweredOr remaining contents changes setting relay number
         (slot_at clients number) (answer_to number answers)
@@ -167,13 +204,14 @@ module _ {D S : Type 0} (honest : Type 0) (words : DiskWords D) (remaining conte
       (changes : List Change) (setting : Setting) (clients : List (Option (Box (Client S) Global)))
       (relay : RelayState D) → AreServed changes setting clients relay → AreMatched clients relay
 
-  -- A new relay serves an empty table of clients.
+  -- A new relay serves an empty table of clients; it has no attempts yet.
   abbrev pub FreeAreServed : Type 0
   FreeAreServed =
       (changes : List Change) (setting : Setting) (clients : List (Option (Box (Client S) Global)))
       (relay : RelayState D)
       → Keeps honest words relay.node.records changes → HaveSetups setting.setups relay
-      → AreFree clients → AreFree relay.clients → AreFree relay.node.seats → AreServed changes setting clients relay
+      → AreFree clients → AreFree relay.clients → AreFree relay.hops → AreFree relay.node.seats
+      → AreServed changes setting clients relay
 
   -- Noting readiness doesn't change how clients are served.
   abbrev pub NotedAreServed : Type 0
@@ -181,3 +219,18 @@ module _ {D S : Type 0} (honest : Type 0) (words : DiskWords D) (remaining conte
       (changes : List Change) (setting : Setting) (old new : List (Option (Box (Client S) Global)))
       (relay : RelayState D) (number : ℕ)
       → IsNoted number old new → AreServed changes setting old relay → AreServed changes setting new relay
+
+  -- What leaves clients alone leaves them served, after the changes that were added.
+  abbrev pub LeftAreServed : Type 0
+  LeftAreServed =
+      (changes : List Change) (setting : Setting) (clients : List (Option (Box (Client S) Global)))
+      (old new : RelayState D)
+      → LeavesClients honest words old new → AreServed changes setting clients old
+      → AreServedAfter changes setting clients new
+
+  -- Clients that are served after some changes and more are served after the changes.
+  abbrev pub ServedGoesOn : Type 0
+  ServedGoesOn =
+      (changes added : List Change) (setting : Setting) (clients : List (Option (Box (Client S) Global)))
+      (relay : RelayState D)
+      → AreServedAfter (changes ++ added) setting clients relay → AreServedAfter changes setting clients relay

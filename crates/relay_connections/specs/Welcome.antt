@@ -6,6 +6,7 @@ use Rattle.std.specs.Net.Addr.{ipv4_octets}
 use Rattle.std.specs.Net.Socket.{v4_ip}
 use Rattle.relay_lines.specs.Reply.{one_line, reply_text}
 use Rattle.relay_limits.specs.AllowedClients.{may_connect}
+use Rattle.relay_limits.specs.declared.limits.Limits.{Limits}
 use Rattle.relay_log.specs.declared.client_line.Refusal.{Refusal}
 use Rattle.relay_log.specs.declared.client_line.Refusal.TheVariants.{NoRoom, NoService, Stopping}
 use Rattle.relay_loop.specs.Closing.{closing_of}
@@ -43,6 +44,23 @@ KeepsRules old new = (allowed_of new ≡ allowed_of old) × (new.stops ≡ old.s
 abbrev pub stopped : {S : Type 0} → Clients S → Clients S
 stopped clients = record clients { stops = true }
 
+-- Sessions are ended: each one between mail transactions from now on, and at this tick all that are left.
+abbrev pub retiring : {S : Type 0} → ℕ → Clients S → Clients S
+retiring end clients = record clients { retires_at = Some end }
+
+-- none is ended any more, unless its client is late
+abbrev pub staying : {S : Type 0} → Clients S → Clients S
+staying clients = record clients { retires_at = None }
+
+-- clients are served by these limits, and those in these networks, if any are named, may connect; no session is ended
+abbrev pub reconfigured : {S : Type 0} → Limits → Option (List Network) → Clients S → Clients S
+reconfigured limits allowed clients = record clients {
+  allowed = allowed;
+  most = limits.sessions_per_client;
+  timeout = limits.client_timeout;
+  retires_at = None;
+}
+
 -- there is room for one more client at this address, and clients are served
 abbrev pub IsOpenFor : {S : Type 0} → List ℕ → Clients S → Type 0
 IsOpenFor address clients = HasRoom address clients × (clients.stops ≡ false)
@@ -64,8 +82,8 @@ refusal_of host NoService = reply_text (one_line 554 (host ++ codes " no service
 
 -- The words below are of what is known of the streams of connections.
 module _ {S : Type 0} (remaining contents : S → Option (List ℕ)) where
-  -- What leaves under a number is as before. If nothing did, the connection of this stream may, whose peer gets this line
-  -- and nothing after it.
+  -- What leaves under a number is as before. If nothing did, the connection of this stream may, whose peer gets this
+  -- line and nothing after it.
   abbrev pub MayLeaveWith : S → List ℕ → Option (Box (Leaver S) Global) → Option (Box (Leaver S) Global) → Type 0
   MayLeaveWith stream line None None = Unit {0}
   MayLeaveWith stream line None (Some leaver) =

@@ -73,7 +73,7 @@ impl<S: Stream + Drop> Arrival<S> {
             balancer,
             header: HeaderOctets::new(),
             reads: true,
-            deadline: now.behind(HEADER_SECONDS),
+            deadline: now.after(HEADER_SECONDS),
         }
     }
 

@@ -13,7 +13,7 @@ use std::alloc::Global;
 use std::io::{self, ErrorKind};
 
 /// What a connection may be ready for.
-#[derive(Clone, Copy, Debug)]
+#[derive(Clone, Copy)]
 pub struct Readiness {
     /// Whether a read may yield octets, the end or an error.
     pub reads: bool,
@@ -53,7 +53,7 @@ pub struct Channel<S = TcpStream> {
 }
 
 /// How a connection has ended.
-#[derive(Clone, Copy, Debug, PartialEq, Eq)]
+#[derive(Clone, Copy, PartialEq, Eq)]
 pub enum End {
     /// Its input has ended. What is unwritten may still be written.
     Input,

@@ -1,11 +1,11 @@
 //! The connection of a client, and what a turn does with it.
-ghost use Rattle.std.specs.Prelude.{◌≡◌, ◌≢◌, ◌↔◌, ℕ, List, [], None, Some, Err, IfErr, IfOk, false, true};
+ghost use Rattle.std.specs.Prelude.{◌≡◌, ◌≢◌, ◌↔◌, ℕ, List, [], None, Some, Err, IfErr, IfOk, IsTrue, false, true};
 ghost use Rattle.std.specs.Io.KnownBytes.{Keeps};
 ghost use Rattle.relay_loop.specs.Outboxes.{unwritten_at};
 ghost use Rattle.relay_connections.specs.Channel.{KeepsInput, KeepsOutput, held_of, output_of, unread_of};
 ghost use Rattle.relay_connections.specs.Exchange.{Hands, IsHanded, IsRead, Uses};
 ghost use Rattle.relay_connections.specs.Served.{StaysOrEnds, StaysSaid};
-ghost use Rattle.relay_connections.specs.Sessions.{EndsAlone};
+ghost use Rattle.relay_connections.specs.Sessions.{EndsAlone, IsBetweenMail, deadline_of};
 
 use crate::channel::{Channel, End};
 use crate::clocks::Now;
@@ -88,7 +88,7 @@ pub(crate) enum Next {
 }
 
 /// What the clients' octets have led to in a turn.
-#[derive(Clone, Copy, Debug)]
+#[derive(Clone, Copy)]
 pub struct Intake {
     /// Whether mail was refused because the spool is full.
     pub was_full: bool,
@@ -108,10 +108,10 @@ impl<S: Stream> Client<S> {
             hears: false,
             unanswered: 0,
             has_line_end: false,
-            idle_deadline: now.behind(timeout),
-            crowded_deadline: now.behind(CROWDED_SECONDS),
+            idle_deadline: now.after(timeout),
+            crowded_deadline: now.after(CROWDED_SECONDS),
             has_accepted: false,
-            session_deadline: now.behind(SESSION_SECONDS),
+            session_deadline: now.after(SESSION_SECONDS),
             record: ClientRecord::new(now.tick),
         }
     }
@@ -136,7 +136,9 @@ impl<S: Stream> Client<S> {
     }
 
     /// Returns the tick at which it is cut off as things are, given whether few places are left for others.
-    pub(crate) fn deadline(&self, is_crowded: bool) -> u64 {
+    pub(crate) fn deadline(&self, is_crowded: bool) -> u64
+        ensures { result ≡ deadline_of is_crowded self.now }
+    {
         let deadline = self.idle_deadline.min(self.session_deadline);
         if is_crowded && !self.has_accepted && self.unanswered == 0 {
             deadline.min(self.crowded_deadline)
@@ -150,8 +152,8 @@ impl<S: Stream> Client<S> {
         ensures channel { self.new.channel ≡ self.old.channel }
         ensures peer { self.new.peer ≡ self.old.peer }
     {
-        self.idle_deadline = now.behind(timeout);
-        self.crowded_deadline = now.behind(CROWDED_SECONDS);
+        self.idle_deadline = now.after(timeout);
+        self.crowded_deadline = now.after(CROWDED_SECONDS);
     }
 
     /// Writes as many unwritten octets as the client takes at once.
@@ -196,10 +198,19 @@ impl<S: Stream> Client<S> {
 
     /// Returns whether octets for it are unwritten.
     fn waits<D: Disk>(&self, relay: &Relay<D>, session: usize) -> bool
-        ensures { held_of self.now.channel ≡ [] → unwritten_at relay.now.clients session ≡ []
+        ensures nothing { held_of self.now.channel ≡ [] → unwritten_at relay.now.clients session ≡ []
             → result ≡ false }
+        ensures only { result ≡ false → (held_of self.now.channel ≡ [])
+            × (unwritten_at relay.now.clients session ≡ []) }
     {
         self.channel.is_holding() || !relay.to_client(session).is_empty()
+    }
+
+    /// Returns whether it has got all replies, and no mail transaction of its session is open.
+    pub(crate) fn is_between_mail<D: Disk>(&self, relay: &Relay<D>, session: usize) -> bool
+        ensures { IsTrue result ↔ IsBetweenMail relay.now session self.now.channel }
+    {
+        !self.waits(relay, session) && !relay.node().is_in_transaction(session)
     }
 
     /// Returns whether something can be done with it at once.
@@ -349,7 +360,7 @@ impl<S: Stream> Client<S> {
             self.has_line_end = false;
         }
         if let Some(number) = change {
-            self.session_deadline = now.behind(SESSION_SECONDS);
+            self.session_deadline = now.after(SESSION_SECONDS);
             self.has_accepted = true;
             tell_accepted(relay, self.peer, number, &mut self.record, log);
         }

@@ -10,8 +10,10 @@ ghost use Rattle.relay_connections.specs.Matched.{AreMatched, IsGreeted, Opens};
 ghost use Rattle.relay_connections.specs.Readiness.{IsLeftClient, IsNoted, clients_of};
 ghost use Rattle.relay_connections.specs.Room.{HasRoom, is_at};
 ghost use Rattle.relay_connections.specs.Served.{AreServed, StaysSaid, opened};
+ghost use Rattle.relay_connections.specs.Sessions.{IsCutFor};
 ghost use Rattle.relay_connections.specs.Table.{count_of, count_of_such, is_such};
-ghost use Rattle.relay_connections.specs.Welcome.{IsRefusedFor, KeepsRules, MayConnect, allowed_of, stopped};
+ghost use Rattle.relay_connections.specs.Welcome.{IsRefusedFor, KeepsRules, MayConnect, allowed_of, reconfigured};
+ghost use Rattle.relay_connections.specs.Welcome.{retiring, staying, stopped};
 
 use crate::channel::{Channel, Readiness};
 use crate::client::Client;
@@ -23,7 +25,7 @@ use mio::net::TcpStream;
 use relay_disk::Disk;
 use relay_limits::{AllowedClients, Limits};
 use relay_log::Refusal;
-use relay_loop::Relay;
+use relay_loop::{Closing, Relay};
 use relay_node::NodeFault;
 use relay_slots::SLOT_COUNT;
 use std::alloc::{AllocError, Global};
@@ -48,6 +50,8 @@ pub struct Clients<S = TcpStream> {
     allowed: AllowedClients,
     /// Whether no more clients are served.
     stops: bool,
+    /// If the sessions are ended, the tick at which those in a mail transaction are ended too.
+    retires_at: Option<u64>,
     /// The most clients at one address.
     most: usize,
     /// How many seconds a client may be idle.
@@ -66,6 +70,7 @@ impl<S: Drop> Drop for Clients<S> {
             clients: _clients,
             allowed: _allowed,
             stops: _,
+            retires_at: _,
             most: _,
             timeout: _,
             is_crowded: _,
@@ -86,6 +91,7 @@ impl<S: Stream + Drop> Clients<S> {
             clients: Table::new(alloc)?,
             allowed,
             stops: false,
+            retires_at: None,
             most: usize::from(limits.sessions_per_client),
             timeout: u64::from(limits.client_timeout),
             is_crowded: false,
@@ -98,6 +104,31 @@ impl<S: Stream + Drop> Clients<S> {
         ensures { self.new ≡ stopped self.old }
     {
         self.stops = true;
+    }
+
+    /// Ends each session that is between mail transactions from now on, as soon as its client has got all replies; and
+    /// at this tick all that are left.
+    pub fn retire(&mut self, end: u64)
+        ensures { self.new ≡ retiring end self.old }
+    {
+        self.retires_at = Some(end);
+    }
+
+    /// Ends no session any more that isn't late.
+    pub fn stay(&mut self)
+        ensures { self.new ≡ staying self.old }
+    {
+        self.retires_at = None;
+    }
+
+    /// Serves clients by these limits from now on, if they may connect, and ends no session that isn't late.
+    pub fn reconfigure(&mut self, limits: &Limits, allowed: AllowedClients)
+        ensures { self.new ≡ reconfigured limits.now allowed self.old }
+    {
+        self.allowed = allowed;
+        self.most = usize::from(limits.sessions_per_client);
+        self.timeout = u64::from(limits.client_timeout);
+        self.retires_at = None;
     }
 
     /// Returns why a client at this address isn't served. `None`: it may connect, and there is room for it.
@@ -237,6 +268,9 @@ impl<S: Stream + Drop> Clients<S> {
     pub fn is_ready<D: Disk>(&self, relay: &Relay<D>) -> bool
         ensures { (number : ℕ) → IsLeftClient (clients_of self.now) relay.now number → result ≡ true }
     {
+        if self.may_retire_one(relay) {
+            return true;
+        }
         for (number, slot) in self.clients.standing().iter().enumerate() {
             if let Some(client) = slot {
                 if client.is_ready(relay, number) {
@@ -247,6 +281,52 @@ impl<S: Stream + Drop> Clients<S> {
         false
     }
 
+    /// Returns whether the sessions are ended, and one is between mail transactions.
+    fn may_retire_one<D: Disk>(&self, relay: &Relay<D>) -> bool {
+        if self.retires_at.is_none() {
+            return false;
+        }
+        for (number, slot) in self.clients.standing().iter().enumerate() {
+            if let Some(client) = slot {
+                if client.is_between_mail(relay, number) {
+                    return true;
+                }
+            }
+        }
+        false
+    }
+
+    /// Returns why a client is cut off, if it is: it is late, or else the sessions are ended, and it is between mail
+    /// transactions or has no time left.
+    pub(crate) fn reason_to_cut<D: Disk>(
+        &self,
+        number: usize,
+        client: &Client<S>,
+        relay: &Relay<D>,
+        now: &Now,
+    ) -> Option<Closing>
+        ensures { IsCutFor self.now relay.now number client.now now.now.tick result }
+    {
+        if client.deadline(self.is_crowded) <= now.tick {
+            return Some(Closing::Timeout);
+        }
+        let end = self.retires_at?;
+        if end <= now.tick || client.is_between_mail(relay, number) {
+            Some(Closing::Stopping)
+        } else {
+            None
+        }
+    }
+
+    /// Returns the tick at which a client is cut off at the latest as things are.
+    fn cut_deadline(&self, client: &Client<S>) -> u64 {
+        let deadline = client.deadline(self.is_crowded);
+        match self.retires_at {
+            Some(end) => deadline.min(end),
+            None => deadline,
+        }
+    }
+
     /// Returns the tick at which the next of them is cut off, or `otherwise` if that is earlier.
     pub fn next_deadline(&self, otherwise: u64) -> u64
         ensures { result ≤ otherwise }
@@ -254,7 +334,7 @@ impl<S: Stream + Drop> Clients<S> {
         let mut next = otherwise;
         for slot in self.clients.standing() {
             if let Some(client) = slot {
-                next = next.min(client.deadline(self.is_crowded));
+                next = next.min(self.cut_deadline(client));
             }
         }
         next

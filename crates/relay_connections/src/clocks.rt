@@ -5,7 +5,7 @@ use relay_trace::{Moment, clock_moment};
 use std::rt::Clock;
 
 /// The times of both clocks. Mail is due by the wall clock, which may be set; timeouts are by the monotonic clock.
-#[derive(Debug, Drop)]
+#[derive(Drop)]
 pub struct Now {
     /// The wall clock's time, in seconds.
     pub moment: Moment,
@@ -23,7 +23,7 @@ impl Now {
     }
 
     /// Returns the tick this many seconds from now, or the last tick.
-    pub fn behind(&self, seconds: u64) -> u64
+    pub fn after(&self, seconds: u64) -> u64
         ensures { result ≡ min (self.now.tick + seconds * 1000) (2 ^ 64 - 1) }
     {
         self.tick.saturating_add(seconds.saturating_mul(1_000))
@@ -34,7 +34,7 @@ impl Now {
     pub fn tick_at(&self, moment: Moment) -> u64
         ensures { result ≡ min (self.now.tick + (moment - self.now.moment) * 1000) (2 ^ 64 - 1) }
     {
-        self.behind(moment.seconds().saturating_sub(self.moment.seconds()))
+        self.after(moment.seconds().saturating_sub(self.moment.seconds()))
     }
 }
 

@@ -49,31 +49,32 @@ pub(crate) fn drop_session<D: Disk>(relay: &mut Relay<D>, session: usize) -> Res
     }
 }
 
-/// Ends the session of a client that is late. If it has taken all earlier octets, it gets a last reply; else it takes
-/// nothing, and gets none.
+/// Ends the session of a client that is cut off for this reason. If it has taken all earlier octets, it gets a last
+/// reply; else it takes nothing, and gets none.
 pub(crate) fn cut_off<D: Disk>(
     alloc: Global,
     relay: &mut Relay<D>,
     session: usize,
+    why: Closing,
 ) -> Result<Next, NodeFault>
     ensures ends { EndsAlone session relay.old relay.new }
     ensures freed { IsFreed session relay.old relay.new }
-    ensures next { IfOk result (IsCutOff relay.old session) }
+    ensures next { IfOk result (IsCutOff relay.old session why) }
     ensures fault { IfErr result (λ fault. fault ≡ NodeFault.Stopped) }
     ensures stopped { IfErr result (λ _. relay.old.node.records.spool.live ≡ false) }
 {
     match relay.end_client(session) {
-        Ok(outbox) if outbox.is_empty() => Ok(farewell(alloc, relay)),
+        Ok(outbox) if outbox.is_empty() => Ok(farewell(alloc, relay, why)),
         Err(NodeFault::Stopped) => Err(NodeFault::Stopped),
         _ => Ok(Next::Gone),
     }
 }
 
-/// Returns the last reply to a client that is late.
-fn farewell<D: Disk>(alloc: Global, relay: &Relay<D>) -> Next
-    ensures { IsTold relay.now.node.config.host result }
+/// Returns the last reply to a client that is cut off for this reason.
+fn farewell<D: Disk>(alloc: Global, relay: &Relay<D>, why: Closing) -> Next
+    ensures { IsTold relay.now.node.config.host why result }
 {
-    match closing_line(alloc, &relay.node().config().host, Closing::Timeout) {
+    match closing_line(alloc, &relay.node().config().host, why) {
         Ok(line) => Next::Leaves(Outbox::new(line)),
         Err(_) => Next::Gone,
     }

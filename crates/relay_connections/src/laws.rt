@@ -1,6 +1,7 @@
 //! Laws of a relay's clients, whatever calls are made.
 ghost use Rattle.relay_connections.specs.Arrivals.{ClientsFollowHeaders, ReadsAreOne};
-ghost use Rattle.relay_connections.specs.Served.{FreeAreServed, NotedAreServed, ServedAreMatched};
+ghost use Rattle.relay_connections.specs.Served.{FreeAreServed, LeavesThen, LeftAreServed, NotedAreServed};
+ghost use Rattle.relay_connections.specs.Served.{ServedAreMatched, ServedGoesOn};
 
 use crate::stream::Stream;
 use relay_disk::Disk;
@@ -13,6 +14,21 @@ pub fn served_are_matched<S: Stream, D: Disk>()
 /// A new relay serves an empty table of clients.
 pub fn free_are_served<S: Stream, D: Disk>()
     ensures { FreeAreServed D.honest D.words S.remaining S.contents }
+{}
+
+/// What leaves clients alone leaves them served, after the changes that were added.
+pub fn left_are_served<S: Stream, D: Disk>()
+    ensures { LeftAreServed D.honest D.words S.remaining S.contents }
+{}
+
+/// Calls that leave clients alone leave them alone together.
+pub fn leaves_then<D: Disk>()
+    ensures { LeavesThen D.honest D.words }
+{}
+
+/// Clients that are served after some changes and more are served after the changes.
+pub fn served_goes_on<S: Stream, D: Disk>()
+    ensures { ServedGoesOn D.honest D.words S.remaining S.contents }
 {}
 
 /// Noting readiness doesn't change how clients are served.

@@ -100,6 +100,13 @@ impl<S: Stream + Drop> Leaving<S> {
         })
     }
 
+    /// From now on, last octets may take `seconds` to be written.
+    pub fn set_timeout(&mut self, seconds: u64)
+        ensures { leavers_of self.new ≡ leavers_of self.old }
+    {
+        self.seconds = seconds;
+    }
+
     /// Takes a connection with its last octets, and the number of the next hop's address if it leads to one. Writes as
     /// many octets as the peer takes at once. If 64 connections are leaving already, or memory runs out, closes it
     /// after that.
@@ -119,7 +126,7 @@ impl<S: Stream + Drop> Leaving<S> {
             outbox,
             is_shut: false,
             place,
-            deadline: now.behind(self.seconds),
+            deadline: now.after(self.seconds),
         };
         leaver.write(now);
         let Some(number) = self.leavers.free() else {
@@ -132,6 +139,13 @@ impl<S: Stream + Drop> Leaving<S> {
         if let Ok(leaver) = Box::new(self.alloc, leaver) {
             self.leavers.put(number, leaver);
         }
+    }
+
+    /// Returns whether no connection is leaving.
+    pub fn is_empty(&self) -> bool
+        ensures { IsTrue result ↔ (count_of (leavers_of self.now) ≡ 0) }
+    {
+        self.leavers.count() == 0
     }
 
     /// Returns whether a connection without a session may be taken: half of the room is kept for others.
@@ -262,7 +276,7 @@ impl<S: Stream> Leaver<S> {
         if self.has_gone() {
             self.channel.shut_down();
             self.is_shut = true;
-            self.deadline = now.behind(DRAIN_SECONDS);
+            self.deadline = now.after(DRAIN_SECONDS);
         }
     }
 

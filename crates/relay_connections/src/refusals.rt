@@ -4,7 +4,7 @@ ghost use Rattle.std.specs.Prelude.{length, slice_set};
 ghost use Rattle.std.specs.Net.Addr.{ipv4_octets};
 ghost use Rattle.std.specs.Net.Socket.{v4_ip};
 ghost use Rattle.relay_slots.specs.Slots.{AreFree, IsFull, slot_at};
-ghost use Rattle.relay_connections.specs.Refusals.{Counts, IsUnknown, again, is_of, left_behind};
+ghost use Rattle.relay_connections.specs.Refusals.{Counts, IsUnknown, again, is_of, left_after};
 ghost use Rattle.relay_connections.specs.Refusals.{over_at, tallies_of, told};
 ghost use Rattle.relay_connections.specs.Table.{is_such};
 
@@ -19,7 +19,7 @@ use std::net::SocketAddrV4;
 const SILENT_SECONDS: u64 = 60;
 
 /// The refusals of an address that aren't logged yet.
-#[derive(Clone, Copy, Debug)]
+#[derive(Clone, Copy)]
 pub(crate) struct Tally {
     /// The client of that address that was refused last.
     peer: SocketAddrV4,
@@ -37,7 +37,7 @@ impl Tally {
         Tally {
             peer,
             count: 0,
-            until: now.behind(SILENT_SECONDS),
+            until: now.after(SILENT_SECONDS),
         }
     }
 
@@ -70,8 +70,8 @@ fn is_of(slot: &Option<Tally>, address: [u8; 4]) -> bool
     }
 }
 
-/// Clients that were refused for one reason, by address, for up to 64 addresses: when the last line was written, and how
-/// many were refused since. Each refusal is logged once, by a line of its own or in the number of a later line.
+/// Clients that were refused for one reason, by address, for up to 64 addresses: when the last line was written, and
+/// how many were refused since. Each refusal is logged once, by a line of its own or in the number of a later line.
 pub struct Refusals {
     why: Refusal,
     tallies: Table<Tally>,
@@ -189,7 +189,7 @@ impl Refusals {
     /// Takes what isn't logged of the address in a slot, if a line is due for it.
     fn take_over(&mut self, number: usize, now: &Now) -> Option<Tally>
         ensures taken { result ≡ over_at now.now.tick (slot_at (tallies_of self.old) number) }
-        ensures left { tallies_of self.new ≡ left_behind now.now.tick (tallies_of self.old) number }
+        ensures left { tallies_of self.new ≡ left_after now.now.tick (tallies_of self.old) number }
     {
         let tally = match self.tallies.standing().get(number) {
             Some(Some(tally)) if tally.until <= now.tick => *tally,

@@ -1,15 +1,16 @@
 //! A turn of the clients: their sessions hear what was read, all in one call, and the replies are written.
 ghost use Rattle.std.specs.List.{zip};
-ghost use Rattle.std.specs.Prelude.{◌≡◌, ◌<◌, List, None, IfErr, IfOk};
+ghost use Rattle.std.specs.Prelude.{◌≡◌, ◌≢◌, ◌<◌, List, None, IfErr, IfOk};
 ghost use Rattle.relay_book.specs.declared.change.Change.{Change};
 ghost use Rattle.relay_slots.specs.Slots.{slot_at};
 ghost use Rattle.relay_slots.specs.declared.slots.TheConstants.{SLOT_COUNT};
 ghost use Rattle.relay_connections.specs.Carried.{Setting};
 ghost use Rattle.relay_connections.specs.Leaving.{ClientsJoin, leavers_of};
 ghost use Rattle.relay_connections.specs.Readiness.{clients_of};
-ghost use Rattle.relay_connections.specs.Served.{ActsOn, AreServed, AreServedBehind, HasAnswered, HasNext};
+ghost use Rattle.relay_connections.specs.Served.{ActsOn, AreServed, AreServedAfter, HasAnswered, HasNext};
 ghost use Rattle.relay_connections.specs.Served.{HaveAnswered, LeavesRest, Serves, WorksWith, address_of};
-ghost use Rattle.relay_connections.specs.Sessions.{EndsLate};
+ghost use Rattle.relay_connections.specs.Sessions.{EndsCut, IsCutOffAfter};
+ghost use Rattle.relay_loop.specs.declared.closing.Closing.{Closing};
 ghost use Rattle.relay_connections.specs.Welcome.{KeepsRules};
 
 use crate::channel::End;
@@ -23,7 +24,7 @@ use crate::stream::Stream;
 use crate::table::{holds, turned};
 use relay_disk::Disk;
 use relay_log::{ClientEnd, Log};
-use relay_loop::{Relay, ReplyPiece};
+use relay_loop::{Closing, Relay, ReplyPiece};
 use relay_node::NodeFault;
 use relay_slots::SLOT_COUNT;
 
@@ -47,7 +48,7 @@ impl<S: Stream + Drop> Clients<S> {
     ) -> Result<(Intake, Option<Replied>), NodeFault>
         ensures served { (changes : List Change) (setting : Setting)
             → AreServed D.honest D.words S.remaining S.contents changes setting (clients_of self.old) relay.old
-            → IfOk result (λ _. AreServedBehind D.honest D.words S.remaining S.contents changes setting
+            → IfOk result (λ _. AreServedAfter D.honest D.words S.remaining S.contents changes setting
             (clients_of self.new) relay.new
             × ClientsJoin S.remaining S.contents setting (leavers_of leaving.old) (leavers_of leaving.new)) }
         ensures rules { KeepsRules self.old self.new }
@@ -125,7 +126,7 @@ impl<S: Stream + Drop> Clients<S> {
     ) -> Result<(bool, Option<Replied>), NodeFault>
         ensures served { (changes : List Change) (setting : Setting)
             → AreServed D.honest D.words S.remaining S.contents changes setting (clients_of self.old) relay.old
-            → IfOk result (λ _. AreServedBehind D.honest D.words S.remaining S.contents changes setting
+            → IfOk result (λ _. AreServedAfter D.honest D.words S.remaining S.contents changes setting
             (clients_of self.new) relay.new
             × ClientsJoin S.remaining S.contents setting (leavers_of leaving.old) (leavers_of leaving.new)) }
         ensures rules { KeepsRules self.old self.new }
@@ -334,7 +335,7 @@ impl<S: Stream + Drop> Clients<S> {
         Ok(())
     }
 
-    /// Cuts a client off that would stay but is late. Returns what happens to its connection.
+    /// Cuts a client off that would stay, if there is a reason. Returns what happens to its connection.
     fn cut_off_late<D: Disk>(
         &self,
         number: usize,
@@ -350,21 +351,54 @@ impl<S: Stream + Drop> Clients<S> {
             client.now.channel next
             → IfOk result (HasNext S.remaining S.contents changes setting relay.new number (address_of client.now)
             client.now.channel) }
-        ensures told { IfOk result (EndsLate relay.old number client.now.channel next) }
+        ensures told { IfOk result (EndsCut self.now relay.old number client.now now.now.tick next) }
         ensures fault { IfErr result (λ fault. fault ≡ NodeFault.Stopped) }
     {
         match next {
-            Next::Stays if client.deadline(self.is_crowded) <= now.tick => {
-                log.client_ended(client.peer, &client.record, ClientEnd::Timeout, now.tick);
-                if client.channel.is_holding() {
-                    // The client takes nothing.
-                    drop_session(relay, number)
-                } else {
-                    cut_off(self.alloc, relay, number)
-                }
-            }
+            Next::Stays => match self.reason_to_cut(number, client, relay, now) {
+                Some(why) => self.cut(number, client, why, relay, now, log),
+                None => Ok(Next::Stays),
+            },
             next => Ok(next),
         }
+    }
+
+    /// Cuts a client off for this reason. Returns what happens to its connection.
+    fn cut<D: Disk>(
+        &self,
+        number: usize,
+        client: &Client<S>,
+        why: Closing,
+        relay: &mut Relay<D>,
+        now: &Now,
+        log: &mut Log<'_, Vec<u8>>,
+    ) -> Result<Next, NodeFault>
+        requires { why ≢ Closing.TooMany }
+        ensures rest { IfOk result (λ _. LeavesRest number relay.old relay.new) }
+        ensures next { (changes : List Change) (setting : Setting) → WorksWith setting.setups relay.old
+            → HasNext S.remaining S.contents changes setting relay.old number (address_of client.now)
+            client.now.channel Next.Stays
+            → IfOk result (HasNext S.remaining S.contents changes setting relay.new number (address_of client.now)
+            client.now.channel) }
+        ensures told { IfOk result (IsCutOffAfter relay.old number client.now.channel why) }
+        ensures fault { IfErr result (λ fault. fault ≡ NodeFault.Stopped) }
+    {
+        log.client_ended(client.peer, &client.record, cut_end(why), now.tick);
+        if client.channel.is_holding() {
+            // The client takes nothing.
+            drop_session(relay, number)
+        } else {
+            cut_off(self.alloc, relay, number, why)
+        }
+    }
+}
+
+/// Returns the end of a client that is cut off for this reason.
+fn cut_end(why: Closing) -> ClientEnd {
+    match why {
+        Closing::Timeout => ClientEnd::Timeout,
+        Closing::Stopping => ClientEnd::Stopping,
+        Closing::TooMany => ClientEnd::Quit,
     }
 }
 

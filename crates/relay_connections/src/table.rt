@@ -99,7 +99,7 @@ impl<T: Drop> Table<T> {
     pub fn put(&mut self, number: usize, value: T)
         ensures stands { number < length self.old
             → self.new ≡ slice_set self.old number (Some value) }
-        ensures behind { length self.old ≤ number → self.new ≡ self.old }
+        ensures after { length self.old ≤ number → self.new ≡ self.old }
         ensures there { number < SLOT_COUNT → slot_at self.new number ≡ Some value }
         ensures others { OthersStay self.old self.new number }
     {

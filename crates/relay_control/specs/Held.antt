@@ -36,7 +36,8 @@ is_of_message (Message number) other = number == other
 pub record Sets (scope : Scope) (is_held : Bool) (old new : Held) : Type 0 where
   pub hops : (name : List ℕ) → holds_hop name new ≡ (if is_of_hop scope name then is_held else holds_hop name old)
   pub messages :
-      (number : ℕ) → holds_message number new ≡ (if is_of_message scope number then is_held else holds_message number old)
+      (number : ℕ)
+      → holds_message number new ≡ (if is_of_message scope number then is_held else holds_message number old)
 
 -- the same next hops and messages are held
 pub record HoldsSame (old new : Held) : Type 0 where

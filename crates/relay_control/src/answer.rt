@@ -10,7 +10,7 @@ use relay_lines::word::is_printable;
 use std::alloc::AllocError;
 
 /// How a request ended.
-#[derive(Clone, Copy, Debug, Drop)]
+#[derive(Clone, Copy, Drop)]
 pub enum End<'a> {
     /// It was done.
     Done,
@@ -19,7 +19,7 @@ pub enum End<'a> {
 }
 
 /// A whole answer.
-#[derive(Clone, Copy, Debug, Drop)]
+#[derive(Clone, Copy, Drop)]
 pub struct Reply<'a> {
     /// The lines before the last one, each with its LF. They begin with a space.
     pub lines: &'a [u8],

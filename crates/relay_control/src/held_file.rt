@@ -15,7 +15,7 @@ use std::str;
 use toml::{Table, Value};
 
 /// Why a text says nothing of what is held, or can't be written.
-#[derive(Clone, Copy, Debug, Drop, PartialEq, Eq)]
+#[derive(Clone, Copy, Drop, PartialEq, Eq)]
 pub enum HeldFault {
     /// It isn't TOML, `hops` is no array of names, `messages` is no array of numbers, or another key is there.
     BadText,

@@ -11,7 +11,7 @@ use std::alloc::{AllocError, Global};
 pub const MOST_NAMED: usize = 64;
 
 /// Recipients of a message.
-#[derive(Debug, Drop)]
+#[derive(Drop)]
 pub struct Named {
     /// The number of the message.
     pub message: u64,

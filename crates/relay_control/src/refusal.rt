@@ -5,7 +5,7 @@ ghost use Rattle.relay_control.specs.Answer.{refusal_text};
 use crate::verb::Verb;
 
 /// Why a request is refused, before anything is done.
-#[derive(Clone, Copy, Debug, Drop, PartialEq, Eq)]
+#[derive(Clone, Copy, Drop, PartialEq, Eq)]
 pub enum Refusal {
     /// No line of it ends within 4,096 octets.
     TooLong,

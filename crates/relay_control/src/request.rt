@@ -13,7 +13,7 @@ use crate::verb::Verb;
 use std::alloc::{AllocError, Global};
 
 /// What a postmaster asks of a running relay.
-#[derive(Debug, Drop)]
+#[derive(Drop)]
 pub enum Request {
     /// This mail, or all that is queued, is tried now.
     Flush(Option<Scope>),

@@ -8,7 +8,7 @@ use relay_routes::HostName;
 use std::alloc::{AllocError, Global};
 
 /// Which mail a request is about.
-#[derive(Debug, Drop)]
+#[derive(Drop)]
 pub enum Scope {
     /// The mail of the next hop of this name.
     Hop(HostName),

@@ -3,7 +3,7 @@ ghost use Rattle.std.specs.Prelude.{◌≡◌, MatchOption};
 ghost use Rattle.relay_control.specs.Request.{HasNoVerb, verb_text};
 
 /// What a request asks for.
-#[derive(Clone, Copy, Debug, Drop, PartialEq, Eq)]
+#[derive(Clone, Copy, Drop, PartialEq, Eq)]
 pub enum Verb {
     /// `flush`: queued mail is tried now.
     Flush,

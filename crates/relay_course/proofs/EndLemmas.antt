@@ -16,24 +16,24 @@ use Rattle.relay_course.specs.declared.awaited.Awaited.TheVariants.{Greeting, Eh
 use Rattle.relay_course.specs.declared.reply_kind.ReplyKind.{ReplyKind}
 use Rattle.relay_course.specs.declared.reply_kind.ReplyKind.TheVariants.{Completion, Intermediate, Transient, Permanent}
 use Rattle.relay_course.specs.VerdictTable.{all_later, content_verdict_by, kind_of, rcpt_verdict_by, refusal, verdicts_of}
-use Rattle.relay_course.specs.Progress.{Errand, Answered, Progress, answer_of, rcpt_replies, at_greeting, with_answer, behind_reply, behind_replies, progress}
-use Rattle.relay_course.specs.Course.{Concludes, errand_of}
+use Rattle.relay_course.specs.Progress.{Delivery, Answered, Progress, answer_of, rcpt_replies, at_greeting, with_answer, after_reply, after_replies, progress}
+use Rattle.relay_course.specs.Course.{Concludes, delivery_of}
 use Rattle.relay_course.specs.Laws.{AnsweredAreFirst, AnswersStay, CommandsKeepUp, CourseMayBeLost, RcptsAreInOrder, VerdictForEachPlace, VerdictsMayBeStored, rcpt_places, replies_in}
-use Rattle.relay_course.proofs.GoingLemmas.{answer-goes, answered_by, behind_replies-append, each_command_waits, end_is_end, stays}
+use Rattle.relay_course.proofs.GoingLemmas.{answer-goes, answered_by, after_replies-append, each_command_waits, end_is_end, stays}
 use Rattle.relay_course.proofs.OrderLemmas.{EndedBefore, EndedByContent, StandsBy, content_replies_in, ended-over, end_waits_for_nothing, progress-stands, waiting_places}
 
-keep-up-by : (errand : Errand) (replies more : List Reply) (verdicts : Option (List Verdict))
-    → (progress errand replies).verdicts ≡ verdicts
-    → (length replies ≤ length (progress errand replies).commands)
-    ⊎ ((progress errand (replies ++ more)).commands ≡ (progress errand replies).commands)
-keep-up-by errand replies more None e =
-    let waits = each_command_waits errand replies e in inl (omega (arith, waits.0, waits.1))
-keep-up-by errand replies more (Some all) e =
+keep-up-by : (delivery : Delivery) (replies more : List Reply) (verdicts : Option (List Verdict))
+    → (progress delivery replies).verdicts ≡ verdicts
+    → (length replies ≤ length (progress delivery replies).commands)
+    ⊎ ((progress delivery (replies ++ more)).commands ≡ (progress delivery replies).commands)
+keep-up-by delivery replies more None e =
+    let waits = each_command_waits delivery replies e in inl (omega (arith, waits.0, waits.1))
+keep-up-by delivery replies more (Some all) e =
     inr (ap (λ (end : Progress). end.commands)
-    (end_is_end errand replies more (end_waits_for_nothing errand replies all e)))
+    (end_is_end delivery replies more (end_waits_for_nothing delivery replies all e)))
 
 pub commands_keep_up : CommandsKeepUp
-commands_keep_up errand replies more = keep-up-by errand replies more (progress errand replies).verdicts refl
+commands_keep_up delivery replies more = keep-up-by delivery replies more (progress delivery replies).verdicts refl
 
 -- of these replies a first part is answered, after what was answered before
 abbrev AnswersSome : Progress → Progress → List Reply → Type 0
@@ -41,86 +41,86 @@ AnswersSome old new replies =
     (front : List Reply) × (rest : List Reply) × (replies ≡ front ++ rest)
     × (replies_in new.answered ≡ replies_in old.answered ++ front)
 
-one-answered : (errand : Errand) (waited : Awaited) (waits : List Awaited) (reply : Reply) (now : Progress)
-    → replies_in (with_answer errand (waited ∷ waits) reply now).answered ≡ replies_in now.answered ++ reply ∷ []
-one-answered errand waited waits reply now =
-    ap (λ l. replies_in l) (answer-goes errand waited (kind_of reply.code) reply (answered_by waited waits reply now)).0.3
+one-answered : (delivery : Delivery) (waited : Awaited) (waits : List Awaited) (reply : Reply) (now : Progress)
+    → replies_in (with_answer delivery (waited ∷ waits) reply now).answered ≡ replies_in now.answered ++ reply ∷ []
+one-answered delivery waited waits reply now =
+    ap (λ l. replies_in l) (answer-goes delivery waited (kind_of reply.code) reply (answered_by waited waits reply now)).0.3
     ∙ map-append (λ (one : Answered). one.reply) now.answered (answer_of waited reply ∷ [])
 
 -- one reply and those after it
-answered-first : (errand : Errand) (now : Progress) (reply : Reply) (replies : List Reply) (waits : List Awaited)
+answered-first : (delivery : Delivery) (now : Progress) (reply : Reply) (replies : List Reply) (waits : List Awaited)
     → now.waits ≡ waits
-    → ((mid : Progress) → AnswersSome mid (behind_replies errand mid replies) replies)
-    → AnswersSome now (behind_replies errand now (reply ∷ replies)) (reply ∷ replies)
-answered-first errand now reply replies [] e more = (
+    → ((mid : Progress) → AnswersSome mid (after_replies delivery mid replies) replies)
+    → AnswersSome now (after_replies delivery now (reply ∷ replies)) (reply ∷ replies)
+answered-first delivery now reply replies [] e more = (
   [],
   reply ∷ replies,
   refl,
-  ap (λ (end : Progress). replies_in end.answered) (stays errand now (reply ∷ replies) e)
+  ap (λ (end : Progress). replies_in end.answered) (stays delivery now (reply ∷ replies) e)
       ∙ sym (append-nil (replies_in now.answered)),
 )
-answered-first errand now reply replies (waited ∷ waits) e more =
-    let mid : Progress = behind_reply errand now reply in
-    let behind = more mid in
+answered-first delivery now reply replies (waited ∷ waits) e more =
+    let mid : Progress = after_reply delivery now reply in
+    let after = more mid in
     let one : replies_in mid.answered ≡ replies_in now.answered ++ reply ∷ [] =
-    ap (λ (w : List Awaited). replies_in (with_answer errand w reply now).answered) e
-    ∙ one-answered errand waited waits reply now in (
-      reply ∷ behind.0,
-      behind.1,
-      ap (λ (l : List Reply). reply ∷ l) behind.2,
-      behind.3 ∙ ap (λ (l : List Reply). l ++ behind.0) one ∙ append_assoc (replies_in now.answered) (reply ∷ []) behind.0,
+    ap (λ (w : List Awaited). replies_in (with_answer delivery w reply now).answered) e
+    ∙ one-answered delivery waited waits reply now in (
+      reply ∷ after.0,
+      after.1,
+      ap (λ (l : List Reply). reply ∷ l) after.2,
+      after.3 ∙ ap (λ (l : List Reply). l ++ after.0) one ∙ append_assoc (replies_in now.answered) (reply ∷ []) after.0,
     )
 
-along-answered : (errand : Errand) (now : Progress) (replies : List Reply)
-    → AnswersSome now (behind_replies errand now replies) replies
-along-answered errand now [] = ([], [], refl, sym (append-nil (replies_in now.answered)))
-along-answered errand now (reply ∷ replies) =
-    answered-first errand now reply replies now.waits refl (λ mid. along-answered errand mid replies)
+along-answered : (delivery : Delivery) (now : Progress) (replies : List Reply)
+    → AnswersSome now (after_replies delivery now replies) replies
+along-answered delivery now [] = ([], [], refl, sym (append-nil (replies_in now.answered)))
+along-answered delivery now (reply ∷ replies) =
+    answered-first delivery now reply replies now.waits refl (λ mid. along-answered delivery mid replies)
 
 pub answered_are_first : AnsweredAreFirst
-answered_are_first errand replies =
-    let some = along-answered errand (at_greeting errand) replies in
+answered_are_first delivery replies =
+    let some = along-answered delivery (at_greeting delivery) replies in
     (some.1, some.2 ∙ ap (λ (l : List Reply). l ++ some.1) (sym some.3))
 
 -- what was answered before is still there
-answered-kept : (errand : Errand) (now : Progress) (reply : Reply) (replies : List Reply) (waits : List Awaited)
+answered-kept : (delivery : Delivery) (now : Progress) (reply : Reply) (replies : List Reply) (waits : List Awaited)
     → now.waits ≡ waits
-    → ((mid : Progress) → Begins mid.answered (behind_replies errand mid replies).answered)
-    → Begins now.answered (behind_replies errand now (reply ∷ replies)).answered
-answered-kept errand now reply replies [] e more =
-    subst (λ (end : Progress). Begins now.answered end.answered) (sym (stays errand now (reply ∷ replies) e))
+    → ((mid : Progress) → Begins mid.answered (after_replies delivery mid replies).answered)
+    → Begins now.answered (after_replies delivery now (reply ∷ replies)).answered
+answered-kept delivery now reply replies [] e more =
+    subst (λ (end : Progress). Begins now.answered end.answered) (sym (stays delivery now (reply ∷ replies) e))
     ([], sym (append-nil now.answered))
-answered-kept errand now reply replies (waited ∷ waits) e more =
-    let mid : Progress = behind_reply errand now reply in
+answered-kept delivery now reply replies (waited ∷ waits) e more =
+    let mid : Progress = after_reply delivery now reply in
     let one : List Answered = answer_of waited reply ∷ [] in
-    let behind = more mid in
+    let after = more mid in
     let is : mid.answered ≡ now.answered ++ one =
-    ap (λ (w : List Awaited). (with_answer errand w reply now).answered) e
-    ∙ (answer-goes errand waited (kind_of reply.code) reply (answered_by waited waits reply now)).0.3 in (
-      one ++ behind.0,
-      behind.1 ∙ ap (λ (l : List Answered). l ++ behind.0) is ∙ append_assoc now.answered one behind.0,
+    ap (λ (w : List Awaited). (with_answer delivery w reply now).answered) e
+    ∙ (answer-goes delivery waited (kind_of reply.code) reply (answered_by waited waits reply now)).0.3 in (
+      one ++ after.0,
+      after.1 ∙ ap (λ (l : List Answered). l ++ after.0) is ∙ append_assoc now.answered one after.0,
     )
 
-along-kept : (errand : Errand) (now : Progress) (replies : List Reply)
-    → Begins now.answered (behind_replies errand now replies).answered
-along-kept errand now [] = ([], sym (append-nil now.answered))
-along-kept errand now (reply ∷ replies) =
-    answered-kept errand now reply replies now.waits refl (λ mid. along-kept errand mid replies)
+along-kept : (delivery : Delivery) (now : Progress) (replies : List Reply)
+    → Begins now.answered (after_replies delivery now replies).answered
+along-kept delivery now [] = ([], sym (append-nil now.answered))
+along-kept delivery now (reply ∷ replies) =
+    answered-kept delivery now reply replies now.waits refl (λ mid. along-kept delivery mid replies)
 
 pub answers_stay : AnswersStay
-answers_stay errand replies more =
-    let here : Progress = progress errand replies in
+answers_stay delivery replies more =
+    let here : Progress = progress delivery replies in
     subst (λ (end : Progress). Begins here.answered end.answered)
-    (sym (behind_replies-append errand (at_greeting errand) replies more)) (along-kept errand here more)
+    (sym (after_replies-append delivery (at_greeting delivery) replies more)) (along-kept delivery here more)
 
-in-order-by : (errand : Errand) (now : Progress) (verdicts : Option (List Verdict)) → StandsBy errand now verdicts
-    → Begins (rcpt_places now.answered) errand.places
-in-order-by errand now None stands = (waiting_places now.waits ++ now.unasked, sym stands.0)
-in-order-by errand now (Some all) stands = stands.1
+in-order-by : (delivery : Delivery) (now : Progress) (verdicts : Option (List Verdict)) → StandsBy delivery now verdicts
+    → Begins (rcpt_places now.answered) delivery.places
+in-order-by delivery now None stands = (waiting_places now.waits ++ now.unasked, sym stands.0)
+in-order-by delivery now (Some all) stands = stands.1
 
 pub rcpts_are_in_order : RcptsAreInOrder
-rcpts_are_in_order errand replies =
-    in-order-by errand (progress errand replies) (progress errand replies).verdicts (progress-stands errand replies)
+rcpts_are_in_order delivery replies =
+    in-order-by delivery (progress delivery replies) (progress delivery replies).verdicts (progress-stands delivery replies)
 
 verdicts_of-length : (places : List ℕ) (replies : List Reply) (last : Verdict)
     → length (verdicts_of places replies last) ≡ length places
@@ -136,20 +136,20 @@ concluded places told rest None all (inl so) = let none = so.2 in absurd (cc)
 concluded places told rest None all (inr (inl so)) = let same = so.2 in inr (cc)
 concluded places told rest None all (inr (inr so)) = let same = so.2 in inr (cc)
 
-either-length : (errand : Errand) (replies : List Reply) (all : List Verdict)
-    → ((progress errand replies).verdicts ≡ Some all) ⊎ (all ≡ all_later errand.places)
-    → length all ≡ length errand.places
-either-length errand replies all (inl e) =
-    let over = ended-over errand replies all e in
-    ap length over.2.1 ∙ verdicts_of-length errand.places (rcpt_replies (progress errand replies).answered) over.2.0
-either-length errand replies all (inr e) = ap length e ∙ length-map errand.places (λ place. Later)
+either-length : (delivery : Delivery) (replies : List Reply) (all : List Verdict)
+    → ((progress delivery replies).verdicts ≡ Some all) ⊎ (all ≡ all_later delivery.places)
+    → length all ≡ length delivery.places
+either-length delivery replies all (inl e) =
+    let over = ended-over delivery replies all e in
+    ap length over.2.1 ∙ verdicts_of-length delivery.places (rcpt_replies (progress delivery replies).answered) over.2.0
+either-length delivery replies all (inr e) = ap length e ∙ length-map delivery.places (λ place. Later)
 
 pub verdict_for_each_place : VerdictForEachPlace
 verdict_for_each_place host envelope text places input told output verdicts is =
     let runs = is.runs in
-    either-length (errand_of host envelope text is.dot_text places) runs.replies verdicts
+    either-length (delivery_of host envelope text is.dot_text places) runs.replies verdicts
     (concluded places told runs.rest
-    (progress (errand_of host envelope text is.dot_text places) runs.replies).verdicts verdicts runs.concludes)
+    (progress (delivery_of host envelope text is.dot_text places) runs.replies).verdicts verdicts runs.concludes)
 
 refusal-stored : (reply : Reply) → IsReply reply → IsVerdict (refusal reply)
 refusal-stored reply is =
@@ -240,39 +240,39 @@ contained-is [] reply are has = absurd (omega (arith, has.1))
 contained-is (first ∷ replies) reply are (zero, lt, e) = subst (λ (r : Reply). IsReply r) e are.0
 contained-is (first ∷ replies) reply are (suc k, lt, e) = contained-is replies reply are.1 (k, omega (arith, lt), e)
 
-last-stored : (errand : Errand) (end : Progress) (last : Verdict) → AreReplies (replies_in end.answered)
-    → EndedByContent errand end last ⊎ EndedBefore end last → IsVerdict last
-last-stored errand end last are (inl (content, contents, tells, places)) =
+last-stored : (delivery : Delivery) (end : Progress) (last : Verdict) → AreReplies (replies_in end.answered)
+    → EndedByContent delivery end last ⊎ EndedBefore end last → IsVerdict last
+last-stored delivery end last are (inl (content, contents, tells, places)) =
     let is = subst (λ (l : List Reply). AreReplies l) contents (contents-are end.answered are) in
     subst (λ (v : Verdict). IsVerdict v) (sym tells)
     (content-stored end.extensions.dsn (kind_of content.code) content is.0)
-last-stored errand end last are (inr (none, inl later)) = subst (λ (v : Verdict). IsVerdict v) (sym later) tt
-last-stored errand end last are (inr (none, inr (inl cant))) = subst (λ (v : Verdict). IsVerdict v) (sym cant) tt
-last-stored errand end last are (inr (none, inr (inr (reply, has, refused)))) =
+last-stored delivery end last are (inr (none, inl later)) = subst (λ (v : Verdict). IsVerdict v) (sym later) tt
+last-stored delivery end last are (inr (none, inr (inl cant))) = subst (λ (v : Verdict). IsVerdict v) (sym cant) tt
+last-stored delivery end last are (inr (none, inr (inr (reply, has, refused)))) =
     subst (λ (v : Verdict). IsVerdict v) (sym refused)
     (refusal-stored reply (contained-is (replies_in end.answered) reply are has))
 
-either-stored : (errand : Errand) (replies : List Reply) (all : List Verdict) → AreReplies replies
-    → ((progress errand replies).verdicts ≡ Some all) ⊎ (all ≡ all_later errand.places)
+either-stored : (delivery : Delivery) (replies : List Reply) (all : List Verdict) → AreReplies replies
+    → ((progress delivery replies).verdicts ≡ Some all) ⊎ (all ≡ all_later delivery.places)
     → AllByRecursion IsVerdict all
-either-stored errand replies all are (inl e) =
-    let end : Progress = progress errand replies in
-    let over = ended-over errand replies all e in
-    let first = answered_are_first errand replies in
+either-stored delivery replies all are (inl e) =
+    let end : Progress = progress delivery replies in
+    let over = ended-over delivery replies all e in
+    let first = answered_are_first delivery replies in
     let answered = front-are (replies_in end.answered) first.0
     (subst (λ (l : List Reply). AreReplies l) first.1 are) in
     subst (λ (l : List Verdict). AllByRecursion IsVerdict l) (sym over.2.1)
-    (all-stored errand.places (rcpt_replies end.answered) over.2.0 (rcpts-are end.answered answered)
-    (last-stored errand end over.2.0 answered over.2.2))
-either-stored errand replies all are (inr e) =
-    subst (λ (l : List Verdict). AllByRecursion IsVerdict l) (sym e) (later-stored errand.places)
+    (all-stored delivery.places (rcpt_replies end.answered) over.2.0 (rcpts-are end.answered answered)
+    (last-stored delivery end over.2.0 answered over.2.2))
+either-stored delivery replies all are (inr e) =
+    subst (λ (l : List Verdict). AllByRecursion IsVerdict l) (sym e) (later-stored delivery.places)
 
 pub verdicts_may_be_stored : VerdictsMayBeStored
 verdicts_may_be_stored host envelope text places input told output verdicts is =
     let runs = is.runs in
-    let errand : Errand = errand_of host envelope text is.dot_text places in
-    either-stored errand runs.replies verdicts (cut-are input runs.replies runs.rest runs.cut)
-    (concluded places told runs.rest (progress errand runs.replies).verdicts verdicts runs.concludes)
+    let delivery : Delivery = delivery_of host envelope text is.dot_text places in
+    either-stored delivery runs.replies verdicts (cut-are input runs.replies runs.rest runs.cut)
+    (concluded places told runs.rest (progress delivery runs.replies).verdicts verdicts runs.concludes)
 
 lost-by : (places : List ℕ) (rest : List ℕ) (ended : Option (List Verdict)) → Concludes places false rest ended None
     → Concludes places true rest ended (Some (all_later places))
@@ -284,7 +284,7 @@ lost-by places rest None (inr (inr so)) = let none = so.2 in absurd (cc)
 pub course_may_be_lost : CourseMayBeLost
 course_may_be_lost host envelope text places input output is =
     let runs = is.runs in
-    let errand : Errand = errand_of host envelope text is.dot_text places in
+    let delivery : Delivery = delivery_of host envelope text is.dot_text places in
     record {
       dot_text = is.dot_text;
       sent = is.sent;
@@ -294,6 +294,6 @@ course_may_be_lost host envelope text places input output is =
         cut = runs.cut;
         each = runs.each;
         written = runs.written;
-        concludes = lost-by places runs.rest (progress errand runs.replies).verdicts runs.concludes;
+        concludes = lost-by places runs.rest (progress delivery runs.replies).verdicts runs.concludes;
       };
     }

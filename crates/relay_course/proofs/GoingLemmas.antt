@@ -13,7 +13,7 @@ use Rattle.relay_course.specs.declared.reply_kind.ReplyKind.TheVariants.{Complet
 use Rattle.relay_course.specs.Extensions.{extensions_of}
 use Rattle.relay_course.specs.WrittenLine.{ehlo_line, helo_line, mail_line, rcpt_line_at, data_line, last_chunk, quit_line}
 use Rattle.relay_course.specs.VerdictTable.{content_verdict_by, kind_of, refusal, some_accepted}
-use Rattle.relay_course.specs.Progress.{Errand, Progress, answer_of, rcpt_replies, with_command, ended_by, with_rcpt, with_rcpts, with_content, behind_rcpts, with_next, with_mail, behind_hello, behind_answer, at_greeting, with_answer, behind_reply, behind_replies, progress}
+use Rattle.relay_course.specs.Progress.{Delivery, Progress, answer_of, rcpt_replies, with_command, ended_by, with_rcpt, with_rcpts, with_content, after_rcpts, with_next, with_mail, after_hello, after_answer, at_greeting, with_answer, after_reply, after_replies, progress}
 use Rattle.relay_course.specs.Laws.{CommandsStay, EachCommandWaits, EachReplyAnswers, EndIsEnd, ReplyLeadsOn}
 
 -- the commands of the old begin those of the new; the old runs where the new does; while it runs each further command
@@ -64,25 +64,25 @@ some-none h = cc
 asked : (command : List ℕ) (waited : Awaited) (now : Progress) → GoesOn now (with_command command waited now)
 asked command waited now = (command-adds command waited now, command-lives command waited now)
 
-ended : (errand : Errand) (last : Verdict) (now : Progress) → GoesOn now (ended_by errand last now)
-ended errand last now = (
+ended : (delivery : Delivery) (last : Verdict) (now : Progress) → GoesOn now (ended_by delivery last now)
+ended delivery last now = (
   ((quit_line ∷ [], refl), λ h. absurd (some-none h), λ h. absurd (some-none h), refl),
   λ h. absurd (some-none h),
 )
 
-rcpts-add : (errand : Errand) (places : List ℕ) (now : Progress) → Adds now (with_rcpts errand places now)
-rcpts-add errand [] now = adds-none now
-rcpts-add errand (place ∷ places) now =
-    let one : Progress = with_rcpt errand place places now in
-    adds-trans now one (with_rcpts errand places one)
-    (command-adds (rcpt_line_at now.extensions.dsn errand.envelope.recipients place) (Rcpt place) now)
-    (rcpts-add errand places one)
+rcpts-add : (delivery : Delivery) (places : List ℕ) (now : Progress) → Adds now (with_rcpts delivery places now)
+rcpts-add delivery [] now = adds-none now
+rcpts-add delivery (place ∷ places) now =
+    let one : Progress = with_rcpt delivery place places now in
+    adds-trans now one (with_rcpts delivery places one)
+    (command-adds (rcpt_line_at now.extensions.dsn delivery.envelope.recipients place) (Rcpt place) now)
+    (rcpts-add delivery places one)
 
-rcpts-live : (errand : Errand) (places : List ℕ) (now : Progress) → Lives now → Lives (with_rcpts errand places now)
-rcpts-live errand [] now h = h
-rcpts-live errand (place ∷ places) now h =
-    rcpts-live errand places (with_rcpt errand place places now)
-    (command-lives (rcpt_line_at now.extensions.dsn errand.envelope.recipients place) (Rcpt place)
+rcpts-live : (delivery : Delivery) (places : List ℕ) (now : Progress) → Lives now → Lives (with_rcpts delivery places now)
+rcpts-live delivery [] now h = h
+rcpts-live delivery (place ∷ places) now h =
+    rcpts-live delivery places (with_rcpt delivery place places now)
+    (command-lives (rcpt_line_at now.extensions.dsn delivery.envelope.recipients place) (Rcpt place)
     (record now { unasked = places }))
 
 -- of two the one that a test chooses
@@ -91,63 +91,63 @@ chosen : (old : Progress) (test : Bool) (one other : Progress) → GoesOn old on
 chosen old true one other a b = a
 chosen old false one other a b = b
 
-content-goes : (errand : Errand) (now : Progress) → GoesOn now (with_content errand now)
-content-goes errand now =
-    chosen now (ends_in_line_end errand.text) (with_command data_line Data now)
-    (with_command (last_chunk errand.text) Content now)
-    (asked data_line Data now) (asked (last_chunk errand.text) Content now)
+content-goes : (delivery : Delivery) (now : Progress) → GoesOn now (with_content delivery now)
+content-goes delivery now =
+    chosen now (ends_in_line_end delivery.text) (with_command data_line Data now)
+    (with_command (last_chunk delivery.text) Content now)
+    (asked data_line Data now) (asked (last_chunk delivery.text) Content now)
 
-pub rcpts-go : (errand : Errand) (now : Progress) → GoesOn now (behind_rcpts errand now)
-rcpts-go errand now =
-    chosen now (some_accepted (rcpt_replies now.answered)) (with_content errand now) (ended_by errand Later now)
-    (content-goes errand now) (ended errand Later now)
+pub rcpts-go : (delivery : Delivery) (now : Progress) → GoesOn now (after_rcpts delivery now)
+rcpts-go delivery now =
+    chosen now (some_accepted (rcpt_replies now.answered)) (with_content delivery now) (ended_by delivery Later now)
+    (content-goes delivery now) (ended delivery Later now)
 
-next-goes : (errand : Errand) (waits : List Awaited) (unasked : List ℕ) (now : Progress) → waits ≡ now.waits
-    → GoesOn now (with_next errand waits unasked now)
-next-goes errand (waited ∷ waits) unasked now e = (adds-none now, λ h. omega (arith, ap length e))
-next-goes errand [] (place ∷ more) now e =
-    let line : List ℕ = rcpt_line_at now.extensions.dsn errand.envelope.recipients place in
+next-goes : (delivery : Delivery) (waits : List Awaited) (unasked : List ℕ) (now : Progress) → waits ≡ now.waits
+    → GoesOn now (with_next delivery waits unasked now)
+next-goes delivery (waited ∷ waits) unasked now e = (adds-none now, λ h. omega (arith, ap length e))
+next-goes delivery [] (place ∷ more) now e =
+    let line : List ℕ = rcpt_line_at now.extensions.dsn delivery.envelope.recipients place in
     (command-adds line (Rcpt place) now, command-lives line (Rcpt place) (record now { unasked = more }))
-next-goes errand [] [] now e = rcpts-go errand now
+next-goes delivery [] [] now e = rcpts-go delivery now
 
-mail-goes : (errand : Errand) (now : Progress) → GoesOn now (with_mail errand now)
-mail-goes errand now =
-    let line : List ℕ = mail_line now.extensions.dsn errand.envelope in
+mail-goes : (delivery : Delivery) (now : Progress) → GoesOn now (with_mail delivery now)
+mail-goes delivery now =
+    let line : List ℕ = mail_line now.extensions.dsn delivery.envelope in
     let mail : Progress = with_command line Mail now in
-    let group : Progress = with_rcpts errand now.unasked mail in
+    let group : Progress = with_rcpts delivery now.unasked mail in
     chosen now now.extensions.pipelining group mail (
-      adds-trans now mail group (command-adds line Mail now) (rcpts-add errand now.unasked mail),
-      rcpts-live errand now.unasked mail (command-lives line Mail now),
+      adds-trans now mail group (command-adds line Mail now) (rcpts-add delivery now.unasked mail),
+      rcpts-live delivery now.unasked mail (command-lives line Mail now),
     )
     (asked line Mail now)
 
-hello-goes : (errand : Errand) (now : Progress) → GoesOn now (behind_hello errand now)
-hello-goes errand now =
-    let cant : Progress = ended_by errand CantSend now in
-    chosen now (ends_in_line_end errand.text) (with_mail errand now)
-    (cond now.extensions.chunking (with_mail errand now) cant)
-    (mail-goes errand now)
-    (chosen now now.extensions.chunking (with_mail errand now) cant (mail-goes errand now) (ended errand CantSend now))
+hello-goes : (delivery : Delivery) (now : Progress) → GoesOn now (after_hello delivery now)
+hello-goes delivery now =
+    let cant : Progress = ended_by delivery CantSend now in
+    chosen now (ends_in_line_end delivery.text) (with_mail delivery now)
+    (cond now.extensions.chunking (with_mail delivery now) cant)
+    (mail-goes delivery now)
+    (chosen now now.extensions.chunking (with_mail delivery now) cant (mail-goes delivery now) (ended delivery CantSend now))
 
-pub answer-goes : (errand : Errand) (waited : Awaited) (kind : ReplyKind) (reply : Reply) (now : Progress)
-    → GoesOn now (behind_answer errand waited kind reply now)
-answer-goes errand Greeting Completion reply now = asked (ehlo_line errand.host) Ehlo now
-answer-goes errand Greeting Permanent reply now = ended errand (refusal reply) now
-answer-goes errand Greeting _ reply now = ended errand Later now
-answer-goes errand Ehlo Completion reply now = hello-goes errand (record now { extensions = extensions_of reply })
-answer-goes errand Ehlo Permanent reply now = asked (helo_line errand.host) Helo now
-answer-goes errand Ehlo _ reply now = ended errand Later now
-answer-goes errand Helo Completion reply now = hello-goes errand now
-answer-goes errand Helo Permanent reply now = ended errand (refusal reply) now
-answer-goes errand Helo _ reply now = ended errand Later now
-answer-goes errand Mail Completion reply now = next-goes errand now.waits now.unasked now refl
-answer-goes errand Mail Permanent reply now = ended errand (refusal reply) now
-answer-goes errand Mail _ reply now = ended errand Later now
-answer-goes errand (Rcpt place) _ reply now = next-goes errand now.waits now.unasked now refl
-answer-goes errand Data Intermediate reply now = asked errand.dot_text Content now
-answer-goes errand Data Permanent reply now = ended errand (refusal reply) now
-answer-goes errand Data _ reply now = ended errand Later now
-answer-goes errand Content kind reply now = ended errand (content_verdict_by now.extensions.dsn kind reply) now
+pub answer-goes : (delivery : Delivery) (waited : Awaited) (kind : ReplyKind) (reply : Reply) (now : Progress)
+    → GoesOn now (after_answer delivery waited kind reply now)
+answer-goes delivery Greeting Completion reply now = asked (ehlo_line delivery.host) Ehlo now
+answer-goes delivery Greeting Permanent reply now = ended delivery (refusal reply) now
+answer-goes delivery Greeting _ reply now = ended delivery Later now
+answer-goes delivery Ehlo Completion reply now = hello-goes delivery (record now { extensions = extensions_of reply })
+answer-goes delivery Ehlo Permanent reply now = asked (helo_line delivery.host) Helo now
+answer-goes delivery Ehlo _ reply now = ended delivery Later now
+answer-goes delivery Helo Completion reply now = hello-goes delivery now
+answer-goes delivery Helo Permanent reply now = ended delivery (refusal reply) now
+answer-goes delivery Helo _ reply now = ended delivery Later now
+answer-goes delivery Mail Completion reply now = next-goes delivery now.waits now.unasked now refl
+answer-goes delivery Mail Permanent reply now = ended delivery (refusal reply) now
+answer-goes delivery Mail _ reply now = ended delivery Later now
+answer-goes delivery (Rcpt place) _ reply now = next-goes delivery now.waits now.unasked now refl
+answer-goes delivery Data Intermediate reply now = asked delivery.dot_text Content now
+answer-goes delivery Data Permanent reply now = ended delivery (refusal reply) now
+answer-goes delivery Data _ reply now = ended delivery Later now
+answer-goes delivery Content kind reply now = ended delivery (content_verdict_by now.extensions.dsn kind reply) now
 
 -- what waited first is taken out, and its reply is kept
 abbrev pub answered_by : Awaited → List Awaited → Reply → Progress → Progress
@@ -162,16 +162,16 @@ pub record Answers (old new : Progress) (reply : Reply) : Type 0 where
   pub count : new.verdicts ≡ None
       → length new.waits + length old.commands + 1 ≡ length old.waits + length new.commands
 
-with_answer-is : (errand : Errand) (waits : List Awaited) (reply : Reply) (now : Progress) → waits ≡ now.waits
-    → Lives now → Answers now (with_answer errand waits reply now) reply
-with_answer-is errand [] reply now e lives = record {
+with_answer-is : (delivery : Delivery) (waits : List Awaited) (reply : Reply) (now : Progress) → waits ≡ now.waits
+    → Lives now → Answers now (with_answer delivery waits reply now) reply
+with_answer-is delivery [] reply now e lives = record {
   begins = ([], sym (append-nil now.commands));
   lives = lives;
   ran = λ n. n;
   count = λ n. (let l = lives n in absurd (omega (arith, ap length e)));
 }
-with_answer-is errand (waited ∷ waits) reply now e lives =
-    let done = answer-goes errand waited (kind_of reply.code) reply (answered_by waited waits reply now) in
+with_answer-is delivery (waited ∷ waits) reply now e lives =
+    let done = answer-goes delivery waited (kind_of reply.code) reply (answered_by waited waits reply now) in
     record {
       begins = done.0.0;
       lives = done.1;
@@ -180,18 +180,18 @@ with_answer-is errand (waited ∷ waits) reply now e lives =
     }
 
 -- where something waits, one reply more is answered
-pub answered_more : (errand : Errand) (now : Progress) (reply : Reply) (waits : List Awaited) → 0 < length waits
-    → length (with_answer errand waits reply now).answered ≡ length now.answered + 1
-answered_more errand now reply [] h = absurd (omega arith)
-answered_more errand now reply (waited ∷ waits) h =
-    ap length (answer-goes errand waited (kind_of reply.code) reply (answered_by waited waits reply now)).0.3
+pub answered_more : (delivery : Delivery) (now : Progress) (reply : Reply) (waits : List Awaited) → 0 < length waits
+    → length (with_answer delivery waits reply now).answered ≡ length now.answered + 1
+answered_more delivery now reply [] h = absurd (omega arith)
+answered_more delivery now reply (waited ∷ waits) h =
+    ap length (answer-goes delivery waited (kind_of reply.code) reply (answered_by waited waits reply now)).0.3
     ∙ length-append now.answered (answer_of waited reply ∷ [])
 
-pub behind_replies-append : (errand : Errand) (now : Progress) (replies more : List Reply)
-    → behind_replies errand now (replies ++ more) ≡ behind_replies errand (behind_replies errand now replies) more
-behind_replies-append errand now [] more = refl
-behind_replies-append errand now (reply ∷ replies) more =
-    behind_replies-append errand (behind_reply errand now reply) replies more
+pub after_replies-append : (delivery : Delivery) (now : Progress) (replies more : List Reply)
+    → after_replies delivery now (replies ++ more) ≡ after_replies delivery (after_replies delivery now replies) more
+after_replies-append delivery now [] more = refl
+after_replies-append delivery now (reply ∷ replies) more =
+    after_replies-append delivery (after_reply delivery now reply) replies more
 
 -- after many replies
 pub record GoesAlong (old new : Progress) (replies : List Reply) : Type 0 where
@@ -201,57 +201,57 @@ pub record GoesAlong (old new : Progress) (replies : List Reply) : Type 0 where
   pub count : new.verdicts ≡ None
       → length new.waits + length old.commands + length replies ≡ length old.waits + length new.commands
 
-along : (errand : Errand) (now : Progress) (replies : List Reply) → Lives now
-    → GoesAlong now (behind_replies errand now replies) replies
-along errand now [] lives = record {
+along : (delivery : Delivery) (now : Progress) (replies : List Reply) → Lives now
+    → GoesAlong now (after_replies delivery now replies) replies
+along delivery now [] lives = record {
   begins = ([], sym (append-nil now.commands));
   lives = lives;
   ran = λ n. n;
   count = λ n. omega arith;
 }
-along errand now (reply ∷ replies) lives =
-    let mid : Progress = behind_reply errand now reply in
-    let one = with_answer-is errand now.waits reply now refl lives in
-    let more = along errand mid replies one.lives in
+along delivery now (reply ∷ replies) lives =
+    let mid : Progress = after_reply delivery now reply in
+    let one = with_answer-is delivery now.waits reply now refl lives in
+    let more = along delivery mid replies one.lives in
     record {
-      begins = begins-trans now.commands mid.commands (behind_replies errand mid replies).commands one.begins more.begins;
+      begins = begins-trans now.commands mid.commands (after_replies delivery mid replies).commands one.begins more.begins;
       lives = more.lives;
       ran = λ n. one.ran (more.ran n);
       count = λ n. (let a = more.count n in let b = one.count (more.ran n) in omega arith);
     }
 
-greeting-lives : (errand : Errand) → Lives (at_greeting errand)
-greeting-lives errand h = omega arith
+greeting-lives : (delivery : Delivery) → Lives (at_greeting delivery)
+greeting-lives delivery h = omega arith
 
 pub commands_stay : CommandsStay
-commands_stay errand replies more =
-    let here : Progress = progress errand replies in
-    let first = along errand (at_greeting errand) replies (greeting-lives errand) in
-    let behind = along errand here more first.lives in
+commands_stay delivery replies more =
+    let here : Progress = progress delivery replies in
+    let first = along delivery (at_greeting delivery) replies (greeting-lives delivery) in
+    let after = along delivery here more first.lives in
     subst (λ (end : Progress). Begins here.commands end.commands)
-    (sym (behind_replies-append errand (at_greeting errand) replies more)) behind.begins
+    (sym (after_replies-append delivery (at_greeting delivery) replies more)) after.begins
 
 pub each_command_waits : EachCommandWaits
-each_command_waits errand replies none =
-    let all = along errand (at_greeting errand) replies (greeting-lives errand) in
+each_command_waits delivery replies none =
+    let all = along delivery (at_greeting delivery) replies (greeting-lives delivery) in
     (all.lives none, (let c = all.count none in omega arith))
 
-pub stays : (errand : Errand) (now : Progress) (replies : List Reply) → now.waits ≡ [] → behind_replies errand now replies ≡ now
-stays errand now [] e = refl
-stays errand now (reply ∷ replies) e =
-    let same : behind_reply errand now reply ≡ now =
-    ap (λ (waits : List Awaited). with_answer errand waits reply now) e in
-    ap (λ (end : Progress). behind_replies errand end replies) same ∙ stays errand now replies e
+pub stays : (delivery : Delivery) (now : Progress) (replies : List Reply) → now.waits ≡ [] → after_replies delivery now replies ≡ now
+stays delivery now [] e = refl
+stays delivery now (reply ∷ replies) e =
+    let same : after_reply delivery now reply ≡ now =
+    ap (λ (waits : List Awaited). with_answer delivery waits reply now) e in
+    ap (λ (end : Progress). after_replies delivery end replies) same ∙ stays delivery now replies e
 
 pub end_is_end : EndIsEnd
-end_is_end errand replies more e =
-    behind_replies-append errand (at_greeting errand) replies more ∙ stays errand (progress errand replies) more e
+end_is_end delivery replies more e =
+    after_replies-append delivery (at_greeting delivery) replies more ∙ stays delivery (progress delivery replies) more e
 
 pub reply_leads_on : ReplyLeadsOn
-reply_leads_on errand replies reply = behind_replies-append errand (at_greeting errand) replies (reply ∷ [])
+reply_leads_on delivery replies reply = after_replies-append delivery (at_greeting delivery) replies (reply ∷ [])
 
 pub each_reply_answers : EachReplyAnswers
-each_reply_answers errand replies reply none =
-    let here : Progress = progress errand replies in
-    ap (λ (end : Progress). length end.answered) (reply_leads_on errand replies reply)
-    ∙ answered_more errand here reply here.waits (each_command_waits errand replies none).0
+each_reply_answers delivery replies reply none =
+    let here : Progress = progress delivery replies in
+    ap (λ (end : Progress). length end.answered) (reply_leads_on delivery replies reply)
+    ∙ answered_more delivery here reply here.waits (each_command_waits delivery replies none).0

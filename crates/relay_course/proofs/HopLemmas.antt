@@ -9,8 +9,8 @@ use Rattle.relay_book.specs.Queue.{is_without_hop}
 use Rattle.relay_course.specs.declared.reply_kind.ReplyKind.{ReplyKind}
 use Rattle.relay_course.specs.declared.reply_kind.ReplyKind.TheVariants.{Completion, Intermediate, Transient, Permanent}
 use Rattle.relay_course.specs.VerdictTable.{all_later, content_verdict_by, kind_of, rcpt_verdict_by, refusal, verdicts_of}
-use Rattle.relay_course.specs.Progress.{Errand, Progress, rcpt_replies, progress}
-use Rattle.relay_course.specs.Course.{errand_of}
+use Rattle.relay_course.specs.Progress.{Delivery, Progress, rcpt_replies, progress}
+use Rattle.relay_course.specs.Course.{delivery_of}
 use Rattle.relay_course.specs.Laws.{VerdictsAreOfAHop}
 use Rattle.relay_course.proofs.EndLemmas.{concluded}
 use Rattle.relay_course.proofs.OrderLemmas.{EndedBefore, EndedByContent, ended-over}
@@ -49,27 +49,27 @@ content-of-a-hop dsn Intermediate reply = refl
 content-of-a-hop dsn Transient reply = refl
 content-of-a-hop dsn Permanent reply = refl
 
-last-of-a-hop : (errand : Errand) (end : Progress) (last : Verdict)
-    → EndedByContent errand end last ⊎ EndedBefore end last → IsOfAHop last
-last-of-a-hop errand end last (inl (content, contents, tells, places)) =
+last-of-a-hop : (delivery : Delivery) (end : Progress) (last : Verdict)
+    → EndedByContent delivery end last ⊎ EndedBefore end last → IsOfAHop last
+last-of-a-hop delivery end last (inl (content, contents, tells, places)) =
     subst IsOfAHop (sym tells) (content-of-a-hop end.extensions.dsn (kind_of content.code) content)
-last-of-a-hop errand end last (inr (none, inl later)) = subst IsOfAHop (sym later) refl
-last-of-a-hop errand end last (inr (none, inr (inl cant))) = subst IsOfAHop (sym cant) refl
-last-of-a-hop errand end last (inr (none, inr (inr (reply, has, refused)))) = subst IsOfAHop (sym refused) refl
+last-of-a-hop delivery end last (inr (none, inl later)) = subst IsOfAHop (sym later) refl
+last-of-a-hop delivery end last (inr (none, inr (inl cant))) = subst IsOfAHop (sym cant) refl
+last-of-a-hop delivery end last (inr (none, inr (inr (reply, has, refused)))) = subst IsOfAHop (sym refused) refl
 
-either-of-a-hop : (errand : Errand) (replies : List Reply) (all : List Verdict)
-    → ((progress errand replies).verdicts ≡ Some all) ⊎ (all ≡ all_later errand.places) → AreOfAHop all
-either-of-a-hop errand replies all (inl e) =
-    let end : Progress = progress errand replies in
-    let over = ended-over errand replies all e in
+either-of-a-hop : (delivery : Delivery) (replies : List Reply) (all : List Verdict)
+    → ((progress delivery replies).verdicts ≡ Some all) ⊎ (all ≡ all_later delivery.places) → AreOfAHop all
+either-of-a-hop delivery replies all (inl e) =
+    let end : Progress = progress delivery replies in
+    let over = ended-over delivery replies all e in
     subst (λ (l : List Verdict). AreOfAHop l) (sym over.2.1)
-    (all-of-a-hop errand.places (rcpt_replies end.answered) over.2.0 (last-of-a-hop errand end over.2.0 over.2.2))
-either-of-a-hop errand replies all (inr e) =
-    subst (λ (l : List Verdict). AreOfAHop l) (sym e) (later-of-a-hop errand.places)
+    (all-of-a-hop delivery.places (rcpt_replies end.answered) over.2.0 (last-of-a-hop delivery end over.2.0 over.2.2))
+either-of-a-hop delivery replies all (inr e) =
+    subst (λ (l : List Verdict). AreOfAHop l) (sym e) (later-of-a-hop delivery.places)
 
 pub verdicts_are_of_a_hop : VerdictsAreOfAHop
 verdicts_are_of_a_hop host envelope text places input told output verdicts is =
     let runs = is.runs in
-    let errand : Errand = errand_of host envelope text is.dot_text places in
-    either-of-a-hop errand runs.replies verdicts
-    (concluded places told runs.rest (progress errand runs.replies).verdicts verdicts runs.concludes)
+    let delivery : Delivery = delivery_of host envelope text is.dot_text places in
+    either-of-a-hop delivery runs.replies verdicts
+    (concluded places told runs.rest (progress delivery runs.replies).verdicts verdicts runs.concludes)

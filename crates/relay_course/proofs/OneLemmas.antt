@@ -8,13 +8,13 @@ use Rattle.relay_lines.proofs.Theorems.{cut_is_one, unfinished_has_no_fault}
 use Rattle.relay_body.specs.DotText.{WritesDotText, ends_in_line_end}
 use Rattle.relay_body.proofs.Theorems.{one_text}
 use Rattle.relay_book.specs.declared.change.Verdict.{Verdict}
-use Rattle.relay_course.specs.Progress.{Errand, progress}
-use Rattle.relay_course.specs.Course.{Concludes, Runs, errand_of, joined}
+use Rattle.relay_course.specs.Progress.{Delivery, progress}
+use Rattle.relay_course.specs.Course.{Concludes, Runs, delivery_of, joined}
 use Rattle.relay_course.specs.Laws.{CourseIsOne}
 
 no-crlf : HasNoCrlf []
 no-crlf = record {
-  nowhere = λ front behind e. absurd (omega (arith, ap length e, length-append (front ++ crlf) behind, length-append front crlf));
+  nowhere = λ front after e. absurd (omega (arith, ap length e, length-append (front ++ crlf) after, length-append front crlf));
 }
 
 -- no octets are a rest that isn't whole
@@ -60,23 +60,23 @@ one-conclusion places told rest None verdicts others (inr (inr a)) (inl b) =
 one-conclusion places told rest None verdicts others (inr (inr a)) (inr (inl b)) = a.2 ∙ sym b.2
 one-conclusion places told rest None verdicts others (inr (inr a)) (inr (inr b)) = a.2 ∙ sym b.2
 
-one-run : (errand : Errand) (input : List ℕ) (told : Bool) (output other : List ℕ)
+one-run : (delivery : Delivery) (input : List ℕ) (told : Bool) (output other : List ℕ)
     (verdicts others : Option (List Verdict))
-    → Runs errand input told output verdicts → Runs errand input told other others
+    → Runs delivery input told output verdicts → Runs delivery input told other others
     → (output ≡ other) × (verdicts ≡ others)
-one-run errand input told output other verdicts others a b =
-    let ended : List Reply → Option (List Verdict) = λ replies. (progress errand replies).verdicts in
+one-run delivery input told output other verdicts others a b =
+    let ended : List Reply → Option (List Verdict) = λ replies. (progress delivery replies).verdicts in
     let same = cut_is_one input a.rest b.rest a.replies b.replies
-    (record { cut = a.cut; ends = rest-ends errand.places told a.rest (ended a.replies) verdicts a.concludes })
-    (record { cut = b.cut; ends = rest-ends errand.places told b.rest (ended b.replies) others b.concludes }) in
-    let here = subst (λ (r : List ℕ). Concludes errand.places told r (ended b.replies) others) (sym same.1) b.concludes in
-    let there = subst (λ (l : List Reply). Concludes errand.places told a.rest (ended l) others) (sym same.0) here in (
-      a.written ∙ ap (λ (l : List Reply). joined (progress errand l).commands) same.0 ∙ sym b.written,
-      one-conclusion errand.places told a.rest (ended a.replies) verdicts others a.concludes there,
+    (record { cut = a.cut; ends = rest-ends delivery.places told a.rest (ended a.replies) verdicts a.concludes })
+    (record { cut = b.cut; ends = rest-ends delivery.places told b.rest (ended b.replies) others b.concludes }) in
+    let here = subst (λ (r : List ℕ). Concludes delivery.places told r (ended b.replies) others) (sym same.1) b.concludes in
+    let there = subst (λ (l : List Reply). Concludes delivery.places told a.rest (ended l) others) (sym same.0) here in (
+      a.written ∙ ap (λ (l : List Reply). joined (progress delivery l).commands) same.0 ∙ sym b.written,
+      one-conclusion delivery.places told a.rest (ended a.replies) verdicts others a.concludes there,
     )
 
 pub course_is_one : CourseIsOne
 course_is_one host envelope text places input told output other verdicts others a b =
     let same = one-dot_text text b.dot_text a.dot_text (ends_in_line_end text) b.sent a.sent in
-    one-run (errand_of host envelope text a.dot_text places) input told output other verdicts others a.runs
-    (subst (λ (d : List ℕ). Runs (errand_of host envelope text d places) input told other others) same b.runs)
+    one-run (delivery_of host envelope text a.dot_text places) input told output other verdicts others a.runs
+    (subst (λ (d : List ℕ). Runs (delivery_of host envelope text d places) input told other others) same b.runs)

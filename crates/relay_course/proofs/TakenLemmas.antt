@@ -11,7 +11,7 @@ use Rattle.relay_course.specs.declared.awaited.Awaited.TheVariants.{Greeting, Eh
 use Rattle.relay_course.specs.declared.reply_kind.ReplyKind.{ReplyKind}
 use Rattle.relay_course.specs.declared.reply_kind.ReplyKind.TheVariants.{Completion, Intermediate, Transient, Permanent}
 use Rattle.relay_course.specs.VerdictTable.{content_verdict_by, kind_of, rcpt_verdict, rcpt_verdict_by, refusal, verdicts_of}
-use Rattle.relay_course.specs.Progress.{Errand, Answered, Progress, answer_of, rcpt_replies, progress}
+use Rattle.relay_course.specs.Progress.{Delivery, Answered, Progress, answer_of, rcpt_replies, progress}
 use Rattle.relay_course.specs.Laws.{TakenWhereAnswered, WasTaken, rcpt_places, rcpts_in}
 use Rattle.relay_course.proofs.OrderLemmas.{EndedBefore, IsOver, content_replies_in, ended-over}
 
@@ -194,20 +194,20 @@ before-untaken end last dsn (none, inr (inl cant)) e = cc
 before-untaken end last dsn (none, inr (inr (reply, has, refused))) e = cc
 
 -- the verdicts where the content's reply ended the attempt
-by-content-verdicts : (errand : Errand) (end : Progress) (all : List Verdict) (last : Verdict) (index : ℕ)
-    → all ≡ verdicts_of errand.places (rcpt_replies end.answered) last → rcpt_places end.answered ≡ errand.places
+by-content-verdicts : (delivery : Delivery) (end : Progress) (all : List Verdict) (last : Verdict) (index : ℕ)
+    → all ≡ verdicts_of delivery.places (rcpt_replies end.answered) last → rcpt_places end.answered ≡ delivery.places
     → slice_get all index ≡ option_map (verdict_left last) (slice_get (rcpts_in end.answered) index)
-by-content-verdicts errand end all last index is places =
+by-content-verdicts delivery end all last index is places =
     ap (λ (l : List Verdict). slice_get l index)
     (is ∙ ap (λ (p : List ℕ). verdicts_of p (rcpt_replies end.answered) last) (sym places))
     ∙ verdict-at last end.answered index
 
-was-taken : (errand : Errand) (end : Progress) (all : List Verdict) (index place : ℕ) (dsn : Bool)
-    → IsOver errand end all → slice_get errand.places index ≡ Some place → slice_get all index ≡ Some (Taken dsn)
+was-taken : (delivery : Delivery) (end : Progress) (all : List Verdict) (index place : ℕ) (dsn : Bool)
+    → IsOver delivery end all → slice_get delivery.places index ≡ Some place → slice_get all index ≡ Some (Taken dsn)
     → WasTaken end index place dsn
-was-taken errand end all index place dsn (none, begins, (last, is, inl (content, replies, tells, places))) at e =
+was-taken delivery end all index place dsn (none, begins, (last, is, inl (content, replies, tells, places))) at e =
     let asked = rcpt-at place end.answered index (ap (λ (l : List ℕ). slice_get l index) places ∙ at) in
-    let line = by-content-verdicts errand end all last index is places
+    let line = by-content-verdicts delivery end all last index is places
     ∙ ap (λ (o : Option Answered). option_map (verdict_left last) o) asked.1 in
     let left : unwrap_or (rcpt_verdict asked.0) last ≡ Taken dsn = cc in
     let rcpt = taken-rcpt (kind_of asked.0.code) asked.0 last dsn left in
@@ -221,29 +221,29 @@ was-taken errand end all index place dsn (none, begins, (last, is, inl (content,
       taken = told.0;
       offered = told.1;
     }
-was-taken errand end all index place dsn (none, begins, (last, is, inr how)) at e =
-    absurd (none-taken errand.places (rcpt_replies end.answered) last index dsn
+was-taken delivery end all index place dsn (none, begins, (last, is, inr how)) at e =
+    absurd (none-taken delivery.places (rcpt_replies end.answered) last index dsn
     (λ same. before-untaken end last dsn how same)
     (ap (λ (l : List Verdict). slice_get l index) (sym is) ∙ e))
 
-is-taken : (errand : Errand) (end : Progress) (all : List Verdict) (index place : ℕ) (dsn : Bool)
-    → IsOver errand end all → WasTaken end index place dsn → slice_get all index ≡ Some (Taken dsn)
-is-taken errand end all index place dsn (none, begins, (last, is, inl (content, replies, tells, places))) was =
+is-taken : (delivery : Delivery) (end : Progress) (all : List Verdict) (index place : ℕ) (dsn : Bool)
+    → IsOver delivery end all → WasTaken end index place dsn → slice_get all index ≡ Some (Taken dsn)
+is-taken delivery end all index place dsn (none, begins, (last, is, inl (content, replies, tells, places))) was =
     let one = only-one content was.content
     (subst (λ (l : List Reply). Contains l was.content) replies (content-of end.answered was.content was.sent)) in
     let kind = ap (λ (r : Reply). kind_of r.code) one ∙ was.taken in
     let told = tells ∙ accepted-content end.extensions.dsn (kind_of content.code) content kind in
-    by-content-verdicts errand end all last index is places
+    by-content-verdicts delivery end all last index is places
     ∙ ap (λ (o : Option Answered). option_map (verdict_left last) o) was.asked
     ∙ ap (λ (v : Verdict). Some v) (accepted-rcpt (kind_of was.rcpt.code) was.rcpt last was.accepted
     ∙ told ∙ ap (λ (b : Bool). Taken b) (sym was.offered))
-is-taken errand end all index place dsn (none, begins, (last, is, inr how)) was =
+is-taken delivery end all index place dsn (none, begins, (last, is, inr how)) was =
     absurd (none-in was.content
     (subst (λ (l : List Reply). Contains l was.content) how.0 (content-of end.answered was.content was.sent)))
 
 pub taken_where_answered : TakenWhereAnswered
-taken_where_answered errand replies verdicts e index place dsn at =
-    let over = ended-over errand replies verdicts e in (
-      λ taken. was-taken errand (progress errand replies) verdicts index place dsn over at taken,
-      λ was. is-taken errand (progress errand replies) verdicts index place dsn over was,
+taken_where_answered delivery replies verdicts e index place dsn at =
+    let over = ended-over delivery replies verdicts e in (
+      λ taken. was-taken delivery (progress delivery replies) verdicts index place dsn over at taken,
+      λ was. is-taken delivery (progress delivery replies) verdicts index place dsn over was,
     )

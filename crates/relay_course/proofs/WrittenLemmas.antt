@@ -21,24 +21,24 @@ use Rattle.relay_course.specs.declared.reply_kind.ReplyKind.TheVariants.{Complet
 use Rattle.relay_course.specs.Extensions.{extensions_of}
 use Rattle.relay_course.specs.WrittenLine.{ehlo_line, helo_line, mail_line, rcpt_line, rcpt_line_at, data_line, last_chunk, quit_line}
 use Rattle.relay_course.specs.VerdictTable.{content_verdict_by, kind_of, refusal, some_accepted}
-use Rattle.relay_course.specs.Progress.{Errand, Progress, rcpt_replies, with_command, ended_by, with_rcpt, with_rcpts, with_content, with_next, with_mail, behind_hello, behind_answer, at_greeting, with_answer, behind_reply, behind_replies}
-use Rattle.relay_course.specs.Laws.{AsLastChunk, AsLine, AsMailData, EachCommandIsRead, IsErrand, IsWritten}
+use Rattle.relay_course.specs.Progress.{Delivery, Progress, rcpt_replies, with_command, ended_by, with_rcpt, with_rcpts, with_content, with_next, with_mail, after_hello, after_answer, at_greeting, with_answer, after_reply, after_replies}
+use Rattle.relay_course.specs.Laws.{AsLastChunk, AsLine, AsMailData, EachCommandIsRead, IsDelivery, IsWritten}
 use Rattle.relay_course.proofs.GoingLemmas.{answered_by}
 
--- the place is one of the errand's, and has a recipient
-abbrev IsPlace : Errand → ℕ → Type 0
-IsPlace errand place = (place < length errand.envelope.recipients) × Contains errand.places place
+-- the place is one of the delivery's, and has a recipient
+abbrev IsPlace : Delivery → ℕ → Type 0
+IsPlace delivery place = (place < length delivery.envelope.recipients) × Contains delivery.places place
 
 -- DATA waits only where the text is sent after it
-abbrev MaySend : Errand → Awaited → Type 0
-MaySend errand Data = ends_in_line_end errand.text ≡ true
-MaySend errand _ = Unit {0}
+abbrev MaySend : Delivery → Awaited → Type 0
+MaySend delivery Data = ends_in_line_end delivery.text ≡ true
+MaySend delivery _ = Unit {0}
 
 -- what was written is as it may be, and what is to be written will be
-abbrev IsSent : Errand → Progress → Type 0
-IsSent errand now =
-    AllByRecursion (IsWritten errand) now.commands × AllByRecursion (IsPlace errand) now.unasked
-    × AllByRecursion (MaySend errand) now.waits
+abbrev IsSent : Delivery → Progress → Type 0
+IsSent delivery now =
+    AllByRecursion (IsWritten delivery) now.commands × AllByRecursion (IsPlace delivery) now.unasked
+    × AllByRecursion (MaySend delivery) now.waits
 
 one-more : {A : Type 0} (P : A → Type 0) (xs : List A) (x : A) → AllByRecursion P xs → P x → AllByRecursion P (xs ++ x ∷ [])
 one-more P [] x all is = (is, tt)
@@ -78,178 +78,178 @@ line-at dsn (recipient ∷ recipients) (suc place) all lt =
     let more = line-at dsn recipients place all.1 (omega (arith, lt)) in
     record { recipient = more.recipient; at = more.at; line = more.line; valid = more.valid }
 
-rcpt-line-written : (errand : Errand) (dsn : Bool) (place : ℕ) (recipient : Recipient) → Contains errand.places place
-    → slice_get errand.envelope.recipients place ≡ Some recipient → IsRecipient recipient
-    → IsWritten errand (rcpt_line dsn recipient)
-rcpt-line-written errand true place recipient has at valid =
+rcpt-line-written : (delivery : Delivery) (dsn : Bool) (place : ℕ) (recipient : Recipient) → Contains delivery.places place
+    → slice_get delivery.envelope.recipients place ≡ Some recipient → IsRecipient recipient
+    → IsWritten delivery (rcpt_line dsn recipient)
+rcpt-line-written delivery true place recipient has at valid =
     AsLine (line.Rcpt (rcpt_text recipient)) (written_command (line.Rcpt (rcpt_text recipient)))
     (place, recipient, has, at, inl refl) (rcpt_is_command_line recipient valid).0 refl
-rcpt-line-written errand false place recipient has at valid =
+rcpt-line-written delivery false place recipient has at valid =
     AsLine (line.Rcpt recipient.path) (written_command (line.Rcpt recipient.path))
     (place, recipient, has, at, inr refl) (rcpt_is_command_line recipient valid).1 refl
 
-rcpt-written : (errand : Errand) (dsn : Bool) (place : ℕ) → IsErrand errand → IsPlace errand place
-    → IsWritten errand (rcpt_line_at dsn errand.envelope.recipients place)
-rcpt-written errand dsn place is has =
-    let row = line-at dsn errand.envelope.recipients place is.envelope.recipients has.0 in
-    subst (λ (l : List ℕ). IsWritten errand l) (sym row.line)
-    (rcpt-line-written errand dsn place row.recipient has.1 row.at row.valid)
+rcpt-written : (delivery : Delivery) (dsn : Bool) (place : ℕ) → IsDelivery delivery → IsPlace delivery place
+    → IsWritten delivery (rcpt_line_at dsn delivery.envelope.recipients place)
+rcpt-written delivery dsn place is has =
+    let row = line-at dsn delivery.envelope.recipients place is.envelope.recipients has.0 in
+    subst (λ (l : List ℕ). IsWritten delivery l) (sym row.line)
+    (rcpt-line-written delivery dsn place row.recipient has.1 row.at row.valid)
 
-mail-written : (errand : Errand) (dsn : Bool) → IsErrand errand → IsWritten errand (mail_line dsn errand.envelope)
-mail-written errand true is =
-    AsLine (line.Mail (mail_text errand.envelope)) (written_command (line.Mail (mail_text errand.envelope)))
-    (inl refl) (mail_is_command_line errand.envelope is.envelope).0 refl
-mail-written errand false is =
-    AsLine (line.Mail errand.envelope.reverse_path) (written_command (line.Mail errand.envelope.reverse_path))
-    (inr refl) (mail_is_command_line errand.envelope is.envelope).1 refl
+mail-written : (delivery : Delivery) (dsn : Bool) → IsDelivery delivery → IsWritten delivery (mail_line dsn delivery.envelope)
+mail-written delivery true is =
+    AsLine (line.Mail (mail_text delivery.envelope)) (written_command (line.Mail (mail_text delivery.envelope)))
+    (inl refl) (mail_is_command_line delivery.envelope is.envelope).0 refl
+mail-written delivery false is =
+    AsLine (line.Mail delivery.envelope.reverse_path) (written_command (line.Mail delivery.envelope.reverse_path))
+    (inr refl) (mail_is_command_line delivery.envelope is.envelope).1 refl
 
-ehlo-written : (errand : Errand) → IsErrand errand → IsWritten errand (ehlo_line errand.host)
-ehlo-written errand is =
-    AsLine (Ehlo errand.host) (written_command (Ehlo errand.host)) refl
-    (written_command_is_read (Ehlo errand.host) is.host) refl
+ehlo-written : (delivery : Delivery) → IsDelivery delivery → IsWritten delivery (ehlo_line delivery.host)
+ehlo-written delivery is =
+    AsLine (Ehlo delivery.host) (written_command (Ehlo delivery.host)) refl
+    (written_command_is_read (Ehlo delivery.host) is.host) refl
 
-helo-written : (errand : Errand) → IsErrand errand → IsWritten errand (helo_line errand.host)
-helo-written errand is =
-    AsLine (Helo errand.host) (written_command (Helo errand.host)) refl
-    (written_command_is_read (Helo errand.host) is.host) refl
+helo-written : (delivery : Delivery) → IsDelivery delivery → IsWritten delivery (helo_line delivery.host)
+helo-written delivery is =
+    AsLine (Helo delivery.host) (written_command (Helo delivery.host)) refl
+    (written_command_is_read (Helo delivery.host) is.host) refl
 
-data-written : (errand : Errand) → IsWritten errand data_line
-data-written errand =
+data-written : (delivery : Delivery) → IsWritten delivery data_line
+data-written delivery =
     AsLine line.Data (written_command line.Data) tt (written_command_is_read line.Data tt) refl
 
-quit-written : (errand : Errand) → IsWritten errand quit_line
-quit-written errand = AsLine Quit (written_command Quit) tt (written_command_is_read Quit tt) refl
+quit-written : (delivery : Delivery) → IsWritten delivery quit_line
+quit-written delivery = AsLine Quit (written_command Quit) tt (written_command_is_read Quit tt) refl
 
-chunk-written : (errand : Errand) → IsErrand errand → IsWritten errand (last_chunk errand.text)
-chunk-written errand is =
-    AsLastChunk (written_command (Bdat (record { size = length errand.text; last = true })))
-    (written_command_is_read (Bdat (record { size = length errand.text; last = true })) is.short) refl
+chunk-written : (delivery : Delivery) → IsDelivery delivery → IsWritten delivery (last_chunk delivery.text)
+chunk-written delivery is =
+    AsLastChunk (written_command (Bdat (record { size = length delivery.text; last = true })))
+    (written_command_is_read (Bdat (record { size = length delivery.text; last = true })) is.short) refl
 
-sent-behind : (text dot_text : List ℕ) (test : Bool) → test ≡ true
+sent-after : (text dot_text : List ℕ) (test : Bool) → test ≡ true
     → MatchBool test (WritesDotText text dot_text) (dot_text ≡ []) → WritesDotText text dot_text
-sent-behind text dot_text true e writes = writes
-sent-behind text dot_text false e writes = absurd (cc)
+sent-after text dot_text true e writes = writes
+sent-after text dot_text false e writes = absurd (cc)
 
-text-written : (errand : Errand) → IsErrand errand → ends_in_line_end errand.text ≡ true
-    → IsWritten errand errand.dot_text
-text-written errand is e =
-    AsMailData (sent-behind errand.text errand.dot_text (ends_in_line_end errand.text) e is.dot_text)
+text-written : (delivery : Delivery) → IsDelivery delivery → ends_in_line_end delivery.text ≡ true
+    → IsWritten delivery delivery.dot_text
+text-written delivery is e =
+    AsMailData (sent-after delivery.text delivery.dot_text (ends_in_line_end delivery.text) e is.dot_text)
 
-command-sent : (errand : Errand) (command : List ℕ) (waited : Awaited) (now : Progress) → IsWritten errand command
-    → MaySend errand waited → IsSent errand now → IsSent errand (with_command command waited now)
-command-sent errand command waited now written may sent = (
-  one-more (IsWritten errand) now.commands command sent.0 written,
+command-sent : (delivery : Delivery) (command : List ℕ) (waited : Awaited) (now : Progress) → IsWritten delivery command
+    → MaySend delivery waited → IsSent delivery now → IsSent delivery (with_command command waited now)
+command-sent delivery command waited now written may sent = (
+  one-more (IsWritten delivery) now.commands command sent.0 written,
   sent.1,
-  one-more (MaySend errand) now.waits waited sent.2 may,
+  one-more (MaySend delivery) now.waits waited sent.2 may,
 )
 
-ended-sent : (errand : Errand) (last : Verdict) (now : Progress) → IsSent errand now
-    → IsSent errand (ended_by errand last now)
-ended-sent errand last now sent =
-    (one-more (IsWritten errand) now.commands quit_line sent.0 (quit-written errand), sent.1, tt)
+ended-sent : (delivery : Delivery) (last : Verdict) (now : Progress) → IsSent delivery now
+    → IsSent delivery (ended_by delivery last now)
+ended-sent delivery last now sent =
+    (one-more (IsWritten delivery) now.commands quit_line sent.0 (quit-written delivery), sent.1, tt)
 
-rcpt-sent : (errand : Errand) (place : ℕ) (more : List ℕ) (now : Progress) → IsErrand errand
-    → now.unasked ≡ place ∷ more → IsSent errand now → IsSent errand (with_rcpt errand place more now)
-rcpt-sent errand place more now is next sent =
-    let places = subst (λ (l : List ℕ). AllByRecursion (IsPlace errand) l) next sent.1 in
-    let line : List ℕ = rcpt_line_at now.extensions.dsn errand.envelope.recipients place in (
-      one-more (IsWritten errand) now.commands line sent.0 (rcpt-written errand now.extensions.dsn place is places.0),
+rcpt-sent : (delivery : Delivery) (place : ℕ) (more : List ℕ) (now : Progress) → IsDelivery delivery
+    → now.unasked ≡ place ∷ more → IsSent delivery now → IsSent delivery (with_rcpt delivery place more now)
+rcpt-sent delivery place more now is next sent =
+    let places = subst (λ (l : List ℕ). AllByRecursion (IsPlace delivery) l) next sent.1 in
+    let line : List ℕ = rcpt_line_at now.extensions.dsn delivery.envelope.recipients place in (
+      one-more (IsWritten delivery) now.commands line sent.0 (rcpt-written delivery now.extensions.dsn place is places.0),
       places.1,
-      one-more (MaySend errand) now.waits (Rcpt place) sent.2 tt,
+      one-more (MaySend delivery) now.waits (Rcpt place) sent.2 tt,
     )
 
-rcpts-sent : (errand : Errand) (places : List ℕ) (now : Progress) → IsErrand errand → now.unasked ≡ places
-    → IsSent errand now → IsSent errand (with_rcpts errand places now)
-rcpts-sent errand [] now is next sent = sent
-rcpts-sent errand (place ∷ places) now is next sent =
-    rcpts-sent errand places (with_rcpt errand place places now) is refl (rcpt-sent errand place places now is next sent)
+rcpts-sent : (delivery : Delivery) (places : List ℕ) (now : Progress) → IsDelivery delivery → now.unasked ≡ places
+    → IsSent delivery now → IsSent delivery (with_rcpts delivery places now)
+rcpts-sent delivery [] now is next sent = sent
+rcpts-sent delivery (place ∷ places) now is next sent =
+    rcpts-sent delivery places (with_rcpt delivery place places now) is refl (rcpt-sent delivery place places now is next sent)
 
 -- of two the one that a test chooses
-chosen : (errand : Errand) (test : Bool) (one other : Progress) → (test ≡ true → IsSent errand one)
-    → IsSent errand other → IsSent errand (cond test one other)
-chosen errand true one other a b = a refl
-chosen errand false one other a b = b
+chosen : (delivery : Delivery) (test : Bool) (one other : Progress) → (test ≡ true → IsSent delivery one)
+    → IsSent delivery other → IsSent delivery (cond test one other)
+chosen delivery true one other a b = a refl
+chosen delivery false one other a b = b
 
-content-sent : (errand : Errand) (now : Progress) → IsErrand errand → IsSent errand now
-    → IsSent errand (with_content errand now)
-content-sent errand now is sent =
-    chosen errand (ends_in_line_end errand.text) (with_command data_line Data now)
-    (with_command (last_chunk errand.text) Content now)
-    (λ ends. command-sent errand data_line Data now (data-written errand) ends sent)
-    (command-sent errand (last_chunk errand.text) Content now (chunk-written errand is) tt sent)
+content-sent : (delivery : Delivery) (now : Progress) → IsDelivery delivery → IsSent delivery now
+    → IsSent delivery (with_content delivery now)
+content-sent delivery now is sent =
+    chosen delivery (ends_in_line_end delivery.text) (with_command data_line Data now)
+    (with_command (last_chunk delivery.text) Content now)
+    (λ ends. command-sent delivery data_line Data now (data-written delivery) ends sent)
+    (command-sent delivery (last_chunk delivery.text) Content now (chunk-written delivery is) tt sent)
 
-next-sent : (errand : Errand) (waits : List Awaited) (unasked : List ℕ) (now : Progress) → IsErrand errand
-    → now.unasked ≡ unasked → IsSent errand now → IsSent errand (with_next errand waits unasked now)
-next-sent errand (waited ∷ waits) unasked now is next sent = sent
-next-sent errand [] (place ∷ more) now is next sent = rcpt-sent errand place more now is next sent
-next-sent errand [] [] now is next sent =
-    chosen errand (some_accepted (rcpt_replies now.answered)) (with_content errand now) (ended_by errand Later now)
-    (λ some. content-sent errand now is sent) (ended-sent errand Later now sent)
+next-sent : (delivery : Delivery) (waits : List Awaited) (unasked : List ℕ) (now : Progress) → IsDelivery delivery
+    → now.unasked ≡ unasked → IsSent delivery now → IsSent delivery (with_next delivery waits unasked now)
+next-sent delivery (waited ∷ waits) unasked now is next sent = sent
+next-sent delivery [] (place ∷ more) now is next sent = rcpt-sent delivery place more now is next sent
+next-sent delivery [] [] now is next sent =
+    chosen delivery (some_accepted (rcpt_replies now.answered)) (with_content delivery now) (ended_by delivery Later now)
+    (λ some. content-sent delivery now is sent) (ended-sent delivery Later now sent)
 
-mail-sent : (errand : Errand) (now : Progress) → IsErrand errand → IsSent errand now
-    → IsSent errand (with_mail errand now)
-mail-sent errand now is sent =
-    let line : List ℕ = mail_line now.extensions.dsn errand.envelope in
+mail-sent : (delivery : Delivery) (now : Progress) → IsDelivery delivery → IsSent delivery now
+    → IsSent delivery (with_mail delivery now)
+mail-sent delivery now is sent =
+    let line : List ℕ = mail_line now.extensions.dsn delivery.envelope in
     let mail : Progress = with_command line Mail now in
-    let one = command-sent errand line Mail now (mail-written errand now.extensions.dsn is) tt sent in
-    chosen errand now.extensions.pipelining (with_rcpts errand now.unasked mail) mail
-    (λ groups. rcpts-sent errand now.unasked mail is refl one) one
+    let one = command-sent delivery line Mail now (mail-written delivery now.extensions.dsn is) tt sent in
+    chosen delivery now.extensions.pipelining (with_rcpts delivery now.unasked mail) mail
+    (λ groups. rcpts-sent delivery now.unasked mail is refl one) one
 
-hello-sent : (errand : Errand) (now : Progress) → IsErrand errand → IsSent errand now
-    → IsSent errand (behind_hello errand now)
-hello-sent errand now is sent =
-    let cant : Progress = ended_by errand CantSend now in
-    chosen errand (ends_in_line_end errand.text) (with_mail errand now)
-    (cond now.extensions.chunking (with_mail errand now) cant)
-    (λ ends. mail-sent errand now is sent)
-    (chosen errand now.extensions.chunking (with_mail errand now) cant (λ chunks. mail-sent errand now is sent)
-    (ended-sent errand CantSend now sent))
+hello-sent : (delivery : Delivery) (now : Progress) → IsDelivery delivery → IsSent delivery now
+    → IsSent delivery (after_hello delivery now)
+hello-sent delivery now is sent =
+    let cant : Progress = ended_by delivery CantSend now in
+    chosen delivery (ends_in_line_end delivery.text) (with_mail delivery now)
+    (cond now.extensions.chunking (with_mail delivery now) cant)
+    (λ ends. mail-sent delivery now is sent)
+    (chosen delivery now.extensions.chunking (with_mail delivery now) cant (λ chunks. mail-sent delivery now is sent)
+    (ended-sent delivery CantSend now sent))
 
 -- each row of the table
-answer-sent : (errand : Errand) (waited : Awaited) (kind : ReplyKind) (reply : Reply) (now : Progress)
-    → IsErrand errand → MaySend errand waited → IsSent errand now
-    → IsSent errand (behind_answer errand waited kind reply now)
-answer-sent errand Greeting Completion reply now is may sent =
-    command-sent errand (ehlo_line errand.host) EhloAwaited now (ehlo-written errand is) tt sent
-answer-sent errand Greeting Permanent reply now is may sent = ended-sent errand (refusal reply) now sent
-answer-sent errand Greeting _ reply now is may sent = ended-sent errand Later now sent
-answer-sent errand EhloAwaited Completion reply now is may sent =
-    hello-sent errand (record now { extensions = extensions_of reply }) is sent
-answer-sent errand EhloAwaited Permanent reply now is may sent =
-    command-sent errand (helo_line errand.host) HeloAwaited now (helo-written errand is) tt sent
-answer-sent errand EhloAwaited _ reply now is may sent = ended-sent errand Later now sent
-answer-sent errand HeloAwaited Completion reply now is may sent = hello-sent errand now is sent
-answer-sent errand HeloAwaited Permanent reply now is may sent = ended-sent errand (refusal reply) now sent
-answer-sent errand HeloAwaited _ reply now is may sent = ended-sent errand Later now sent
-answer-sent errand Mail Completion reply now is may sent =
-    next-sent errand now.waits now.unasked now is refl sent
-answer-sent errand Mail Permanent reply now is may sent = ended-sent errand (refusal reply) now sent
-answer-sent errand Mail _ reply now is may sent = ended-sent errand Later now sent
-answer-sent errand (Rcpt place) _ reply now is may sent =
-    next-sent errand now.waits now.unasked now is refl sent
-answer-sent errand Data Intermediate reply now is may sent =
-    command-sent errand errand.dot_text Content now (text-written errand is may) tt sent
-answer-sent errand Data Permanent reply now is may sent = ended-sent errand (refusal reply) now sent
-answer-sent errand Data _ reply now is may sent = ended-sent errand Later now sent
-answer-sent errand Content kind reply now is may sent =
-    ended-sent errand (content_verdict_by now.extensions.dsn kind reply) now sent
+answer-sent : (delivery : Delivery) (waited : Awaited) (kind : ReplyKind) (reply : Reply) (now : Progress)
+    → IsDelivery delivery → MaySend delivery waited → IsSent delivery now
+    → IsSent delivery (after_answer delivery waited kind reply now)
+answer-sent delivery Greeting Completion reply now is may sent =
+    command-sent delivery (ehlo_line delivery.host) EhloAwaited now (ehlo-written delivery is) tt sent
+answer-sent delivery Greeting Permanent reply now is may sent = ended-sent delivery (refusal reply) now sent
+answer-sent delivery Greeting _ reply now is may sent = ended-sent delivery Later now sent
+answer-sent delivery EhloAwaited Completion reply now is may sent =
+    hello-sent delivery (record now { extensions = extensions_of reply }) is sent
+answer-sent delivery EhloAwaited Permanent reply now is may sent =
+    command-sent delivery (helo_line delivery.host) HeloAwaited now (helo-written delivery is) tt sent
+answer-sent delivery EhloAwaited _ reply now is may sent = ended-sent delivery Later now sent
+answer-sent delivery HeloAwaited Completion reply now is may sent = hello-sent delivery now is sent
+answer-sent delivery HeloAwaited Permanent reply now is may sent = ended-sent delivery (refusal reply) now sent
+answer-sent delivery HeloAwaited _ reply now is may sent = ended-sent delivery Later now sent
+answer-sent delivery Mail Completion reply now is may sent =
+    next-sent delivery now.waits now.unasked now is refl sent
+answer-sent delivery Mail Permanent reply now is may sent = ended-sent delivery (refusal reply) now sent
+answer-sent delivery Mail _ reply now is may sent = ended-sent delivery Later now sent
+answer-sent delivery (Rcpt place) _ reply now is may sent =
+    next-sent delivery now.waits now.unasked now is refl sent
+answer-sent delivery Data Intermediate reply now is may sent =
+    command-sent delivery delivery.dot_text Content now (text-written delivery is may) tt sent
+answer-sent delivery Data Permanent reply now is may sent = ended-sent delivery (refusal reply) now sent
+answer-sent delivery Data _ reply now is may sent = ended-sent delivery Later now sent
+answer-sent delivery Content kind reply now is may sent =
+    ended-sent delivery (content_verdict_by now.extensions.dsn kind reply) now sent
 
-with_answer-sent : (errand : Errand) (waits : List Awaited) (reply : Reply) (now : Progress) → IsErrand errand
-    → now.waits ≡ waits → IsSent errand now → IsSent errand (with_answer errand waits reply now)
-with_answer-sent errand [] reply now is e sent = sent
-with_answer-sent errand (waited ∷ waits) reply now is e sent =
-    let may = subst (λ (l : List Awaited). AllByRecursion (MaySend errand) l) e sent.2 in
-    answer-sent errand waited (kind_of reply.code) reply (answered_by waited waits reply now) is may.0
+with_answer-sent : (delivery : Delivery) (waits : List Awaited) (reply : Reply) (now : Progress) → IsDelivery delivery
+    → now.waits ≡ waits → IsSent delivery now → IsSent delivery (with_answer delivery waits reply now)
+with_answer-sent delivery [] reply now is e sent = sent
+with_answer-sent delivery (waited ∷ waits) reply now is e sent =
+    let may = subst (λ (l : List Awaited). AllByRecursion (MaySend delivery) l) e sent.2 in
+    answer-sent delivery waited (kind_of reply.code) reply (answered_by waited waits reply now) is may.0
     (sent.0, sent.1, may.1)
 
-along-sent : (errand : Errand) (now : Progress) (replies : List Reply) → IsErrand errand → IsSent errand now
-    → IsSent errand (behind_replies errand now replies)
-along-sent errand now [] is sent = sent
-along-sent errand now (reply ∷ replies) is sent =
-    along-sent errand (behind_reply errand now reply) replies is
-    (with_answer-sent errand now.waits reply now is refl sent)
+along-sent : (delivery : Delivery) (now : Progress) (replies : List Reply) → IsDelivery delivery → IsSent delivery now
+    → IsSent delivery (after_replies delivery now replies)
+along-sent delivery now [] is sent = sent
+along-sent delivery now (reply ∷ replies) is sent =
+    along-sent delivery (after_reply delivery now reply) replies is
+    (with_answer-sent delivery now.waits reply now is refl sent)
 
 pub each_command_is_read : EachCommandIsRead
-each_command_is_read errand replies is =
-    (along-sent errand (at_greeting errand) replies is
-    (tt, own-places (length errand.envelope.recipients) errand.places is.within, (tt, tt))).0
+each_command_is_read delivery replies is =
+    (along-sent delivery (at_greeting delivery) replies is
+    (tt, own-places (length delivery.envelope.recipients) delivery.places is.within, (tt, tt))).0

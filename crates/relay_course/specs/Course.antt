@@ -8,7 +8,7 @@ use Rattle.relay_body.specs.DotText.{WritesDotText, ends_in_line_end}
 use Rattle.relay_envelope.specs.declared.envelope.Envelope.{Envelope}
 use Rattle.relay_book.specs.declared.change.Verdict.{Verdict}
 use Rattle.relay_course.specs.VerdictTable.{all_later}
-use Rattle.relay_course.specs.Progress.{Errand, progress}
+use Rattle.relay_course.specs.Progress.{Delivery, progress}
 
 -- what was written, command after command
 abbrev pub joined : List (List ℕ) → List ℕ
@@ -18,9 +18,9 @@ joined commands = flat_map (λ command. command) commands
 abbrev pub IsSentAs : List ℕ → List ℕ → Type 0
 IsSentAs text dot_text = MatchBool (ends_in_line_end text) (WritesDotText text dot_text) (dot_text ≡ [])
 
--- the errand of this host with a message of this envelope and text, at these places
-abbrev pub errand_of : List ℕ → Envelope → List ℕ → List ℕ → List ℕ → Errand
-errand_of host envelope text dot_text places =
+-- the delivery of this host with a message of this envelope and text, at these places
+abbrev pub delivery_of : List ℕ → Envelope → List ℕ → List ℕ → List ℕ → Delivery
+delivery_of host envelope text dot_text places =
     record { host = host; envelope = envelope; text = text; dot_text = dot_text; places = places }
 
 -- what comes after the replies is none (RFC 5321, section 4.2)
@@ -37,20 +37,21 @@ Concludes places told rest None verdicts =
     ⊎ (((told ≡ true) × IsUnfinished rest × (verdicts ≡ Some (all_later places)))
     ⊎ ((told ≡ false) × IsFaulty rest × (verdicts ≡ Some (all_later places))))
 
--- the client of this errand has read this input, was told of a loss or not, has written this output, and has these
+-- the client of this delivery has read this input, was told of a loss or not, has written this output, and has these
 -- verdicts, or none yet
-pub record Runs (errand : Errand) (input : List ℕ) (told : Bool) (output : List ℕ) (verdicts : Option (List Verdict))
+pub record Runs
+    (delivery : Delivery) (input : List ℕ) (told : Bool) (output : List ℕ) (verdicts : Option (List Verdict))
     : Type 0 where
   pub replies : List Reply
   pub rest : List ℕ
   pub cut : CutsReplies input replies rest
-  pub each : length (progress errand replies).answered ≡ length replies
-  pub written : output ≡ joined (progress errand replies).commands
-  pub concludes : Concludes errand.places told rest (progress errand replies).verdicts verdicts
+  pub each : length (progress delivery replies).answered ≡ length replies
+  pub written : output ≡ joined (progress delivery replies).commands
+  pub concludes : Concludes delivery.places told rest (progress delivery replies).verdicts verdicts
 
 -- the course of an attempt of this host to send a message of this envelope and stored text to these places
 pub record IsCourse (host : List ℕ) (envelope : Envelope) (text places input : List ℕ) (told : Bool) (output : List ℕ)
     (verdicts : Option (List Verdict)) : Type 0 where
   pub dot_text : List ℕ
   pub sent : IsSentAs text dot_text
-  pub runs : Runs (errand_of host envelope text dot_text places) input told output verdicts
+  pub runs : Runs (delivery_of host envelope text dot_text places) input told output verdicts

@@ -11,9 +11,9 @@ offers keyword [] = false
 offers keyword (line ∷ lines) = is_word (first_word line) keyword || offers keyword lines
 
 -- the lines after the first, which is the server's name and a greeting
-abbrev pub behind_first : List (List ℕ) → List (List ℕ)
-behind_first [] = []
-behind_first (line ∷ lines) = lines
+abbrev pub after_first : List (List ℕ) → List (List ℕ)
+after_first [] = []
+after_first (line ∷ lines) = lines
 
 -- what lines offer: PIPELINING (RFC 2920), CHUNKING (RFC 3030) and DSN (RFC 3461)
 abbrev pub extensions_in : List (List ℕ) → Extensions
@@ -25,7 +25,7 @@ extensions_in lines = record {
 
 -- what a reply to EHLO offers
 abbrev pub extensions_of : Reply → Extensions
-extensions_of reply = extensions_in (behind_first reply.lines)
+extensions_of reply = extensions_in (after_first reply.lines)
 
 -- a server that has answered no EHLO offers nothing
 abbrev pub no_extensions : Extensions

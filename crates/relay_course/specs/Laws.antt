@@ -20,52 +20,52 @@ use Rattle.relay_course.specs.declared.awaited.Awaited.{Awaited}
 use Rattle.relay_course.specs.declared.awaited.Awaited.TheVariants as awaited
 use Rattle.relay_course.specs.declared.reply_kind.ReplyKind.TheVariants.{Completion}
 use Rattle.relay_course.specs.VerdictTable.{all_later, is_accepted, kind_of}
-use Rattle.relay_course.specs.Progress.{Errand, Answered, Progress, answer_of, behind_reply, progress}
+use Rattle.relay_course.specs.Progress.{Delivery, Answered, Progress, answer_of, after_reply, progress}
 use Rattle.relay_course.specs.Course.{IsCourse, IsSentAs}
 
 -- A further reply leads on from where the others led.
 abbrev pub ReplyLeadsOn : Type 0
 ReplyLeadsOn =
-    (errand : Errand) (replies : List Reply) (reply : Reply)
-    → progress errand (replies ++ reply ∷ []) ≡ behind_reply errand (progress errand replies) reply
+    (delivery : Delivery) (replies : List Reply) (reply : Reply)
+    → progress delivery (replies ++ reply ∷ []) ≡ after_reply delivery (progress delivery replies) reply
 
 -- Until an attempt ends, each further reply answers something.
 abbrev pub EachReplyAnswers : Type 0
 EachReplyAnswers =
-    (errand : Errand) (replies : List Reply) (reply : Reply) → (progress errand replies).verdicts ≡ None
-    → length (progress errand (replies ++ reply ∷ [])).answered ≡ length (progress errand replies).answered + 1
+    (delivery : Delivery) (replies : List Reply) (reply : Reply) → (progress delivery replies).verdicts ≡ None
+    → length (progress delivery (replies ++ reply ∷ [])).answered ≡ length (progress delivery replies).answered + 1
 
 -- What was written stays written, whatever replies come after.
 abbrev pub CommandsStay : Type 0
 CommandsStay =
-    (errand : Errand) (replies more : List Reply)
-    → Begins (progress errand replies).commands (progress errand (replies ++ more)).commands
+    (delivery : Delivery) (replies more : List Reply)
+    → Begins (progress delivery replies).commands (progress delivery (replies ++ more)).commands
 
 -- Until it ends an attempt waits for something, and of the greeting and the commands each was answered or waits.
 abbrev pub EachCommandWaits : Type 0
 EachCommandWaits =
-    (errand : Errand) (replies : List Reply) → (progress errand replies).verdicts ≡ None
-    → (0 < length (progress errand replies).waits)
-    × (length replies + length (progress errand replies).waits ≡ length (progress errand replies).commands + 1)
+    (delivery : Delivery) (replies : List Reply) → (progress delivery replies).verdicts ≡ None
+    → (0 < length (progress delivery replies).waits)
+    × (length replies + length (progress delivery replies).waits ≡ length (progress delivery replies).commands + 1)
 
 -- An attempt that has ended waits for nothing.
 abbrev pub EndWaitsForNothing : Type 0
 EndWaitsForNothing =
-    (errand : Errand) (replies : List Reply) (verdicts : List Verdict)
-    → (progress errand replies).verdicts ≡ Some verdicts → (progress errand replies).waits ≡ []
+    (delivery : Delivery) (replies : List Reply) (verdicts : List Verdict)
+    → (progress delivery replies).verdicts ≡ Some verdicts → (progress delivery replies).waits ≡ []
 
 -- Where nothing waits, replies after change nothing.
 abbrev pub EndIsEnd : Type 0
 EndIsEnd =
-    (errand : Errand) (replies more : List Reply) → (progress errand replies).waits ≡ []
-    → progress errand (replies ++ more) ≡ progress errand replies
+    (delivery : Delivery) (replies more : List Reply) → (progress delivery replies).waits ≡ []
+    → progress delivery (replies ++ more) ≡ progress delivery replies
 
 -- After this many replies as many commands are written, or nothing more is.
 abbrev pub CommandsKeepUp : Type 0
 CommandsKeepUp =
-    (errand : Errand) (replies more : List Reply)
-    → (length replies ≤ length (progress errand replies).commands)
-    ⊎ ((progress errand (replies ++ more)).commands ≡ (progress errand replies).commands)
+    (delivery : Delivery) (replies more : List Reply)
+    → (length replies ≤ length (progress delivery replies).commands)
+    ⊎ ((progress delivery (replies ++ more)).commands ≡ (progress delivery replies).commands)
 
 -- the replies that answered something
 abbrev pub replies_in : List Answered → List Reply
@@ -74,13 +74,13 @@ replies_in answered = map (λ one. one.reply) answered
 -- The replies that answered something are the first ones, in order.
 abbrev pub AnsweredAreFirst : Type 0
 AnsweredAreFirst =
-    (errand : Errand) (replies : List Reply) → Begins (replies_in (progress errand replies).answered) replies
+    (delivery : Delivery) (replies : List Reply) → Begins (replies_in (progress delivery replies).answered) replies
 
 -- What was answered stays answered, whatever replies come after.
 abbrev pub AnswersStay : Type 0
 AnswersStay =
-    (errand : Errand) (replies more : List Reply)
-    → Begins (progress errand replies).answered (progress errand (replies ++ more)).answered
+    (delivery : Delivery) (replies more : List Reply)
+    → Begins (progress delivery replies).answered (progress delivery (replies ++ more)).answered
 
 -- the RCPTs that were answered
 abbrev pub if_rcpt_one : Awaited → Answered → List Answered
@@ -109,8 +109,8 @@ accepted_places answered = flat_map (λ one. if_accepted_place one.waited one.re
 -- The RCPTs that were answered are those of the first places, in order.
 abbrev pub RcptsAreInOrder : Type 0
 RcptsAreInOrder =
-    (errand : Errand) (replies : List Reply)
-    → Begins (rcpt_places (progress errand replies).answered) errand.places
+    (delivery : Delivery) (replies : List Reply)
+    → Begins (rcpt_places (progress delivery replies).answered) delivery.places
 
 -- the RCPT of this place, which is there in the row of places, and the content were answered 2yz, by a server that
 -- offers DSN or doesn't
@@ -126,59 +126,59 @@ pub record WasTaken (end : Progress) (index place : ℕ) (dsn : Bool) : Type 0 w
 -- A place is Taken exactly if its RCPT and the content were answered 2yz.
 abbrev pub TakenWhereAnswered : Type 0
 TakenWhereAnswered =
-    (errand : Errand) (replies : List Reply) (verdicts : List Verdict)
-    → (progress errand replies).verdicts ≡ Some verdicts
-    → (index place : ℕ) (dsn : Bool) → slice_get errand.places index ≡ Some place
-    → (slice_get verdicts index ≡ Some (Taken dsn)) ↔ WasTaken (progress errand replies) index place dsn
+    (delivery : Delivery) (replies : List Reply) (verdicts : List Verdict)
+    → (progress delivery replies).verdicts ≡ Some verdicts
+    → (index place : ℕ) (dsn : Bool) → slice_get delivery.places index ≡ Some place
+    → (slice_get verdicts index ≡ Some (Taken dsn)) ↔ WasTaken (progress delivery replies) index place dsn
 
 -- the places are some of these recipients'
 abbrev pub AreWithin : List ℕ → List Recipient → Type 0
 AreWithin places recipients = AllByRecursion (λ place. place < length recipients) places
 
--- an errand as a stored message has it: our host's name is a word of EHLO, and 1 to 100 places are tried
-pub record IsErrand (errand : Errand) : Type 0 where
-  pub host : IsHostWord errand.host
-  pub envelope : IsEnvelope errand.envelope
-  pub short : length errand.text < 2 ^ 32
-  pub dot_text : IsSentAs errand.text errand.dot_text
-  pub some : 1 ≤ length errand.places
-  pub few : length errand.places ≤ 100
-  pub within : AreWithin errand.places errand.envelope.recipients
+-- a delivery as a stored message has it: our host's name is a word of EHLO, and 1 to 100 places are tried
+pub record IsDelivery (delivery : Delivery) : Type 0 where
+  pub host : IsHostWord delivery.host
+  pub envelope : IsEnvelope delivery.envelope
+  pub short : length delivery.text < 2 ^ 32
+  pub dot_text : IsSentAs delivery.text delivery.dot_text
+  pub some : 1 ≤ length delivery.places
+  pub few : length delivery.places ≤ 100
+  pub within : AreWithin delivery.places delivery.envelope.recipients
 
 -- the text is what is after the colon of this recipient's RCPT, with its parameters or with none
 abbrev pub IsRcptOf : Recipient → List ℕ → Type 0
 IsRcptOf recipient text = (text ≡ rcpt_text recipient) ⊎ (text ≡ recipient.path)
 
 -- the commands that are written as a line alone, with nothing after it
-abbrev pub MayAsk : Errand → Command → Type 0
-MayAsk errand (Helo host) = host ≡ errand.host
-MayAsk errand (Ehlo host) = host ≡ errand.host
-MayAsk errand (Mail text) = (text ≡ mail_text errand.envelope) ⊎ (text ≡ errand.envelope.reverse_path)
-MayAsk errand (Rcpt text) = (place : ℕ) × (recipient : Recipient) × Contains errand.places place
-    × (slice_get errand.envelope.recipients place ≡ Some recipient) × IsRcptOf recipient text
-MayAsk errand Data = Unit {0}
-MayAsk errand (Bdat chunk) = ⊥
-MayAsk errand Rset = ⊥
-MayAsk errand Noop = ⊥
-MayAsk errand Vrfy = ⊥
-MayAsk errand Help = ⊥
-MayAsk errand Quit = Unit {0}
+abbrev pub MayAsk : Delivery → Command → Type 0
+MayAsk delivery (Helo host) = host ≡ delivery.host
+MayAsk delivery (Ehlo host) = host ≡ delivery.host
+MayAsk delivery (Mail text) = (text ≡ mail_text delivery.envelope) ⊎ (text ≡ delivery.envelope.reverse_path)
+MayAsk delivery (Rcpt text) = (place : ℕ) × (recipient : Recipient) × Contains delivery.places place
+    × (slice_get delivery.envelope.recipients place ≡ Some recipient) × IsRcptOf recipient text
+MayAsk delivery Data = Unit {0}
+MayAsk delivery (Bdat chunk) = ⊥
+MayAsk delivery Rset = ⊥
+MayAsk delivery Noop = ⊥
+MayAsk delivery Vrfy = ⊥
+MayAsk delivery Help = ⊥
+MayAsk delivery Quit = Unit {0}
 
 -- what is written is a line that every server reads as this command; or the text as mail data; or a line that is read
 -- as that of a last chunk of the text's size, and the text
-pub data IsWritten (errand : Errand) (octets : List ℕ) : Type 0 where
-  AsLine : (command : Command) (line : List ℕ) → MayAsk errand command → IsCommandLine line command
-      → octets ≡ line_text line → IsWritten errand octets
-  AsMailData : WritesDotText errand.text octets → IsWritten errand octets
+pub data IsWritten (delivery : Delivery) (octets : List ℕ) : Type 0 where
+  AsLine : (command : Command) (line : List ℕ) → MayAsk delivery command → IsCommandLine line command
+      → octets ≡ line_text line → IsWritten delivery octets
+  AsMailData : WritesDotText delivery.text octets → IsWritten delivery octets
   AsLastChunk : (line : List ℕ)
-      → IsCommandLine line (Bdat (record { size = length errand.text; last = true }))
-      → octets ≡ line_text line ++ errand.text → IsWritten errand octets
+      → IsCommandLine line (Bdat (record { size = length delivery.text; last = true }))
+      → octets ≡ line_text line ++ delivery.text → IsWritten delivery octets
 
 -- Each command is read by a server as what was asked, and of contents nothing but the stored text is sent.
 abbrev pub EachCommandIsRead : Type 0
 EachCommandIsRead =
-    (errand : Errand) (replies : List Reply) → IsErrand errand
-    → AllByRecursion (IsWritten errand) (progress errand replies).commands
+    (delivery : Delivery) (replies : List Reply) → IsDelivery delivery
+    → AllByRecursion (IsWritten delivery) (progress delivery replies).commands
 
 -- A course has as many verdicts as places.
 abbrev pub VerdictForEachPlace : Type 0

@@ -20,7 +20,7 @@ use Rattle.relay_course.specs.VerdictTable.{content_verdict_by, kind_of, refusal
 
 -- what an attempt must do, which never changes: our host's name, the message's envelope and stored text, that text as
 -- it is sent after DATA, and the places to try, in order
-pub record Errand : Type 0 where
+pub record Delivery : Type 0 where
   pub host : List ℕ
   pub envelope : Envelope
   pub text : List ℕ
@@ -59,103 +59,103 @@ with_command command waited old =
     record old { commands = old.commands ++ command ∷ []; waits = old.waits ++ waited ∷ [] }
 
 -- the attempt ends: QUIT is written, its reply isn't waited for, and the places that are left have this verdict
-abbrev pub ended_by : Errand → Verdict → Progress → Progress
-ended_by errand last old = record old {
+abbrev pub ended_by : Delivery → Verdict → Progress → Progress
+ended_by delivery last old = record old {
   commands = old.commands ++ quit_line ∷ [];
   waits = [];
-  verdicts = Some (verdicts_of errand.places (rcpt_replies old.answered) last);
+  verdicts = Some (verdicts_of delivery.places (rcpt_replies old.answered) last);
 }
 
 -- the RCPT of the next place is written
-abbrev pub with_rcpt : Errand → ℕ → List ℕ → Progress → Progress
-with_rcpt errand place more old =
-    with_command (rcpt_line_at old.extensions.dsn errand.envelope.recipients place) (Rcpt place)
+abbrev pub with_rcpt : Delivery → ℕ → List ℕ → Progress → Progress
+with_rcpt delivery place more old =
+    with_command (rcpt_line_at old.extensions.dsn delivery.envelope.recipients place) (Rcpt place)
     (record old { unasked = more })
 
 -- the RCPTs of all these places are written
-abbrev pub with_rcpts : Errand → List ℕ → Progress → Progress
-with_rcpts errand [] old = old
-with_rcpts errand (place ∷ places) old = with_rcpts errand places (with_rcpt errand place places old)
+abbrev pub with_rcpts : Delivery → List ℕ → Progress → Progress
+with_rcpts delivery [] old = old
+with_rcpts delivery (place ∷ places) old = with_rcpts delivery places (with_rcpt delivery place places old)
 
 -- the content is begun: by DATA where the text ends in CR LF, and else it is written as a chunk
-abbrev pub with_content : Errand → Progress → Progress
-with_content errand old =
-    if ends_in_line_end errand.text then with_command data_line Data old
-    else with_command (last_chunk errand.text) Content old
+abbrev pub with_content : Delivery → Progress → Progress
+with_content delivery old =
+    if ends_in_line_end delivery.text then with_command data_line Data old
+    else with_command (last_chunk delivery.text) Content old
 
 -- all RCPTs are answered: the content follows where a place is left, and else the end
-abbrev pub behind_rcpts : Errand → Progress → Progress
-behind_rcpts errand old =
-    if some_accepted (rcpt_replies old.answered) then with_content errand old else ended_by errand Later old
+abbrev pub after_rcpts : Delivery → Progress → Progress
+after_rcpts delivery old =
+    if some_accepted (rcpt_replies old.answered) then with_content delivery old else ended_by delivery Later old
 
 -- a reply to MAIL or to a RCPT has come: where nothing waits the next RCPT is written, and after the last one the
 -- content
-abbrev pub with_next : Errand → List Awaited → List ℕ → Progress → Progress
-with_next errand (waited ∷ waits) unasked old = old
-with_next errand [] (place ∷ more) old = with_rcpt errand place more old
-with_next errand [] [] old = behind_rcpts errand old
+abbrev pub with_next : Delivery → List Awaited → List ℕ → Progress → Progress
+with_next delivery (waited ∷ waits) unasked old = old
+with_next delivery [] (place ∷ more) old = with_rcpt delivery place more old
+with_next delivery [] [] old = after_rcpts delivery old
 
-abbrev pub gone_on : Errand → Progress → Progress
-gone_on errand old = with_next errand old.waits old.unasked old
+abbrev pub gone_on : Delivery → Progress → Progress
+gone_on delivery old = with_next delivery old.waits old.unasked old
 
 -- MAIL is written, and in one group with it the RCPTs where PIPELINING is offered (RFC 2920, section 3.1)
-abbrev pub with_mail : Errand → Progress → Progress
-with_mail errand old =
-    let mail : Progress = with_command (mail_line old.extensions.dsn errand.envelope) Mail old in
-    if old.extensions.pipelining then with_rcpts errand old.unasked mail else mail
+abbrev pub with_mail : Delivery → Progress → Progress
+with_mail delivery old =
+    let mail : Progress = with_command (mail_line old.extensions.dsn delivery.envelope) Mail old in
+    if old.extensions.pipelining then with_rcpts delivery old.unasked mail else mail
 
 -- the server is greeted: a text that doesn't end in CR LF needs CHUNKING
-abbrev pub behind_hello : Errand → Progress → Progress
-behind_hello errand old =
-    if ends_in_line_end errand.text then with_mail errand old
-    else (if old.extensions.chunking then with_mail errand old else ended_by errand CantSend old)
+abbrev pub after_hello : Delivery → Progress → Progress
+after_hello delivery old =
+    if ends_in_line_end delivery.text then with_mail delivery old
+    else (if old.extensions.chunking then with_mail delivery old else ended_by delivery CantSend old)
 
 -- The table: by what waited and by the reply's first digit, what is done.
-abbrev pub behind_answer : Errand → Awaited → ReplyKind → Reply → Progress → Progress
-behind_answer errand Greeting Completion reply old = with_command (ehlo_line errand.host) Ehlo old
-behind_answer errand Greeting Permanent reply old = ended_by errand (refusal reply) old
-behind_answer errand Greeting _ reply old = ended_by errand Later old
-behind_answer errand Ehlo Completion reply old = behind_hello errand (record old { extensions = extensions_of reply })
-behind_answer errand Ehlo Permanent reply old = with_command (helo_line errand.host) Helo old
-behind_answer errand Ehlo _ reply old = ended_by errand Later old
-behind_answer errand Helo Completion reply old = behind_hello errand old
-behind_answer errand Helo Permanent reply old = ended_by errand (refusal reply) old
-behind_answer errand Helo _ reply old = ended_by errand Later old
-behind_answer errand Mail Completion reply old = gone_on errand old
-behind_answer errand Mail Permanent reply old = ended_by errand (refusal reply) old
-behind_answer errand Mail _ reply old = ended_by errand Later old
-behind_answer errand (Rcpt place) _ reply old = gone_on errand old
-behind_answer errand Data Intermediate reply old = with_command errand.dot_text Content old
-behind_answer errand Data Permanent reply old = ended_by errand (refusal reply) old
-behind_answer errand Data _ reply old = ended_by errand Later old
-behind_answer errand Content kind reply old =
-    ended_by errand (content_verdict_by old.extensions.dsn kind reply) old
+abbrev pub after_answer : Delivery → Awaited → ReplyKind → Reply → Progress → Progress
+after_answer delivery Greeting Completion reply old = with_command (ehlo_line delivery.host) Ehlo old
+after_answer delivery Greeting Permanent reply old = ended_by delivery (refusal reply) old
+after_answer delivery Greeting _ reply old = ended_by delivery Later old
+after_answer delivery Ehlo Completion reply old = after_hello delivery (record old { extensions = extensions_of reply })
+after_answer delivery Ehlo Permanent reply old = with_command (helo_line delivery.host) Helo old
+after_answer delivery Ehlo _ reply old = ended_by delivery Later old
+after_answer delivery Helo Completion reply old = after_hello delivery old
+after_answer delivery Helo Permanent reply old = ended_by delivery (refusal reply) old
+after_answer delivery Helo _ reply old = ended_by delivery Later old
+after_answer delivery Mail Completion reply old = gone_on delivery old
+after_answer delivery Mail Permanent reply old = ended_by delivery (refusal reply) old
+after_answer delivery Mail _ reply old = ended_by delivery Later old
+after_answer delivery (Rcpt place) _ reply old = gone_on delivery old
+after_answer delivery Data Intermediate reply old = with_command delivery.dot_text Content old
+after_answer delivery Data Permanent reply old = ended_by delivery (refusal reply) old
+after_answer delivery Data _ reply old = ended_by delivery Later old
+after_answer delivery Content kind reply old =
+    ended_by delivery (content_verdict_by old.extensions.dsn kind reply) old
 
 -- a connection is there, and its greeting is awaited
-abbrev pub at_greeting : Errand → Progress
-at_greeting errand = record {
+abbrev pub at_greeting : Delivery → Progress
+at_greeting delivery = record {
   commands = [];
   waits = Greeting ∷ [];
-  unasked = errand.places;
+  unasked = delivery.places;
   extensions = no_extensions;
   answered = [];
   verdicts = None;
 }
 
 -- the reply answers what waits first; after the end it answers nothing
-abbrev pub with_answer : Errand → List Awaited → Reply → Progress → Progress
-with_answer errand [] reply old = old
-with_answer errand (waited ∷ waits) reply old =
-    behind_answer errand waited (kind_of reply.code) reply
+abbrev pub with_answer : Delivery → List Awaited → Reply → Progress → Progress
+with_answer delivery [] reply old = old
+with_answer delivery (waited ∷ waits) reply old =
+    after_answer delivery waited (kind_of reply.code) reply
     (record old { waits = waits; answered = old.answered ++ answer_of waited reply ∷ [] })
 
-abbrev pub behind_reply : Errand → Progress → Reply → Progress
-behind_reply errand old reply = with_answer errand old.waits reply old
+abbrev pub after_reply : Delivery → Progress → Reply → Progress
+after_reply delivery old reply = with_answer delivery old.waits reply old
 
-abbrev pub behind_replies : Errand → Progress → List Reply → Progress
-behind_replies errand old [] = old
-behind_replies errand old (reply ∷ replies) = behind_replies errand (behind_reply errand old reply) replies
+abbrev pub after_replies : Delivery → Progress → List Reply → Progress
+after_replies delivery old [] = old
+after_replies delivery old (reply ∷ replies) = after_replies delivery (after_reply delivery old reply) replies
 
 -- how far an attempt has come after these replies
-abbrev pub progress : Errand → List Reply → Progress
-progress errand replies = behind_replies errand (at_greeting errand) replies
+abbrev pub progress : Delivery → List Reply → Progress
+progress delivery replies = after_replies delivery (at_greeting delivery) replies

@@ -1,5 +1,5 @@
 /// What waits for a reply (RFC 5321, section 3.1; RFC 2920, section 3.1): each reply answers the earliest of these.
-#[derive(Clone, Copy, Debug, PartialEq, Eq)]
+#[derive(Clone, Copy, PartialEq, Eq)]
 pub enum Awaited {
     /// The greeting: the server speaks first.
     Greeting,

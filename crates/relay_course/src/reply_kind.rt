@@ -2,7 +2,7 @@ ghost use Rattle.std.specs.Prelude.{◌≡◌};
 ghost use Rattle.relay_course.specs.VerdictTable.{kind_of};
 
 /// What the first digit of a reply's code says (RFC 5321, section 4.2.1).
-#[derive(Clone, Copy, Debug, PartialEq, Eq)]
+#[derive(Clone, Copy, PartialEq, Eq)]
 pub enum ReplyKind {
     /// 2yz, positive completion: what was asked is done.
     Completion,

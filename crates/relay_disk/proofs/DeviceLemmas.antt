@@ -23,7 +23,7 @@ back_is end old new low high same =
 pub writes_leave_the_rest : WritesLeaveTheRest
 writes_leave_the_rest place count old new writes = (
   front_is place old new writes.no_shorter (λ at within before. writes.stays at within (inl before)),
-  back_is (place + count) old new writes.no_shorter writes.no_longer (λ at within behind. writes.stays at within (inr behind)),
+  back_is (place + count) old new writes.no_shorter writes.no_longer (λ at within after. writes.stays at within (inr after)),
 )
 
 pub cuts_leave_a_front : CutsLeaveAFront

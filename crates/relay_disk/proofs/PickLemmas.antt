@@ -53,7 +53,7 @@ before_cut synced image = table (uncut_octet synced image)
 
 outside_is : (place count at : ℕ) → (at < place) ⊎ (place + count ≤ at) → is_in (place, count) at ≡ false
 outside_is place count at (inl before) = grind (arith, nat_tests)
-outside_is place count at (inr behind) = grind (arith, nat_tests)
+outside_is place count at (inr after) = grind (arith, nat_tests)
 
 either_kept : (past inside before : Bool) (new old synced : ℕ) → inside ≡ false → old ≡ cond (past || before) new synced
     → (past || (inside || before) ≡ false → new ≡ synced) → new ≡ old
@@ -206,7 +206,7 @@ place_within place n is = grind (arith, nat_tests)
 within_old : (now : List ℕ) (place : ℕ) (octets : List ℕ) (at : ℕ) → place ≤ length now → at < length (written now place octets)
     → (at < place) ⊎ (place + length octets ≤ at) → at < length now
 within_old now place octets at begins within (inl before) = omega (arith, begins, before)
-within_old now place octets at begins within (inr behind) = omega (arith, (length-written now place octets).1, within, behind)
+within_old now place octets at begins within (inr after) = omega (arith, (length-written now place octets).1, within, after)
 
 -- A read gives the synced octet at each unchanged place.
 unchanged_is_synced : (start : List ℕ) (calls : List Call) (at : ℕ) → are_within start calls ≡ true → at < length (seen_after start calls)

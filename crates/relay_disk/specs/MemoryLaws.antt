@@ -31,11 +31,11 @@ written_outside old place octets at within (inl before) =
     get_or_append_left (take place old ++ octets) (drop (place + length octets) old) 0 at (omega (arith, begin, front))
     ∙ get_or_append_left (take place old) octets 0 at (omega (arith, begin))
     ∙ get_or-take place old at 0 before
-written_outside old place octets at within (inr behind) =
+written_outside old place octets at within (inr after) =
     let begin = length-take place old in
     let front = length-append (take place old) octets in
     get_or-append_right (take place old ++ octets) (drop (place + length octets) old) (place + length octets) at 0
-    (omega (arith, begin, front)) behind
+    (omega (arith, begin, front)) after
     ∙ get_or-drop (place + length octets) old (at - (place + length octets)) 0
     ∙ ap (λ n. get_or old n 0) (omega arith)
 

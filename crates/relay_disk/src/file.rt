@@ -177,7 +177,7 @@ impl Disk for FileDisk {
 
     fn sync(&mut self) -> Result<(), DiskFault>
         ensures failures { CountsFailure file_words self.old self.new result }
-        ensures behind { IsTrue (sync_failed self.old) → IsErr result }
+        ensures after { IsTrue (sync_failed self.old) → IsErr result }
         ensures syncs { sync_failed self.new ≡ (sync_failed self.old || is_err result) }
     {
         if self.sync_failed {

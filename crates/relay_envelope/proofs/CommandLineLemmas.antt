@@ -103,8 +103,8 @@ record EndsWell (text : List ℕ) : Type 0 where
   text_is : text ≡ front ++ last ∷ []
   is_no_blank : is_blank last ≡ false
 
-behind_well : (front back : List ℕ) → EndsWell back → EndsWell (front ++ back)
-behind_well front back ends = record {
+after_well : (front back : List ℕ) → EndsWell back → EndsWell (front ++ back)
+after_well front back ends = record {
   front = front ++ ends.front;
   last = ends.last;
   text_is = ap (λ l. front ++ l) ends.text_is ∙ sym (append_assoc front ends.front (ends.last ∷ []));
@@ -122,7 +122,7 @@ no_suffix text ends =
 
 graphic_well : (octet : ℕ) (text : List ℕ) → graphic (octet ∷ text) ≡ true → EndsWell (octet ∷ text)
 graphic_well octet [] all = record { front = []; last = octet; text_is = refl; is_no_blank = graphic_is_no_blank octet (and_parts (is_graphic octet) true all).0 }
-graphic_well octet (next ∷ text) all = behind_well (octet ∷ []) (next ∷ text) (graphic_well next text (and_parts (is_graphic octet) (graphic (next ∷ text)) all).1)
+graphic_well octet (next ∷ text) all = after_well (octet ∷ []) (next ∷ text) (graphic_well next text (and_parts (is_graphic octet) (graphic (next ∷ text)) all).1)
 
 -- a text that is printable and ends well, and a part that adds nothing or is such a text
 record IsGood (text : List ℕ) : Type 0 where
@@ -134,7 +134,7 @@ IsPartGood text = (text ≡ []) ⊎ IsGood text
 
 good_more : (front part : List ℕ) → IsGood front → IsPartGood part → IsGood (front ++ part)
 good_more front part good (inl none) = subst IsGood (sym (append-nil front) ∙ ap (λ l. front ++ l) (sym none)) good
-good_more front part good (inr more) = record { all = joined_printable front part good.all more.all; ends = behind_well front part more.ends }
+good_more front part good (inr more) = record { all = joined_printable front part good.all more.all; ends = after_well front part more.ends }
 
 written_good : (is_allowed : Path → Bool) (text : List ℕ) → IsWrittenPath is_allowed text → IsGood text
 written_good is_allowed text written =
@@ -149,7 +149,7 @@ keyword_good : (keyword value : List ℕ) → printable keyword ≡ true → 0 <
 keyword_good keyword [] a some all = absurd (omega arith)
 keyword_good keyword (octet ∷ value) a some all = record {
   all = joined_printable keyword (octet ∷ value) a (all_weaker is_graphic is_printable (octet ∷ value) graphic_is_printable all);
-  ends = behind_well keyword (octet ∷ value) (graphic_well octet value all);
+  ends = after_well keyword (octet ∷ value) (graphic_well octet value all);
 }
 
 ret_good : (ret : Option Ret) → IsPartGood (ret_text ret)

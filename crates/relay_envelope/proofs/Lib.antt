@@ -14,6 +14,6 @@ mod CommandLineLemmas
 mod RowOfWordsLemmas
 mod RowIsReadLemmas
 mod RowIsOneLemmas
-mod BehindPathLemmas
+mod AfterPathLemmas
 mod MailLemmas
 pub mod Theorems

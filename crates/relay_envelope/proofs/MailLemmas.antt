@@ -4,11 +4,11 @@ use Rattle.std.proofs.lemmas.Bool.{true≢false}
 use Rattle.relay_envelope.specs.Path.{Path, BeginsWithPath, is_forward, is_reverse}
 use Rattle.relay_envelope.specs.Parameters.{mail_parameters_of, rcpt_parameters_of}
 use Rattle.relay_envelope.specs.ParameterRow.{SaysMail, SaysRcpt}
-use Rattle.relay_envelope.specs.Mail.{HasBadPath, IsBehindPath, MailIsOne, MailIsSome, RcptIsOne, RcptIsSome, mail_of, rcpt_of}
+use Rattle.relay_envelope.specs.Mail.{HasBadPath, IsAfterPath, MailIsOne, MailIsSome, RcptIsOne, RcptIsSome, mail_of, rcpt_of}
 use Rattle.relay_envelope.specs.declared.fault.EnvelopeFault.{EnvelopeFault}
 use Rattle.relay_envelope.specs.declared.fault.EnvelopeFault.TheVariants.{BadPath}
 use Rattle.relay_envelope.proofs.PathLemmas.{path_is_one}
-use Rattle.relay_envelope.proofs.BehindPathLemmas.{behind_mail, behind_rcpt, mail_is_read_so, rcpt_is_read_so}
+use Rattle.relay_envelope.proofs.AfterPathLemmas.{after_mail, after_rcpt, mail_is_read_so, rcpt_is_read_so}
 
 -- where the text begins with a path that may not stand there, none that may does
 pub none_allowed : (is_allowed : Path → Bool) (text : List ℕ) (path : Path) (rest : List ℕ) → BeginsWithPath text path rest
@@ -17,28 +17,28 @@ none_allowed is_allowed text path rest begins refused other more also =
     ap is_allowed (sym (path_is_one text path rest other more begins also).0) ∙ refused
 
 -- a text whose path is bad begins with none that may stand there
-bad_or_behind : {P A : Type 0} (is_allowed : Path → Bool) (row_says : List (List ℕ) → Result P EnvelopeFault → Type 0)
+bad_or_after : {P A : Type 0} (is_allowed : Path → Bool) (row_says : List (List ℕ) → Result P EnvelopeFault → Type 0)
     (joined : Path → Result P EnvelopeFault → Result A EnvelopeFault) (text : List ℕ) (one two : Result A EnvelopeFault)
-    → HasBadPath is_allowed text one → IsBehindPath is_allowed row_says joined text two → ⊥
-bad_or_behind is_allowed row_says joined text one two bad behind =
-    true≢false (sym behind.allowed ∙ bad.none_allowed behind.path behind.rest behind.begins)
+    → HasBadPath is_allowed text one → IsAfterPath is_allowed row_says joined text two → ⊥
+bad_or_after is_allowed row_says joined text one two bad after =
+    true≢false (sym after.allowed ∙ bad.none_allowed after.path after.rest after.begins)
 
 -- where each row after a path is read in one way, a text has one reading
 reading_is_one : {P A : Type 0} (is_allowed : Path → Bool) (row_says : List (List ℕ) → Result P EnvelopeFault → Type 0)
     (joined : Path → Result P EnvelopeFault → Result A EnvelopeFault) (read : List ℕ → Result P EnvelopeFault)
-    → ((text : List ℕ) (result : Result A EnvelopeFault) (behind : IsBehindPath is_allowed row_says joined text result)
-    → behind.parameters ≡ read behind.rest)
+    → ((text : List ℕ) (result : Result A EnvelopeFault) (after : IsAfterPath is_allowed row_says joined text result)
+    → after.parameters ≡ read after.rest)
     → (text : List ℕ) (one two : Result A EnvelopeFault)
-    → HasBadPath is_allowed text one ⊎ IsBehindPath is_allowed row_says joined text one
-    → HasBadPath is_allowed text two ⊎ IsBehindPath is_allowed row_says joined text two → one ≡ two
+    → HasBadPath is_allowed text one ⊎ IsAfterPath is_allowed row_says joined text one
+    → HasBadPath is_allowed text two ⊎ IsAfterPath is_allowed row_says joined text two → one ≡ two
 reading_is_one is_allowed row_says joined read is_read text one two (inl bad) (inl worse) = bad.result_is ∙ sym worse.result_is
-reading_is_one is_allowed row_says joined read is_read text one two (inl bad) (inr behind) =
-    absurd (bad_or_behind is_allowed row_says joined text one two bad behind)
-reading_is_one is_allowed row_says joined read is_read text one two (inr behind) (inl bad) =
-    absurd (bad_or_behind is_allowed row_says joined text two one bad behind)
-reading_is_one is_allowed row_says joined read is_read text one two (inr behind) (inr other) =
-    let same = path_is_one text behind.path behind.rest other.path other.rest behind.begins other.begins in
-    behind.result_is ∙ ap (joined behind.path) (is_read text one behind) ∙ ap (λ path. joined path (read behind.rest)) same.0
+reading_is_one is_allowed row_says joined read is_read text one two (inl bad) (inr after) =
+    absurd (bad_or_after is_allowed row_says joined text one two bad after)
+reading_is_one is_allowed row_says joined read is_read text one two (inr after) (inl bad) =
+    absurd (bad_or_after is_allowed row_says joined text two one bad after)
+reading_is_one is_allowed row_says joined read is_read text one two (inr after) (inr other) =
+    let same = path_is_one text after.path after.rest other.path other.rest after.begins other.begins in
+    after.result_is ∙ ap (joined after.path) (is_read text one after) ∙ ap (λ path. joined path (read after.rest)) same.0
     ∙ ap (λ rest. joined other.path (read rest)) same.1 ∙ ap (joined other.path) (sym (is_read text two other)) ∙ sym other.result_is
 
 pub mail_is_one : MailIsOne
@@ -57,13 +57,13 @@ false_by false never = refl
 pub mail_is_some : MailIsSome
 mail_is_some text none =
     none (Err BadPath) (inl (record {
-      none_allowed = λ path rest begins. false_by (is_reverse path) (λ allowed. none (mail_of path (mail_parameters_of rest)) (inr (behind_mail text path rest begins allowed)));
+      none_allowed = λ path rest begins. false_by (is_reverse path) (λ allowed. none (mail_of path (mail_parameters_of rest)) (inr (after_mail text path rest begins allowed)));
       result_is = refl;
     }))
 
 pub rcpt_is_some : RcptIsSome
 rcpt_is_some text none =
     none (Err BadPath) (inl (record {
-      none_allowed = λ path rest begins. false_by (is_forward path) (λ allowed. none (rcpt_of path (rcpt_parameters_of rest)) (inr (behind_rcpt text path rest begins allowed)));
+      none_allowed = λ path rest begins. false_by (is_forward path) (λ allowed. none (rcpt_of path (rcpt_parameters_of rest)) (inr (after_rcpt text path rest begins allowed)));
       result_is = refl;
     }))

@@ -11,16 +11,16 @@ use Rattle.relay_envelope.specs.declared.fault.EnvelopeFault.{EnvelopeFault}
 use Rattle.relay_envelope.specs.declared.parameters.Outcomes.{Outcomes}
 
 -- after a first part
-pub each_more : {A : Type 0} (with_one : List ℕ → A → Result A EnvelopeFault) (octet : ℕ) (text word behind : List ℕ) (old new : A) → FirstPart octet text word behind → Ok new ≡ with_one word old → with_each with_one (slice_split (is_octet octet) text) old ≡ with_each with_one (slice_split (is_octet octet) behind) new
-each_more with_one octet text word behind old new first e =
+pub each_more : {A : Type 0} (with_one : List ℕ → A → Result A EnvelopeFault) (octet : ℕ) (text word after : List ℕ) (old new : A) → FirstPart octet text word after → Ok new ≡ with_one word old → with_each with_one (slice_split (is_octet octet) text) old ≡ with_each with_one (slice_split (is_octet octet) after) new
+each_more with_one octet text word after old new first e =
     ap (λ parts. with_each with_one parts old) first.parts
-    ∙ ap (λ r. and_then (λ next. with_each with_one (slice_split (is_octet octet) behind) next) r) (sym e)
+    ∙ ap (λ r. and_then (λ next. with_each with_one (slice_split (is_octet octet) after) next) r) (sym e)
 
 -- a fault in the first part
-pub each_fault : {A : Type 0} (with_one : List ℕ → A → Result A EnvelopeFault) (octet : ℕ) (text word behind : List ℕ) (old : A) (fault : EnvelopeFault) → FirstPart octet text word behind → Err fault ≡ with_one word old → with_each with_one (slice_split (is_octet octet) text) old ≡ Err fault
-each_fault with_one octet text word behind old fault first e =
+pub each_fault : {A : Type 0} (with_one : List ℕ → A → Result A EnvelopeFault) (octet : ℕ) (text word after : List ℕ) (old : A) (fault : EnvelopeFault) → FirstPart octet text word after → Err fault ≡ with_one word old → with_each with_one (slice_split (is_octet octet) text) old ≡ Err fault
+each_fault with_one octet text word after old fault first e =
     ap (λ parts. with_each with_one parts old) first.parts
-    ∙ ap (λ r. and_then (λ next. with_each with_one (slice_split (is_octet octet) behind) next) r) (sym e)
+    ∙ ap (λ r. and_then (λ next. with_each with_one (slice_split (is_octet octet) after) next) r) (sym e)
 
 and_then-ok : {A : Type 0} (result : Result A EnvelopeFault) → and_then (λ value. Ok value) result ≡ result
 and_then-ok (Ok value) = refl
@@ -32,10 +32,10 @@ each_last with_one octet text old one =
     ap (λ parts. with_each with_one parts old) one.parts ∙ and_then-ok (with_one text old)
 
 -- outcomes after a first word
-pub outcomes_more : (text word behind : List ℕ) (old : Outcomes) (new : Option Outcomes) → FirstPart 44 text word behind → new ≡ with_outcome word old → with_outcomes (slice_split (is_octet 44) text) old ≡ option_and_then (λ next. with_outcomes (slice_split (is_octet 44) behind) next) new
-outcomes_more text word behind old new first e =
+pub outcomes_more : (text word after : List ℕ) (old : Outcomes) (new : Option Outcomes) → FirstPart 44 text word after → new ≡ with_outcome word old → with_outcomes (slice_split (is_octet 44) text) old ≡ option_and_then (λ next. with_outcomes (slice_split (is_octet 44) after) next) new
+outcomes_more text word after old new first e =
     ap (λ parts. with_outcomes parts old) first.parts
-    ∙ ap (λ o. option_and_then (λ next. with_outcomes (slice_split (is_octet 44) behind) next) o) (sym e)
+    ∙ ap (λ o. option_and_then (λ next. with_outcomes (slice_split (is_octet 44) after) next) o) (sym e)
 
 some_then : (outcomes : Option Outcomes) → option_and_then (λ next. Some next) outcomes ≡ outcomes
 some_then None = refl

@@ -12,7 +12,7 @@ use Rattle.std.proofs.lemmas.Bool.Decides.{nat_tests}
 use Rattle.memchr.specs.Find.{NoneAfter, Passes, IsLastByte, is_byte}
 use Rattle.relay_lines.specs.Word.{is_space, is_domain_octet, is_literal_octet, are_domain_octets}
 use Rattle.relay_envelope.specs.Row.{IsRow, is_plain}
-use Rattle.relay_envelope.specs.Mailbox.{IsDomain, IsLocalPart, IsMailbox, IsPostmaster, IsSourceRoute, SplitsAtLast, SplitsBehindBracket, SplitsRoute, address_text, begins_with_at, in_brackets, mailbox_text, stands_in}
+use Rattle.relay_envelope.specs.Mailbox.{IsDomain, IsLocalPart, IsMailbox, IsPostmaster, IsSourceRoute, SplitsAtLast, SplitsAfterBracket, SplitsRoute, address_text, begins_with_at, in_brackets, mailbox_text, stands_in}
 use Rattle.relay_envelope.specs.Path.{Path, BeginsWithPath, IsPath, PathIsOne, body_of, path_text, stands_apart}
 use Rattle.relay_envelope.specs.Path.Path.{Null, Postmaster, Mailbox}
 use Rattle.relay_envelope.proofs.RowLemmas.{row_is_one, row_joined, row_weaker, plain_octets, plain_row, empty_row}
@@ -203,8 +203,8 @@ skipped (octet ∷ spaces) tail h =
     ∙ ap (λ n. drop n (octet ∷ (spaces ++ 60 ∷ tail))) more ∙ skipped spaces tail parts.1
 
 -- after its spaces a text is the path and the rest
-behind_spaces : (text : List ℕ) (path : Path) (rest : List ℕ) → BeginsWithPath text path rest → drop (prefix_len is_space text) text ≡ 60 ∷ (body_of path ++ 62 ∷ rest)
-behind_spaces text path rest begins =
+after_spaces : (text : List ℕ) (path : Path) (rest : List ℕ) → BeginsWithPath text path rest → drop (prefix_len is_space text) text ≡ 60 ∷ (body_of path ++ 62 ∷ rest)
+after_spaces text path rest begins =
     let path_is : path_text path ++ rest ≡ 60 ∷ (body_of path ++ 62 ∷ rest) = ap (λ l. 60 ∷ l) (append_assoc (body_of path) (62 ∷ []) rest) in
     let whole : text ≡ begins.spaces ++ 60 ∷ (body_of path ++ 62 ∷ rest) =
     begins.text_is ∙ append_assoc begins.spaces (path_text path) rest ∙ ap (λ l. begins.spaces ++ l) path_is in
@@ -214,19 +214,19 @@ behind_spaces text path rest begins =
 -- without a row in brackets no path begins
 pub no_bracket : (text : List ℕ) (path : Path) (rest : List ℕ) → ((row : List ℕ) (more : List ℕ) → IsRow 62 row → drop (prefix_len is_space text) text ≢ 60 ∷ row ++ 62 ∷ more) → BeginsWithPath text path rest → ⊥
 no_bracket text path rest none begins =
-    none (body_of path) rest (body_row path begins.valid) (behind_spaces text path rest begins)
+    none (body_of path) rest (body_row path begins.valid) (after_spaces text path rest begins)
 
 -- the row in brackets that a text begins with is the path
-pub split_is_path : (text front back : List ℕ) (path : Path) (rest : List ℕ) → SplitsBehindBracket (drop (prefix_len is_space text) text) front back → BeginsWithPath text path rest → (front ≡ path_text path) × (back ≡ rest)
+pub split_is_path : (text front back : List ℕ) (path : Path) (rest : List ℕ) → SplitsAfterBracket (drop (prefix_len is_space text) text) front back → BeginsWithPath text path rest → (front ≡ path_text path) × (back ≡ rest)
 split_is_path text front back path rest split begins =
     let around : drop (prefix_len is_space text) text ≡ 60 ∷ (split.row ++ 62 ∷ back) =
     split.text_is ∙ ap (λ l. l ++ back) split.front_is ∙ ap (λ l. 60 ∷ l) (append_assoc split.row (62 ∷ []) back) in
     let same = row_is_one 62 split.row back (body_of path) rest bracket_no_quote split.is_row (body_row path begins.valid)
-    (ap (drop 1) (sym around ∙ behind_spaces text path rest begins)) in
+    (ap (drop 1) (sym around ∙ after_spaces text path rest begins)) in
     (split.front_is ∙ ap in_brackets same.0, same.1)
 
 -- where that row is a path, and the rest stands apart, the text begins with the path
-pub begins_with_path : (text front back : List ℕ) (path : Path) → SplitsBehindBracket (drop (prefix_len is_space text) text) front back → IsPath path → front ≡ path_text path → stands_apart back ≡ true → BeginsWithPath text path back
+pub begins_with_path : (text front back : List ℕ) (path : Path) → SplitsAfterBracket (drop (prefix_len is_space text) text) front back → IsPath path → front ≡ path_text path → stands_apart back ≡ true → BeginsWithPath text path back
 begins_with_path text front back path split valid e apart = record {
   spaces = take (prefix_len is_space text) text;
   are_spaces = λ k d h.
@@ -285,5 +285,5 @@ path_by_body (Mailbox route local domain) (Mailbox other front back) valid well 
 pub path_is_one : PathIsOne
 path_is_one text path rest other more one two =
     let same = row_is_one 62 (body_of path) rest (body_of other) more bracket_no_quote (body_row path one.valid) (body_row other two.valid)
-    (ap (drop 1) (sym (behind_spaces text path rest one) ∙ behind_spaces text other more two)) in
+    (ap (drop 1) (sym (after_spaces text path rest one) ∙ after_spaces text other more two)) in
     (path_by_body path other one.valid two.valid same.0, same.1)

@@ -37,11 +37,11 @@ same_place keyword (x ∷ xs) word ys (x' ∷ xs') word' ys' e none none' here h
 
 module _ {V : Type 0} (keyword : List ℕ) (read : List ℕ → Option V) where
   one_or_none : (words : List (List ℕ)) (value : V) → OneHas keyword read words value → NoneHas keyword words → ⊥
-  one_or_none words value o none = none_here keyword words o.before o.word o.behind none o.words_are o.here
+  one_or_none words value o none = none_here keyword words o.before o.word o.after none o.words_are o.here
 
   one_value : (words : List (List ℕ)) (value other : V) → OneHas keyword read words value → OneHas keyword read words other → Some value ≡ Some other
   one_value words value other o p =
-      let same = same_place keyword o.before o.word o.behind p.before p.word p.behind (sym o.words_are ∙ p.words_are) o.none_before p.none_before o.here p.here in
+      let same = same_place keyword o.before o.word o.after p.before p.word p.after (sym o.words_are ∙ p.words_are) o.none_before p.none_before o.here p.here in
       sym o.value_is ∙ ap (λ (l : List ℕ). read (value_of_word l)) same.0 ∙ p.value_is
 
   given_one : (words : List (List ℕ)) (one two : Option V) → IsGiven keyword read words one → IsGiven keyword read words two → one ≡ two
@@ -51,18 +51,18 @@ module _ {V : Type 0} (keyword : List ℕ) (read : List ℕ → Option V) where
   given_one words (Some value) (Some other) g h = one_value words value other g h
 
   -- the keyword stands here and before
-  twice : (words : List (List ℕ)) (given : Option V) (before : List (List ℕ)) (word : List ℕ) (behind : List (List ℕ)) → words ≡ before ++ word ∷ behind → IsGiven keyword read words given → has_keyword keyword word ≡ true → (value : V) → OneHas keyword read before value → ⊥
-  twice words None before word behind parts none here value o = none_here keyword words before word behind none parts here
-  twice words (Some first) before word behind parts p here value o =
-      let e = sym p.words_are ∙ parts ∙ ap (λ l. l ++ word ∷ behind) o.words_are ∙ append_assoc o.before (o.word ∷ o.behind) (word ∷ behind) in
-      let same = same_place keyword p.before p.word p.behind o.before o.word (o.behind ++ word ∷ behind) e p.none_before o.none_before p.here o.here in
-      none_here keyword p.behind o.behind word behind p.none_behind same.1 here
+  twice : (words : List (List ℕ)) (given : Option V) (before : List (List ℕ)) (word : List ℕ) (after : List (List ℕ)) → words ≡ before ++ word ∷ after → IsGiven keyword read words given → has_keyword keyword word ≡ true → (value : V) → OneHas keyword read before value → ⊥
+  twice words None before word after parts none here value o = none_here keyword words before word after none parts here
+  twice words (Some first) before word after parts p here value o =
+      let e = sym p.words_are ∙ parts ∙ ap (λ l. l ++ word ∷ after) o.words_are ∙ append_assoc o.before (o.word ∷ o.after) (word ∷ after) in
+      let same = same_place keyword p.before p.word p.after o.before o.word (o.after ++ word ∷ after) e p.none_before o.none_before p.here o.here in
+      none_here keyword p.after o.after word after p.none_after same.1 here
 
   -- the keyword stands here alone, with a value that is none
-  badly : (words : List (List ℕ)) (given : Option V) (before : List (List ℕ)) (word : List ℕ) (behind : List (List ℕ)) → words ≡ before ++ word ∷ behind → IsGiven keyword read words given → HasBadValue keyword read before word → ⊥
-  badly words None before word behind parts none b = none_here keyword words before word behind none parts b.0
-  badly words (Some value) before word behind parts p b =
-      let same = same_place keyword p.before p.word p.behind before word behind (sym p.words_are ∙ parts) p.none_before b.1 p.here b.0 in
+  badly : (words : List (List ℕ)) (given : Option V) (before : List (List ℕ)) (word : List ℕ) (after : List (List ℕ)) → words ≡ before ++ word ∷ after → IsGiven keyword read words given → HasBadValue keyword read before word → ⊥
+  badly words None before word after parts none b = none_here keyword words before word after none parts b.0
+  badly words (Some value) before word after parts p b =
+      let same = same_place keyword p.before p.word p.after before word after (sym p.words_are ∙ parts) p.none_before b.1 p.here b.0 in
       let some : read (value_of_word word) ≡ Some value = ap (λ (l : List ℕ). read (value_of_word l)) (sym same.0) ∙ p.value_is in
       let bad : read (value_of_word word) ≡ None = b.2 in
       cc
@@ -73,10 +73,10 @@ Meets xs word xs' word' =
     ((xs ≡ xs') × (word ≡ word'))
     ⊎ (((m : List (List ℕ)) × (xs' ≡ xs ++ word ∷ m)) ⊎ ((m : List (List ℕ)) × (xs ≡ xs' ++ word' ∷ m)))
 
-meets_behind : (x x' : List ℕ) (xs : List (List ℕ)) (word : List ℕ) (xs' : List (List ℕ)) (word' : List ℕ) → x ≡ x' → Meets xs word xs' word' → Meets (x ∷ xs) word (x' ∷ xs') word'
-meets_behind x x' xs word xs' word' e (inl same) = let front = same.0 in inl (cc, same.1)
-meets_behind x x' xs word xs' word' e (inr (inl more)) = let front = more.1 in inr (inl (more.0, cc))
-meets_behind x x' xs word xs' word' e (inr (inr more)) = let front = more.1 in inr (inr (more.0, cc))
+meets_after : (x x' : List ℕ) (xs : List (List ℕ)) (word : List ℕ) (xs' : List (List ℕ)) (word' : List ℕ) → x ≡ x' → Meets xs word xs' word' → Meets (x ∷ xs) word (x' ∷ xs') word'
+meets_after x x' xs word xs' word' e (inl same) = let front = same.0 in inl (cc, same.1)
+meets_after x x' xs word xs' word' e (inr (inl more)) = let front = more.1 in inr (inl (more.0, cc))
+meets_after x x' xs word xs' word' e (inr (inr more)) = let front = more.1 in inr (inr (more.0, cc))
 
 meet : (xs : List (List ℕ)) (word : List ℕ) (ys xs' : List (List ℕ)) (word' : List ℕ) (ys' : List (List ℕ)) → xs ++ word ∷ ys ≡ xs' ++ word' ∷ ys' → Meets xs word xs' word'
 meet [] word ys [] word' ys' e = inl (refl, cc)
@@ -85,7 +85,7 @@ meet (x ∷ xs) word ys [] word' ys' e = let head : x ≡ word' = cc in inr (inr
 meet (x ∷ xs) word ys (x' ∷ xs') word' ys' e =
     let head : x ≡ x' = cc in
     let tail : xs ++ word ∷ ys ≡ xs' ++ word' ∷ ys' = cc in
-    meets_behind x x' xs word xs' word' head (meet xs word ys xs' word' ys' tail)
+    meets_after x x' xs word xs' word' head (meet xs word ys xs' word' ys' tail)
 
 module _ {V W : Type 0} (first second : List ℕ) (read_first : List ℕ → Option V) (read_second : List ℕ → Option W) where
   known_or_not : (word : List ℕ) → IsKnown first second word → (word ≢ []) → has_keyword first word ≡ false → has_keyword second word ≡ false → ⊥
@@ -93,18 +93,18 @@ module _ {V W : Type 0} (first second : List ℕ) (read_first : List ℕ → Opt
   known_or_not word (inr (inl here)) some one two = cc
   known_or_not word (inr (inr here)) some one two = cc
 
-  no_fault_by : (words : List (List ℕ)) (one : Option V) (two : Option W) (before : List (List ℕ)) (word : List ℕ) (behind : List (List ℕ)) (fault : EnvelopeFault) → words ≡ before ++ word ∷ behind → Gives first second read_first read_second words one two → IsFaulty first second read_first read_second before word fault → ⊥
-  no_fault_by words one two before word behind BadPath parts g faulty = faulty
-  no_fault_by words one two before word behind UnknownParameter parts g faulty =
-      known_or_not word (all_at (IsKnown first second) before word behind (subst (λ (l : List (List ℕ)). AllByRecursion (IsKnown first second) l) parts g.known)) faulty.0 faulty.1 faulty.2
-  no_fault_by words one two before word behind Repeated parts g (inl r) = twice first read_first words one before word behind parts g.first_is r.0 r.1.0 r.1.1
-  no_fault_by words one two before word behind Repeated parts g (inr r) = twice second read_second words two before word behind parts g.second_is r.0 r.1.0 r.1.1
-  no_fault_by words one two before word behind BadValue parts g (inl b) = badly first read_first words one before word behind parts g.first_is b
-  no_fault_by words one two before word behind BadValue parts g (inr b) = badly second read_second words two before word behind parts g.second_is b
+  no_fault_by : (words : List (List ℕ)) (one : Option V) (two : Option W) (before : List (List ℕ)) (word : List ℕ) (after : List (List ℕ)) (fault : EnvelopeFault) → words ≡ before ++ word ∷ after → Gives first second read_first read_second words one two → IsFaulty first second read_first read_second before word fault → ⊥
+  no_fault_by words one two before word after BadPath parts g faulty = faulty
+  no_fault_by words one two before word after UnknownParameter parts g faulty =
+      known_or_not word (all_at (IsKnown first second) before word after (subst (λ (l : List (List ℕ)). AllByRecursion (IsKnown first second) l) parts g.known)) faulty.0 faulty.1 faulty.2
+  no_fault_by words one two before word after Repeated parts g (inl r) = twice first read_first words one before word after parts g.first_is r.0 r.1.0 r.1.1
+  no_fault_by words one two before word after Repeated parts g (inr r) = twice second read_second words two before word after parts g.second_is r.0 r.1.0 r.1.1
+  no_fault_by words one two before word after BadValue parts g (inl b) = badly first read_first words one before word after parts g.first_is b
+  no_fault_by words one two before word after BadValue parts g (inr b) = badly second read_second words two before word after parts g.second_is b
 
   -- a row that gives values has no fault
   pub no_fault : (words : List (List ℕ)) (one : Option V) (two : Option W) (fault : EnvelopeFault) → Gives first second read_first read_second words one two → HasFault first second read_first read_second words fault → ⊥
-  no_fault words one two fault g h = no_fault_by words one two h.before h.word h.behind fault h.words_are g h.is_faulty
+  no_fault words one two fault g h = no_fault_by words one two h.before h.word h.after fault h.words_are g h.is_faulty
 
   named_repeated : (before : List (List ℕ)) (word : List ℕ) → (has_keyword first word ≡ false) → (has_keyword second word ≡ false) → (IsRepeated first read_first before word ⊎ IsRepeated second read_second before word) → ⊥
   named_repeated before word one two (inl r) = let here = r.0 in cc
@@ -148,7 +148,7 @@ module _ {V W : Type 0} (first second : List ℕ) (read_first : List ℕ → Opt
 
     -- a row has one fault
     pub one_fault : (words : List (List ℕ)) (one two : EnvelopeFault) → HasFault first second read_first read_second words one → HasFault first second read_first read_second words two → one ≡ two
-    one_fault words one two f g = fault_by words one two f g (meet f.before f.word f.behind g.before g.word g.behind (sym f.words_are ∙ g.words_are))
+    one_fault words one two f g = fault_by words one two f g (meet f.before f.word f.after g.before g.word g.after (sym f.words_are ∙ g.words_are))
 
 mail_same : (one two : MailParameters) → one.ret ≡ two.ret → one.envid ≡ two.envid → one ≡ two
 mail_same one two ret envid =

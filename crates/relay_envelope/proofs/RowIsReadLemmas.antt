@@ -118,7 +118,7 @@ module _ {A V W : Type 0} (k : Keywords A V W) where
   then_rest before word words old g (Err fault) step rest = record {
     before = before;
     word = word;
-    behind = words;
+    after = words;
     words_are = refl;
     one = k.one_of old;
     two = k.two_of old;
@@ -191,21 +191,21 @@ rcpt_keywords = record {
 }
 
 -- a second keyword's value as it was written, after the tests before it
-alike_behind : {A : Type 0} (given : Bool) (put : List ℕ → A) (value : List ℕ) (test : Bool) (empty first second : Bool) (old : A) (other : Result A EnvelopeFault)
+alike_after : {A : Type 0} (given : Bool) (put : List ℕ → A) (value : List ℕ) (test : Bool) (empty first second : Bool) (old : A) (other : Result A EnvelopeFault)
     → (if empty then Ok old else (if first then other else (if second then (if given then Err Repeated else (if test then Ok (put value) else Err BadValue)) else Err UnknownParameter)))
     ≡ (if empty then Ok old else (if first then other else (if second then (if given then Err Repeated else ok_or (option_map put (if test then Some value else None)) BadValue) else Err UnknownParameter)))
-alike_behind given put value test empty first second old other =
+alike_after given put value test empty first second old other =
     ap (λ r. if empty then Ok old else (if first then other else (if second then (if given then Err Repeated else r) else Err UnknownParameter))) (by_test put value test)
 
 mail_alike : (word : List ℕ) (old : MailParameters) → with_mail_parameter word old ≡ with_word mail_keywords word old
 unfolding with_mail_parameter mail_keywords
 mail_alike word old =
-    alike_behind (is_some old.envid) (λ envid. record old { envid = Some envid }) (value_of_word word) (is_envid (value_of_word word)) (length word == 0) (has_keyword (codes "RET") word) (has_keyword (codes "ENVID") word) old _
+    alike_after (is_some old.envid) (λ envid. record old { envid = Some envid }) (value_of_word word) (is_envid (value_of_word word)) (length word == 0) (has_keyword (codes "RET") word) (has_keyword (codes "ENVID") word) old _
 
 rcpt_alike : (word : List ℕ) (old : RcptParameters) → with_rcpt_parameter word old ≡ with_word rcpt_keywords word old
 unfolding with_rcpt_parameter rcpt_keywords
 rcpt_alike word old =
-    alike_behind (is_some old.orcpt) (λ orcpt. record old { orcpt = Some orcpt }) (value_of_word word) (is_orcpt (value_of_word word)) (length word == 0) (has_keyword (codes "NOTIFY") word) (has_keyword (codes "ORCPT") word) old _
+    alike_after (is_some old.orcpt) (λ orcpt. record old { orcpt = Some orcpt }) (value_of_word word) (is_orcpt (value_of_word word)) (length word == 0) (has_keyword (codes "NOTIFY") word) (has_keyword (codes "ORCPT") word) old _
 
 mail_says : (words : List (List ℕ)) (read : Result MailParameters EnvelopeFault) → Says mail_keywords words read → SaysMail words read
 unfolding mail_keywords

@@ -79,7 +79,7 @@ record InString (stop : ℕ) (front : List ℕ) : Type 0 where
   front_is : front ≡ flat_map content_text contents ++ 34 ∷ row
 
 -- a printable octet, and the rest of a quoted string
-record BehindEscape (stop : ℕ) (front : List ℕ) : Type 0 where
+record AfterEscape (stop : ℕ) (front : List ℕ) : Type 0 where
   octet : ℕ
   rest : List ℕ
   printable : is_printable octet ≡ true
@@ -90,7 +90,7 @@ record BehindEscape (stop : ℕ) (front : List ℕ) : Type 0 where
 abbrev Continues : ℕ → Place → List ℕ → Type 0
 Continues stop Outside front = IsRow stop front
 Continues stop Inside front = InString stop front
-Continues stop Escaped front = BehindEscape stop front
+Continues stop Escaped front = AfterEscape stop front
 
 -- the octet that ends a row
 abbrev EndsRow : ℕ → List ℕ → Type 0
@@ -194,15 +194,15 @@ stands_one_more stop place octet text n next (Some m) more f e later =
     let same : suc m ≡ n = cc in
     subst (Stands stop place (octet ∷ text)) same (record { front = step_back stop place octet next (take m text) more f stands.front; back = stands.back })
 
-stands_behind : (stop : ℕ) (place : Place) (octet : ℕ) (text : List ℕ) (n : ℕ) (after : Option Place) (len : Place → Option ℕ) → is_outside place && (octet == stop) ≡ false → place_after place octet ≡ after → one_more (option_and_then len after) ≡ Some n → ((next : Place) (m : ℕ) → len next ≡ Some m → Stands stop next text m) → Stands stop place (octet ∷ text) n
-stands_behind stop place octet text n None len more f e later = absurd (let no : ⊥ = cc in no)
-stands_behind stop place octet text n (Some next) len more f e later =
+stands_after : (stop : ℕ) (place : Place) (octet : ℕ) (text : List ℕ) (n : ℕ) (after : Option Place) (len : Place → Option ℕ) → is_outside place && (octet == stop) ≡ false → place_after place octet ≡ after → one_more (option_and_then len after) ≡ Some n → ((next : Place) (m : ℕ) → len next ≡ Some m → Stands stop next text m) → Stands stop place (octet ∷ text) n
+stands_after stop place octet text n None len more f e later = absurd (let no : ⊥ = cc in no)
+stands_after stop place octet text n (Some next) len more f e later =
     stands_one_more stop place octet text n next (len next) more f e (λ m g. later next m g)
 
 stands_from_test : (stop : ℕ) (place : Place) (octet : ℕ) (text : List ℕ) (n : ℕ) (test : Bool) → is_outside place && (octet == stop) ≡ test → (if test then Some 0 else one_more (option_and_then (λ next. row_len_from stop next text) (place_after place octet))) ≡ Some n → ((next : Place) (m : ℕ) → row_len_from stop next text ≡ Some m → Stands stop next text m) → Stands stop place (octet ∷ text) n
 stands_from_test stop place octet text n true h e later = stands_at_stop stop place octet text n h e
 stands_from_test stop place octet text n false h e later =
-    stands_behind stop place octet text n (place_after place octet) (λ next. row_len_from stop next text) h refl e later
+    stands_after stop place octet text n (place_after place octet) (λ next. row_len_from stop next text) h refl e later
 
 stands_from_len : (stop : ℕ) (text : List ℕ) (place : Place) (n : ℕ) → row_len_from stop place text ≡ Some n → Stands stop place text n
 unfolding row_len_from
@@ -244,9 +244,9 @@ string_len stop (Text octet ∷ contents) rest valid =
     ∙ ap one_more (string_len stop contents rest valid.1)
     ∙ one_more-counted (suc (length (flat_map content_text contents))) (row_len_from stop Outside rest)
 string_len stop (Pair octet ∷ contents) rest valid =
-    let behind = flat_map content_text contents ++ 34 ∷ rest in
-    row_len-on stop Inside 92 (octet ∷ behind) Escaped refl refl
-    ∙ ap one_more (row_len-on stop Escaped octet behind Inside refl (cond-true (is_printable octet) _ _ valid.0)
+    let afterwards = flat_map content_text contents ++ 34 ∷ rest in
+    row_len-on stop Inside 92 (octet ∷ afterwards) Escaped refl refl
+    ∙ ap one_more (row_len-on stop Escaped octet afterwards Inside refl (cond-true (is_printable octet) _ _ valid.0)
     ∙ ap one_more (string_len stop contents rest valid.1)
     ∙ one_more-counted (suc (length (flat_map content_text contents))) (row_len_from stop Outside rest))
     ∙ one_more-counted (suc (suc (length (flat_map content_text contents)))) (row_len_from stop Outside rest)

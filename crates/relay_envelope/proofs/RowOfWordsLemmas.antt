@@ -46,11 +46,11 @@ given_as_before keyword read before word None none other = all_append _ before (
 given_as_before keyword read before word (Some value) one other = record {
   before = one.before;
   word = one.word;
-  behind = one.behind ++ word ∷ [];
-  words_are = ap (λ l. l ++ word ∷ []) one.words_are ∙ append_assoc one.before (one.word ∷ one.behind) (word ∷ []);
+  after = one.after ++ word ∷ [];
+  words_are = ap (λ l. l ++ word ∷ []) one.words_are ∙ append_assoc one.before (one.word ∷ one.after) (word ∷ []);
   none_before = one.none_before;
   here = one.here;
-  none_behind = all_append _ one.behind (word ∷ []) one.none_behind (other, tt);
+  none_after = all_append _ one.after (word ∷ []) one.none_after (other, tt);
   value_is = one.value_is;
 }
 
@@ -59,11 +59,11 @@ pub given_now : {V : Type 0} (keyword : List ℕ) (read : List ℕ → Option V)
 given_now keyword read before word value none here is = record {
   before = before;
   word = word;
-  behind = [];
+  after = [];
   words_are = refl;
   none_before = none;
   here = here;
-  none_behind = tt;
+  none_after = tt;
   value_is = is;
 }
 

@@ -44,8 +44,8 @@ after_last_is text front back split =
     ap (λ m. drop m text) place ∙ ap (drop n) whole ∙ drop_at (front ++ 64 ∷ []) back n long
 
 -- what a search for the last `@` finds
-pub behind_found : (text front back : List ℕ) → SplitsAtLast 64 text front back → (list_any is_at text ≡ true) × (back ≡ after_last is_at text) × (length back ≤ length text)
-behind_found text front back split =
+pub after_found : (text front back : List ℕ) → SplitsAtLast 64 text front back → (list_any is_at text ≡ true) × (back ≡ after_last is_at text) × (length back ≤ length text)
+after_found text front back split =
     let size : length text ≡ length front + suc (length back) = ap length split.text_is ∙ length-append front (64 ∷ back) in
     (ap (list_any is_at) split.text_is ∙ stands_between 64 front back, sym (after_last_is text front back split), omega arith)
 
@@ -69,6 +69,6 @@ domain_in_is_domain_of (Mailbox route local domain) valid =
       text_is = simp append_assoc;
       last = lacks_at-end domain (domain_lacks_at domain valid.0.is_domain);
     } in
-    let found = behind_found text front (domain ++ 62 ∷ []) split in
+    let found = after_found text front (domain ++ 62 ∷ []) split in
     ap (λ b. if b then Some (without_last (after_last is_at text)) else None) found.0
     ∙ ap (λ l. Some (without_last l)) (sym found.1) ∙ ap (λ l. Some l) (without_end domain)

@@ -8,7 +8,7 @@ use Rattle.relay_lines.specs.Word.{is_word}
 use Rattle.relay_envelope.specs.Path.{Path, IsPath, is_forward, is_reverse}
 use Rattle.relay_envelope.specs.Parameters.{MailParameters, RcptParameters, and_then, is_envid, is_octet, is_orcpt, keyword_of, mail_parameters_of, no_outcomes, notify_of, rcpt_parameters_of, ret_of, value_of_word, with_each, with_envid, with_mail_parameter, with_notify, with_orcpt, with_outcome, with_outcomes, with_rcpt_parameter, with_ret}
 use Rattle.relay_envelope.specs.Mail.{Mail, Rcpt, mail_of, rcpt_of}
-use Rattle.relay_envelope.proofs.BehindPathLemmas.{mail_is_read_so, rcpt_is_read_so}
+use Rattle.relay_envelope.proofs.AfterPathLemmas.{mail_is_read_so, rcpt_is_read_so}
 use Rattle.relay_envelope.specs.Envelope.{may_be_envid, may_be_notify, may_be_orcpt, ReadMailIsValid, ReadRcptIsValid}
 use Rattle.relay_envelope.specs.declared.fault.EnvelopeFault.{EnvelopeFault}
 use Rattle.relay_envelope.specs.declared.fault.EnvelopeFault.TheVariants.{BadValue, Repeated, UnknownParameter}
@@ -172,29 +172,29 @@ rcpt_of_ok path (Err fault) rcpt e = absurd (let no : ⊥ = cc in no)
 
 pub read_mail_is_valid : ReadMailIsValid
 read_mail_is_valid text mail (inl bad) = let e = bad.result_is in absurd (let no : ⊥ = cc in no)
-read_mail_is_valid text mail (inr behind) =
-    let parts = mail_of_ok behind.path (mail_parameters_of behind.rest) mail
-    (behind.result_is ∙ ap (mail_of behind.path) (mail_is_read_so text (Ok mail) behind)) in (
+read_mail_is_valid text mail (inr afterwards) =
+    let parts = mail_of_ok afterwards.path (mail_parameters_of afterwards.rest) mail
+    (afterwards.result_is ∙ ap (mail_of afterwards.path) (mail_is_read_so text (Ok mail) afterwards)) in (
       record {
         path = mail.reverse_path;
-        valid = subst IsPath parts.0 behind.begins.valid;
-        allowed = ap is_reverse (sym parts.0) ∙ behind.allowed;
+        valid = subst IsPath parts.0 afterwards.begins.valid;
+        allowed = ap is_reverse (sym parts.0) ∙ afterwards.allowed;
         text_is = refl;
       },
-      mail_parameters_valid behind.rest mail.parameters parts.1,
+      mail_parameters_valid afterwards.rest mail.parameters parts.1,
     )
 
 pub read_rcpt_is_valid : ReadRcptIsValid
 read_rcpt_is_valid text rcpt (inl bad) = let e = bad.result_is in absurd (let no : ⊥ = cc in no)
-read_rcpt_is_valid text rcpt (inr behind) =
-    let parts = rcpt_of_ok behind.path (rcpt_parameters_of behind.rest) rcpt
-    (behind.result_is ∙ ap (rcpt_of behind.path) (rcpt_is_read_so text (Ok rcpt) behind)) in
-    let holds = rcpt_parameters_valid behind.rest rcpt.parameters parts.1 in
+read_rcpt_is_valid text rcpt (inr afterwards) =
+    let parts = rcpt_of_ok afterwards.path (rcpt_parameters_of afterwards.rest) rcpt
+    (afterwards.result_is ∙ ap (rcpt_of afterwards.path) (rcpt_is_read_so text (Ok rcpt) afterwards)) in
+    let holds = rcpt_parameters_valid afterwards.rest rcpt.parameters parts.1 in
     record {
       path = record {
         path = rcpt.path;
-        valid = subst IsPath parts.0 behind.begins.valid;
-        allowed = ap is_forward (sym parts.0) ∙ behind.allowed;
+        valid = subst IsPath parts.0 afterwards.begins.valid;
+        allowed = ap is_forward (sym parts.0) ∙ afterwards.allowed;
         text_is = refl;
       };
       notify = holds.notify;

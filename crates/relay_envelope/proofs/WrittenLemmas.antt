@@ -7,9 +7,9 @@ use Rattle.std.proofs.lemmas.List.Splits.{slice_split_none}
 use Rattle.relay_lines.specs.Word.{is_word}
 use Rattle.relay_envelope.specs.Path.{Path, BeginsWithPath, is_forward, is_reverse, stands_apart}
 use Rattle.relay_envelope.specs.Parameters.{is_orcpt, notify_of, rcpt_parameters_of, with_outcome, with_rcpt_parameter, is_envid, is_octet, mail_parameters_of, with_each, with_mail_parameter, and_then, keyword_of, value_of_word, ret_of}
-use Rattle.relay_envelope.specs.Mail.{IsBehindPath, Mail, Rcpt, mail_of, rcpt_of}
+use Rattle.relay_envelope.specs.Mail.{IsAfterPath, Mail, Rcpt, mail_of, rcpt_of}
 use Rattle.relay_envelope.specs.ParameterRow.{SaysMail, SaysRcpt}
-use Rattle.relay_envelope.proofs.BehindPathLemmas.{behind_mail, behind_rcpt}
+use Rattle.relay_envelope.proofs.AfterPathLemmas.{after_mail, after_rcpt}
 use Rattle.relay_envelope.specs.Envelope.{IsWrittenPath, envid_text, mail_text, may_be_envid, ret_text, may_be_notify, may_be_orcpt, notify_text, orcpt_text, outcomes_of, rcpt_text, MailIsReadAgain, RcptIsReadAgain}
 use Rattle.relay_envelope.specs.declared.parameters.Ret.{Ret}
 use Rattle.relay_envelope.specs.declared.parameters.Ret.TheVariants.{Full, Hdrs}
@@ -75,7 +75,7 @@ mail_is_read_again envelope valid =
     let begins = written_begins is_reverse (mail_text envelope) envelope.reverse_path rest valid.reverse_path
     (append_assoc envelope.reverse_path (ret_text envelope.ret) (envid_text envelope.envid)) (mail_rest_apart envelope.ret envelope.envid) in (
       mail,
-      inr (subst (IsBehindPath is_reverse SaysMail mail_of (mail_text envelope)) (ap (mail_of path) (mail_parameters_again envelope.ret envelope.envid valid.envid)) (behind_mail (mail_text envelope) path rest begins valid.reverse_path.allowed)),
+      inr (subst (IsAfterPath is_reverse SaysMail mail_of (mail_text envelope)) (ap (mail_of path) (mail_parameters_again envelope.ret envelope.envid valid.envid)) (after_mail (mail_text envelope) path rest begins valid.reverse_path.allowed)),
       ap (λ (text : List ℕ). let again : Envelope = record { reverse_path = text; ret = envelope.ret; envid = envelope.envid; recipients = [] } in again) (sym valid.reverse_path.text_is),
     )
 
@@ -140,6 +140,6 @@ rcpt_is_read_again recipient valid =
     let begins = written_begins is_forward (rcpt_text recipient) recipient.path rest valid.path
     (append_assoc recipient.path (notify_text recipient.notify) (orcpt_text recipient.orcpt)) (rcpt_rest_apart recipient.notify recipient.orcpt) in (
       rcpt,
-      inr (subst (IsBehindPath is_forward SaysRcpt rcpt_of (rcpt_text recipient)) (ap (rcpt_of path) (rcpt_parameters_again recipient.notify recipient.orcpt valid.notify valid.orcpt)) (behind_rcpt (rcpt_text recipient) path rest begins valid.path.allowed)),
+      inr (subst (IsAfterPath is_forward SaysRcpt rcpt_of (rcpt_text recipient)) (ap (rcpt_of path) (rcpt_parameters_again recipient.notify recipient.orcpt valid.notify valid.orcpt)) (after_rcpt (rcpt_text recipient) path rest begins valid.path.allowed)),
       ap (λ (text : List ℕ). let again : Recipient = record { path = text; notify = recipient.notify; orcpt = recipient.orcpt } in again) (sym valid.path.text_is),
     )

@@ -36,7 +36,7 @@ pub record HasBadPath {A : Type 0} (is_allowed : Path → Bool) (text : List ℕ
   pub result_is : result ≡ Err BadPath
 
 -- the text begins with a path that may stand there, and the row of words after it says these parameters, or this fault
-pub record IsBehindPath {P A : Type 0} (is_allowed : Path → Bool)
+pub record IsAfterPath {P A : Type 0} (is_allowed : Path → Bool)
     (row_says : List (List ℕ) → Result P EnvelopeFault → Type 0)
     (joined : Path → Result P EnvelopeFault → Result A EnvelopeFault) (text : List ℕ) (result : Result A EnvelopeFault)
     : Type 0 where
@@ -52,11 +52,11 @@ pub record IsBehindPath {P A : Type 0} (is_allowed : Path → Bool)
 
 -- MAIL: a reverse path, and RET and ENVID; faults are found from left to right
 abbrev pub ReadsMail : List ℕ → Result Mail EnvelopeFault → Type 0
-ReadsMail text result = HasBadPath is_reverse text result ⊎ IsBehindPath is_reverse SaysMail mail_of text result
+ReadsMail text result = HasBadPath is_reverse text result ⊎ IsAfterPath is_reverse SaysMail mail_of text result
 
 -- RCPT: a forward path, and NOTIFY and ORCPT
 abbrev pub ReadsRcpt : List ℕ → Result Rcpt EnvelopeFault → Type 0
-ReadsRcpt text result = HasBadPath is_forward text result ⊎ IsBehindPath is_forward SaysRcpt rcpt_of text result
+ReadsRcpt text result = HasBadPath is_forward text result ⊎ IsAfterPath is_forward SaysRcpt rcpt_of text result
 
 -- the octets of what the code answers
 abbrev pub mail_value : MailSliced → Mail

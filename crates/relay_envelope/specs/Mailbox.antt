@@ -70,7 +70,7 @@ pub record SplitsAtLast (octet : ℕ) (text front back : List ℕ) : Type 0 wher
   pub last : stands_in octet back ≡ false
 
 -- the text is a row in brackets, and a back
-pub record SplitsBehindBracket (text front back : List ℕ) : Type 0 where
+pub record SplitsAfterBracket (text front back : List ℕ) : Type 0 where
   pub row : List ℕ
   pub is_row : IsRow 62 row
   pub front_is : front ≡ in_brackets row

@@ -27,11 +27,11 @@ pub record OneHas {V : Type 0} (keyword : List ℕ) (read : List ℕ → Option 
     : Type 0 where
   pub before : List (List ℕ)
   pub word : List ℕ
-  pub behind : List (List ℕ)
-  pub words_are : words ≡ before ++ word ∷ behind
+  pub after : List (List ℕ)
+  pub words_are : words ≡ before ++ word ∷ after
   pub none_before : NoneHas keyword before
   pub here : has_keyword keyword word ≡ true
-  pub none_behind : NoneHas keyword behind
+  pub none_after : NoneHas keyword after
   pub value_is : read (value_of_word word) ≡ Some value
 
 -- a keyword is in the row once, with this value, or doesn't stand there
@@ -78,8 +78,8 @@ pub record HasFault {V W : Type 0} (first second : List ℕ) (read_first : List 
     (read_second : List ℕ → Option W) (words : List (List ℕ)) (fault : EnvelopeFault) : Type 0 where
   pub before : List (List ℕ)
   pub word : List ℕ
-  pub behind : List (List ℕ)
-  pub words_are : words ≡ before ++ word ∷ behind
+  pub after : List (List ℕ)
+  pub words_are : words ≡ before ++ word ∷ after
   pub one : Option V
   pub two : Option W
   pub gives : Gives first second read_first read_second before one two

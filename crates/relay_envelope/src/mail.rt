@@ -29,11 +29,11 @@ pub fn read_mail(text: &[u8]) -> Result<Mail<'_>, EnvelopeFault>
     if !is_reverse(&path) {
         return Err(EnvelopeFault::BadPath);
     }
-    behind_path(path, rest)
+    after_path(path, rest)
 }
 
 /// Returns the path with the parameters that follow it.
-fn behind_path<'a>(path: Path<'a>, rest: &'a [u8]) -> Result<Mail<'a>, EnvelopeFault>
+fn after_path<'a>(path: Path<'a>, rest: &'a [u8]) -> Result<Mail<'a>, EnvelopeFault>
     ensures { mail_reading result ≡ mail_of (value_of path.entry) (mail_parameters_of rest.now) }
 {
     match read_mail_parameters(rest) {

@@ -67,9 +67,9 @@ pub(crate) fn read_mail_parameters(text: &[u8]) -> Result<MailParameters<'_>, En
         envid: None,
     };
     let mut rest = text;
-    while let Some((word, behind)) = first_part(b' ', rest) {
+    while let Some((word, after)) = first_part(b' ', rest) {
         given = with_mail_parameter(given, word)?;
-        rest = behind;
+        rest = after;
     }
     with_mail_parameter(given, rest)
 }
@@ -84,9 +84,9 @@ pub(crate) fn read_rcpt_parameters(text: &[u8]) -> Result<RcptParameters<'_>, En
         orcpt: None,
     };
     let mut rest = text;
-    while let Some((word, behind)) = first_part(b' ', rest) {
+    while let Some((word, after)) = first_part(b' ', rest) {
         given = with_rcpt_parameter(given, word)?;
-        rest = behind;
+        rest = after;
     }
     with_rcpt_parameter(given, rest)
 }
@@ -240,9 +240,9 @@ fn outcomes_of(value: &[u8]) -> Option<Outcomes>
         delay: false,
     };
     let mut rest = value;
-    while let Some((word, behind)) = first_part(b',', rest) {
+    while let Some((word, after)) = first_part(b',', rest) {
         outcomes = with_outcome(outcomes, word)?;
-        rest = behind;
+        rest = after;
     }
     with_outcome(outcomes, rest)
 }

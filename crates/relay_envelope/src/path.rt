@@ -4,7 +4,7 @@ ghost use Rattle.std.specs.List.{prefix_len};
 ghost use Rattle.std.specs.Option.{option_copied};
 ghost use Rattle.relay_lines.specs.Word.{is_space};
 ghost use Rattle.relay_envelope.specs.Row.{IsRow};
-ghost use Rattle.relay_envelope.specs.Mailbox.{SplitsBehindBracket};
+ghost use Rattle.relay_envelope.specs.Mailbox.{SplitsAfterBracket};
 ghost use Rattle.relay_envelope.specs.Path.{Path as PathText, BeginsWithPath, IsPath, domain_in, domain_of, path_text};
 ghost use Rattle.relay_envelope.specs.Path.{stands_apart, value_of};
 
@@ -13,7 +13,7 @@ mod mailbox;
 mod postmaster;
 
 use crate::row::row_before;
-use mailbox::behind_last_at;
+use mailbox::after_last_at;
 pub use mailbox::{Mailbox, is_domain};
 pub use postmaster::Postmaster;
 
@@ -67,9 +67,9 @@ pub fn domain_in(path: &[u8]) -> Option<&[u8]>
     ensures value { option_copied result ≡ domain_in path.now }
     ensures within { IfSome result (λ domain. length domain.now ≤ length path.now) }
 {
-    let behind = behind_last_at(path)?;
-    match behind {
-        [] => Some(behind),
+    let after = after_last_at(path)?;
+    match after {
+        [] => Some(after),
         [domain @ .., _] => Some(domain),
     }
 }
@@ -80,7 +80,7 @@ pub(crate) fn begin_path(text: &[u8]) -> Option<(Path<'_>, &[u8])>
         ((path : PathText) (rest : List ℕ) → ¬ BeginsWithPath text.now path rest)
         (λ parts. BeginsWithPath text.now (value_of parts.0) parts.1.now) }
 {
-    let (front, rest) = split_behind_bracket(skip_spaces(text))?;
+    let (front, rest) = split_after_bracket(skip_spaces(text))?;
     let path = path_of(front)?;
     if is_apart(rest) {
         Some((path, rest))
@@ -105,14 +105,14 @@ fn path_of(text: &[u8]) -> Option<Path<'_>>
 }
 
 /// Returns the text to the first `>` outside a quoted string, and what follows that.
-fn split_behind_bracket(text: &[u8]) -> Option<(&[u8], &[u8])>
+fn split_after_bracket(text: &[u8]) -> Option<(&[u8], &[u8])>
     ensures { MatchOption result
         ((row : List ℕ) (rest : List ℕ) → IsRow 62 row → text.now ≢ 60 ∷ row ++ 62 ∷ rest)
-        (λ parts. SplitsBehindBracket text.now parts.0.now parts.1.now) }
+        (λ parts. SplitsAfterBracket text.now parts.0.now parts.1.now) }
 {
-    let (first, behind) = text.split_first()?;
+    let (first, after) = text.split_first()?;
     if *first == b'<' {
-        let len = row_before(b'>', behind)?;
+        let len = row_before(b'>', after)?;
         Some(text.split_at(len + 2))
     } else {
         None

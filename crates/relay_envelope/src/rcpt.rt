@@ -29,11 +29,11 @@ pub fn read_rcpt(text: &[u8]) -> Result<Rcpt<'_>, EnvelopeFault>
     if !is_forward(&path) {
         return Err(EnvelopeFault::BadPath);
     }
-    behind_path(path, rest)
+    after_path(path, rest)
 }
 
 /// Returns the path with the parameters that follow it.
-fn behind_path<'a>(path: Path<'a>, rest: &'a [u8]) -> Result<Rcpt<'a>, EnvelopeFault>
+fn after_path<'a>(path: Path<'a>, rest: &'a [u8]) -> Result<Rcpt<'a>, EnvelopeFault>
     ensures { rcpt_reading result ≡ rcpt_of (value_of path.entry) (rcpt_parameters_of rest.now) }
 {
     match read_rcpt_parameters(rest) {

@@ -61,9 +61,9 @@ impl Xtext {
     {
         let mut octets = Vec::with_capacity(alloc, text.len())?;
         let mut rest = text;
-        while let Some((octet, behind)) = first_octet(rest) {
+        while let Some((octet, after)) = first_octet(rest) {
             octets.extend_from_slice(&[octet])?;
-            rest = behind;
+            rest = after;
         }
         if rest.is_empty() {
             Ok(Octets::new(octets))
@@ -120,11 +120,11 @@ pub(crate) fn first_octet(text: &[u8]) -> Option<(u8, &[u8])>
         (text.now ≢ [] → decoded text.now ≡ None)
         (λ parts. FirstOctet text.now parts.0 parts.1.now) }
 {
-    let (first, behind) = text.split_first()?;
+    let (first, after) = text.split_first()?;
     if *first == b'+' {
-        behind_plus(behind)
+        after_plus(after)
     } else if is_xchar(*first) {
-        Some((*first, behind))
+        Some((*first, after))
     } else {
         None
     }
@@ -132,15 +132,15 @@ pub(crate) fn first_octet(text: &[u8]) -> Option<(u8, &[u8])>
 
 /// Returns the octet of the two digits after a `+`, and what follows them.
 #[tactic(auto, using(crate::proofs::XtextLemmas::decoded_digits))]
-fn behind_plus(digits: &[u8]) -> Option<(u8, &[u8])>
+fn after_plus(digits: &[u8]) -> Option<(u8, &[u8])>
     ensures { MatchOption result
         (decoded (43 ∷ digits.now) ≡ None)
         (λ parts. FirstOctet (43 ∷ digits.now) parts.0 parts.1.now) }
 {
     let (high, more) = digits.split_first()?;
-    let (low, behind) = more.split_first()?;
+    let (low, after) = more.split_first()?;
     let octet = octet_of(*high, *low)?;
-    Some((octet, behind))
+    Some((octet, after))
 }
 
 /// Returns the octet of two digits.

@@ -21,7 +21,7 @@ use Rattle.relay_events.specs.declared.fault.PairFault.{PairFault}
 use Rattle.relay_events.specs.declared.fault.PairFault.TheVariants as fault
 use Rattle.relay_events.specs.declared.seen.Seen.{Seen}
 use Rattle.relay_events.specs.declared.seen.Seen.TheVariants as seen
-use Rattle.relay_events.specs.BreakOff.{BreaksBehind}
+use Rattle.relay_events.specs.BreakOff.{BreaksAfter}
 use Rattle.relay_events.specs.FirstFault.{first_fault, names_down, unless_up}
 use Rattle.relay_hosts.specs.Host.{holds_up, is_up}
 use Rattle.relay_events.specs.Give.{HasBegun, HasBegunOn, IsFirstWork, IsWhyNotBegun, LeadsOn}
@@ -31,7 +31,7 @@ use Rattle.relay_events.specs.Happened.{HasHappened}
 use Rattle.relay_events.specs.Relays.{AreBound}
 use Rattle.relay_hosts.specs.Room.{HasRoom, lines_left, lines_to_come}
 use Rattle.relay_events.specs.Step.{BreaksUnstarted, IsSeen, Refuses, RefusesToOpen, RefusesToStart, Shows, StartsAtNode, Steps, fault_of}
-use Rattle.relay_events.specs.Told.{IsToldOfBreaks}
+use Rattle.relay_events.specs.Told.{LearnsOfBreaks}
 use Rattle.relay_hosts.specs.Work.{attempts_in, works_in}
 use Rattle.relay_events.proofs.ConnectLemmas.{has_linked, linked_happened, linked_held, linked_host, linked_put, linked_told}
 use Rattle.relay_hosts.proofs.Theorems.{same_attempts, same_work}
@@ -236,7 +236,7 @@ module _ {D : Type 0} (honest : Type 0) (words : DiskWords D) (old opened : Worl
           started_bound honest words opened mid new node message hop next place begun moved blank is_blank put full_is linked is_honest keeps
           bound
 
-      pub begun_told : IsToldOfBreaks old → IsToldOfBreaks new
+      pub begun_told : LearnsOfBreaks old → LearnsOfBreaks new
       begun_told told =
           started_told honest words opened mid new node message hop next place begun moved blank is_blank put full_is bound
           (linked_told honest words old opened to peer greeting links told)
@@ -247,7 +247,7 @@ module _ {D : Type 0} (honest : Type 0) (words : DiskWords D) (old opened : Worl
           started_room honest words opened mid new node message hop next place begun moved blank is_blank put full_is free still
           (opened_lines free room)
 
-      pub begun_steps : IsToldOfBreaks old → Steps honest words old (Give node) new (Ok (seen.Started place))
+      pub begun_steps : LearnsOfBreaks old → Steps honest words old (Give node) new (Ok (seen.Started place))
       begun_steps told = (
         none,
         (
@@ -269,7 +269,7 @@ module _ {D : Type 0} (honest : Type 0) (words : DiskWords D) (old opened : Worl
     pub unstarted_steps : (IsFull (attempts_in first.host.state) → ⊥)
         → (still new : World D) (number : ℕ) (why : NodeFault) (answer : Result Seen PairFault)
         → (still ≡ opened) × ((host : Host D) × (slice_get opened.hosts node ≡ Some host) × IsWhyNotBegun host why)
-        → number ≡ suc (length old.links) → BreaksBehind honest words still new number why answer
+        → number ≡ suc (length old.links) → BreaksAfter honest words still new number why answer
         → Steps honest words old (Give node) new answer
     unstarted_steps free still new number why answer refused is breaks =
         let its : Breaks opened breaks.middle (suc (length old.links)) =
@@ -298,7 +298,7 @@ module _ {D : Type 0} (honest : Type 0) (words : DiskWords D) (old opened : Worl
 module _ {D : Type 0} (honest : Type 0) (words : DiskWords D) (old new : World D) (node message : ℕ) (hop : List ℕ) (to : ℕ)
     (why : NodeFault) (first : IsFirstWork old node (Try message hop)) (named : IsFirstNamed old.hosts hop to)
     (up : unless_up old to None ≡ None) (refuses : RefusesClient old new to why) where
-  pub unopened_steps : (IsFull (attempts_in first.host.state) → ⊥) → IsToldOfBreaks old
+  pub unopened_steps : (IsFull (attempts_in first.host.state) → ⊥) → LearnsOfBreaks old
       → Steps honest words old (Give node) new (Err (fault_of why))
   unopened_steps free told =
       inr (inr (
@@ -310,7 +310,7 @@ module _ {D : Type 0} (honest : Type 0) (words : DiskWords D) (old new : World D
             RefusesToOpen message hop first free to refuses.host refuses.host_at
                 (ap (λ (h : Host D). h.config.host) (same_Some refuses.host named.host (sym refuses.host_at ∙ named.host_at)) ∙ named.named)
                 why refuses.refuses refuses.new_is,
-            (told_already honest words new (subst (λ (w : World D). IsToldOfBreaks w) (sym refuses.new_is) told), refl),
+            (told_already honest words new (subst (λ (w : World D). LearnsOfBreaks w) (sym refuses.new_is) told), refl),
           ),
         ),
       ))
@@ -319,7 +319,7 @@ module _ {D : Type 0} (honest : Type 0) (words : DiskWords D) (old new : World D
 module _ {D : Type 0} (honest : Type 0) (words : DiskWords D) (old : World D) (node message : ℕ) (hop : List ℕ) (to : ℕ)
     (first : IsFirstWork old node (Try message hop)) (named : IsFirstNamed old.hosts hop to)
     (up : unless_up old to None ≡ None) where
-  pub one_too_many : IsFull (attempts_in first.host.state) → IsToldOfBreaks old
+  pub one_too_many : IsFull (attempts_in first.host.state) → LearnsOfBreaks old
       → Steps honest words old (Give node) old (Err (fault.Node node_fault.TooMany))
   one_too_many full told =
       inr (inr (

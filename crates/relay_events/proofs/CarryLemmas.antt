@@ -27,7 +27,7 @@ use Rattle.relay_events.specs.declared.relays.Relays.{Relays}
 use Rattle.relay_events.specs.Relays.{AreBound, AreInOrder, free_lines, world_of}
 use Rattle.relay_hosts.specs.Room.{HasRoom}
 use Rattle.relay_events.specs.Step.{Carries, Did, Ends as EndsCarried, Shows, Steps}
-use Rattle.relay_events.specs.Told.{HearsAt, IsToldOfBreaks}
+use Rattle.relay_events.specs.Told.{HearsAt, LearnsOfBreaks}
 use Rattle.relay_events.proofs.EndLemmas.{served_by}
 use Rattle.relay_events.proofs.RunLemmas.{one_happened}
 use Rattle.relay_events.proofs.SendLemmas.{told_put, whole_there}
@@ -145,7 +145,7 @@ module _ {D : Type 0} (old : World D) (number node count : ℕ)
     ended_link : ended.of.link ≡ carried.link
     ended_link = same_Some ended.of.link carried.link (sym ended.of.link_is ∙ carried.link_is)
 
-    pub still_told : IsToldOfBreaks old → IsToldOfBreaks new
+    pub still_told : LearnsOfBreaks old → LearnsOfBreaks new
     still_told told other link is =
         ap (λ (l : List Attempt). is_untold l link) ended.rest.0
         ∙ told_put old new.links number (record ended.of.link { server = Some (record ended.of.end { session = None }) }) ended.links
@@ -156,7 +156,7 @@ module _ {D : Type 0} (old : World D) (number node count : ℕ)
             ap (λ b. if b then (if false then true else tries_on old.attempts ended.of.link.client) else false)
             (ap (λ (l : Link). l.broken) ended_link ∙ carried.whole)
 
-    pub end_steps : (honest : Type 0) (words : DiskWords D) → waits_up carried.link ≡ false → IsToldOfBreaks old
+    pub end_steps : (honest : Type 0) (words : DiskWords D) → waits_up carried.link ≡ false → LearnsOfBreaks old
         → Steps honest words old (Carry number node count) new (Ok (seen.Carried 0 0 None true))
     end_steps honest words silent told = (
       none,
@@ -191,7 +191,7 @@ module _ {D : Type 0} (honest : Type 0) (words : DiskWords D) where
       → AreInOrder honest words old → AreInOrder honest words new
   kept_order old new same more order = record {
     bound = subst (λ w. AreBound honest words w) (sym same) order.bound;
-    told = subst (λ w. IsToldOfBreaks w) (sym same) order.told;
+    told = subst (λ w. LearnsOfBreaks w) (sym same) order.told;
     room = subst (λ w. HasRoom w (free_lines new)) (sym same) (more_room (world_of old) (free_lines old) (free_lines new) more order.room);
   }
     where

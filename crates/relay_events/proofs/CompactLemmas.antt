@@ -23,7 +23,7 @@ use Rattle.relay_events.specs.Relays.{AreBound}
 use Rattle.relay_events.specs.Restart.{IsDownAt}
 use Rattle.relay_hosts.specs.Room.{HasRoom, lines_held, lines_left, lines_to_come}
 use Rattle.relay_events.specs.Step.{CompactsSpool, Refuses, RefusesToCompact, Shows, Steps, fault_of}
-use Rattle.relay_events.specs.Told.{IsToldOfBreaks, running_of}
+use Rattle.relay_events.specs.Told.{LearnsOfBreaks, running_of}
 use Rattle.relay_events.proofs.GiveUpLemmas.{called_same}
 use Rattle.relay_events.proofs.HungLemmas.{hung_lines, hung_running}
 use Rattle.relay_events.proofs.PlaceLemmas.{value_put}
@@ -57,7 +57,7 @@ module _ {D : Type 0} (honest : Type 0) (words : DiskWords D) (old called : Worl
     abbrev has_compacted : HasCompacted honest words old called_world node
     has_compacted = record { stays = stays_up; compacts = calls.rewrites.compacts; queue = calls.rewrites.queue }
 
-    pub rewritten_steps : unless_up old node None ≡ None → IsToldOfBreaks old
+    pub rewritten_steps : unless_up old node None ≡ None → LearnsOfBreaks old
         → Steps honest words old (Compact node) called (Ok (seen.Compacted node size))
     rewritten_steps none told =
         subst (λ (w : World D). Steps honest words old (Compact node) w (Ok (seen.Compacted node size))) (sym calls.new_is)
@@ -83,8 +83,8 @@ module _ {D : Type 0} (honest : Type 0) (words : DiskWords D) (old called : Worl
     rewritten_bound is_honest keeps bound =
         still_bound honest words is_honest keeps old called bound rewritten_happened
 
-    pub rewritten_told : IsToldOfBreaks old → IsToldOfBreaks called
-    rewritten_told told = subst (λ (w : World D). IsToldOfBreaks w) (sym calls.new_is) told
+    pub rewritten_told : LearnsOfBreaks old → LearnsOfBreaks called
+    rewritten_told told = subst (λ (w : World D). LearnsOfBreaks w) (sym calls.new_is) told
 
     pub rewritten_room : (free : ℕ) → HasRoom old free → HasRoom called free
     rewritten_room free room =
@@ -100,7 +100,7 @@ module _ {D : Type 0} (honest : Type 0) (words : DiskWords D) (old called : Worl
     unwritten_same =
         called_same honest words NoHop old called node 0 calls.was calls.now calls.was_at calls.rewrites.1 calls.new_is
 
-    pub unwritten_steps : unless_up old node None ≡ None → IsToldOfBreaks old
+    pub unwritten_steps : unless_up old node None ≡ None → LearnsOfBreaks old
         → Steps honest words old (Compact node) called (Err (fault_of why))
     unwritten_steps none told =
         inr (inr (
@@ -111,7 +111,7 @@ module _ {D : Type 0} (honest : Type 0) (words : DiskWords D) (old called : Worl
               Refuses (fault_of why),
               RefusesToCompact calls.was calls.was_at why calls.rewrites.0 unwritten_same,
               (
-                told_already honest words called (subst (λ (w : World D). IsToldOfBreaks w) (sym unwritten_same) told),
+                told_already honest words called (subst (λ (w : World D). LearnsOfBreaks w) (sym unwritten_same) told),
                 refl,
               ),
             ),

@@ -16,7 +16,7 @@ use Rattle.relay_events.specs.Happened.{HasHappened}
 use Rattle.relay_events.specs.Relays.{AreBound}
 use Rattle.relay_hosts.specs.Room.{HasRoom, lines_held, lines_left, lines_to_come}
 use Rattle.relay_events.specs.Step.{OpensLink, Refuses, RefusesLink, Shows, Steps, fault_of, outside_address}
-use Rattle.relay_events.specs.Told.{IsToldOfBreaks}
+use Rattle.relay_events.specs.Told.{LearnsOfBreaks}
 use Rattle.relay_events.proofs.EventLemmas.{opened}
 use Rattle.relay_events.proofs.PlaceLemmas.{value_put}
 use Rattle.relay_events.proofs.PutLemmas.{put_at_push}
@@ -70,9 +70,9 @@ module _ {D : Type 0} (honest : Type 0) (words : DiskWords D) (old new : World D
   pub linked_bound : honest → RunsKeepAll honest words → AreBound honest words old → AreBound honest words new
   linked_bound is_honest keeps bound = still_bound honest words is_honest keeps old new bound linked_happened
 
-  pub linked_told : IsToldOfBreaks old → IsToldOfBreaks new
+  pub linked_told : LearnsOfBreaks old → LearnsOfBreaks new
   linked_told told =
-      subst (λ (w : World D). IsToldOfBreaks w) (sym linked.new_is)
+      subst (λ (w : World D). LearnsOfBreaks w) (sym linked.new_is)
       (told_put old (old.links ++ its_link ∷ []) (suc (length old.links)) its_link (put_at_push old.links its_link) refl told)
 
   pub linked_held : lines_left 0 new.hosts ≡ lines_left 0 old.hosts
@@ -93,7 +93,7 @@ module _ {D : Type 0} (honest : Type 0) (words : DiskWords D) (old new : World D
 
 module _ {D : Type 0} (honest : Type 0) (words : DiskWords D) (old new : World D) (node : ℕ) where
   pub linked_steps : (greeting number : ℕ) (linked : LinksTo old new node outside_address greeting) → unless_up old node None ≡ None
-      → IsToldOfBreaks old → number ≡ length new.links → Steps honest words old (Connect node) new (Ok (Linked number greeting))
+      → LearnsOfBreaks old → number ≡ length new.links → Steps honest words old (Connect node) new (Ok (Linked number greeting))
   linked_steps greeting number linked none told is = (
     none,
     (
@@ -109,7 +109,7 @@ module _ {D : Type 0} (honest : Type 0) (words : DiskWords D) (old new : World D
     ),
   )
 
-  pub unlinked_steps : (why : NodeFault) → RefusesClient old new node why → unless_up old node None ≡ None → IsToldOfBreaks old
+  pub unlinked_steps : (why : NodeFault) → RefusesClient old new node why → unless_up old node None ≡ None → LearnsOfBreaks old
       → Steps honest words old (Connect node) new (Err (fault_of why))
   unlinked_steps why refuses none told =
       inr (inr (
@@ -120,7 +120,7 @@ module _ {D : Type 0} (honest : Type 0) (words : DiskWords D) (old new : World D
             Refuses (fault_of why),
             RefusesLink refuses.host refuses.host_at why refuses.refuses refuses.new_is,
             (
-              told_already honest words new (subst (λ (w : World D). IsToldOfBreaks w) (sym refuses.new_is) told),
+              told_already honest words new (subst (λ (w : World D). LearnsOfBreaks w) (sym refuses.new_is) told),
               refl,
             ),
           ),

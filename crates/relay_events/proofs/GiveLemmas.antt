@@ -18,7 +18,7 @@ use Rattle.relay_hosts.specs.Host.{holds_up, is_up}
 use Rattle.relay_events.specs.Give.{IsFirstWork, IsWhyNotBegun, IsWhyNotGivenUp}
 use Rattle.relay_events.specs.Relays.{AreBound}
 use Rattle.relay_events.specs.Step.{Refuses, RefusesToGiveUp, Steps, fault_of}
-use Rattle.relay_events.specs.Told.{IsToldOfBreaks}
+use Rattle.relay_events.specs.Told.{LearnsOfBreaks}
 use Rattle.relay_records.specs.declared.fault.NodeFault.{NodeFault}
 use Rattle.relay_hosts.specs.declared.work.Begun.TheVariants as begun
 use Rattle.relay_hosts.specs.Work.{BeginsUnlessFull, HasChanges, works_in}
@@ -111,7 +111,7 @@ module _ {D : Type 0} (honest : Type 0) (words : DiskWords D) (old new : World D
     (first : IsFirstWork old node (NoRoute message)) where
   -- a node that refused to give up places
   pub ungiven_steps : (host : Host D) → host ≡ first.host → IsWhyNotGivenUp honest words old.clock host message why → new ≡ old
-      → IsToldOfBreaks old → Steps honest words old (Give node) new (Err (fault_of why))
+      → LearnsOfBreaks old → Steps honest words old (Give node) new (Err (fault_of why))
   ungiven_steps host same because is told =
       inr (inr (
         first_is old node (NoRoute message) first,
@@ -120,7 +120,7 @@ module _ {D : Type 0} (honest : Type 0) (words : DiskWords D) (old new : World D
           (
             Refuses (fault_of why),
             RefusesToGiveUp message first why (subst (λ h. IsWhyNotGivenUp honest words old.clock h message why) same because) is,
-            (told_already honest words new (subst (λ (w : World D). IsToldOfBreaks w) (sym is) told), refl),
+            (told_already honest words new (subst (λ (w : World D). LearnsOfBreaks w) (sym is) told), refl),
           ),
         ),
       ))

@@ -43,7 +43,7 @@ use Rattle.relay_events.specs.Relays.{AreBound}
 use Rattle.relay_events.specs.Restart.{CrashesAt, IsCutShortAt, IsReadyToCrash, Restarts}
 use Rattle.relay_hosts.specs.Room.{HasRoom, lines_held, lines_left, lines_to_come}
 use Rattle.relay_events.specs.Step.{GivesUpPlaces, Refuses, RefusesToWithdraw, Shows, Steps, WithdrawsPlace, fault_of}
-use Rattle.relay_events.specs.Told.{IsToldOfBreaks, running_of}
+use Rattle.relay_events.specs.Told.{LearnsOfBreaks, running_of}
 use Rattle.relay_hosts.specs.Work.{HasChanges, HoldsChanges, KnowsChanges}
 use Rattle.relay_events.proofs.CutShortLemmas.{cut_short, goes_down, held_more, note_there, stopped_same}
 use Rattle.relay_events.proofs.EventLemmas.{given_up}
@@ -147,8 +147,8 @@ module _ {D : Type 0} (honest : Type 0) (words : DiskWords D) (reason : Reason) 
       given_bound is_honest keeps bound =
           still_bound_asking honest words is_honest keeps (asked_by reason node message) old new bound given_happened
 
-      pub given_told : IsToldOfBreaks old → IsToldOfBreaks new
-      given_told told = subst (λ (w : World D). IsToldOfBreaks w) (sym given_is) told
+      pub given_told : LearnsOfBreaks old → LearnsOfBreaks new
+      given_told told = subst (λ (w : World D). LearnsOfBreaks w) (sym given_is) told
 
       pub given_room : (free free_now : ℕ) → lines_to_come old.attempts + lines_left 0 old.hosts + 100 ≤ free
           → free ≤ free_now + length recorded.left.items → HasRoom new free_now
@@ -269,7 +269,7 @@ module _ {D : Type 0} (honest : Type 0) (words : DiskWords D) (old called : Worl
     (new_is : new ≡ record called {
       ledger = called.ledger ++ left_lines node message 0 (report_told change recorded.report) recorded.left.items;
     }) where
-  pub given_steps : IsFirstWork old node (NoRoute message) → IsToldOfBreaks old
+  pub given_steps : IsFirstWork old node (NoRoute message) → LearnsOfBreaks old
       → Steps honest words old (Give node) new (Ok (seen.NoRoute message change))
   given_steps first told = (
     first_is old node (NoRoute message) first,
@@ -298,7 +298,7 @@ module _ {D : Type 0} (honest : Type 0) (words : DiskWords D) (withdrawal : With
       (new_is : new ≡ record called {
         ledger = called.ledger ++ left_lines node message 0 (report_told change recorded.report) recorded.left.items;
       }) where
-    pub withdrawn_steps : unless_up old node None ≡ None → IsToldOfBreaks old
+    pub withdrawn_steps : unless_up old node None ≡ None → LearnsOfBreaks old
         → Steps honest words old (Withdraw node message place withdrawal) new (Ok (seen.Withdrawn change))
     withdrawn_steps up told = (
       up,
@@ -322,7 +322,7 @@ module _ {D : Type 0} (honest : Type 0) (words : DiskWords D) (withdrawal : With
     unwithdrawn_same =
         called_same honest words by_him old called node message calls.was calls.now calls.was_at calls.gives.new_is calls.new_is
 
-    pub unwithdrawn_steps : unless_up old node None ≡ None → IsToldOfBreaks old
+    pub unwithdrawn_steps : unless_up old node None ≡ None → LearnsOfBreaks old
         → Steps honest words old (Withdraw node message place withdrawal) called (Err (fault_of why))
     unwithdrawn_steps up told =
         inr (inr (
@@ -338,7 +338,7 @@ module _ {D : Type 0} (honest : Type 0) (words : DiskWords D) (withdrawal : With
                 new_is = refl;
               }) unwithdrawn_same,
               (
-                told_already honest words called (subst (λ (w : World D). IsToldOfBreaks w) (sym unwithdrawn_same) told),
+                told_already honest words called (subst (λ (w : World D). LearnsOfBreaks w) (sym unwithdrawn_same) told),
                 refl,
               ),
             ),

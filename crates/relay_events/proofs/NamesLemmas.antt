@@ -9,9 +9,9 @@ use Rattle.relay_node.specs.Node.{NodeState}
 use Rattle.relay_routes.specs.declared.config.Config.{Config}
 use Rattle.relay_world.specs.declared.attempt.Fate.{Fate}
 use Rattle.relay_world.specs.declared.attempt.Fate.TheVariants.{Lost, Replied}
-use Rattle.relay_world.specs.Once.{BreaksOff, Closes, Drops, Ends, GivesUp, GoesOn, Happen, Happens, Hears, IsNotOpened, LetsGo, Loses, Opens, Reads, Reopens, Starts, Stops, StopsInGivingUp, StopsInHearing, StopsInLosing, StopsInReading, Ticks, Writes, HearsAll, ReopensBehindGroup}
+use Rattle.relay_world.specs.Once.{BreaksOff, Closes, Drops, Ends, GivesUp, GoesOn, Happen, Happens, Hears, IsNotOpened, LetsGo, Loses, Opens, Reads, Reopens, Starts, Stops, StopsInGivingUp, StopsInHearing, StopsInLosing, StopsInReading, Ticks, Writes, HearsAll, ReopensAfterGroup}
 use Rattle.relay_world.specs.Steps.{AttemptOf, DropsAttempt, IsPut, RecordsHeard, RecordsOutcome, RecordsRead, without_note, EndsWith}
-use Rattle.relay_world.specs.Groups.{AcceptsInto, AttemptDropped, HasHeardAll, HasHeardEach, HasHeardInto, HasReadInto, HasReopenedBehindGroup, HasTurnedTo, Heard, IsOpenedAgain, IsUp, OutcomeInto, Piece, Read, SessionEnded}
+use Rattle.relay_world.specs.Groups.{AcceptsInto, AttemptDropped, HasHeardAll, HasHeardEach, HasHeardInto, HasReadInto, HasReopenedAfterGroup, HasTurnedTo, Heard, IsOpenedAgain, IsUp, OutcomeInto, Piece, Read, SessionEnded}
 use Rattle.relay_world.specs.Stops.{Decides, DropsAtStop}
 use Rattle.relay_records.specs.Records.{Kept}
 use Rattle.relay_records.specs.Staged.{Row, no_row}
@@ -122,9 +122,9 @@ module _ {D : Type 0} where
         subst (λ (w : World D). SameNames world.hosts w.hosts) (sym again.new_is)
         (names_put world.hosts again.hosts node is.host (record is.host { state = Up after }) is.host_at again.put refl)
 
-    reopened_behind : (old new : World D) (node : ℕ) (pieces : List Piece)
-        → HasReopenedBehindGroup honest words old new node pieces → SameNames old.hosts new.hosts
-    reopened_behind old new node pieces reopens = elim reopens.decides [
+    reopened_after : (old new : World D) (node : ℕ) (pieces : List Piece)
+        → HasReopenedAfterGroup honest words old new node pieces → SameNames old.hosts new.hosts
+    reopened_after old new node pieces reopens = elim reopens.decides [
       | inl none ↦ opened_again old new node reopens.before reopens.after none.1
       | inr all ↦
           names_both old.hosts reopens.heard.hosts new.hosts
@@ -212,8 +212,8 @@ module _ {D : Type 0} where
         stays.host_at stays.hosts refl
     event_names (Reopens node reopens) =
         decided node reopens.host reopens.after reopens.undecided reopens.host_at reopens.decides
-    event_names {honest} {words} (ReopensBehindGroup node pieces reopens) =
-        reopened_behind honest words old new node pieces reopens
+    event_names {honest} {words} (ReopensAfterGroup node pieces reopens) =
+        reopened_after honest words old new node pieces reopens
     event_names (Ticks clock ticks) = names_same old.hosts new.hosts (ap (λ (w : World D). w.hosts) ticks.new_is)
     event_names (LetsGo node hangs) = names_same old.hosts new.hosts (ap (λ (w : World D). w.hosts) hangs.new_is)
     event_names (GoesOn node stays) =

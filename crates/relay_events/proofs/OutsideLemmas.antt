@@ -18,7 +18,7 @@ use Rattle.relay_events.specs.Happened.{HasHappened}
 use Rattle.relay_events.specs.Relays.{AreBound}
 use Rattle.relay_hosts.specs.Room.{HasRoom, lines_left, lines_to_come}
 use Rattle.relay_events.specs.Step.{Refuses, RefusesToStart, Shows, StartsOutside, Steps, fault_of}
-use Rattle.relay_events.specs.Told.{IsToldOfBreaks}
+use Rattle.relay_events.specs.Told.{LearnsOfBreaks}
 use Rattle.relay_events.proofs.GiveLemmas.{first_not_down}
 use Rattle.relay_events.proofs.NamedLemmas.{none_is_down}
 use Rattle.relay_events.proofs.PutLemmas.{put_at_push}
@@ -66,14 +66,14 @@ module _ {D : Type 0} (honest : Type 0) (words : DiskWords D) (old mid new : Wor
   pub outside_bound : honest → RunsKeepAll honest words → AreBound honest words old → AreBound honest words new
   outside_bound = started_bound honest words old mid new node message hop next place begun links blank is_blank put full_is linked
 
-  pub outside_told : AreBound honest words old → IsToldOfBreaks old → IsToldOfBreaks new
+  pub outside_told : AreBound honest words old → LearnsOfBreaks old → LearnsOfBreaks new
   outside_told = started_told honest words old mid new node message hop next place begun links blank is_blank put full_is
 
   pub outside_room : (free : ℕ) → AreBound honest words new → lines_to_come old.attempts + lines_left 0 old.hosts + 100 ≤ free
       → HasRoom new free
   outside_room = started_room honest words old mid new node message hop next place begun links blank is_blank put full_is
 
-  pub outside_steps : IsFirstWork old node (Try message hop) → AreBound honest words old → IsToldOfBreaks old
+  pub outside_steps : IsFirstWork old node (Try message hop) → AreBound honest words old → LearnsOfBreaks old
       → Steps honest words old (Give node) new (Ok (seen.Started place))
   outside_steps first bound told = (
     first_not_down old node message hop first (none_is_down old old.hosts hop none),
@@ -99,7 +99,7 @@ module _ {D : Type 0} (honest : Type 0) (words : DiskWords D) (old new : World D
       subst (λ h. IsWhyNotBegun h why) (same_Some host first.host (sym at ∙ first.host_at)) because
 
   pub unstarted_outside : (new ≡ old) × ((host : Host D) × (slice_get old.hosts node ≡ Some host) × IsWhyNotBegun host why)
-      → NoneIsNamed old.hosts hop → IsToldOfBreaks old → Steps honest words old (Give node) new (Err (fault_of why))
+      → NoneIsNamed old.hosts hop → LearnsOfBreaks old → Steps honest words old (Give node) new (Err (fault_of why))
   unstarted_outside refused none told =
       inr (inr (
         first_not_down old node message hop first (none_is_down old old.hosts hop none),
@@ -108,7 +108,7 @@ module _ {D : Type 0} (honest : Type 0) (words : DiskWords D) (old new : World D
           (
             Refuses (fault_of why),
             RefusesToStart message hop first why (why_of_first refused.1.0 refused.1.1 refused.1.2) refused.0,
-            (told_already honest words new (subst (λ (w : World D). IsToldOfBreaks w) (sym refused.0) told), refl),
+            (told_already honest words new (subst (λ (w : World D). LearnsOfBreaks w) (sym refused.0) told), refl),
           ),
         ),
       ))

@@ -17,7 +17,7 @@ use Rattle.relay_events.specs.Happened.{HasHappened}
 use Rattle.relay_events.specs.Relays.{AreBound}
 use Rattle.relay_hosts.specs.Room.{HasRoom}
 use Rattle.relay_events.specs.Step.{Shows, Steps}
-use Rattle.relay_events.specs.Told.{IsToldOfBreaks}
+use Rattle.relay_events.specs.Told.{LearnsOfBreaks}
 use Rattle.relay_events.proofs.PlaceLemmas.{link_put, link_same, link_there, set_same}
 use Rattle.relay_events.proofs.RunLemmas.{one_happened, still_bound}
 use Rattle.relay_events.proofs.StepLemmas.{told_already}
@@ -48,7 +48,7 @@ sendable world links number none = by (whole_link links number) none refl
 
 -- where a link is put that no node has still to be told of, all are told as before
 pub told_put : {D : Type 0} (world : World D) (links : List Link) (number : ℕ) (link : Link) → IsPutAt world.links links number link
-    → is_untold world.attempts link ≡ false → IsToldOfBreaks world → IsToldOfBreaks (record world { links = links })
+    → is_untold world.attempts link ≡ false → LearnsOfBreaks world → LearnsOfBreaks (record world { links = links })
 told_put world links number link put its told other at is =
     elim (eqb_tells other number) [
       | inl same ↦ ap (λ l. is_untold world.attempts l)
@@ -64,14 +64,14 @@ module _ {D : Type 0} (honest : Type 0) (words : DiskWords D) (old new : World D
     | inr down ↦ ap (λ (l : Link). l.broken) down.1 ∙ writes.whole
   ]
 
-  pub sent_told : IsToldOfBreaks old → IsToldOfBreaks new
+  pub sent_told : LearnsOfBreaks old → LearnsOfBreaks new
   sent_told told =
-      subst (λ (w : World D). IsToldOfBreaks w) (sym writes.new_is)
+      subst (λ (w : World D). LearnsOfBreaks w) (sym writes.new_is)
       (told_put old writes.links number writes.written writes.put
       (ap (λ b. if b then (if hears_on writes.written.server then true else tries_on old.attempts writes.written.client) else false)
       still_whole) told)
 
-  pub sent_steps : send_fault old (whole_link old.links number) ≡ None → IsToldOfBreaks old
+  pub sent_steps : send_fault old (whole_link old.links number) ≡ None → LearnsOfBreaks old
       → Steps honest words old (Send number octets) new (Ok Sent)
   sent_steps none told = (none, (new, (Shows Sent, (writes, refl), (told_already honest words new (sent_told told), refl))))
 

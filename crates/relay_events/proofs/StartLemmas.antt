@@ -19,7 +19,7 @@ use Rattle.relay_hosts.specs.Named.{NoneIsNamed}
 use Rattle.relay_events.specs.Happened.{HasHappened}
 use Rattle.relay_events.specs.Relays.{AreBound, HaveOwnNames}
 use Rattle.relay_hosts.specs.Room.{HasRoom, lines_held, lines_left, lines_to_come}
-use Rattle.relay_events.specs.Told.{IsToldOfBreaks}
+use Rattle.relay_events.specs.Told.{LearnsOfBreaks}
 use Rattle.relay_events.proofs.CountLemmas.{lines_one}
 use Rattle.relay_events.proofs.EventLemmas.{put_as}
 use Rattle.relay_events.proofs.NamesLemmas.{SameNames, names_put}
@@ -221,7 +221,7 @@ module _ {D : Type 0} (honest : Type 0) (words : DiskWords D) (old mid new : Wor
       ap runs_there (ap (λ (w : World D). slice_get w.attempts at) new_is ∙ tries_before old.attempts begun.attempt at its.0 its.1)
 
   -- the link is whole, so that each node was told of each break, as before
-  pub started_told : AreBound honest words old → IsToldOfBreaks old → IsToldOfBreaks new
+  pub started_told : AreBound honest words old → LearnsOfBreaks old → LearnsOfBreaks new
   started_told bound told other link is = elim (eqb_tells other number) [
     | inl here ↦
         let same : link ≡ record blank { client = Some (length old.attempts) } =

@@ -13,7 +13,7 @@ use Rattle.relay_events.specs.declared.seen.Seen.TheVariants.{Set, Stopped}
 use Rattle.relay_events.specs.Happened.{HasHappened}
 use Rattle.relay_events.specs.Relays.{AreInOrder, world_of}
 use Rattle.relay_events.specs.Step.{Does, IsSeen, Shows, Steps}
-use Rattle.relay_events.specs.Told.{AreTold, IsToldOfBreaks}
+use Rattle.relay_events.specs.Told.{AreTold, LearnsOfBreaks}
 use Rattle.relay_events.proofs.RunLemmas.{one_happened, still_bound}
 
 pub seen_alone : (own : Seen) (nodes : List ℕ) → length nodes ≡ 0 → IsSeen (Shows own) nodes (Ok own)
@@ -38,10 +38,10 @@ module _ {D : Type 0} (honest : Type 0) (words : DiskWords D) where
   has_ticked old now = one_happened honest words old (record old { clock = now }) (Ticks now (record { new_is = refl }))
 
   -- where there is nothing to tell, all were told
-  abbrev pub told_already : (world : World D) → IsToldOfBreaks world → AreTold honest words world world
+  abbrev pub told_already : (world : World D) → LearnsOfBreaks world → AreTold honest words world world
   told_already world told = record { turns = 0; stopped = []; tell = (refl, refl); told = told }
 
-  pub tick_steps : (old : World D) (now : ℕ) → IsToldOfBreaks old
+  pub tick_steps : (old : World D) (now : ℕ) → LearnsOfBreaks old
       → Steps honest words old (Tick now) (record old { clock = now }) (Ok Set)
   tick_steps old now told = (
     refl,

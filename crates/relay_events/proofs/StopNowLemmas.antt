@@ -27,7 +27,7 @@ use Rattle.relay_hosts.specs.Room.{HasRoom, lines_held, lines_left, lines_to_com
 use Rattle.relay_events.specs.Step.{Shows, Steps}
 use Rattle.relay_hosts.specs.StopNow.{IsArmed}
 use Rattle.relay_events.specs.StopNow.{IsTakenDown}
-use Rattle.relay_events.specs.Told.{IsToldOfBreaks, running_of}
+use Rattle.relay_events.specs.Told.{LearnsOfBreaks, running_of}
 use Rattle.relay_events.proofs.HungLemmas.{hung_lines, hung_running}
 use Rattle.relay_events.proofs.PlaceLemmas.{value_put}
 use Rattle.relay_events.proofs.ReopenLemmas.{held_put}
@@ -204,7 +204,7 @@ module _ {D : Type 0} (honest : Type 0) (words : DiskWords D) (old : World D) (n
     abbrev has_armed : HasArmed honest words old armed_world node
     has_armed = record { stays = stays_up; fused = armed.fused }
 
-    pub armed_steps : (calls : ℕ) → 0 < calls → passing ≡ calls - 1 → unless_up old node None ≡ None → IsToldOfBreaks old
+    pub armed_steps : (calls : ℕ) → 0 < calls → passing ≡ calls - 1 → unless_up old node None ≡ None → LearnsOfBreaks old
         → Steps honest words old (Stop node calls pick) armed_world (Ok Armed)
     armed_steps zero later is none told = absurd (omega (arith, later))
     armed_steps (suc calls) later is none told = (

@@ -7,7 +7,7 @@ use Rattle.std.proofs.lemmas.Option.{same_Some, slice_get_read}
 use Rattle.relay_disk.specs.Device.{DiskWords}
 use Rattle.relay_world.specs.declared.link.Link.{Link}
 use Rattle.relay_world.specs.World.{World, link_at}
-use Rattle.relay_events.specs.Told.{IsFirstUntold, IsToldOfBreaks, Tell, TellsSome}
+use Rattle.relay_events.specs.Told.{IsFirstUntold, LearnsOfBreaks, Tell, TellsSome}
 use Rattle.relay_hosts.specs.Links.{is_untold}
 
 module _ {D : Type 0} (honest : Type 0) (words : DiskWords D) where
@@ -58,7 +58,7 @@ at_within links zero link is = omega arith
 at_within links (suc number) link is = let less = get_within links number link is in omega (arith, less)
 
 pub told_of_all : {D : Type 0} (world : World D) (count : ℕ) → count ≡ length world.links → ToldUpTo world count
-    → IsToldOfBreaks world
+    → LearnsOfBreaks world
 told_of_all world count all told number link is =
     let within = at_within world.links number link is in told number link (omega (arith, within, all)) is
 

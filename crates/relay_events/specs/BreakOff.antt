@@ -17,7 +17,7 @@ pub record IsLink {D : Type 0} (world : World D) (number : ℕ) : Type 0 where
 
 -- The link of this number breaks, and nodes are notified of it. The result is the node's fault, unless nodes have
 -- stopped.
-pub record BreaksBehind {D : Type 0} (honest : Type 0) (words : DiskWords D) (old new : World D) (number : ℕ)
+pub record BreaksAfter {D : Type 0} (honest : Type 0) (words : DiskWords D) (old new : World D) (number : ℕ)
     (why : NodeFault) (answer : Result Seen PairFault) : Type 0 where
   pub middle : World D
   pub breaks : Breaks old middle number

@@ -10,7 +10,7 @@ use Rattle.relay_world.specs.Once.{IsTriedOnce}
 use Rattle.relay_world.specs.World.{Host, World}
 use Rattle.relay_events.specs.declared.relays.Relays.{Relays}
 use Rattle.relay_hosts.specs.Room.{HasRoom}
-use Rattle.relay_events.specs.Told.{IsToldOfBreaks}
+use Rattle.relay_events.specs.Told.{LearnsOfBreaks}
 
 abbrev pub world_of : {D : Type 0} → Relays D → World D
 world_of relays = record {
@@ -46,5 +46,5 @@ pub record AreBound {D : Type 0} (honest : Type 0) (words : DiskWords D) (world 
 -- come.
 pub record AreInOrder {D : Type 0} (honest : Type 0) (words : DiskWords D) (relays : Relays D) : Type 0 where
   pub bound : AreBound honest words (world_of relays)
-  pub told : IsToldOfBreaks (world_of relays)
+  pub told : LearnsOfBreaks (world_of relays)
   pub room : HasRoom (world_of relays) (free_lines relays)

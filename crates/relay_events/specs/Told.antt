@@ -24,8 +24,8 @@ pub record TriesAt {D : Type 0} (world : World D) (number : ℕ) : Type 0 where
   pub tries : tries_on world.attempts link.client ≡ true
 
 -- All nodes are notified of all broken links: no session and no attempt runs on a broken link.
-abbrev pub IsToldOfBreaks : {D : Type 0} → World D → Type 0
-IsToldOfBreaks world =
+abbrev pub LearnsOfBreaks : {D : Type 0} → World D → Type 0
+LearnsOfBreaks world =
     (number : ℕ) (link : Link) → link_at world.links number ≡ Some link → is_untold world.attempts link ≡ false
 
 -- the link of this number is the first of which a node isn't notified yet
@@ -75,7 +75,7 @@ module _ {D : Type 0} (honest : Type 0) (words : DiskWords D) where
     pub turns : ℕ
     pub stopped : List ℕ
     pub tell : Tell turns old new stopped
-    pub told : IsToldOfBreaks new
+    pub told : LearnsOfBreaks new
 
   -- ends were notified until none was left, and the nodes that stopped in it were added to the list
   abbrev pub AreToldTo : World D → World D → List ℕ → List ℕ → Type 0

@@ -4,7 +4,7 @@ use relay_octets::Octets;
 use relay_trace::Moment;
 
 /// An event of a run of relays.
-#[derive(Debug, Drop)]
+#[derive(Drop)]
 pub enum Event {
     /// Outside opens a link to the node at this index.
     Connect(usize),

@@ -3,7 +3,7 @@ ghost use Rattle.std.specs.Prelude.{◌≡◌, ◌<◌, ◌↔◌, IsTrue, None,
 ghost use Rattle.relay_slots.specs.Slots.{IsFull};
 ghost use Rattle.relay_attempts.specs.declared.work.Work.TheVariants.{NoRoute, Try};
 ghost use Rattle.relay_world.specs.World.{Host as HostOf};
-ghost use Rattle.relay_events.specs.BreakOff.{BreaksBehind, IsLink};
+ghost use Rattle.relay_events.specs.BreakOff.{BreaksAfter, IsLink};
 ghost use Rattle.relay_events.specs.FirstFault.{unless_up};
 ghost use Rattle.relay_events.specs.Give.{HasBegunOrNot, HasBegunThere, HasRoomForWork, IsCalledByWork, IsFirstWork};
 ghost use Rattle.relay_events.specs.Give.{IsListOfStops};
@@ -183,7 +183,7 @@ impl<D: Reboot + Drop> Relays<D> {
         requires room { HasRoom (world_of self.old) (free_lines self.old) }
         requires list { IsListOfStops self.old stopped }
         requires there { IsLink (world_of self.old) number }
-        ensures breaks { BreaksBehind D.Disk.honest D.Disk.words (world_of self.old) (world_of self.new) number why
+        ensures breaks { BreaksAfter D.Disk.honest D.Disk.words (world_of self.old) (world_of self.new) number why
             result }
         ensures happened { HasHappened D.Disk.honest D.Disk.words (world_of self.old) (world_of self.new) }
         ensures order { AreInOrder D.Disk.honest D.Disk.words self.new }

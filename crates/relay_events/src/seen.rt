@@ -3,7 +3,7 @@ ghost use Rattle.std.specs.Prelude.{Ok};
 ghost use Rattle.relay_events.specs.Step.{IsSeen, Shows};
 
 /// The result of an event that was done.
-#[derive(Debug, Drop)]
+#[derive(Drop)]
 pub enum Seen {
     /// Outside has opened the link of this number; the node's greeting, its last octets, has this length.
     Linked(usize, usize),

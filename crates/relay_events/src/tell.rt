@@ -8,7 +8,7 @@ ghost use Rattle.relay_events.specs.ClientEnd.{EndsBy, HasAttemptAt, IsCalledToL
 ghost use Rattle.relay_events.specs.Happened.{HasHappened};
 ghost use Rattle.relay_events.specs.Relays.{AreBound, free_lines, world_of};
 ghost use Rattle.relay_hosts.specs.Room.{HasRoom};
-ghost use Rattle.relay_events.specs.Told.{AreToldTo, HearsAt, IsFirstUntold, IsToldOfBreaks, TellsSome, TriesAt};
+ghost use Rattle.relay_events.specs.Told.{AreToldTo, HearsAt, IsFirstUntold, LearnsOfBreaks, TellsSome, TriesAt};
 ghost use Rattle.relay_events.specs.Told.{ends_of, running_of};
 
 use crate::client_end::ClientEnd;
@@ -36,7 +36,7 @@ pub(crate) enum Loss {
 impl<D: Disk> Relays<D> {
     /// Returns the number of the first broken link of which a node isn't notified yet.
     fn first_untold(&self) -> Option<usize>
-        ensures { MatchOption result (IsToldOfBreaks (world_of self.now)) (IsFirstUntold (world_of self.now)) }
+        ensures { MatchOption result (LearnsOfBreaks (world_of self.now)) (IsFirstUntold (world_of self.now)) }
     {
         for place in 0..self.links.len() {
             if is_untold(self.attempts.as_slice(), &self.links[place]) {

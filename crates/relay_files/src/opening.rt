@@ -19,7 +19,7 @@ const OPENINGS: u32 = 1_000;
 const HEAD_SIZE: usize = 17;
 
 /// What changes when a spool's file is compacted or grows: its first octets and its size, as far as they can be read.
-#[derive(Clone, Copy, Debug, PartialEq, Eq)]
+#[derive(Clone, Copy, PartialEq, Eq)]
 struct Sight {
     size: Result<usize, DiskFault>,
     head: Result<[u8; HEAD_SIZE], DiskFault>,

@@ -86,13 +86,13 @@ rise_step queue (Outcome outcome) rise =
     rise_reported outcome 0 queue.next (ruled outcome queue.messages) outcome.report (message_of queue.messages outcome.message)
     (rise_ruled outcome 0 queue.next queue.messages rise)
 
-rise_behind : (changes : List Change) (queue : Queue) → Rise 0 queue.next queue.messages
+rise_after : (changes : List Change) (queue : Queue) → Rise 0 queue.next queue.messages
     → Rise 0 (fold step queue changes).next (fold step queue changes).messages
-rise_behind [] queue rise = rise
-rise_behind (change ∷ changes) queue rise = rise_behind changes (step queue change) (rise_step queue change rise)
+rise_after [] queue rise = rise
+rise_after (change ∷ changes) queue rise = rise_after changes (step queue change) (rise_step queue change rise)
 
 queue_rises : (changes : List Change) → Rise 0 (queue_of changes).next (queue_of changes).messages
-queue_rises changes = rise_behind changes empty_queue (omega arith)
+queue_rises changes = rise_after changes empty_queue (omega arith)
 
 -- The first of what all messages have is the first of what one of them has.
 record FirstOf {A : Type 0} (f : ℕ × Message → List A) (least : ℕ) (entries : List (ℕ × Message)) (x : A) : Type 0 where

@@ -9,7 +9,7 @@ use Rattle.relay_server.specs.declared.offer.Answer.{Answer}
 use Rattle.relay_server.specs.declared.offer.Answer.TheVariants.{Queued, Full}
 use Rattle.relay_server.specs.declared.session.Next.TheVariants as next
 use Rattle.relay_server.specs.declared.session.Session.{Session}
-use Rattle.relay_server.specs.Dialogue.{Offered, Said, greeted_only, offered_by, unread_behind}
+use Rattle.relay_server.specs.Dialogue.{Offered, Said, greeted_only, offered_by, unread_after}
 use Rattle.relay_server.specs.Session.{Answered, Hears, IsClosed, Stands, offers_since, open_offers}
 use Rattle.relay_server.specs.Setup.{setup_for}
 use Rattle.relay_server.specs.State.{start as first_state}
@@ -315,7 +315,7 @@ module _ (has_answered : List ℕ → ℕ → Offered → Answer → Type 0) (co
   closes session left held waiting receipts h closed none =
       let end = closed_is_a_dialogue (setup_for config peer) session h.said waiting h.stands closed in
       record {
-        said = unread_behind h.said waiting;
+        said = unread_after h.said waiting;
         dialogue = end.0;
         read = h.read;
         written = subst (Appends start.held held) (sym (h.output ∙ append-nil h.before)) h.written;

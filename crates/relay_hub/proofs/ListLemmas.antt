@@ -19,23 +19,23 @@ use Rattle.relay_hub.specs.Hub.{GrowsBy, HasTaken, IsTold, with_accepts}
 use Rattle.relay_hub.specs.Receipts.{AreReceipts, AreTrueOf, IsTrueOf, Rise, count_of}
 
 -- what stands after a front
-behind : {X : Type 0} (front rest : List X) (place : ℕ) → slice_get (front ++ rest) (length front + place) ≡ slice_get rest place
-behind [] rest place = let is : 0 + place ≡ place = omega arith in ap (slice_get rest) is
-behind (first ∷ front) rest place =
+after : {X : Type 0} (front rest : List X) (place : ℕ) → slice_get (front ++ rest) (length front + place) ≡ slice_get rest place
+after [] rest place = let is : 0 + place ≡ place = omega arith in ap (slice_get rest) is
+after (first ∷ front) rest place =
     let is : suc (length front) + place ≡ suc (length front + place) = omega arith in
-    ap (slice_get (first ∷ (front ++ rest))) is ∙ behind front rest place
+    ap (slice_get (first ∷ (front ++ rest))) is ∙ after front rest place
 
 own : (all : List Change) (found : Option Accept) → made_by all (option_map change.Accept found) ≡ found
 own all None = refl
 own all (Some accept) = refl
 
 -- the message after these changes is that of its accept
-pub message_behind : (changes : List Change) (accepts : List Accept) (place : ℕ) → message_at (with_accepts changes accepts) (length changes + 1 + place) ≡ slice_get accepts place
-message_behind changes accepts place =
+pub message_after : (changes : List Change) (accepts : List Accept) (place : ℕ) → message_at (with_accepts changes accepts) (length changes + 1 + place) ≡ slice_get accepts place
+message_after changes accepts place =
     let all = with_accepts changes accepts in
     let is : length changes + 1 + place ≡ suc (length changes + place) = omega arith in
     ap (message_at all) is
-    ∙ ap (made_by all) (behind changes (map change.Accept accepts) place ∙ slice_get-map change.Accept accepts place)
+    ∙ ap (made_by all) (after changes (map change.Accept accepts) place ∙ slice_get-map change.Accept accepts place)
     ∙ own all (slice_get accepts place)
 
 -- a front of a list that fits
@@ -86,7 +86,7 @@ module _ (changes : List Change) (accepts : List Accept) (queue : Queue) (fittin
       record {
         place = place;
         number_is = number_is;
-        accept_is = sym (message_behind changes accepts place) ∙ ap (message_at all) (sym number_is) ∙ knows.accept_is ∙ ap (λ (a : Accept). Some a) m.2;
+        accept_is = sym (message_after changes accepts place) ∙ ap (message_at all) (sym number_is) ∙ knows.accept_is ∙ ap (λ (a : Accept). Some a) m.2;
       }
 
   told_in : (least bound : ℕ) (receipts : List Receipt) → length changes + 1 ≤ least → Rise least bound receipts → AreTrueOf queue receipts → AllByRecursion (λ receipt. IsTold (length changes) accepts receipt) receipts

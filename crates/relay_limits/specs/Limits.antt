@@ -3,7 +3,7 @@ use Rattle.std.specs.Prelude.{◌≡◌, ℕ, ◌≤◌, List, codes, Option, So
 use Rattle.toml.specs.Data.{Data, Members, integer, string, get_member}
 use Rattle.relay_limits.specs.Port.{port_in}
 use Rattle.relay_limits.specs.declared.limit.Limit.{Limit}
-use Rattle.relay_limits.specs.declared.limit.Limit.TheVariants.{SessionsPerClient, AttemptsPerHop, RecipientsPerAttempt, ClientTimeout, StatusListen, Log, Balancers, Clients, Control}
+use Rattle.relay_limits.specs.declared.limit.Limit.TheVariants.{SessionsPerClient, AttemptsPerHop, RecipientsPerAttempt, ClientTimeout, StatusListen, Log, Balancers, Clients, Control, ControlGroup}
 use Rattle.relay_limits.specs.declared.limits.Limits.{Limits}
 use Rattle.relay_limits.specs.declared.log_form.LogForm.{LogForm}
 use Rattle.relay_limits.specs.declared.log_form.LogForm.TheVariants.{Text, Json}
@@ -19,9 +19,10 @@ limit_text Log = codes "log"
 limit_text Balancers = codes "balancers"
 limit_text Clients = codes "clients"
 limit_text Control = codes "control"
+limit_text ControlGroup = codes "control_group"
 
--- profile: the most that each may be, of 64 sessions, 64 attempts, 100 recipients and an hour; the last five are no
--- numbers
+-- profile: the most that each may be, of 64 sessions, 64 attempts, 100 recipients and an hour; the others are read in
+-- another way
 abbrev pub most_of : Limit → ℕ
 most_of SessionsPerClient = 64
 most_of AttemptsPerHop = 64
@@ -32,6 +33,7 @@ most_of Log = 0
 most_of Balancers = 0
 most_of Clients = 0
 most_of Control = 0
+most_of ControlGroup = 0
 
 -- profile: what each is where nothing is said: Postfix opens 20 connections to one server, takes 50 of one client, and
 -- closes a connection after 20 refusals; a client is waited for five minutes (RFC 5321, 4.5.3.2.7)
@@ -45,6 +47,7 @@ default_of Log = 0
 default_of Balancers = 0
 default_of Clients = 0
 default_of Control = 0
+default_of ControlGroup = 0
 
 -- what a document has at a key
 abbrev pub value_of : Limit → Members → Option Data

@@ -1,7 +1,7 @@
 //! Where a running relay takes requests that steer it.
 ghost use Rattle.std.specs.Prelude.{IfOk, option_map, string_bytes};
 ghost use Rattle.toml.specs.View.{table_view};
-ghost use Rattle.relay_limits.specs.Control.{ReadsControl};
+ghost use Rattle.relay_limits.specs.Control.{ReadsControl, ReadsControlGroup};
 ghost use Rattle.relay_limits.specs.Limits.{value_of};
 ghost use Rattle.relay_limits.specs.declared.limit.Limit.{Limit};
 
@@ -11,6 +11,9 @@ use std::alloc::{AllocError, Global};
 
 /// The most octets of the path of a Unix domain socket on Linux.
 const MOST_PATH: usize = 107;
+
+/// The largest number of a group; the next one asks the system for no change.
+const MOST_GROUP: i64 = 4_294_967_294;
 
 /// Returns the path of the control socket that a document names at `control`, a text of 1 to 107 octets; `Some(None)`
 /// where nothing is said, and `None` where the value is no such text. Fails if memory runs out.
@@ -29,5 +32,19 @@ pub fn control_path(
             Ok(Some(Some(String::from_str(alloc, path)?)))
         }
         _ => Ok(None),
+    }
+}
+
+/// Returns the number of the group that may use the control socket, which a document gives at `control_group`, from 0
+/// to 4,294,967,294; `Some(None)` where nothing is said, and `None` where the value is no such number.
+pub fn control_group(document: &toml::Table) -> Option<Option<u32>>
+    ensures { ReadsControlGroup (value_of Limit.ControlGroup (table_view document.now)) result }
+{
+    let Some(value) = member(document, Limit::ControlGroup) else {
+        return Some(None);
+    };
+    match value.as_integer() {
+        Some(number) if 0 <= number && number <= MOST_GROUP => Some(Some(number as u32)),
+        _ => None,
     }
 }

@@ -15,7 +15,7 @@ mod port;
 pub use allowed_clients::AllowedClients;
 pub use balancers::Balancers;
 pub use compacting::is_worth_compacting;
-pub use control::control_path;
+pub use control::{control_group, control_path};
 pub use limit::Limit;
 pub use limits::Limits;
 pub use log_form::LogForm;

@@ -24,6 +24,8 @@ pub enum Limit {
     Clients,
     /// The path of the control socket.
     Control,
+    /// The group that may use the control socket.
+    ControlGroup,
 }
 
 impl Limit {
@@ -41,6 +43,7 @@ impl Limit {
             Limit::Balancers => "balancers",
             Limit::Clients => "clients",
             Limit::Control => "control",
+            Limit::ControlGroup => "control_group",
         }
     }
 
@@ -52,8 +55,12 @@ impl Limit {
             Limit::SessionsPerClient | Limit::AttemptsPerHop => 64,
             Limit::RecipientsPerAttempt => 100,
             Limit::ClientTimeout => 3_600,
-            Limit::StatusListen | Limit::Log | Limit::Balancers | Limit::Clients | Limit::Control =>
-                0,
+            Limit::StatusListen
+            | Limit::Log
+            | Limit::Balancers
+            | Limit::Clients
+            | Limit::Control
+            | Limit::ControlGroup => 0,
         }
     }
 
@@ -66,8 +73,12 @@ impl Limit {
             Limit::AttemptsPerHop => 20,
             Limit::RecipientsPerAttempt => 15,
             Limit::ClientTimeout => 300,
-            Limit::StatusListen | Limit::Log | Limit::Balancers | Limit::Clients | Limit::Control =>
-                0,
+            Limit::StatusListen
+            | Limit::Log
+            | Limit::Balancers
+            | Limit::Clients
+            | Limit::Control
+            | Limit::ControlGroup => 0,
         }
     }
 }

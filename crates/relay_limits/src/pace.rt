@@ -32,7 +32,7 @@ struct Hold {
 
 /// How many connections to a next hop stand, how many it takes, and whether it is on hold. A tick is a millisecond of a
 /// monotonic clock.
-#[derive(Debug, Drop)]
+#[derive(Drop)]
 pub struct Pace {
     /// How many attempts run, each by a connection.
     running: usize,
@@ -129,8 +129,8 @@ impl Pace {
         self.leaving = count;
     }
 
-    /// Notes that the next hop has said something: when it can't be reached the next time, it is on hold for as short as
-    /// the first time.
+    /// Notes that the next hop has said something: when it can't be reached the next time, it is on hold for as short
+    /// as the first time.
     pub fn answered(&mut self)
         ensures { self.new ≡ answered_pace self.old }
     {

@@ -15,8 +15,8 @@ use Rattle.std.proofs.lemmas.Fmt.{IsAscii-from_digits, decimal_is_IsNumeral, dig
 use Rattle.std.proofs.lemmas.Str.{IsUtf8-from_ascii}
 use Rattle.std.proofs.lemmas.Str.Parse.{IsNumeralModel, numerals_by_value, parse_digits}
 use Rattle.relay_octets.specs.LetterCase.{IsSameWord}
-use Rattle.relay_lines.specs.Word.{is_space, is_no_space, word_len, space_len, first_word, argument_of, is_word, behind_keyword}
-use Rattle.relay_lines.specs.ChunkArgument.{IsChunkSize, IsEndMarker, StandsBehindSize, SpellsBdat, BeginsWithBdat, are_digits, are_size_digits, size_of_digits, chunk_size_of, with_size, bdat_argument_of, begins_with_bdat, BdatArgumentIsOfSpelling, OneBdatArgument, ElevenDigitsAreTooMany, LeadingZeroSaysNothing, BdatBeginningIsTested, DecimalIsChunkSize}
+use Rattle.relay_lines.specs.Word.{is_space, is_no_space, word_len, space_len, first_word, argument_of, is_word, after_keyword}
+use Rattle.relay_lines.specs.ChunkArgument.{IsChunkSize, IsEndMarker, StandsAfterSize, SpellsBdat, BeginsWithBdat, are_digits, are_size_digits, size_of_digits, chunk_size_of, with_size, bdat_argument_of, begins_with_bdat, BdatArgumentIsOfSpelling, OneBdatArgument, ElevenDigitsAreTooMany, LeadingZeroSaysNothing, BdatBeginningIsTested, DecimalIsChunkSize}
 use Rattle.relay_lines.specs.declared.chunk_argument.BdatArgument.{BdatArgument}
 use Rattle.relay_lines.proofs.WordLemmas.{AllPass-weaker, first_word-join, argument_of-join, same_word, is_word-same, length-same_word}
 
@@ -142,10 +142,10 @@ true_from_not true e = refl
 true_from_not false e = cc
 
 -- after a first word that isn't all of the text stands a space
-space_behind : (text : List ℕ) → prefix_len is_no_space text < length text
+space_after : (text : List ℕ) → prefix_len is_no_space text < length text
     → 1 ≤ length
     (take (prefix_len is_space (drop (prefix_len is_no_space text) text)) (drop (prefix_len is_no_space text) text))
-space_behind text more =
+space_after text more =
     let n = prefix_len is_no_space text in
     let here : is_space (get_or text n 0) ≡ true =
     true_from_not (is_space (get_or text n 0)) (prefix_len_stops is_no_space text 0 more) in
@@ -169,10 +169,10 @@ read_is_spelled text argument found =
           (sym (cond-true (length (first_word text) == length text) _ _ alone) ∙ found) in
           record {
             digits = text;
-            behind = [];
+            after = [];
             text_is = sym (append-nil text);
             size_is = size_from text argument.size sized.0;
-            last_is = subst (λ (last : Bool). StandsBehindSize last []) sized.1 refl;
+            last_is = subst (λ (last : Bool). StandsAfterSize last []) sized.1 refl;
           }
       | inr more ↦
           let marked = sym (cond-false (length (first_word text) == length text) _ _ more) ∙ found in
@@ -182,24 +182,24 @@ read_is_spelled text argument found =
                 mapped true (chunk_size_of (first_word text)) argument
                 (sym (cond-true (is_word (argument_of text) (codes "LAST")) _ _ last) ∙ marked) in
                 let n = prefix_len is_no_space text in
-                let behind = drop n text in
+                let after = drop n text in
                 let differs = eqb-false (length (first_word text)) (length text) more in
                 let few = length-take n text in
                 let within = prefix_len-le-length is_no_space text in
-                let marker : IsEndMarker behind = record {
-                  spaces = take (prefix_len is_space behind) behind;
+                let marker : IsEndMarker after = record {
+                  spaces = take (prefix_len is_space after) after;
                   word = argument_of text;
-                  text_is = sym (take-append-drop (prefix_len is_space behind) behind);
-                  some = space_behind text (omega (arith, differs, few, within));
-                  are_spaces = spaces_are behind;
+                  text_is = sym (take-append-drop (prefix_len is_space after) after);
+                  some = space_after text (omega (arith, differs, few, within));
+                  are_spaces = spaces_are after;
                   is_last = same_word (argument_of text) (codes "LAST") last;
                 } in
                 record {
                   digits = first_word text;
-                  behind = behind;
+                  after = after;
                   text_is = sym (take-append-drop n text);
                   size_is = size_from (first_word text) argument.size sized.0;
-                  last_is = subst (λ (last : Bool). StandsBehindSize last behind) sized.1 marker;
+                  last_is = subst (λ (last : Bool). StandsAfterSize last after) sized.1 marker;
                 }
             | inr other ↦
                 absurd
@@ -230,26 +230,26 @@ leading_zero_says_nothing digits size is few = record {
 }
 
 -- after digits of a size that ends within a row of digits stands neither nothing nor a space
-size_ends_with_digits : (digits behind : List ℕ) → AllPass is_ascii_digit digits
+size_ends_with_digits : (digits after : List ℕ) → AllPass is_ascii_digit digits
     → 10 < length digits → (last : Bool) (size : ℕ)
-    → SpellsBdat (digits ++ behind) (with_size last size) → ⊥
-size_ends_with_digits digits behind all many false size spells =
+    → SpellsBdat (digits ++ after) (with_size last size) → ⊥
+size_ends_with_digits digits after all many false size spells =
     let long =
     ap length
     (spells.text_is ∙ ap (λ b. spells.digits ++ b) spells.last_is ∙ append-nil spells.digits) in
-    let whole = length-append digits behind in
+    let whole = length-append digits after in
     omega (arith, long, whole, spells.size_is.few)
-size_ends_with_digits digits behind all many true size spells =
+size_ends_with_digits digits after all many true size spells =
     marked spells.last_is.spaces spells.last_is.some spells.last_is.are_spaces
     (spells.text_is ∙ ap (λ b. spells.digits ++ b) spells.last_is.text_is)
   where
-    marked : (spaces : List ℕ) → 1 ≤ length spaces → AllPass is_space spaces → digits ++ behind ≡ spells.digits ++ (spaces ++ spells.last_is.word) → ⊥
+    marked : (spaces : List ℕ) → 1 ≤ length spaces → AllPass is_space spaces → digits ++ after ≡ spells.digits ++ (spaces ++ spells.last_is.word) → ⊥
     marked [] some are text_is = omega (arith, some)
     marked (space ∷ spaces) some are text_is =
         let n = length spells.digits in
         let within : n < length digits = omega (arith, spells.size_is.few) in
         let here =
-        sym (get_or_append_left digits behind 0 n within) ∙ ap (λ l. get_or l n 0) text_is
+        sym (get_or_append_left digits after 0 n within) ∙ ap (λ l. get_or l n 0) text_is
         ∙ get_or_at spells.digits space (spaces ++ spells.last_is.word) 0 n refl in
         let digit : is_no_space space ≡ true =
         digit-no_space space (ap is_ascii_digit (sym here) ∙ all n 0 within) in
@@ -257,8 +257,8 @@ size_ends_with_digits digits behind all many true size spells =
         false≢true (ap not (sym blank) ∙ digit)
 
 pub eleven_digits_are_too_many : ElevenDigitsAreTooMany
-eleven_digits_are_too_many digits behind all many argument spells =
-    size_ends_with_digits digits behind all many argument.last argument.size spells
+eleven_digits_are_too_many digits after all many argument spells =
+    size_ends_with_digits digits after all many argument.last argument.size spells
 
 -- what is a space in lower case is one
 lower_space : (octet : ℕ) → to_ascii_lowercase octet ≡ 32 → octet ≡ 32
@@ -306,9 +306,9 @@ bdat_beginning_is_tested line = (beginning_from line, beginning_to line)
 
 -- a keyword is found exactly where its test passes
 pub keyword_is_some : (keyword text : List ℕ) (found : Option (Bor (List ℕ)))
-    → option_copied found ≡ behind_keyword keyword text
+    → option_copied found ≡ after_keyword keyword text
     → is_some found ≡ is_word (take (length keyword) text) keyword
-unfolding behind_keyword
+unfolding after_keyword
 keyword_is_some keyword text None e =
     elim (cases_Bool (is_word (take (length keyword) text) keyword)) [
       | inl here ↦
@@ -316,7 +316,7 @@ keyword_is_some keyword text None e =
           cc
       | inr not_here ↦ sym not_here
     ]
-keyword_is_some keyword text (Some behind) e =
+keyword_is_some keyword text (Some after) e =
     elim (cases_Bool (is_word (take (length keyword) text) keyword)) [
       | inl here ↦ sym here
       | inr not_here ↦
@@ -326,7 +326,7 @@ keyword_is_some keyword text (Some behind) e =
 
 -- the test of the first five octets, as a keyword is found
 pub bdat_is_found : (line : List ℕ) (found : Option (Bor (List ℕ)))
-    → option_copied found ≡ behind_keyword (codes "BDAT ") line
+    → option_copied found ≡ after_keyword (codes "BDAT ") line
     → is_some found ≡ begins_with_bdat line
 unfolding begins_with_bdat
 bdat_is_found line found e = keyword_is_some (codes "BDAT ") line found e

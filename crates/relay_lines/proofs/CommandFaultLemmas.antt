@@ -1,7 +1,7 @@
 -- Command lines that are none: where each fault is found.
 use Rattle.std.proofs.Common.{◌≡◌, ℕ, ◌==◌, Bool, true, false, List, length, codes, Option, None, Some, Result, Ok, Err, option_map, ok_or, ◌⊎◌, inl, inr, sym, ap, subst, refl, ◌∙◌}
 use Rattle.relay_octets.specs.LetterCase.{IsSameWord}
-use Rattle.relay_lines.specs.Word.{behind_keyword, is_host_word, SplitsLine}
+use Rattle.relay_lines.specs.Word.{after_keyword, is_host_word, SplitsLine}
 use Rattle.relay_lines.specs.declared.command.LineFault.{LineFault}
 use Rattle.relay_lines.specs.declared.command.LineFault.TheVariants.{Unknown, BadByte, BadArgument, NotOffered, BadChunkSize}
 use Rattle.relay_lines.specs.declared.chunk_argument.BdatArgument.{BdatArgument}
@@ -44,8 +44,8 @@ command_of-cases : (v : Verb) (argument : List ℕ)
 unfolding command_of takes_chunk
 command_of-cases verb.Helo argument = command_if-cases (is_host_word argument) (Helo argument)
 command_of-cases verb.Ehlo argument = command_if-cases (is_host_word argument) (Ehlo argument)
-command_of-cases verb.Mail argument = ok_or-cases Mail (behind_keyword (codes "FROM:") argument)
-command_of-cases verb.Rcpt argument = ok_or-cases Rcpt (behind_keyword (codes "TO:") argument)
+command_of-cases verb.Mail argument = ok_or-cases Mail (after_keyword (codes "FROM:") argument)
+command_of-cases verb.Rcpt argument = ok_or-cases Rcpt (after_keyword (codes "TO:") argument)
 command_of-cases verb.Data argument = command_if-cases (length argument == 0) Data
 command_of-cases verb.Bdat argument = bdat_if-cases (bdat_argument_of argument)
 command_of-cases verb.Rset argument = command_if-cases (length argument == 0) Rset

@@ -8,7 +8,7 @@ use Rattle.std.specs.List.{list_all, AllPass}
 use Rattle.std.specs.Char.{to_ascii_lowercase}
 use Rattle.std.specs.Str.{bytes_eq}
 use Rattle.relay_octets.specs.LetterCase.{IsSameWord}
-use Rattle.relay_lines.specs.Word.{is_space, is_printable, are_printable, is_word, without_trailing_blanks, first_word, argument_of, behind_keyword, is_host_word, SplitsLine}
+use Rattle.relay_lines.specs.Word.{is_space, is_printable, are_printable, is_word, without_trailing_blanks, first_word, argument_of, after_keyword, is_host_word, SplitsLine}
 use Rattle.relay_lines.specs.declared.command.LineFault.TheVariants.{BadByte, BadArgument}
 use Rattle.relay_lines.specs.declared.chunk_argument.BdatArgument.{BdatArgument}
 use Rattle.relay_lines.specs.ChunkArgument.{bdat_argument_of}
@@ -16,7 +16,7 @@ use Rattle.relay_lines.proofs.ChunkArgumentLemmas.{bdat_argument_is_of_spelling}
 use Rattle.relay_lines.specs.declared.command.Verb.{Verb}
 use Rattle.relay_lines.specs.declared.command.Verb.TheVariants as verb
 use Rattle.relay_lines.specs.Command.{Command, Helo, Ehlo, Mail, Rcpt, Data, Bdat, Rset, Noop, Vrfy, Help, Quit, word_of, verbs, verb_of, bdat_if, is_bdat, command_if, command_of, reading_of_verb, reading_of_words, reading_of_text, reading_of, IsSpelled, ReadsCommand, EveryLineSplits, SplitIsOne, ReadingIsOfWords}
-use Rattle.relay_lines.proofs.WordLemmas.{AllPass-weaker, text-split, first_word-split, argument_of-split, line-splits, same_word, behind_keyword-found, begins-behind_keyword, host-from_test, host-test}
+use Rattle.relay_lines.proofs.WordLemmas.{AllPass-weaker, text-split, first_word-split, argument_of-split, line-splits, same_word, after_keyword-found, begins-after_keyword, host-from_test, host-test}
 
 pub every_line_splits : EveryLineSplits
 every_line_splits line =
@@ -37,12 +37,12 @@ are_printable-split line word argument split =
     let spaces =
     list_all-from_AllPass is_printable split.spaces
     (AllPass-weaker is_space is_printable split.spaces space-printable split.are_spaces) in
-    let behind =
+    let after =
     list_all-append is_printable split.spaces argument
     ∙ ap (λ b. b && list_all is_printable argument) spaces in
     ap (list_all is_printable) (text-split line word argument split)
     ∙ list_all-append is_printable word (split.spaces ++ argument)
-    ∙ ap (λ b. list_all is_printable word && b) behind
+    ∙ ap (λ b. list_all is_printable word && b) after
     ∙ sym (list_all-append is_printable word argument)
 
 pub reading_is_of_words : ReadingIsOfWords
@@ -132,11 +132,11 @@ spelled-command_of verb.Ehlo word argument command same e =
     let p = command_if-ok (is_host_word argument) (Ehlo argument) command e in
     subst (λ c. IsSpelled c word argument) p.1 (same, host-from_test argument p.0, refl)
 spelled-command_of verb.Mail word argument command same e =
-    let p = ok_or-ok Mail (behind_keyword (codes "FROM:") argument) command e in
-    subst (λ c. IsSpelled c word argument) p.2 (same, begins-behind_keyword (codes "FROM:") argument p.0 p.1)
+    let p = ok_or-ok Mail (after_keyword (codes "FROM:") argument) command e in
+    subst (λ c. IsSpelled c word argument) p.2 (same, begins-after_keyword (codes "FROM:") argument p.0 p.1)
 spelled-command_of verb.Rcpt word argument command same e =
-    let p = ok_or-ok Rcpt (behind_keyword (codes "TO:") argument) command e in
-    subst (λ c. IsSpelled c word argument) p.2 (same, begins-behind_keyword (codes "TO:") argument p.0 p.1)
+    let p = ok_or-ok Rcpt (after_keyword (codes "TO:") argument) command e in
+    subst (λ c. IsSpelled c word argument) p.2 (same, begins-after_keyword (codes "TO:") argument p.0 p.1)
 spelled-command_of verb.Data word argument command same e =
     let p = command_if-ok (length argument == 0) Data command e in
     subst (λ c. IsSpelled c word argument) p.1
@@ -198,11 +198,11 @@ words-spelled (Ehlo host) word argument spelled =
 words-spelled (Mail path) word argument spelled =
     reading_of_words-verb word argument verb.Mail spelled.0
     ∙ ap (λ found. ok_or (option_map Mail found) BadArgument)
-    (behind_keyword-found (codes "FROM:") argument path spelled.1)
+    (after_keyword-found (codes "FROM:") argument path spelled.1)
 words-spelled (Rcpt path) word argument spelled =
     reading_of_words-verb word argument verb.Rcpt spelled.0
     ∙ ap (λ found. ok_or (option_map Rcpt found) BadArgument)
-    (behind_keyword-found (codes "TO:") argument path spelled.1)
+    (after_keyword-found (codes "TO:") argument path spelled.1)
 words-spelled Data word argument spelled =
     reading_of_words-verb word argument verb.Data spelled.0
     ∙ ap (λ a. command_if (length a == 0) Data) spelled.1

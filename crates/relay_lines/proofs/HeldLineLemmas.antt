@@ -82,17 +82,17 @@ all_or_kept : (octets more : List ℕ)
 all_or_kept octets more =
     let kept = length-take 2048 octets in let all = length-append octets more in grind (arith, nat_tests)
 
-behind : (octets : List ℕ) (octet : ℕ) (more : List ℕ)
+after : (octets : List ℕ) (octet : ℕ) (more : List ℕ)
     → ends_in_cr (octets ++ octet ∷ more) ≡ ends_in_cr (octet ∷ more)
-behind [] octet more = refl
-behind (first ∷ []) octet more = refl
-behind (first ∷ next ∷ octets) octet more = behind (next ∷ octets) octet more
+after [] octet more = refl
+after (first ∷ []) octet more = refl
+after (first ∷ next ∷ octets) octet more = after (next ∷ octets) octet more
 
 -- the last octet of joined octets
 pub last_is_cr-append : (octets more : List ℕ)
     → last_is_cr (ends_in_cr octets) more ≡ ends_in_cr (octets ++ more)
 last_is_cr-append octets [] = ap ends_in_cr (sym (append-nil octets))
-last_is_cr-append octets (octet ∷ more) = sym (behind octets octet more)
+last_is_cr-append octets (octet ∷ more) = sym (after octets octet more)
 
 -- what is kept of a line that goes on, and whether it is long
 goes_on_kept : (old new : HeldLine) (octets more : List ℕ) → Holds old octets → GoesOn old new more
@@ -126,12 +126,12 @@ long_line false kept line kept_is some =
     let size = ap length kept_is ∙ length-take 2048 line in grind (arith, nat_tests)
 
 -- octets whose last is a CR are some octets and it
-pub cr_behind : (octets : List ℕ) → ends_in_cr octets ≡ true
+pub cr_after : (octets : List ℕ) → ends_in_cr octets ≡ true
     → (front : List ℕ) × (octets ≡ front ++ 13 ∷ [])
-cr_behind [] e = absurd (false≢true e)
-cr_behind (octet ∷ []) e = ([], ap (λ o. o ∷ []) (eqb-true octet 13 e))
-cr_behind (octet ∷ next ∷ more) e =
-    let front = cr_behind (next ∷ more) e in (octet ∷ front.0, ap (λ l. octet ∷ l) front.1)
+cr_after [] e = absurd (false≢true e)
+cr_after (octet ∷ []) e = ([], ap (λ o. o ∷ []) (eqb-true octet 13 e))
+cr_after (octet ∷ next ∷ more) e =
+    let front = cr_after (next ∷ more) e in (octet ∷ front.0, ap (λ l. octet ∷ l) front.1)
 
 -- an LF after a CR ends the line before it
 pub lf_ends : (octets piece : List ℕ) → HasNoCrlf octets → ends_in_cr octets ≡ true
@@ -139,7 +139,7 @@ pub lf_ends : (octets piece : List ℕ) → HasNoCrlf octets → ends_in_cr octe
     → (line : List ℕ) × (octets ≡ line ++ 13 ∷ []) × ReadsLine (octets ++ take 1 piece) line []
 lf_ends octets [] unended cr lf = absurd (false≢true lf)
 lf_ends octets (octet ∷ piece) unended cr lf =
-    let front = cr_behind octets cr in
+    let front = cr_after octets cr in
     let e = front.1 in (
       front.0,
       e,

@@ -6,7 +6,7 @@ use Rattle.std.proofs.lemmas.List.{append-nil, length-append, take_at}
 use Rattle.std.proofs.Math.Seq.{take-append-add}
 use Rattle.relay_octets.specs.Line.{crlf, HasNoCrlf, ReadsLine, ends_in_cr}
 use Rattle.relay_octets.proofs.Theorems.{no_crlf_joined, no_crlf_front, no_crlf_one, first_line_is_one, first_line_stays}
-use Rattle.relay_lines.specs.Reply.{Reply, IsReplyLine, IsCode, ReadsReply, IsBehindCode, code_digits, followed_lines, middle_line}
+use Rattle.relay_lines.specs.Reply.{Reply, IsReplyLine, IsCode, ReadsReply, IsAfterCode, code_digits, followed_lines, middle_line}
 use Rattle.relay_lines.specs.ReplyReading.{Breaks, HasFault, IsLineOf, IsUnfinished, ShowsLine}
 use Rattle.relay_lines.specs.ReplyLaws.{BeginningIsUnfinished, FaultIsOne, FaultStays, HeldIsUnfinished, ReplyHasNoFault, UnfinishedHasNoFault, UnfinishedHasNoReply}
 use Rattle.relay_lines.specs.declared.reply_reader.ReplyFault.{ReplyFault}
@@ -34,13 +34,13 @@ middle_is_line : (code : ℕ) (text : List ℕ) → IsCode code
 middle_is_line code text is = record {
   is_last = false;
   text = text;
-  spells = record { behind = 45 ∷ text; code_is = is; behind_is = refl; line_is = refl };
+  spells = record { after = 45 ∷ text; code_is = is; after_is = refl; line_is = refl };
 }
 
-behind_is_short : (text behind : List ℕ) → IsBehindCode true text behind
-    → length behind ≤ length text + 1
-behind_is_short text behind (inl is) = let size = ap length is in omega arith
-behind_is_short text behind (inr is) = let size = ap length is.0 in omega arith
+after_is_short : (text after : List ℕ) → IsAfterCode true text after
+    → length after ≤ length text + 1
+after_is_short text after (inl is) = let size = ap length is in omega arith
+after_is_short text after (inr is) = let size = ap length is.0 in omega arith
 
 last_is_short : (octets : List ℕ) (reply : Reply) (reads : ReadsReply octets reply)
     → length reads.line ≤ 2046
@@ -48,7 +48,7 @@ last_is_short octets reply reads =
     let parts = reply_parts octets reply reads in
     let short = parts.1.short in
     let size = ap length reads.last_is.line_is in
-    let behind = behind_is_short reads.last reads.last_is.behind reads.last_is.behind_is in
+    let after = after_is_short reads.last reads.last_is.after reads.last_is.after_is in
     omega arith
 
 -- two codes of one line are one
@@ -58,7 +58,7 @@ line_has_one_code line code other is is_other =
     let one = is.spells in
     let two = is_other.spells in
     let same =
-    digits_are_one code other one.behind two.behind one.code_is two.code_is
+    digits_are_one code other one.after two.after one.code_is two.code_is
     (sym one.line_is ∙ two.line_is) in
     same.0
 

@@ -25,10 +25,10 @@ taken_both piece used more =
     ∙ ap (λ l. take used (take (used + more) piece) ++ l) (sym (drop-take used more piece))
     ∙ take-append-drop used (take (used + more) piece)
 
-both_behind : (rest piece : List ℕ) (used more : ℕ)
+both_after : (rest piece : List ℕ) (used more : ℕ)
     → (rest ++ take used piece) ++ take more
     (take (length piece - used) (drop used piece)) ≡ rest ++ take (used + more) piece
-both_behind rest piece used more =
+both_after rest piece used more =
     append_assoc rest (take used piece) (take more (take (length piece - used) (drop used piece)))
     ∙ ap (λ l. rest ++ l) (taken_both piece used more)
 
@@ -39,7 +39,7 @@ pub step_made : (new : ReplyReader) (reply : Option Reply) (rest piece : List �
     → HasMade new reply (rest ++ take (used + more) piece)
 step_made new reply rest piece used more made =
     let P : List ℕ → Type 0 = λ l. HasMade new reply l in
-    subst P (both_behind rest piece used more) made
+    subst P (both_after rest piece used more) made
 
 -- what a step holds of the rest of a piece
 pub step_held : (new : ReplyReader) (reply : Option Reply) (rest piece : List ℕ) (used more : ℕ)

@@ -5,7 +5,7 @@ use Rattle.std.proofs.lemmas.Bool.{ne_eqb}
 use Rattle.relay_octets.specs.Line.{crlf, HasNoCrlf, ReadsLine, begins_with_lf}
 use Rattle.relay_octets.proofs.Theorems.{no_crlf_joined, no_crlf_one, no_crlf_nil, first_line_is_one}
 use Rattle.relay_lines.proofs.ReplyLemmas.{lines_of_reply-append}
-use Rattle.relay_lines.specs.Reply.{Reply, IsReplyLine, IsCode, SpellsLine, ReadsReply, IsBehindCode, code_digits, followed_lines, last_line, lines_of_reply, made_of, middle_line}
+use Rattle.relay_lines.specs.Reply.{Reply, IsReplyLine, IsCode, SpellsLine, ReadsReply, IsAfterCode, code_digits, followed_lines, last_line, lines_of_reply, made_of, middle_line}
 use Rattle.relay_lines.specs.ReplyLaws.{NoReplyBeginsAnother, WrittenIsRead}
 
 -- an octet other than a CR, before octets without a CR LF
@@ -16,14 +16,14 @@ no_crlf_cons octet octets other none =
     (ap (λ b. b && begins_with_lf octets) (ne_eqb octet 13 other))
 
 -- a code before octets without a CR LF
-digits_cons : (code : ℕ) (behind : List ℕ) → HasNoCrlf behind
-    → HasNoCrlf (code_digits code ++ behind)
-digits_cons code behind none =
+digits_cons : (code : ℕ) (after : List ℕ) → HasNoCrlf after
+    → HasNoCrlf (code_digits code ++ after)
+digits_cons code after none =
     let high : 48 + code / 100 ≢ 13 = omega arith in
     let mid : 48 + code / 10 % 10 ≢ 13 = omega arith in
     let low : 48 + code % 10 ≢ 13 = omega arith in
-    no_crlf_cons (48 + code / 100) ((48 + code / 10 % 10) ∷ (48 + code % 10) ∷ behind) high
-    (no_crlf_cons (48 + code / 10 % 10) ((48 + code % 10) ∷ behind) mid (no_crlf_cons (48 + code % 10) behind low none))
+    no_crlf_cons (48 + code / 100) ((48 + code / 10 % 10) ∷ (48 + code % 10) ∷ after) high
+    (no_crlf_cons (48 + code / 10 % 10) ((48 + code % 10) ∷ after) mid (no_crlf_cons (48 + code % 10) after low none))
 
 -- a line of a reply is a line
 pub middle_has_none : (code : ℕ) (text : List ℕ) → HasNoCrlf text
@@ -32,20 +32,20 @@ middle_has_none code text none =
     let other : ◌≢◌ {A = ℕ} 45 13 = omega arith in
     digits_cons code (45 ∷ text) (no_crlf_cons 45 text other none)
 
-behind_has_none : (is_last : Bool) (text behind : List ℕ)
-    (spells : IsBehindCode is_last text behind)
-    → HasNoCrlf text → HasNoCrlf behind
-behind_has_none true text behind (inl is) none =
+after_has_none : (is_last : Bool) (text after : List ℕ)
+    (spells : IsAfterCode is_last text after)
+    → HasNoCrlf text → HasNoCrlf after
+after_has_none true text after (inl is) none =
     let other : ◌≢◌ {A = ℕ} 32 13 = omega arith in subst HasNoCrlf (sym is) (no_crlf_cons 32 text other none)
-behind_has_none true text behind (inr is) none = subst HasNoCrlf (sym is.0) no_crlf_nil
-behind_has_none false text behind is none =
+after_has_none true text after (inr is) none = subst HasNoCrlf (sym is.0) no_crlf_nil
+after_has_none false text after is none =
     let other : ◌≢◌ {A = ℕ} 45 13 = omega arith in subst HasNoCrlf (sym is) (no_crlf_cons 45 text other none)
 
 line_has_none : (line : List ℕ) (code : ℕ) (is_last : Bool) (text : List ℕ)
     → SpellsLine line code is_last text → HasNoCrlf text → HasNoCrlf line
 line_has_none line code is_last text spells none =
     subst HasNoCrlf (sym spells.line_is)
-    (digits_cons code spells.behind (behind_has_none is_last text spells.behind spells.behind_is none))
+    (digits_cons code spells.after (after_has_none is_last text spells.after spells.after_is none))
 
 -- a code is told by its digits
 code_is_one : (code other : ℕ) → IsCode code → IsCode other → 48 + code / 100 ≡ 48 + other / 100
@@ -53,9 +53,9 @@ code_is_one : (code other : ℕ) → IsCode code → IsCode other → 48 + code 
 code_is_one code other is is_other high mid low =
     let low_end = is.high in let other_end = is_other.high in omega arith
 
-pub digits_are_one : (code other : ℕ) (behind more : List ℕ) → IsCode code → IsCode other
-    → code_digits code ++ behind ≡ code_digits other ++ more → (code ≡ other) × (behind ≡ more)
-digits_are_one code other behind more is is_other e =
+pub digits_are_one : (code other : ℕ) (after more : List ℕ) → IsCode code → IsCode other
+    → code_digits code ++ after ≡ code_digits other ++ more → (code ≡ other) × (after ≡ more)
+digits_are_one code other after more is is_other e =
     let high : 48 + code / 100 ≡ 48 + other / 100 = cc in
     let mid : 48 + code / 10 % 10 ≡ 48 + other / 10 % 10 = cc in
     let low : 48 + code % 10 ≡ 48 + other % 10 = cc in
@@ -66,9 +66,9 @@ last_is_not_middle : (line : List ℕ) (code other : ℕ) (text follows : List �
     → SpellsLine line code true text → line ≡ code_digits other ++ 45 ∷ follows → ⊥
 last_is_not_middle line code other text follows is spells e =
     let same =
-    digits_are_one code other spells.behind (45 ∷ follows) spells.code_is is
+    digits_are_one code other spells.after (45 ∷ follows) spells.code_is is
     (sym spells.line_is ∙ e) in
-    elim spells.behind_is [
+    elim spells.after_is [
       | inl space ↦ let no : ◌≡◌ {A = ℕ} 45 32 = cc in absurd (omega arith)
       | inr nothing ↦ let no : [] ≡ 45 ∷ follows = sym nothing.0 ∙ same.1 in cc
     ]
@@ -109,22 +109,22 @@ abbrev pub Agree : ℕ → ℕ → List (List ℕ) → List (List ℕ) → List 
 Agree c d lines others rest more =
     SameLines c d lines others rest more ⊎ (GoesFurther c d lines others rest more ⊎ GoesFurther d c others lines more rest)
 
-agree_behind : (c d : ℕ) (text other : List ℕ) (lines others : List (List ℕ)) (rest more : List ℕ)
+agree_after : (c d : ℕ) (text other : List ℕ) (lines others : List (List ℕ)) (rest more : List ℕ)
     → c ≡ d → text ≡ other → Agree c d lines others rest more
     → Agree c d (text ∷ lines) (other ∷ others) rest more
-agree_behind c d text other lines others rest more codes texts (inl same) = inl record {
+agree_after c d text other lines others rest more codes texts (inl same) = inl record {
   lines_are = ap (λ t. t ∷ lines) texts ∙ ap (λ ls. other ∷ ls) same.lines_are;
   rest_is = same.rest_is;
   code_is = λ _. codes;
 }
-agree_behind c d text other lines others rest more codes texts (inr (inl further)) = inr (inl record {
+agree_after c d text other lines others rest more codes texts (inr (inl further)) = inr (inl record {
   text = further.text;
   later = further.later;
   others_are = ap (λ t. t ∷ others) (sym texts) ∙ ap (λ ls. text ∷ ls) further.others_are;
   rest_is = further.rest_is;
   code_is = λ _. codes;
 })
-agree_behind c d text other lines others rest more codes texts (inr (inr further)) = inr (inr record {
+agree_after c d text other lines others rest more codes texts (inr (inr further)) = inr (inr record {
   text = further.text;
   later = further.later;
   others_are = ap (λ t. t ∷ lines) texts ∙ ap (λ ls. other ∷ ls) further.others_are;
@@ -163,7 +163,7 @@ agree c d (text ∷ lines) (other ∷ others) rest more is is_other each each_ot
     (first_of_followed c text lines rest each.0)
     (first_of_followed d other others more each_other.0) in
     let codes = digits_are_one c d (45 ∷ text) (45 ∷ other) is is_other same.0 in
-    agree_behind c d text other lines others rest more codes.0 (ap (drop 1) codes.1)
+    agree_after c d text other lines others rest more codes.0 (ap (drop 1) codes.1)
     (agree c d lines others rest more is is_other each.1 each_other.1 same.1)
 
 -- the lines of a reply, and the last one
@@ -180,9 +180,9 @@ reply_parts octets reply reads =
     each_parts reads.middle reads.last (subst P reads.lines_are reads.is_reply.each)
 
 -- the first line after those of a reply that others follow
-pub last_reads : (octets behind : List ℕ) (reply : Reply) (reads : ReadsReply octets reply)
-    → ReadsLine ((reads.line ++ crlf) ++ behind) reads.line behind
-last_reads octets behind reply reads =
+pub last_reads : (octets after : List ℕ) (reply : Reply) (reads : ReadsReply octets reply)
+    → ReadsLine ((reads.line ++ crlf) ++ after) reads.line after
+last_reads octets after reply reads =
     let parts = reply_parts octets reply reads in
     record {
       text = refl;
@@ -190,22 +190,22 @@ last_reads octets behind reply reads =
     }
 
 -- a reply and what is after it
-pub reply_split : (octets behind : List ℕ) (reply : Reply) (reads : ReadsReply octets reply)
-    → octets ++ behind ≡ followed_lines reply.code reads.middle ++ ((reads.line ++ crlf) ++ behind)
-reply_split octets behind reply reads =
-    ap (λ l. l ++ behind) reads.octets_are
-    ∙ append_assoc (followed_lines reply.code reads.middle) (reads.line ++ crlf) behind
+pub reply_split : (octets after : List ℕ) (reply : Reply) (reads : ReadsReply octets reply)
+    → octets ++ after ≡ followed_lines reply.code reads.middle ++ ((reads.line ++ crlf) ++ after)
+reply_split octets after reply reads =
+    ap (λ l. l ++ after) reads.octets_are
+    ∙ append_assoc (followed_lines reply.code reads.middle) (reads.line ++ crlf) after
 
 -- a reply's last line isn't one that another follows
-pub ends_there : (octets behind rest : List ℕ) (reply : Reply) (code : ℕ) (text : List ℕ)
+pub ends_there : (octets after rest : List ℕ) (reply : Reply) (code : ℕ) (text : List ℕ)
     (later : List (List ℕ)) (reads : ReadsReply octets reply)
     → IsCode code → IsReplyLine text
-    → (reads.line ++ crlf) ++ behind ≡ followed_lines code (text ∷ later) ++ rest → ⊥
-ends_there octets behind rest reply code text later reads is is_line e =
+    → (reads.line ++ crlf) ++ after ≡ followed_lines code (text ∷ later) ++ rest → ⊥
+ends_there octets after rest reply code text later reads is is_line e =
     let same =
-    same_first ((reads.line ++ crlf) ++ behind) reads.line behind
+    same_first ((reads.line ++ crlf) ++ after) reads.line after
     (followed_lines code (text ∷ later) ++ rest) (code_digits code ++ 45 ∷ text)
-    (followed_lines code later ++ rest) e (last_reads octets behind reply reads)
+    (followed_lines code later ++ rest) e (last_reads octets after reply reads)
     (first_of_followed code text later rest is_line) in
     last_is_not_middle reads.line reply.code code reads.last text is reads.last_is same.0
 
@@ -223,35 +223,35 @@ further_line c d lines others rest more further each =
     each_further lines further.text further.later (subst P further.others_are each)
 
 -- the text after a code is told by what follows the code
-text_is_one : (behind text other : List ℕ) → IsBehindCode true text behind
-    → IsBehindCode true other behind → text ≡ other
-text_is_one behind text other (inl one) (inl two) = ap (drop 1) (sym one ∙ two)
-text_is_one behind text other (inl one) (inr two) = let no : 32 ∷ text ≡ [] = sym one ∙ two.0 in cc
-text_is_one behind text other (inr one) (inl two) = let no : [] ≡ 32 ∷ other = sym one.0 ∙ two in cc
-text_is_one behind text other (inr one) (inr two) = one.1 ∙ sym two.1
+text_is_one : (after text other : List ℕ) → IsAfterCode true text after
+    → IsAfterCode true other after → text ≡ other
+text_is_one after text other (inl one) (inl two) = ap (drop 1) (sym one ∙ two)
+text_is_one after text other (inl one) (inr two) = let no : 32 ∷ text ≡ [] = sym one ∙ two.0 in cc
+text_is_one after text other (inr one) (inl two) = let no : [] ≡ 32 ∷ other = sym one.0 ∙ two in cc
+text_is_one after text other (inr one) (inr two) = one.1 ∙ sym two.1
 
 same_reply : (reply second : Reply) → reply.code ≡ second.code → reply.lines ≡ second.lines
     → reply ≡ second
 same_reply reply second codes lines =
     ap (λ n. made_of n reply.lines) codes ∙ ap (λ ls. made_of second.code ls) lines
 
-one_reply : (text other behind rest : List ℕ) (reply second : Reply) (one : ReadsReply text reply)
+one_reply : (text other after rest : List ℕ) (reply second : Reply) (one : ReadsReply text reply)
     (two : ReadsReply other second)
-    → Agree reply.code second.code one.middle two.middle ((one.line ++ crlf) ++ behind)
+    → Agree reply.code second.code one.middle two.middle ((one.line ++ crlf) ++ after)
     ((two.line ++ crlf) ++ rest)
-    → (text ≡ other) × (behind ≡ rest) × (reply ≡ second)
-one_reply text other behind rest reply second one two (inl same) =
+    → (text ≡ other) × (after ≡ rest) × (reply ≡ second)
+one_reply text other after rest reply second one two (inl same) =
     let first =
-    same_first ((one.line ++ crlf) ++ behind) one.line behind
-    ((two.line ++ crlf) ++ rest) two.line rest same.rest_is (last_reads text behind reply one)
+    same_first ((one.line ++ crlf) ++ after) one.line after
+    ((two.line ++ crlf) ++ rest) two.line rest same.rest_is (last_reads text after reply one)
     (last_reads other rest second two) in
     let codes =
-    digits_are_one reply.code second.code one.last_is.behind two.last_is.behind one.last_is.code_is two.last_is.code_is
+    digits_are_one reply.code second.code one.last_is.after two.last_is.after one.last_is.code_is two.last_is.code_is
     (sym one.last_is.line_is ∙ first.0 ∙ two.last_is.line_is) in
-    let P : List ℕ → Type 0 = λ l. IsBehindCode true one.last l in
+    let P : List ℕ → Type 0 = λ l. IsAfterCode true one.last l in
     let last =
-    text_is_one two.last_is.behind one.last two.last
-    (subst P codes.1 one.last_is.behind_is) two.last_is.behind_is in
+    text_is_one two.last_is.after one.last two.last
+    (subst P codes.1 one.last_is.after_is) two.last_is.after_is in
     let lines =
     one.lines_are ∙ ap (λ ls. ls ++ one.last ∷ []) same.lines_are
     ∙ ap (λ t. two.middle ++ t ∷ []) last ∙ sym two.lines_are in (
@@ -261,22 +261,22 @@ one_reply text other behind rest reply second one two (inl same) =
       first.1,
       same_reply reply second codes.0 lines,
     )
-one_reply text other behind rest reply second one two (inr (inl further)) =
+one_reply text other after rest reply second one two (inr (inl further)) =
     let parts = reply_parts other second two in
     absurd
-    (ends_there text behind ((two.line ++ crlf) ++ rest) reply second.code further.text further.later one two.last_is.code_is (further_line reply.code second.code one.middle two.middle ((one.line ++ crlf) ++ behind) ((two.line ++ crlf) ++ rest) further parts.0) further.rest_is)
-one_reply text other behind rest reply second one two (inr (inr further)) =
+    (ends_there text after ((two.line ++ crlf) ++ rest) reply second.code further.text further.later one two.last_is.code_is (further_line reply.code second.code one.middle two.middle ((one.line ++ crlf) ++ after) ((two.line ++ crlf) ++ rest) further parts.0) further.rest_is)
+one_reply text other after rest reply second one two (inr (inr further)) =
     let parts = reply_parts text reply one in
     absurd
-    (ends_there other rest ((one.line ++ crlf) ++ behind) second reply.code further.text further.later two one.last_is.code_is (further_line second.code reply.code two.middle one.middle ((two.line ++ crlf) ++ rest) ((one.line ++ crlf) ++ behind) further parts.0) further.rest_is)
+    (ends_there other rest ((one.line ++ crlf) ++ after) second reply.code further.text further.later two one.last_is.code_is (further_line second.code reply.code two.middle one.middle ((two.line ++ crlf) ++ rest) ((one.line ++ crlf) ++ after) further parts.0) further.rest_is)
 
 -- no reply begins another
 pub no_reply_begins_another : NoReplyBeginsAnother
-no_reply_begins_another text other behind rest reply second one two e =
+no_reply_begins_another text other after rest reply second one two e =
     let one_parts = reply_parts text reply one in
     let two_parts = reply_parts other second two in
-    one_reply text other behind rest reply second one two
-    (agree reply.code second.code one.middle two.middle ((one.line ++ crlf) ++ behind) ((two.line ++ crlf) ++ rest) one.last_is.code_is two.last_is.code_is one_parts.0 two_parts.0 (sym (reply_split text behind reply one) ∙ e ∙ reply_split other rest second two))
+    one_reply text other after rest reply second one two
+    (agree reply.code second.code one.middle two.middle ((one.line ++ crlf) ++ after) ((two.line ++ crlf) ++ rest) one.last_is.code_is two.last_is.code_is one_parts.0 two_parts.0 (sym (reply_split text after reply one) ∙ e ∙ reply_split other rest second two))
 
 -- the last of some lines, and those before it
 split_last : (lines : List (List ℕ)) → 0 < length lines
@@ -291,10 +291,10 @@ split_last (text ∷ next ∷ more) some =
 written_last : (code : ℕ) (last : List ℕ) → IsCode code
     → (line : List ℕ) × SpellsLine line code true last × (last_line code last ≡ line ++ crlf)
 written_last code [] is =
-    (code_digits code, record { behind = []; code_is = is; behind_is = inr (refl, refl); line_is = refl }, refl)
+    (code_digits code, record { after = []; code_is = is; after_is = inr (refl, refl); line_is = refl }, refl)
 written_last code (octet ∷ text) is = (
   code_digits code ++ 32 ∷ octet ∷ text,
-  record { behind = 32 ∷ octet ∷ text; code_is = is; behind_is = inl refl; line_is = refl },
+  record { after = 32 ∷ octet ∷ text; code_is = is; after_is = inl refl; line_is = refl },
   refl,
 )
 

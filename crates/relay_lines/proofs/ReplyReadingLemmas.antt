@@ -8,7 +8,7 @@ use Rattle.std.proofs.lemmas.Bool.{cases_lt, false≢true}
 use Rattle.relay_octets.specs.Line.{crlf, HasNoCrlf, ReadsLine, ends_in_cr}
 use Rattle.relay_octets.proofs.Theorems.{no_crlf_back, no_crlf_front, no_crlf_joined, no_crlf_one, first_line_stays}
 use Rattle.relay_lines.specs.HeldLine.{HeldLine, Holds, EndsLine}
-use Rattle.relay_lines.specs.Reply.{Reply, IsReply, IsReplyLine, IsCode, IsBehindCode, SpellsLine, ReadsReply, code_digits, followed_lines, made_of, middle_line}
+use Rattle.relay_lines.specs.Reply.{Reply, IsReply, IsReplyLine, IsCode, IsAfterCode, SpellsLine, ReadsReply, code_digits, followed_lines, made_of, middle_line}
 use Rattle.relay_lines.specs.ReplyReading.{AreFollowed, Breaks, HasFault, IsLineOf, ShowsLine}
 use Rattle.relay_lines.specs.ReplySteps.{GivesLines, HasMade, HoldsEnded, HoldsRest, IsNextLine, KeepsLine}
 use Rattle.relay_lines.specs.declared.reply_reader.ReplyFault.{ReplyFault}
@@ -53,7 +53,7 @@ followed_more code line_code is_last lines line followed none next = record {
 middle_is : (line : List ℕ) (code : ℕ) (text : List ℕ) → SpellsLine line code false text
     → line ++ crlf ≡ middle_line code text
 middle_is line code text spells =
-    ap (λ l. l ++ crlf) (spells.line_is ∙ ap (λ b. code_digits code ++ b) spells.behind_is)
+    ap (λ l. l ++ crlf) (spells.line_is ∙ ap (λ b. code_digits code ++ b) spells.after_is)
 
 -- what is kept of an ended line that breaks no rule is that line
 next_whole : (old : ReplyReader) (line : List ℕ) (code : ℕ) (is_last : Bool) → HoldsEnded old line
@@ -201,11 +201,11 @@ part_is_held old new octets rest held code lines open_still more short =
     }
 
 -- the octets after the lines that are held have this fault
-fault_behind : (old : ReplyReader) (octets rest line : List ℕ) (fault : ReplyFault)
+fault_after : (old : ReplyReader) (octets rest line : List ℕ) (fault : ReplyFault)
     (held : HoldsRest old rest)
     → ShowsLine (held.part ++ octets) line → Breaks fault old.code old.lines.items line
     → HasFault (rest ++ octets) fault
-fault_behind old octets rest line fault held shows breaks = record {
+fault_after old octets rest line fault held shows breaks = record {
   code = old.code;
   lines = old.lines.items;
   line = line;
@@ -231,16 +231,16 @@ part_has_fault old new octets rest fault held more long breaks =
     let whole : all ≡ new.kept ++ drop 2048 all =
     sym (take-append-drop 2048 all) ∙ ap (λ l. l ++ drop 2048 all) (sym holds.kept) in
     let none = no_crlf_front new.kept (drop 2048 all) (subst HasNoCrlf whole holds.unended) in
-    fault_behind old octets rest new.kept fault held
+    fault_after old octets rest new.kept fault held
     (inr (drop 2048 all, whole, none, omega (arith, size))) breaks
 
 -- a line of a reply stays one with an octet more, and without its last octet, where it has a text
-behind_more : (is_last : Bool) (text behind : List ℕ) (octet : ℕ) → 0 < length behind
-    → IsBehindCode is_last text behind
-    → IsBehindCode is_last (text ++ octet ∷ []) (behind ++ octet ∷ [])
-behind_more true text behind octet some (inl is) = inl (ap (λ l. l ++ octet ∷ []) is)
-behind_more true text behind octet some (inr is) = let none = ap length is.0 in absurd (omega arith)
-behind_more false text behind octet some is = ap (λ l. l ++ octet ∷ []) is
+after_more : (is_last : Bool) (text after : List ℕ) (octet : ℕ) → 0 < length after
+    → IsAfterCode is_last text after
+    → IsAfterCode is_last (text ++ octet ∷ []) (after ++ octet ∷ [])
+after_more true text after octet some (inl is) = inl (ap (λ l. l ++ octet ∷ []) is)
+after_more true text after octet some (inr is) = let none = ap length is.0 in absurd (omega arith)
+after_more false text after octet some is = ap (λ l. l ++ octet ∷ []) is
 
 line_of_more : (line : List ℕ) (code octet : ℕ) → 3 < length line → IsLineOf line code
     → IsLineOf (line ++ octet ∷ []) code
@@ -251,18 +251,18 @@ line_of_more line code octet long is =
       is_last = is.is_last;
       text = is.text ++ octet ∷ [];
       spells = record {
-        behind = spells.behind ++ octet ∷ [];
+        after = spells.after ++ octet ∷ [];
         code_is = spells.code_is;
-        behind_is = behind_more is.is_last is.text spells.behind octet (omega arith) spells.behind_is;
+        after_is = after_more is.is_last is.text spells.after octet (omega arith) spells.after_is;
         line_is = ap (λ l. l ++ octet ∷ []) spells.line_is;
       };
     }
 
-behind_less : (is_last : Bool) (text behind : List ℕ) (n : ℕ) → 0 < length behind
-    → IsBehindCode is_last text behind → IsBehindCode is_last (take n text) (take (suc n) behind)
-behind_less true text behind n some (inl is) = inl (ap (take (suc n)) is)
-behind_less true text behind n some (inr is) = let none = ap length is.0 in absurd (omega arith)
-behind_less false text behind n some is = ap (take (suc n)) is
+after_less : (is_last : Bool) (text after : List ℕ) (n : ℕ) → 0 < length after
+    → IsAfterCode is_last text after → IsAfterCode is_last (take n text) (take (suc n) after)
+after_less true text after n some (inl is) = inl (ap (take (suc n)) is)
+after_less true text after n some (inr is) = let none = ap length is.0 in absurd (omega arith)
+after_less false text after n some is = ap (take (suc n)) is
 
 line_of_less : (line : List ℕ) (code octet : ℕ) → length line ≡ 2047
     → IsLineOf (line ++ octet ∷ []) code → IsLineOf line code
@@ -274,9 +274,9 @@ line_of_less line code octet long is =
       is_last = is.is_last;
       text = take 2043 is.text;
       spells = record {
-        behind = take 2044 spells.behind;
+        after = take 2044 spells.after;
         code_is = spells.code_is;
-        behind_is = behind_less is.is_last is.text spells.behind 2043 (omega arith) spells.behind_is;
+        after_is = after_less is.is_last is.text spells.after 2043 (omega arith) spells.after_is;
         line_is = sym (take_at line (octet ∷ []) 2047 long) ∙ ap (take 2047) spells.line_is;
       };
     }
@@ -317,8 +317,8 @@ long_shows : (octets line rest : List ℕ) (fault : ReplyFault) (code : ℕ) (li
     → ShowsBroken octets fault code lines
 long_shows octets line rest fault code lines reads long breaks =
     let first = take 2048 line in
-    let behind = drop 2048 line ++ (crlf ++ rest) in
-    let split : octets ≡ first ++ behind =
+    let after = drop 2048 line ++ (crlf ++ rest) in
+    let split : octets ≡ first ++ after =
     reads.text ∙ append_assoc line crlf rest
     ∙ ap (λ l. l ++ (crlf ++ rest)) (sym (take-append-drop 2048 line))
     ∙ append_assoc first (drop 2048 line) (crlf ++ rest) in
@@ -327,7 +327,7 @@ long_shows octets line rest fault code lines reads long breaks =
     (subst HasNoCrlf (sym (take-append-drop 2048 line)) reads.first) in
     record {
       line = first;
-      shows = inr (behind, split, none, length-take-le 2048 line long);
+      shows = inr (after, split, none, length-take-le 2048 line long);
       breaks = breaks;
     }
 
@@ -380,15 +380,15 @@ ended_has_fault old new octets rest used fault held ends breaks =
     let broken =
     ended_shows (held.part ++ octets) ends.0 (drop used octets) fault old.code old.lines.items reads
     (subst Q ends.2.kept breaks) in
-    fault_behind old octets rest broken.line fault held broken.shows broken.breaks
+    fault_after old octets rest broken.line fault held broken.shows broken.breaks
 
 -- the line has ended after the lines that are held
-pub ended_behind : (old mid : ReplyReader) (rest octets : List ℕ) (held : HoldsRest old rest)
+pub ended_after : (old mid : ReplyReader) (rest octets : List ℕ) (held : HoldsRest old rest)
     → EndsLine held.part octets mid.line → mid.code ≡ old.code → mid.lines.items ≡ old.lines.items
     → mid.has_failed ≡ old.has_failed
     → (line : List ℕ) × HoldsEnded mid line ×
     (rest ++ octets ≡ followed_lines mid.code mid.lines.items ++ (line ++ crlf))
-ended_behind old mid rest octets held ends code lines open_still =
+ended_after old mid rest octets held ends code lines open_still =
     let P : ℕ → Type 0 = λ n. AreFollowed n old.lines.items in
     let Q : List (List ℕ) → Type 0 = λ ls. AreFollowed mid.code ls in
     let line = ends.0 in (

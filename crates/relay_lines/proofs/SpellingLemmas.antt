@@ -11,7 +11,7 @@ use Rattle.relay_octets.specs.LetterCase.{IsSameWord}
 use Rattle.relay_lines.specs.Word.{is_space, is_no_space, is_blank, is_printable, are_printable, without_trailing_blanks, first_word, argument_of}
 use Rattle.relay_lines.specs.declared.command.LineFault.TheVariants.{BadByte}
 use Rattle.relay_lines.specs.declared.chunk_argument.BdatArgument.{BdatArgument}
-use Rattle.relay_lines.specs.ChunkArgument.{SpellsBdat, StandsBehindSize, bdat_argument_of}
+use Rattle.relay_lines.specs.ChunkArgument.{SpellsBdat, StandsAfterSize, bdat_argument_of}
 use Rattle.relay_lines.proofs.ChunkArgumentLemmas.{bdat_argument_is_of_spelling}
 use Rattle.relay_lines.specs.Command.{Command, is_bdat, reading_of_verb, reading_of_words, reading_of, IsSpelled, ReadsCommand, ReadingIsOfSpelling, LetterCaseIsFree}
 use Rattle.relay_lines.proofs.WordLemmas.{length-same_word, AllPass-weaker, line-splits}
@@ -127,10 +127,10 @@ pub digit-printable : (octet : ℕ) → is_ascii_digit octet ≡ true → is_pri
 digit-printable octet digit = grind (arith, nat_tests)
 
 -- what stands after a chunk-size is printable, and ends in no blank
-pub behind-printable : (last : Bool) (behind : List ℕ) → StandsBehindSize last behind
-    → list_all is_printable behind ≡ true
-behind-printable false behind none = ap (list_all is_printable) none
-behind-printable true behind marker =
+pub after-printable : (last : Bool) (after : List ℕ) → StandsAfterSize last after
+    → list_all is_printable after ≡ true
+after-printable false after none = ap (list_all is_printable) none
+after-printable true after marker =
     let word = plain-same marker.word (codes "LAST") refl refl refl refl refl marker.is_last in
     let spaces =
     list_all-from_AllPass is_printable marker.spaces
@@ -144,9 +144,9 @@ chunk-printable argument chunk spelled =
     let digits =
     list_all-from_AllPass is_printable spelled.digits
     (AllPass-weaker is_ascii_digit is_printable spelled.digits digit-printable spelled.size_is.digits) in
-    ap (list_all is_printable) spelled.text_is ∙ list_all-append is_printable spelled.digits spelled.behind
-    ∙ and_from (list_all is_printable spelled.digits) (list_all is_printable spelled.behind) digits
-    (behind-printable chunk.last spelled.behind spelled.last_is)
+    ap (list_all is_printable) spelled.text_is ∙ list_all-append is_printable spelled.digits spelled.after
+    ∙ and_from (list_all is_printable spelled.digits) (list_all is_printable spelled.after) digits
+    (after-printable chunk.last spelled.after spelled.last_is)
 
 pub bdat-printable : (word argument : List ℕ) (chunk : BdatArgument)
     → IsSameWord word (codes "BDAT") → SpellsBdat argument chunk

@@ -10,7 +10,7 @@ use Rattle.std.proofs.lemmas.Slice.Eq.{bytes_eq-Decides}
 use Rattle.std.specs.List.{list_all, prefix_len, suffix_len, take_while, AllPass}
 use Rattle.std.specs.Char.{to_ascii_lowercase, is_ascii_graphic}
 use Rattle.relay_octets.specs.LetterCase.{IsSameWord}
-use Rattle.relay_lines.specs.Word.{is_printable, is_domain_octet, is_literal_octet, are_domain_octets, are_literal_octets, is_address_literal, is_host_word, IsAddressLiteral, IsHostWord, is_space, is_no_space, is_blank, word_len, space_len, without_trailing_blanks, first_word, argument_of, is_word, behind_keyword, SplitsLine, BeginsWithKeyword, AddressLiteralIsTested, HostWordIsTested}
+use Rattle.relay_lines.specs.Word.{is_printable, is_domain_octet, is_literal_octet, are_domain_octets, are_literal_octets, is_address_literal, is_host_word, IsAddressLiteral, IsHostWord, is_space, is_no_space, is_blank, word_len, space_len, without_trailing_blanks, first_word, argument_of, is_word, after_keyword, SplitsLine, BeginsWithKeyword, AddressLiteralIsTested, HostWordIsTested}
 
 -- a front that passes is counted whole
 prefix_len-front : (p : ℕ → Bool) (front rest : List ℕ) → list_all p front ≡ true
@@ -34,8 +34,8 @@ list_all-front p (x ∷ xs) =
     (λ not_here. refl)
 
 -- nothing more is counted after it
-prefix_len-behind : (p : ℕ → Bool) (xs : List ℕ) → prefix_len p (drop (prefix_len p xs) xs) ≡ 0
-prefix_len-behind p xs =
+prefix_len-after : (p : ℕ → Bool) (xs : List ℕ) → prefix_len p (drop (prefix_len p xs) xs) ≡ 0
+prefix_len-after p xs =
     elim (cases_lt (prefix_len p xs) (length xs)) [
       | inl h ↦ prefix_len-drop_no p xs (prefix_len p xs) 0 h (prefix_len_stops p xs 0 h)
       | inr h ↦ prefix_len-drop_all p xs (prefix_len p xs) h
@@ -93,7 +93,7 @@ trim-clean line =
     let back = ap (drop (suffix_len is_blank line)) (reverse-parts n line)
     ∙ drop_at (reverse (drop n line)) (reverse (take n line)) (suffix_len is_blank line)
     (length-blanks line) in
-    ap (prefix_len is_blank) (sym back) ∙ prefix_len-behind is_blank (reverse line)
+    ap (prefix_len is_blank) (sym back) ∙ prefix_len-after is_blank (reverse line)
 
 -- what was dropped is blank
 pub trim-blanks : (line : List ℕ)
@@ -140,12 +140,12 @@ pub argument_of-join : (word spaces argument : List ℕ) → AllPass is_no_space
     → argument_of (word ++ (spaces ++ argument)) ≡ argument
 unfolding argument_of space_len
 argument_of-join word spaces argument free all apart begins =
-    let behind =
+    let after =
     drop_at word (spaces ++ argument) (word_len (word ++ (spaces ++ argument)))
     (sym (word_len-join word spaces argument free all apart)) in
     let counted = prefix_len-front is_space spaces argument (list_all-from_AllPass is_space spaces all) in
     let many : length spaces ≡ prefix_len is_space (spaces ++ argument) = omega (arith, counted, begins) in
-    ap (λ l. drop (prefix_len is_space l) l) behind
+    ap (λ l. drop (prefix_len is_space l) l) after
     ∙ drop_at spaces argument (prefix_len is_space (spaces ++ argument)) many
 
 -- the test of a word says that it is the same in any letter case
@@ -165,10 +165,10 @@ length-same_word text word same =
     sym (length-map text to_ascii_lowercase) ∙ ap length same ∙ length-map word to_ascii_lowercase
 
 -- a text that is shorter than the keyword doesn't begin with it
-pub behind_keyword_short : (keyword text : List ℕ) → length text < length keyword
-    → behind_keyword keyword text ≡ None
-unfolding behind_keyword
-behind_keyword_short keyword text short =
+pub after_keyword_short : (keyword text : List ℕ) → length text < length keyword
+    → after_keyword keyword text ≡ None
+unfolding after_keyword
+after_keyword_short keyword text short =
     cond-false (is_word (take (length keyword) text) keyword) _ _ (false_from_ne_true _ (λ test.
     let same = length-same_word (take (length keyword) text) keyword (same_word _ keyword test) in
     let whole = ap length (take_all (length keyword) text (omega arith)) in
@@ -196,19 +196,19 @@ argument_of-split line word argument split =
     ∙ argument_of-join word split.spaces argument split.word_has_no_space split.are_spaces split.apart split.argument_begins_with_no_space
 
 -- after the first word stands a space or nothing
-apart_behind : (behind : List ℕ) → prefix_len is_no_space behind ≡ 0
-    → take (prefix_len is_space behind) behind ≡ [] → drop (prefix_len is_space behind) behind ≡ []
-apart_behind [] begins none = refl
-apart_behind (octet ∷ behind) begins none =
+apart_after : (after : List ℕ) → prefix_len is_no_space after ≡ 0
+    → take (prefix_len is_space after) after ≡ [] → drop (prefix_len is_space after) after ≡ []
+apart_after [] begins none = refl
+apart_after (octet ∷ after) begins none =
     elim (cases_Bool (is_space octet)) [
       | inl here ↦
-          let some = cond-true (is_space octet) (1 + prefix_len is_space behind) 0 here in
+          let some = cond-true (is_space octet) (1 + prefix_len is_space after) 0 here in
           let short = ap length none in
-          let count = length-take (prefix_len is_space (octet ∷ behind)) (octet ∷ behind) in
+          let count = length-take (prefix_len is_space (octet ∷ after)) (octet ∷ after) in
           absurd (omega (arith, some, short, count))
       | inr not_here ↦
           let some =
-          cond-true (is_no_space octet) (1 + prefix_len is_no_space behind) 0
+          cond-true (is_no_space octet) (1 + prefix_len is_no_space after) 0
           (not_from_false (is_space octet) not_here) in
           absurd (omega (arith, some, begins))
     ]
@@ -220,13 +220,13 @@ pub line-splits : (line : List ℕ)
 unfolding without_trailing_blanks first_word argument_of word_len space_len
 line-splits line =
     let text = without_trailing_blanks line in
-    let behind = drop (prefix_len is_no_space text) text in
+    let after = drop (prefix_len is_no_space text) text in
     let word = take (prefix_len is_no_space text) text in
-    let spaces = take (prefix_len is_space behind) behind in
-    let argument = drop (prefix_len is_space behind) behind in
+    let spaces = take (prefix_len is_space after) after in
+    let argument = drop (prefix_len is_space after) after in
     let joined : word ++ spaces ++ argument ≡ text =
     append_assoc word spaces argument
-    ∙ ap (λ l. word ++ l) (take-append-drop (prefix_len is_space behind) behind)
+    ∙ ap (λ l. word ++ l) (take-append-drop (prefix_len is_space after) after)
     ∙ take-append-drop (prefix_len is_no_space text) text in
     record {
       spaces = spaces;
@@ -235,18 +235,18 @@ line-splits line =
           sym
           (ap (λ l. l ++ drop (length line - suffix_len is_blank line) line) joined ∙ take-append-drop (length line - suffix_len is_blank line) line);
       word_has_no_space = AllPass-from_list_all is_no_space word (list_all-front is_no_space text);
-      are_spaces = AllPass-from_list_all is_space spaces (list_all-front is_space behind);
+      are_spaces = AllPass-from_list_all is_space spaces (list_all-front is_space after);
       are_blanks = trim-blanks line;
-      apart = apart_behind behind (prefix_len-behind is_no_space text);
-      argument_begins_with_no_space = prefix_len-behind is_space behind;
+      apart = apart_after after (prefix_len-after is_no_space text);
+      argument_begins_with_no_space = prefix_len-after is_space after;
       text_ends_in_no_blank = ap (suffix_len is_blank) joined ∙ trim-clean line;
     }
 
 -- a keyword that a text begins with is found, and what is found stands after it
-pub behind_keyword-found : (keyword text rest : List ℕ) → BeginsWithKeyword text keyword rest
-    → behind_keyword keyword text ≡ Some rest
-unfolding behind_keyword
-behind_keyword-found keyword text rest begins =
+pub after_keyword-found : (keyword text rest : List ℕ) → BeginsWithKeyword text keyword rest
+    → after_keyword keyword text ≡ Some rest
+unfolding after_keyword
+after_keyword-found keyword text rest begins =
     let many = length-same_word begins.front keyword begins.same in
     let front = ap (take (length keyword)) begins.text_is ∙ take_at begins.front rest (length keyword) many in
     let back = ap (drop (length keyword)) begins.text_is ∙ drop_at begins.front rest (length keyword) many in
@@ -254,13 +254,13 @@ behind_keyword-found keyword text rest begins =
     (ap (λ l. is_word l keyword) front ∙ is_word-same begins.front keyword begins.same)
     ∙ ap Some back
 
-pub begins-behind_keyword : (keyword text rest : List ℕ) → behind_keyword keyword text ≡ Some rest
+pub begins-after_keyword : (keyword text rest : List ℕ) → after_keyword keyword text ≡ Some rest
     → BeginsWithKeyword text keyword rest
-unfolding behind_keyword
-begins-behind_keyword keyword text rest found =
+unfolding after_keyword
+begins-after_keyword keyword text rest found =
     elim (cases_Bool (is_word (take (length keyword) text) keyword)) [
       | inl here ↦
-          let behind : drop (length keyword) text ≡ rest =
+          let after : drop (length keyword) text ≡ rest =
           cc
           (cond-true (is_word (take (length keyword) text) keyword) (Some (drop (length keyword) text)) None here) in
           record {
@@ -268,7 +268,7 @@ begins-behind_keyword keyword text rest found =
             same = same_word (take (length keyword) text) keyword here;
             text_is =
                 sym (take-append-drop (length keyword) text)
-                ∙ ap (λ l. take (length keyword) text ++ l) behind;
+                ∙ ap (λ l. take (length keyword) text ++ l) after;
           }
       | inr not_here ↦
           absurd

@@ -9,7 +9,7 @@ use Rattle.std.specs.List.{list_all, prefix_len, suffix_len, AllPass}
 use Rattle.std.specs.Char.{is_ascii_digit, is_ascii_graphic}
 use Rattle.relay_lines.specs.Word.{is_space, is_no_space, is_blank, is_printable, IsHostWord, SplitsLine}
 use Rattle.relay_lines.specs.declared.chunk_argument.BdatArgument.{BdatArgument}
-use Rattle.relay_lines.specs.ChunkArgument.{SpellsBdat, StandsBehindSize}
+use Rattle.relay_lines.specs.ChunkArgument.{SpellsBdat, StandsAfterSize}
 use Rattle.relay_lines.specs.Command.{Command, Helo, Ehlo, Mail, Rcpt, Data, Bdat, Rset, Noop, Vrfy, Help, Quit, reading_of, IsSpelled}
 use Rattle.relay_lines.proofs.WordLemmas.{AllPass-reverse, AllPass-weaker, host-graphic, graphic-printable, graphic-no_space, graphic-no_blank}
 use Rattle.relay_lines.proofs.CommandLemmas.{reading-from_reads}
@@ -110,14 +110,14 @@ prefix_len-digits p [] other all = refl
 prefix_len-digits p (octet ∷ text) other all =
     cond-false (p octet) (1 + prefix_len p text) 0 (other octet (all 0 0 (omega arith)))
 
-behind-ends : (last : Bool) (digits behind : List ℕ) → suffix_len is_blank digits ≡ 0
-    → StandsBehindSize last behind → suffix_len is_blank (digits ++ behind) ≡ 0
-behind-ends false digits behind ends none =
+after-ends : (last : Bool) (digits after : List ℕ) → suffix_len is_blank digits ≡ 0
+    → StandsAfterSize last after → suffix_len is_blank (digits ++ after) ≡ 0
+after-ends false digits after ends none =
     ap (suffix_len is_blank) (ap (λ l. digits ++ l) none ∙ append-nil digits) ∙ ends
-behind-ends true digits behind ends marker =
+after-ends true digits after ends marker =
     let word = plain-same marker.word (codes "LAST") refl refl refl refl refl marker.is_last in
     let whole = suffix_len-back_none marker.spaces marker.word word.not_empty word.ends in
-    suffix_len-both_none digits behind ends (ap (suffix_len is_blank) marker.text_is ∙ whole)
+    suffix_len-both_none digits after ends (ap (suffix_len is_blank) marker.text_is ∙ whole)
 
 -- a plain word is itself in one letter case
 plain-word : (word : List ℕ) → nat_le 1 (length word) ≡ true → list_all is_printable word ≡ true
@@ -168,7 +168,7 @@ bare-reads verb command plain spelled =
     })
 
 -- the end-marker marks the last chunk
-marker-stands : (last : Bool) → StandsBehindSize last (end_marker last)
+marker-stands : (last : Bool) → StandsAfterSize last (end_marker last)
 marker-stands false = refl
 marker-stands true = record {
   spaces = codes " ";
@@ -188,7 +188,7 @@ chunk-spells : (chunk : BdatArgument) → chunk.size < 2 ^ 32
     → SpellsBdat (decimal chunk.size ++ end_marker chunk.last) chunk
 chunk-spells chunk small = record {
   digits = decimal chunk.size;
-  behind = end_marker chunk.last;
+  after = end_marker chunk.last;
   text_is = refl;
   size_is = decimal_is_chunk_size chunk.size small;
   last_is = marker-stands chunk.last;
@@ -198,18 +198,18 @@ bdat-reads : (chunk : BdatArgument) → chunk.size < 2 ^ 32
     → reading_of (written_command (Bdat chunk)) ≡ Ok (Bdat chunk)
 bdat-reads chunk small =
     let digits = decimal chunk.size in
-    let behind = end_marker chunk.last in
+    let after = end_marker chunk.last in
     let size = decimal_is_chunk_size chunk.size small in
     let spells = chunk-spells chunk small in
     let begins = prefix_len-digits is_space digits digit-no_space size.digits in
     let ends =
     prefix_len-digits is_blank (reverse digits) digit-no_blank
     (AllPass-reverse is_ascii_digit digits size.digits) in
-    spaced-reads (codes "BDAT") (digits ++ behind) (Bdat chunk)
+    spaced-reads (codes "BDAT") (digits ++ after) (Bdat chunk)
     (plain-word (codes "BDAT") refl refl refl refl refl)
-    (omega (arith, size.some, length-append digits behind)) (chunk-printable (digits ++ behind) chunk spells)
-    (prefix_len-front_none is_space digits behind size.some begins)
-    (behind-ends chunk.last digits behind ends (marker-stands chunk.last)) (refl, spells)
+    (omega (arith, size.some, length-append digits after)) (chunk-printable (digits ++ after) chunk spells)
+    (prefix_len-front_none is_space digits after size.some begins)
+    (after-ends chunk.last digits after ends (marker-stands chunk.last)) (refl, spells)
 
 -- MAIL and RCPT, with what stands after the colon
 mail-reads : (text : List ℕ) → MayFollow (codes "MAIL FROM:") text
@@ -308,10 +308,10 @@ written_command_is_read Data is =
     (omega arith)
 written_command_is_read (Bdat chunk) is =
     let digits = decimal chunk.size in
-    let behind = end_marker chunk.last in
+    let after = end_marker chunk.last in
     let size = decimal_is_chunk_size chunk.size is in
     read_line (written_command (Bdat chunk)) (Bdat chunk) (bdat-reads chunk is)
-    (omega (arith, size.few, marker-short chunk.last, length-append (codes "BDAT ") (digits ++ behind), length-append digits behind))
+    (omega (arith, size.few, marker-short chunk.last, length-append (codes "BDAT ") (digits ++ after), length-append digits after))
 written_command_is_read Rset is =
     read_line (codes "RSET") Rset
     (bare-reads (codes "RSET") Rset (plain-word (codes "RSET") refl refl refl refl refl) (refl, refl))

@@ -29,17 +29,17 @@ pub record IsEndMarker (text : List ℕ) : Type 0 where
   pub is_last : IsSameWord word (codes "LAST")
 
 -- what is after the chunk-size: nothing, or the end-marker at the last chunk
-abbrev pub StandsBehindSize : Bool → List ℕ → Type 0
-StandsBehindSize false behind = behind ≡ []
-StandsBehindSize true behind = IsEndMarker behind
+abbrev pub StandsAfterSize : Bool → List ℕ → Type 0
+StandsAfterSize false after = after ≡ []
+StandsAfterSize true after = IsEndMarker after
 
 -- the text spells this argument: a chunk-size, and the end-marker at the last chunk
 pub record SpellsBdat (text : List ℕ) (argument : BdatArgument) : Type 0 where
   pub digits : List ℕ
-  pub behind : List ℕ
-  pub text_is : text ≡ digits ++ behind
+  pub after : List ℕ
+  pub text_is : text ≡ digits ++ after
   pub size_is : IsChunkSize digits argument.size
-  pub last_is : StandsBehindSize argument.last behind
+  pub last_is : StandsAfterSize argument.last after
 
 -- each octet is a digit
 unfoldable pub are_digits : List ℕ → Bool
@@ -96,8 +96,8 @@ OneBdatArgument =
 -- A text that begins with more than 10 digits spells none, whatever number they write.
 abbrev pub ElevenDigitsAreTooMany : Type 0
 ElevenDigitsAreTooMany =
-    (digits behind : List ℕ) → AllPass is_ascii_digit digits → 10 < length digits
-    → (argument : BdatArgument) → ¬ SpellsBdat (digits ++ behind) argument
+    (digits after : List ℕ) → AllPass is_ascii_digit digits → 10 < length digits
+    → (argument : BdatArgument) → ¬ SpellsBdat (digits ++ after) argument
 
 -- A zero before the digits of a chunk-size says nothing, as long as there are at most 10 digits.
 abbrev pub LeadingZeroSaysNothing : Type 0

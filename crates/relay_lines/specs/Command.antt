@@ -6,7 +6,7 @@ use Rattle.std.specs.List.{AllPass}
 use Rattle.relay_octets.specs.Line.{HasNoCrlf}
 use Rattle.relay_octets.specs.LetterCase.{IsSameWord}
 use Rattle.relay_lines.specs.Word.{is_printable, is_word, are_printable, without_trailing_blanks, first_word}
-use Rattle.relay_lines.specs.Word.{argument_of, behind_keyword, is_host_word, SplitsLine, BeginsWithKeyword, IsHostWord}
+use Rattle.relay_lines.specs.Word.{argument_of, after_keyword, is_host_word, SplitsLine, BeginsWithKeyword, IsHostWord}
 use Rattle.relay_lines.specs.declared.command.LineFault.{LineFault}
 use Rattle.relay_lines.specs.declared.command.LineFault.TheVariants.{Unknown, BadByte, BadArgument, NotOffered}
 use Rattle.relay_lines.specs.declared.command.LineFault.TheVariants.{BadChunkSize}
@@ -77,8 +77,8 @@ bdat_if (Some argument) = Ok (Bdat argument)
 unfoldable pub command_of : Verb → List ℕ → Result Command LineFault
 command_of verb.Helo argument = command_if (is_host_word argument) (Helo argument)
 command_of verb.Ehlo argument = command_if (is_host_word argument) (Ehlo argument)
-command_of verb.Mail argument = ok_or (option_map Mail (behind_keyword (codes "FROM:") argument)) BadArgument
-command_of verb.Rcpt argument = ok_or (option_map Rcpt (behind_keyword (codes "TO:") argument)) BadArgument
+command_of verb.Mail argument = ok_or (option_map Mail (after_keyword (codes "FROM:") argument)) BadArgument
+command_of verb.Rcpt argument = ok_or (option_map Rcpt (after_keyword (codes "TO:") argument)) BadArgument
 command_of verb.Data argument = command_if (length argument == 0) Data
 command_of verb.Bdat argument = bdat_if (bdat_argument_of argument)
 command_of verb.Rset argument = command_if (length argument == 0) Rset

@@ -69,16 +69,16 @@ written_replies replies = flat_map reply_text replies
 
 -- what follows the code in a line with this text: where it is the last line, SP and the text, or nothing if there is no
 -- text; else a hyphen and the text
-abbrev pub IsBehindCode : Bool → List ℕ → List ℕ → Type 0
-IsBehindCode true text behind = (behind ≡ 32 ∷ text) ⊎ ((behind ≡ []) × (text ≡ []))
-IsBehindCode false text behind = behind ≡ 45 ∷ text
+abbrev pub IsAfterCode : Bool → List ℕ → List ℕ → Type 0
+IsAfterCode true text after = (after ≡ 32 ∷ text) ⊎ ((after ≡ []) × (text ≡ []))
+IsAfterCode false text after = after ≡ 45 ∷ text
 
 -- the line, without its CR LF, is a reply's line of this code and text, the last one or not
 pub record SpellsLine (line : List ℕ) (code : ℕ) (is_last : Bool) (text : List ℕ) : Type 0 where
-  pub behind : List ℕ
+  pub after : List ℕ
   pub code_is : IsCode code
-  pub behind_is : IsBehindCode is_last text behind
-  pub line_is : line ≡ code_digits code ++ behind
+  pub after_is : IsAfterCode is_last text after
+  pub line_is : line ≡ code_digits code ++ after
 
 -- lines of one code, with these texts, each of which another follows
 abbrev pub followed_lines : ℕ → List (List ℕ) → List ℕ

@@ -14,8 +14,8 @@ WrittenIsRead = (reply : Reply) → IsReply reply → ReadsReply (reply_text rep
 -- No reply begins another, and octets are one reply at most.
 abbrev pub NoReplyBeginsAnother : Type 0
 NoReplyBeginsAnother =
-    (text other behind rest : List ℕ) (reply second : Reply) → ReadsReply text reply
-    → ReadsReply other second → text ++ behind ≡ other ++ rest → (text ≡ other) × (behind ≡ rest) × (reply ≡ second)
+    (text other after rest : List ℕ) (reply second : Reply) → ReadsReply text reply
+    → ReadsReply other second → text ++ after ≡ other ++ rest → (text ≡ other) × (after ≡ rest) × (reply ≡ second)
 
 -- If octets are a prefix of written replies, the replies cut from them are a prefix of those, and the rest has no
 -- fault.

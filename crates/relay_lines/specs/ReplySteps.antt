@@ -14,7 +14,7 @@ pub record HasCode (line : List ℕ) (code : ℕ) : Type 0 where
 
 -- the line begins with no code
 pub record HasNoCode (line : List ℕ) : Type 0 where
-  pub none : (code : ℕ) (behind : List ℕ) → IsCode code → line ≢ code_digits code ++ behind
+  pub none : (code : ℕ) (after : List ℕ) → IsCode code → line ≢ code_digits code ++ after
 
 -- the line breaks no rule after these lines of a reply
 pub record IsNextLine

@@ -67,15 +67,15 @@ first_word text = take (word_len text) text
 
 -- profile: what is after the first word and the spaces after it, where one may be several
 unfoldable pub argument_of : List ℕ → List ℕ
-argument_of text = let behind = drop (word_len text) text in drop (space_len behind) behind
+argument_of text = let after = drop (word_len text) text in drop (space_len after) after
 
 -- the text is this word, in any letter case (section 2.4)
 unfoldable pub is_word : List ℕ → List ℕ → Bool
 is_word text word = str_eq_ignore_ascii_case text word
 
 -- what is after a keyword, where the text begins with it, in any letter case
-unfoldable pub behind_keyword : List ℕ → List ℕ → Option (List ℕ)
-behind_keyword keyword text =
+unfoldable pub after_keyword : List ℕ → List ℕ → Option (List ℕ)
+after_keyword keyword text =
     if is_word (take (length keyword) text) keyword then Some (drop (length keyword) text) else None
 
 -- profile: `[`, octets of an address literal or none, `]`

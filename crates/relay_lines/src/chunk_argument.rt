@@ -4,12 +4,12 @@ ghost use Rattle.relay_lines.specs.ChunkArgument.{SpellsBdat, are_digits, are_si
 ghost use Rattle.relay_lines.specs.ChunkArgument.{begins_with_bdat, chunk_size_of, size_of_digits, BeginsWithBdat};
 ghost use Rattle.relay_lines.specs.declared.chunk_argument.BdatArgument.{BdatArgument};
 
-use crate::word::{argument_of, behind_keyword, first_word, is_word};
+use crate::word::{after_keyword, argument_of, first_word, is_word};
 use std::str;
 use thiserror::Error;
 
 /// The argument of BDAT.
-#[derive(Clone, Copy, Debug, PartialEq, Eq)]
+#[derive(Clone, Copy, PartialEq, Eq)]
 pub struct BdatArgument {
     /// How many octets of content follow the line at once.
     pub size: u32,
@@ -103,5 +103,5 @@ pub fn begins_with_bdat(line: &[u8]) -> bool
     ensures value { result ≡ begins_with_bdat line.now }
     ensures begins { IsTrue result ↔ BeginsWithBdat line.now }
 {
-    behind_keyword(b"BDAT ", line).is_some()
+    after_keyword(b"BDAT ", line).is_some()
 }

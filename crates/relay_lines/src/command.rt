@@ -8,7 +8,7 @@ ghost use Rattle.relay_lines.specs.WrittenCommand.{written_command};
 use crate::chunk_argument::{BadChunkSize, BdatArgument};
 use crate::line::push_line;
 use crate::word::{
-    are_printable, argument_of, behind_keyword, first_word, is_host_word, is_word,
+    after_keyword, are_printable, argument_of, first_word, is_host_word, is_word,
     without_trailing_blanks,
 };
 use itoa::Buffer;
@@ -16,7 +16,7 @@ use std::alloc::AllocError;
 use thiserror::Error;
 
 /// A command (RFC 5321, section 4.1.1), with its parts as they came.
-#[derive(Clone, Copy, Debug, PartialEq, Eq)]
+#[derive(Clone, Copy, PartialEq, Eq)]
 pub enum Command<'a> {
     /// The word of the client: 1 to 255 octets.
     Helo(&'a [u8]),
@@ -154,11 +154,11 @@ impl<'a> Command<'a> {
         match verb {
             Verb::Helo if is_host_word(argument) => Ok(Command::Helo(argument)),
             Verb::Ehlo if is_host_word(argument) => Ok(Command::Ehlo(argument)),
-            Verb::Mail => match behind_keyword(b"FROM:", argument) {
+            Verb::Mail => match after_keyword(b"FROM:", argument) {
                 Some(path) => Ok(Command::Mail(path)),
                 None => Err(LineFault::BadArgument),
             },
-            Verb::Rcpt => match behind_keyword(b"TO:", argument) {
+            Verb::Rcpt => match after_keyword(b"TO:", argument) {
                 Some(path) => Ok(Command::Rcpt(path)),
                 None => Err(LineFault::BadArgument),
             },

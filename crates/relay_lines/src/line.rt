@@ -7,7 +7,7 @@ use relay_octets::find_crlf;
 use std::alloc::AllocError;
 
 /// The state of a stream's next line.
-#[derive(Clone, Copy, Debug, PartialEq, Eq)]
+#[derive(Clone, Copy, PartialEq, Eq)]
 pub enum LineCut {
     /// It is whole, and has this many octets with its CR LF.
     Whole(usize),

@@ -19,7 +19,6 @@ const LINE_FRAME: usize = 6;
 
 /// A reply (RFC 5321, 4.2): a code of three digits, the first 2 to 5, and 1 to 100 lines of text. A
 /// text is any octets but CR LF, 2,042 of them at most.
-#[derive(Debug)]
 pub struct Reply {
     code: u16,
     lines: Vec<Octets>,

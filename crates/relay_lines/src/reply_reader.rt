@@ -50,7 +50,7 @@ impl From<AllocError> for ReplyFault {
 }
 
 /// What a feed has done.
-#[derive(Debug, Drop)]
+#[derive(Drop)]
 pub struct ReplyCut {
     /// The number of octets used: up to a reply's end, or the whole piece.
     pub used: usize,

@@ -3,7 +3,7 @@ ghost use Rattle.std.specs.Prelude.{◌≡◌, ◌≤◌, IfOk, length, map, opt
 ghost use Rattle.std.specs.List.{AllPass};
 ghost use Rattle.relay_lines.specs.Word.{is_printable, shown, is_blank, is_domain_octet, is_literal_octet};
 ghost use Rattle.relay_lines.specs.Word.{are_printable, are_domain_octets, are_literal_octets, without_trailing_blanks};
-ghost use Rattle.relay_lines.specs.Word.{word_len, space_len, first_word, argument_of, is_word, behind_keyword};
+ghost use Rattle.relay_lines.specs.Word.{word_len, space_len, first_word, argument_of, is_word, after_keyword};
 ghost use Rattle.relay_lines.specs.Word.{is_address_literal, is_host_word};
 
 use std::alloc::{AllocError, Global};
@@ -127,8 +127,8 @@ pub fn first_word(text: &[u8]) -> &[u8]
 pub(crate) fn argument_of(text: &[u8]) -> &[u8]
     ensures { result.now ≡ argument_of text.now }
 {
-    let behind = &text[word_len(text)..];
-    &behind[space_len(behind)..]
+    let after = &text[word_len(text)..];
+    &after[space_len(after)..]
 }
 
 /// Returns whether the text is this word, in any letter case (RFC 5321, section 2.4).
@@ -140,13 +140,13 @@ pub fn is_word(text: &[u8], word: &[u8]) -> bool
 }
 
 /// Returns the text after a keyword, if it begins with that in any letter case.
-#[tactic(auto, using(crate::proofs::WordLemmas::behind_keyword_short), unfolding(crate::specs::Word::behind_keyword))]
-pub(crate) fn behind_keyword<'a>(keyword: &[u8], text: &'a [u8]) -> Option<&'a [u8]>
-    ensures { option_copied result ≡ behind_keyword keyword.now text.now }
+#[tactic(auto, using(crate::proofs::WordLemmas::after_keyword_short), unfolding(crate::specs::Word::after_keyword))]
+pub(crate) fn after_keyword<'a>(keyword: &[u8], text: &'a [u8]) -> Option<&'a [u8]>
+    ensures { option_copied result ≡ after_keyword keyword.now text.now }
 {
-    let (front, behind) = text.split_at_checked(keyword.len())?;
+    let (front, after) = text.split_at_checked(keyword.len())?;
     if is_word(front, keyword) {
-        Some(behind)
+        Some(after)
     } else {
         None
     }

@@ -7,7 +7,7 @@ use Rattle.std.proofs.KnownBytes.{Appends-trans, Consumes-nil, Consumes-trans, C
 use Rattle.relay_disk.specs.Device.{DiskWords}
 use Rattle.relay_server.specs.declared.offer.Answer.{Answer}
 use Rattle.relay_server.specs.declared.offer.Answer.TheVariants.{Queued}
-use Rattle.relay_server.specs.Dialogue.{IsDialogue, Offered, Said, unread_behind}
+use Rattle.relay_server.specs.Dialogue.{IsDialogue, Offered, Said, unread_after}
 use Rattle.relay_server.specs.Setup.{setup_for}
 use Rattle.relay_server.proofs.Theorems.{what_stands_is_a_dialogue}
 use Rattle.relay_routes.specs.declared.config.Config.{Config}
@@ -189,7 +189,7 @@ module _ {D : Type 0} (honest : Type 0) (words : DiskWords D) (start : Start) (a
         let gone = rw closed at r.goes_on in
         let unread = gone.1.unread (drop received.used waiting) in
         record {
-          said = unread_behind r.later (drop received.used waiting);
+          said = unread_after r.later (drop received.used waiting);
           dialogue = unread.0;
           read = read_later;
           written = written_later wrote;

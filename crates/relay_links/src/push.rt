@@ -19,7 +19,7 @@ use std::io::{ErrorKind, Read, Write};
 const READS: u64 = 1_099_511_627_776;
 
 /// How the link of an attempt has ended.
-#[derive(Clone, Copy, Debug, Drop, PartialEq, Eq)]
+#[derive(Clone, Copy, Drop, PartialEq, Eq)]
 pub enum Pushed {
     /// The attempt has ended, and all that it wrote was written.
     Ended,

@@ -11,7 +11,7 @@ use std::io::{self, Write};
 use std::net::SocketAddrV4;
 
 /// An attempt that has ended, or giving up places without a hop.
-#[derive(Debug, Drop)]
+#[derive(Drop)]
 pub struct Attempt<'a> {
     /// The number of the message.
     pub number: u64,
@@ -28,7 +28,7 @@ pub struct Attempt<'a> {
 }
 
 /// What became of a recipient.
-#[derive(Clone, Copy, Debug, PartialEq, Eq)]
+#[derive(Clone, Copy, PartialEq, Eq)]
 enum Status {
     Sent,
     Deferred,

@@ -26,7 +26,7 @@ const STAMP_LIMIT: usize = 1_024;
 const LIST_LIMIT: usize = 320;
 
 /// The messages that the node has accepted on a connection.
-#[derive(Clone, Copy, Debug)]
+#[derive(Clone, Copy)]
 pub enum Messages<'a> {
     /// Those from this number on, if no other connection was served meanwhile.
     From(u64),
@@ -35,7 +35,7 @@ pub enum Messages<'a> {
 }
 
 /// A client's connection that has ended.
-#[derive(Clone, Copy, Debug)]
+#[derive(Clone, Copy)]
 pub struct Connection<'a, F> {
     /// The client's address and port.
     pub peer: SocketAddrV4,
@@ -50,10 +50,12 @@ pub struct Connection<'a, F> {
 }
 
 /// Why a client's connection has ended.
-#[derive(Clone, Copy, Debug, PartialEq, Eq)]
+#[derive(Clone, Copy, PartialEq, Eq)]
 pub enum ClientEnd {
-    /// The client sent QUIT, or the relay closed the connection with a 421 reply.
+    /// The client sent QUIT, or the relay accepted no more of its commands and said so by a 421 reply.
     Quit,
+    /// The relay is stopping, or waits to take a new configuration, and said so by a 421 reply.
+    Stopping,
     /// The client has closed the connection.
     Closed,
     /// The client wrote or read nothing for too long.
@@ -69,6 +71,7 @@ impl ClientEnd {
     fn word(self) -> &'static [u8] {
         match self {
             ClientEnd::Quit => b"quit",
+            ClientEnd::Stopping => b"stopping",
             ClientEnd::Closed => b"closed",
             ClientEnd::Timeout => b"timeout",
             ClientEnd::Reset => b"reset",
@@ -78,7 +81,7 @@ impl ClientEnd {
 }
 
 /// Why a connection of a balancer has no client.
-#[derive(Clone, Copy, Debug, PartialEq, Eq)]
+#[derive(Clone, Copy, PartialEq, Eq)]
 pub enum HeaderFault {
     /// It begins with no header of the PROXY protocol, or has ended before its header.
     Missing,
@@ -173,7 +176,7 @@ pub(crate) fn unserved_line(head: Head, peer: SocketAddrV4) -> io::Result<LogLin
 }
 
 /// Why a client that has connected isn't served: it gets one line that gives the reason.
-#[derive(Clone, Copy, Debug, Drop, PartialEq, Eq)]
+#[derive(Clone, Copy, Drop, PartialEq, Eq)]
 pub enum Refusal {
     /// 421: the greatest number of connections is open.
     NoRoom,

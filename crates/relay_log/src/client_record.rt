@@ -10,7 +10,7 @@ const LINES_A_MINUTE: u64 = 10;
 const MINUTE: u64 = 60_000;
 
 /// What was done on a client's connection. Each count saturates at 2^64 - 1.
-#[derive(Clone, Copy, Debug)]
+#[derive(Clone, Copy)]
 pub struct ClientRecord {
     /// The tick, in milliseconds, at which it was accepted.
     since: u64,

@@ -117,7 +117,7 @@ impl Rejections {
 }
 
 /// Why a client was refused what it asked for.
-#[derive(Clone, Copy, Debug, PartialEq, Eq)]
+#[derive(Clone, Copy, PartialEq, Eq)]
 pub enum Rejection {
     /// No route leads to the recipient.
     NoRoute,

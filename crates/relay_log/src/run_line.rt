@@ -90,7 +90,7 @@ pub(crate) fn stopping_line<F: Display>(head: Head, fault: &F) -> io::Result<Log
 }
 
 /// What is known of a device failure.
-#[derive(Clone, Copy, Debug, Drop)]
+#[derive(Clone, Copy, Drop)]
 pub struct DeviceFailure<'a> {
     /// The system's error, if there was one.
     pub reason: Option<io::Error>,

@@ -27,11 +27,11 @@ last_fits queue [] change fits = fits.0
 last_fits queue (first ∷ front) change fits = last_fits (step queue first) front change fits.1
 
 -- changes that fit after others that do
-fit_behind : (queue : Queue) (changes pending : List Change) → FitsFrom queue changes
+fit_after : (queue : Queue) (changes pending : List Change) → FitsFrom queue changes
     → FitsFrom (fold step queue changes) pending → FitsFrom queue (changes ++ pending)
-fit_behind queue [] pending first second = second
-fit_behind queue (change ∷ changes) pending first second =
-    (first.0, fit_behind (step queue change) changes pending first.1 second)
+fit_after queue [] pending first second = second
+fit_after queue (change ∷ changes) pending first second =
+    (first.0, fit_after (step queue change) changes pending first.1 second)
 
 -- a change that fits may be stored
 is_change : (queue : Queue) (change : Change) → FitsQueue queue change → IsChange change
@@ -56,7 +56,7 @@ module _ {D : Type 0} (honest : Type 0) (words : DiskWords D) (changes pending :
   -- the list of records that await changes fits, with these
   pub awaited_fit : (records : Kept D) (row : Row) → Awaits honest words records changes pending row
       → Fitting (changes ++ pending)
-  awaited_fit records row awaits = fit_behind empty_queue changes pending awaits.fitting awaits.fits
+  awaited_fit records row awaits = fit_after empty_queue changes pending awaits.fitting awaits.fits
 
   -- a change more is awaited
   pub one_more_awaited : (old new : Kept D) (row left : Row) (change : Change) (used number : ℕ)
@@ -64,7 +64,7 @@ module _ {D : Type 0} (honest : Type 0) (words : DiskWords D) (changes pending :
       → Stages old new row left change used number
       → Awaits honest words new changes (pending ++ change ∷ []) left
   one_more_awaited old new row left change used number awaits fits stages =
-      let behind : old.queue ≡ fold step (queue_of changes) pending =
+      let after : old.queue ≡ fold step (queue_of changes) pending =
       awaits.queue ∙ fold-append step empty_queue changes pending in
       let noted = subst (λ (n : ℕ). NotesNext old.queue change (encode change) n stages.note)
       (sym stages.notes_next.used_is) stages.notes_next in
@@ -73,7 +73,7 @@ module _ {D : Type 0} (honest : Type 0) (words : DiskWords D) (changes pending :
         fitting = awaits.fitting;
         fits =
             one_more_fits (queue_of changes) pending change awaits.fits
-            (subst (λ (q : Queue). FitsQueue q change) behind fits);
+            (subst (λ (q : Queue). FitsQueue q change) after fits);
         queue =
             stages.queue ∙ ap (λ (q : Queue). step q change) awaits.queue
             ∙ sym (fold-append step empty_queue (changes ++ pending) (change ∷ []))
@@ -88,7 +88,7 @@ module _ {D : Type 0} (honest : Type 0) (words : DiskWords D) (changes pending :
         notes =
             subst (λ (ns : List Noted). AreNotes (queue_of changes) (pending ++ change ∷ []) ns) (sym stages.notes)
             (notes_more (queue_of changes) pending row.notes change stages.note awaits.notes
-            (subst (λ (q : Queue). NotesNext q change (encode change) stages.note.used stages.note) behind noted));
+            (subst (λ (q : Queue). NotesNext q change (encode change) stages.note.used stages.note) after noted));
       }
 
   -- two changes that one row records after those that were pending are one

@@ -159,8 +159,8 @@ module _ {D : Type 0} (honest : Type 0) (words : DiskWords D) (changes : List Ch
     becomes_more (inr (inr refused)) = inr (inr (record { gone = refused.gone; told = inr refused.told }))
 
   -- by the list after a piece
-  behind : (pending more : List Change) (mid : RelayState D) (session : ℕ) (peer : List ℕ) (said : Said) (written : List ℕ) → TalksTo ((changes ++ pending) ++ more) mid session peer said written → TalksTo (changes ++ (pending ++ more)) mid session peer said written
-  behind pending more mid session peer said written t = subst (λ (l : List Change). TalksTo l mid session peer said written) (append_assoc changes pending more) t
+  after : (pending more : List Change) (mid : RelayState D) (session : ℕ) (peer : List ℕ) (said : Said) (written : List ℕ) → TalksTo ((changes ++ pending) ++ more) mid session peer said written → TalksTo (changes ++ (pending ++ more)) mid session peer said written
+  after pending more mid session peer said written t = subst (λ (l : List Change). TalksTo l mid session peer said written) (append_assoc changes pending more) t
 
   -- a session that has left stays so
   left_stays : (session : ℕ) (pieces : List Piece) (answers : List (Result Heard NodeFault)) (pending : List Change) (mid new : RelayState D) (all : List Change) (peer : List ℕ) (later : Said) (written last : List ℕ)
@@ -209,7 +209,7 @@ module _ {D : Type 0} (honest : Type 0) (words : DiskWords D) (changes : List Ch
         let talks = talks_stay (changes ++ pending) more old mid piece.session peer said written (ap (λ (s : RelayState D). slot_at s.node.seats piece.session) same) (ap (λ (s : RelayState D). slot_at s.clients piece.session) same)
         (ap (λ (s : RelayState D). s.node.config) same) t in
         becomes_more (changes ++ all) new piece.session peer said said written piece pieces answer rest [] (used_here ∙ ap (λ l. l ++ used_of piece.session pieces rest) none) (sym (append-nil said.input))
-        (next said (behind pending more mid piece.session peer said written talks))
+        (next said (after pending more mid piece.session peer said written talks))
 
     by_answer : (its : Result Heard NodeFault) → answer ≡ its → AnswersBy honest words changes at pending piece old row mid between more its → Becomes (changes ++ all) new piece.session peer said written (piece ∷ pieces) (answer ∷ rest)
     by_answer (Err fault) is by =
@@ -253,7 +253,7 @@ module _ {D : Type 0} (honest : Type 0) (words : DiskWords D) (changes : List Ch
           let differs : session ≢ piece.session = λ e. other (sym e) in
           let talks = talks_stay (changes ++ pending) more old mid session peer said written (one.only.seats session differs) (one.only.clients session differs) one.only.config t in
           becomes_more (changes ++ all) new session peer said said written piece pieces answer rest [] (used_alike session piece pieces answer rest differs) (sym (append-nil said.input))
-          (next said (behind pending more mid session peer said written talks))
+          (next said (after pending more mid session peer said written talks))
 
 -- what becomes of a session has become of it while changes are added, as long as sessions and connections stay
 becomes_later : {D : Type 0} (list added : List Change) (mid new : RelayState D) (session : ℕ) (peer : List ℕ)

@@ -72,13 +72,13 @@ dropped_more {X = X} number_of old mid new xs x so one others = record {
 }
 
 -- a row that had room has it still where no call went to a device
-pub room_behind : {D : Type 0} (mid new : RelayState D) (row between left : Row) → IsUndone mid new
+pub room_after : {D : Type 0} (mid new : RelayState D) (row between left : Row) → IsUndone mid new
     → (between ≡ row) ⊎ (mid.node.records.spool.size + room_of between.bodies ≤ 2 ^ 40)
     → (left ≡ between) ⊎ (new.node.records.spool.size + room_of left.bodies ≤ 2 ^ 40)
     → (left ≡ row) ⊎ (new.node.records.spool.size + room_of left.bodies ≤ 2 ^ 40)
-room_behind mid new row between left undone before (inr within) = inr within
-room_behind mid new row between left undone (inl same) (inl unmoved) = inl (unmoved ∙ same)
-room_behind mid new row between left undone (inr within) (inl unmoved) =
+room_after mid new row between left undone before (inr within) = inr within
+room_after mid new row between left undone (inl same) (inl unmoved) = inl (unmoved ∙ same)
+room_after mid new row between left undone (inr within) (inl unmoved) =
     let size = ap (λ s. s.size) undone.spool in
     let bodies = ap (λ (r : Row). room_of r.bodies) unmoved in
     inr (omega (arith, size, bodies, within))
@@ -120,7 +120,7 @@ module _ {D : Type 0} (honest : Type 0) (words : DiskWords D) (at : ℕ) (first 
     goes_on pieces answers so = record {
       live = ap (λ s. s.live) undone.spool ∙ so.live;
       undone = record { spool = undone.spool ∙ so.undone.spool; noted = undone.noted ∙ so.undone.noted };
-      room = room_behind mid new row between left undone so.room room;
+      room = room_after mid new row between left undone so.room room;
       only = only_more first mid new pieces piece so.only only;
       lengths = length-append answers (answer ∷ []) ∙ ap (λ n. n + 1) so.lengths ∙ sym (length-append pieces (piece ∷ []));
       each = λ changes pending awaits.

@@ -14,7 +14,7 @@ use Rattle.relay_loop.specs.GroupPieces.{IsUndone}
 use Rattle.relay_loop.specs.GroupReplies.{RepliesEach, RepliesOne}
 use Rattle.relay_loop.specs.Groups.{OnlyTheirs}
 use Rattle.relay_loop.specs.Relay.{OnlyHop, RelayState}
-use Rattle.relay_loop.proofs.EachLemmas.{all_split, room_behind}
+use Rattle.relay_loop.proofs.EachLemmas.{all_split, room_after}
 use Rattle.relay_loop.proofs.ReplyLemmas.{replies_more}
 
 -- what a list of replies has after its end
@@ -39,16 +39,16 @@ only_more first mid new replies reply before only = record {
 -- what pieces have left, and then replies, the whole call has
 pub only_both : {D : Type 0} (first mid new : RelayState D) (pieces : List Piece) (replies : List ReplyPiece)
     → OnlyTheirs first mid pieces [] → OnlyTheirs mid new [] replies → OnlyTheirs first new pieces replies
-only_both first mid new pieces replies before behind = record {
+only_both first mid new pieces replies before after = record {
   sessions = λ session all.
       let one = before.sessions session all in
-      let two = behind.sessions session tt in
+      let two = after.sessions session tt in
       (two.0 ∙ one.0, two.1 ∙ one.1);
   attempts = λ attempt all.
       let one = before.attempts attempt tt in
-      let two = behind.attempts attempt all in
+      let two = after.attempts attempt all in
       (two.0 ∙ one.0, two.1 ∙ one.1);
-  config = behind.config ∙ before.config;
+  config = after.config ∙ before.config;
 }
 
 -- so many replies are answered, from this relay and row to those
@@ -100,7 +100,7 @@ module _ {D : Type 0} (honest : Type 0) (words : DiskWords D) (at : ℕ) (first 
       spool = undone.spool ∙ so.undone.spool;
       noted = undone.noted ∙ so.undone.noted;
     };
-    room = room_behind mid new row between left undone so.room room;
+    room = room_after mid new row between left undone so.room room;
     only = only_more first mid new replies reply so.only only;
     lengths =
         length-append answers (answer ∷ []) ∙ ap (λ n. n + 1) so.lengths ∙ sym (length-append replies (reply ∷ []));

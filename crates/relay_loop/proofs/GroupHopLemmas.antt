@@ -63,12 +63,12 @@ groups_hand honest words changes at pieces replies old new group attempt told wr
     let a = all.answers in
     let before = pieces_leave honest words changes at pieces group.heard.items [] old no_row a.between a.beside a.staged
     a.pieces_each in
-    let behind = replies_leave honest words changes at replies group.answered.items a.staged a.between a.beside
+    let after = replies_leave honest words changes at replies group.answered.items a.staged a.between a.beside
     all.before all.row all.pending a.replies_each in
-    let whole : changes ++ all.pending ≡ (changes ++ a.staged) ++ behind.added =
-    ap (λ (l : List Change). changes ++ l) behind.grows ∙ sym (append_assoc changes a.staged behind.added) in
+    let whole : changes ++ all.pending ≡ (changes ++ a.staged) ++ after.added =
+    ap (λ (l : List Change). changes ++ l) after.grows ∙ sym (append_assoc changes a.staged after.added) in
     let fits : Fitting (changes ++ a.staged) =
-    front_fits empty_queue (changes ++ a.staged) behind.added (subst Fitting whole all.settles.keeps.fitting) in
+    front_fits empty_queue (changes ++ a.staged) after.added (subst Fitting whole all.settles.keeps.fitting) in
     let begun = hands_later changes a.staged old a.between attempt told written fits
     (ap (λ l. slot_at l attempt) before.attempts) (ap (λ l. slot_at l attempt) before.hops) before.config t in
     becomes_later (changes ++ all.pending) at all.before new attempt told written replies group.answered.items

@@ -16,7 +16,7 @@ use Rattle.relay_node.specs.declared.receive.Received.{Received}
 use Rattle.relay_node.specs.Acceptance.{IsAcceptOf, acceptance_by}
 use Rattle.relay_node.specs.Node.{NodeState, SeatHasSaid}
 use Rattle.relay_node.specs.Room.{ComesToOffer}
-use Rattle.relay_node.specs.Staging.{IsStaged, MakesInto, ReceivesBehind, ReceivesInto, RefusesToReceiveInto, UsesPiece}
+use Rattle.relay_node.specs.Staging.{IsStaged, MakesInto, ReceivesAfter, ReceivesInto, RefusesToReceiveInto, UsesPiece}
 use Rattle.relay_node.proofs.Theorems.{queued_grows}
 use Rattle.relay_loop.specs.declared.clients.Heard.{Heard}
 use Rattle.relay_loop.specs.declared.group.Piece.{Piece}
@@ -137,7 +137,7 @@ module _ {D : Type 0} (honest : Type 0) (words : DiskWords D) (changes : List Ch
 
   -- a piece was read
   pub was_read : (pending : List Change) (piece : Piece) (old new : RelayState D) (row left : Row) (received : Received) (heard : Heard) → slot_at old.clients piece.session ≢ None → unwritten_at old.clients piece.session ≡ [] → (IsLaden row → ⊥)
-      → (b : ReceivesBehind honest words old.node.config changes pending at piece.session piece.octets.now old.node row new.node left received) → UsesPiece (length piece.octets.now) received → OnlyClient old new piece.session → IsHeardFrom received heard
+      → (b : ReceivesAfter honest words old.node.config changes pending at piece.session piece.octets.now old.node row new.node left received) → UsesPiece (length piece.octets.now) received → OnlyClient old new piece.session → IsHeardFrom received heard
       → IsSetTo received.close piece.session received.out.items heard.last new.clients → AnswersOne honest words changes at pending piece old row new left b.more (Ok heard)
   was_read pending piece old new row left received heard known drained light b uses only h set = record {
     by = record {

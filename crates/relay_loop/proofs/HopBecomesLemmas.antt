@@ -31,17 +31,17 @@ use Rattle.relay_loop.proofs.LeaveLemmas.{replies_leave}
 
 module _ {D : Type 0} (relay : RelayState D) (attempt : ℕ) (told : Told) (written : List ℕ) where
   -- while changes are added
-  hands_behind : (list added : List Change) → Fitting (list ++ added) → HandsTo list relay attempt told written
+  hands_after : (list added : List Change) → Fitting (list ++ added) → HandsTo list relay attempt told written
       → HandsTo (list ++ added) relay attempt told written
-  hands_behind list [] fitting t =
+  hands_after list [] fitting t =
       subst (λ (l : List Change). HandsTo l relay attempt told written) (sym (append-nil list)) t
-  hands_behind list (change ∷ added) fitting t =
+  hands_after list (change ∷ added) fitting t =
       let is = append_assoc list (change ∷ []) added in
       let fits = subst Fitting (sym is) fitting in
       let one = hands_stay list (list ++ change ∷ []) relay relay attempt told written
       (inr (change, refl, front_fits empty_queue (list ++ change ∷ []) added fits)) refl refl refl t in
       subst (λ (l : List Change). HandsTo l relay attempt told written) is
-      (hands_behind (list ++ change ∷ []) added fits one)
+      (hands_after (list ++ change ∷ []) added fits one)
 
 -- while changes are added, as long as its attempt, its connection and the configuration are the same
 pub hands_later : {D : Type 0} (list added : List Change) (old new : RelayState D) (attempt : ℕ) (told : Told)
@@ -50,7 +50,7 @@ pub hands_later : {D : Type 0} (list added : List Change) (old new : RelayState 
     → slot_at new.hops attempt ≡ slot_at old.hops attempt → new.node.config ≡ old.node.config
     → HandsTo list old attempt told written → HandsTo (list ++ added) new attempt told written
 hands_later list added old new attempt told written fitting attempts hops config t =
-    hands_behind new attempt told written list added fitting
+    hands_after new attempt told written list added fitting
     (hands_stay list list old new attempt told written (inl refl) attempts hops config t)
 
 -- what is told with nothing more
@@ -250,7 +250,7 @@ module _ {D : Type 0} (honest : Type 0) (words : DiskWords D) (changes : List Ch
         let is = append_assoc changes pending more in
         let fits = awaited_fit honest words changes (pending ++ more) mid.node.records between one.awaits in
         subst (λ (l : List Change). HandsTo l mid reply.attempt later written) is
-        (hands_behind mid reply.attempt later written (changes ++ pending) more (subst Fitting (sym is) fits) hands)
+        (hands_after mid reply.attempt later written (changes ++ pending) more (subst Fitting (sym is) fits) hands)
 
     stays : (answered : Answered) → answer ≡ Ok answered → answered ≡ unheard → mid ≡ old → Here
     stays answered is nothing same =

@@ -8,6 +8,7 @@ mod EachLemmas
 mod ReplyLemmas
 mod EachReplyLemmas
 mod AllLemmas
+mod WithdrawingLemmas
 mod LawLemmas
 mod LeaveLemmas
 mod BecomesLemmas

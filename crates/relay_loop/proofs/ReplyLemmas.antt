@@ -14,7 +14,7 @@ use Rattle.relay_attempts.specs.declared.runs.Run.{Run}
 use Rattle.relay_attempts.specs.AddedOutcome.{reported_as}
 use Rattle.relay_attempts.specs.Outcomes.{outcome_of, rulings_of}
 use Rattle.relay_attempts.specs.Reply.{IsItsCourse, Told, outcome_at, told_more}
-use Rattle.relay_attempts.specs.Staging.{EndsBehind, HasNoRoomAtEndBehind, MakesBehind}
+use Rattle.relay_attempts.specs.Staging.{EndsAfter, HasNoRoomAtEndAfter, MakesAfter}
 use Rattle.relay_node.specs.Attempts.{Tells}
 use Rattle.relay_node.specs.Node.{NodeState}
 use Rattle.relay_node.specs.StagedReplies.{RefusesToReplyInto, RepliesInto, UsesReplyInto}
@@ -33,18 +33,18 @@ use Rattle.relay_report.specs.Report.{Reporter, reporter_of}
 module _ {D : Type 0} (reporter : Reporter) (at number : ℕ) (before after : List (Option Run)) (used : ℕ) (old new : Kept D)
     (row left : Row) where
   -- the outcome that ended it
-  abbrev pub outcome_made : (change : ℕ) → EndsBehind reporter at number before after used old new row left change → Outcome
+  abbrev pub outcome_made : (change : ℕ) → EndsAfter reporter at number before after used old new row left change → Outcome
   outcome_made change made =
       outcome_of made.run.message at made.run.hop (rulings_of made.run.places.items made.verdicts)
 
   -- the changes that it staged
-  abbrev pub staged_by : (change : Option ℕ) → MakesBehind reporter at number before after used old new row left change → List Change
+  abbrev pub staged_by : (change : Option ℕ) → MakesAfter reporter at number before after used old new row left change → List Change
   staged_by None made = []
   staged_by (Some change) made = reported_as (outcome_made change made) made.grows.report ∷ []
 
   module _ (honest : Type 0) (words : DiskWords D) (changes pending : List Change)
       (awaits : Awaits honest words old changes pending row) where
-    is_ending : (change : Option ℕ) → (made : MakesBehind reporter at number before after used old new row left change)
+    is_ending : (change : Option ℕ) → (made : MakesAfter reporter at number before after used old new row left change)
         → IsEnding (length changes + length pending + 1) change (staged_by change made)
     is_ending None made = refl
     is_ending (Some change) made = (
@@ -53,7 +53,7 @@ module _ {D : Type 0} (reporter : Reporter) (at number : ℕ) (before after : Li
       refl,
     )
 
-    awaits_made : (change : Option ℕ) → (made : MakesBehind reporter at number before after used old new row left change)
+    awaits_made : (change : Option ℕ) → (made : MakesAfter reporter at number before after used old new row left change)
         → Awaits honest words new changes (pending ++ staged_by change made) left
     awaits_made None (known, same, unmoved) =
         subst (λ (l : List Change). Awaits honest words new changes l left) (sym (append-nil pending))
@@ -120,7 +120,7 @@ module _ {D : Type 0} (honest : Type 0) (words : DiskWords D) (changes : List Ch
       (only : OnlyHop old new reply.attempt) (a : IsAnsweredBy replied answered) where
     abbrev pub Made : Option ℕ → Type 0
     Made change =
-        MakesBehind (reporter_of old.node.config) at reply.attempt old.node.attempts new.node.attempts replied.used
+        MakesAfter (reporter_of old.node.config) at reply.attempt old.node.attempts new.node.attempts replied.used
         old.node.records new.node.records row left change
 
     abbrev pub more_by : (change : Option ℕ) → Made change → List Change
@@ -210,7 +210,7 @@ module _ {D : Type 0} (honest : Type 0) (words : DiskWords D) (changes : List Ch
             old.node.records new.node.records row left honest words changes pending awaits replied.change uses.makes);
         unread = λ why. absurd (stays_unread old reply.attempt row why drained light);
         makes = λ _ _.
-            subst (λ n. MakesBehind (reporter_of old.node.config) at reply.attempt old.node.attempts new.node.attempts n
+            subst (λ n. MakesAfter (reporter_of old.node.config) at reply.attempt old.node.attempts new.node.attempts n
             old.node.records new.node.records row left answered.change) (sym a.used)
             (subst (λ (change : Option ℕ). Made change) (sym a.change) uses.makes);
         hands = λ _ _ told written t.
@@ -230,7 +230,7 @@ module _ {D : Type 0} (honest : Type 0) (words : DiskWords D) (changes : List Ch
       → RefusesToReplyInto reply.attempt old.node new.node row left fault
       → (fault ≡ Unknown → IsUnknown old reply.attempt) → (fault ≢ Unknown → slot_at old.hops reply.attempt ≢ None)
       → ((told : Told) → Tells old.node.config.host (changes ++ pending) old.node.attempts reply.attempt told
-      → fault ≡ Full → HasNoRoomAtEndBehind (reporter_of old.node.config) at told reply.octets.now old.node.records row)
+      → fault ≡ Full → HasNoRoomAtEndAfter (reporter_of old.node.config) at told reply.octets.now old.node.records row)
       → OnlyHop old new reply.attempt → Awaits honest words old.node.records changes pending row
       → RepliesOne honest words changes at pending reply old row new left [] (Err fault)
   was_refused pending reply old new row left fault gone leaves unknown known full only awaits =

@@ -12,7 +12,7 @@ use Rattle.relay_records.specs.Staged.{Awaits, Row}
 use Rattle.relay_records.specs.declared.fault.NodeFault.{NodeFault}
 use Rattle.relay_records.specs.declared.fault.NodeFault.TheVariants.{Unknown, Full}
 use Rattle.relay_node.specs.Room.{ComesToOffer}
-use Rattle.relay_node.specs.Staging.{HaveNoRoomBehind, IsStaged, MakesInto, RefusesToReceiveInto}
+use Rattle.relay_node.specs.Staging.{HaveNoRoomAfter, IsStaged, MakesInto, RefusesToReceiveInto}
 use Rattle.relay_loop.specs.declared.clients.Heard.{Heard}
 use Rattle.relay_loop.specs.declared.group.Piece.{Piece}
 use Rattle.relay_loop.specs.Clients.{GoesOn, IsUnknown, TalksTo}
@@ -47,7 +47,7 @@ module _ {D : Type 0} (honest : Type 0) (words : DiskWords D) (changes : List Ch
     pub later : Said
     pub input : later.input ≡ said.input ++ take heard.used piece
     pub refused : List Offered
-    pub no_room : HaveNoRoomBehind old.node.config changes pending peer at old.node.records row refused
+    pub no_room : HaveNoRoomAfter old.node.config changes pending peer at old.node.records row refused
     pub makes : MakesInto old.node.config changes pending peer at said later refused heard.used old.node.records row
         new.node.records left more heard.change
     pub goes_on : GoesOn (changes ++ (pending ++ more)) new session peer later written heard.last

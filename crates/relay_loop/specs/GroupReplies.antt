@@ -14,7 +14,7 @@ use Rattle.relay_records.specs.declared.fault.NodeFault.{NodeFault}
 use Rattle.relay_records.specs.declared.fault.NodeFault.TheVariants.{Unknown, Full}
 use Rattle.relay_attempts.specs.AddedOutcome.{reported_as}
 use Rattle.relay_attempts.specs.Reply.{IsItsCourse, Told, outcome_at, told_more}
-use Rattle.relay_attempts.specs.Staging.{HasNoRoomAtEndBehind, MakesBehind, StagesOutcome}
+use Rattle.relay_attempts.specs.Staging.{HasNoRoomAtEndAfter, MakesAfter, StagesOutcome}
 use Rattle.relay_node.specs.StagedReplies.{RefusesToReplyInto}
 use Rattle.relay_loop.specs.declared.hops.Answered.{Answered}
 use Rattle.relay_loop.specs.declared.replying.ReplyPiece.{ReplyPiece}
@@ -45,7 +45,7 @@ module _ {D : Type 0} (honest : Type 0) (words : DiskWords D) (changes : List Ch
   module _ (pending : List Change) (attempt : ℕ) (told : Told) (written piece : List ℕ) (old : RelayState D) (row : Row)
       (new : RelayState D) (left : Row) (more : List Change) (answered : Answered) where
     -- the attempt goes on after the whole piece; records and row are unchanged
-    pub record HandsOnBehind : Type 0 where
+    pub record HandsOnAfter : Type 0 where
       pub used : answered.used ≡ length piece
       pub same : new.node.records ≡ old.node.records
       pub row_is : left ≡ row
@@ -55,7 +55,7 @@ module _ {D : Type 0} (honest : Type 0) (words : DiskWords D) (changes : List Ch
 
     -- The attempt has ended, with these last octets: its one outcome, with the report that is owed, is pending as the
     -- change of this number. The attempt and its connection are gone.
-    pub record HandsLastBehind (number : ℕ) : Type 0 where
+    pub record HandsLastAfter (number : ℕ) : Type 0 where
       pub last : List ℕ
       pub last_is : answered.last ≡ Some last
       pub verdicts : List Verdict
@@ -68,8 +68,8 @@ module _ {D : Type 0} (honest : Type 0) (words : DiskWords D) (changes : List Ch
       pub connection : slot_at new.hops attempt ≡ None
 
     abbrev pub HandsBy : Option ℕ → Type 0
-    HandsBy None = HandsOnBehind
-    HandsBy (Some number) = HandsLastBehind number
+    HandsBy None = HandsOnAfter
+    HandsBy (Some number) = HandsLastAfter number
 
   -- A reply has a result: it was left unread if octets for its next hop were unwritten or the row was full. Otherwise
   -- it was used up, or up to the end of the attempt, which is gone then.
@@ -85,7 +85,7 @@ module _ {D : Type 0} (honest : Type 0) (words : DiskWords D) (changes : List Ch
     pub unread : (unwritten_at old.hops reply.attempt ≢ []) ⊎ IsLaden row
         → (answered ≡ unheard) × (new ≡ old) × (left ≡ row)
     pub makes : unwritten_at old.hops reply.attempt ≡ [] → (IsLaden row → ⊥)
-        → MakesBehind (reporter_of old.node.config) at reply.attempt old.node.attempts new.node.attempts answered.used
+        → MakesAfter (reporter_of old.node.config) at reply.attempt old.node.attempts new.node.attempts answered.used
         old.node.records new.node.records row left answered.change
     pub hands : unwritten_at old.hops reply.attempt ≡ [] → (IsLaden row → ⊥) → (told : Told) (written : List ℕ)
         → HandsTo (changes ++ pending) old reply.attempt told written
@@ -102,7 +102,7 @@ module _ {D : Type 0} (honest : Type 0) (words : DiskWords D) (changes : List Ch
     pub known : fault ≢ Unknown → slot_at old.hops reply.attempt ≢ None
     pub full : (told : Told) (written : List ℕ) → HandsTo (changes ++ pending) old reply.attempt told written
         → fault ≡ Full
-        → HasNoRoomAtEndBehind (reporter_of old.node.config) at told reply.octets.now old.node.records row
+        → HasNoRoomAtEndAfter (reporter_of old.node.config) at told reply.octets.now old.node.records row
 
   abbrev pub RepliesBy
       : List Change → ReplyPiece → RelayState D → Row → RelayState D → Row → List Change → Result Answered NodeFault

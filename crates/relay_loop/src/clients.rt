@@ -24,7 +24,7 @@ use relay_records::NodeFault;
 use relay_trace::Moment;
 
 /// What a read did with the octets of a client.
-#[derive(Debug, Drop)]
+#[derive(Drop)]
 pub struct Heard {
     /// How many octets of the piece were used, from its start.
     pub used: usize,

@@ -7,7 +7,7 @@ use relay_routes::HostName;
 use std::alloc::{AllocError, Global};
 
 /// Why the relay closes a connection unasked.
-#[derive(Clone, Copy, Debug, Drop, PartialEq, Eq)]
+#[derive(Clone, Copy, Drop, PartialEq, Eq)]
 pub enum Closing {
     /// The greatest number of connections is open.
     TooMany,

@@ -28,7 +28,7 @@ const MOST_CHANGES: usize = 64;
 const MOST_ROOM: usize = 4_194_304;
 
 /// Octets that a client wrote.
-#[derive(Clone, Copy, Debug, Drop)]
+#[derive(Clone, Copy, Drop)]
 pub struct Piece<'a> {
     /// The number of the client's session.
     pub session: usize,

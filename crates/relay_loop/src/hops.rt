@@ -25,7 +25,7 @@ use relay_routes::HostName;
 use relay_trace::Moment;
 
 /// What a call did with the octets of a next hop.
-#[derive(Debug, Drop)]
+#[derive(Drop)]
 pub struct Answered {
     /// How many octets of the piece were used, from its start.
     pub used: usize,

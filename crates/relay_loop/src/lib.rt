@@ -10,6 +10,7 @@ mod outbox;
 mod outboxes;
 mod relay;
 mod replying;
+mod withdrawing;
 
 pub use clients::Heard;
 pub use closing::{Closing, closing_line};
@@ -18,3 +19,4 @@ pub use hops::Answered;
 pub use outbox::Outbox;
 pub use relay::Relay;
 pub use replying::ReplyPiece;
+pub use withdrawing::{Chosen, Withdrawn};

@@ -3,7 +3,6 @@ ghost use Rattle.std.specs.Prelude.{◌≡◌, ◌↔◌, ◌≤◌, [], length,
 use std::marker::Model;
 
 /// Octets to be written to a connection.
-#[derive(Debug)]
 pub struct Outbox {
     octets: Vec<u8>,
     /// How many of them were written.
@@ -61,7 +60,7 @@ impl Outbox {
     }
 
     /// Returns the same outbox without its first `count` unwritten octets.
-    pub(crate) fn behind(self, count: usize) -> Self
+    pub(crate) fn after(self, count: usize) -> Self
         requires { count ≤ length self }
         ensures { result ≡ drop count self }
     {

@@ -99,7 +99,7 @@ impl Outboxes {
         ensures others { OthersStay self.old self.new number }
     {
         if let Some(outbox) = self.take(number) {
-            self.put(number, outbox.behind(count));
+            self.put(number, outbox.after(count));
         }
     }
 }

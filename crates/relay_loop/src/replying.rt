@@ -19,7 +19,7 @@ use relay_records::NodeFault;
 use relay_trace::Moment;
 
 /// Octets that a next hop wrote.
-#[derive(Clone, Copy, Debug, Drop)]
+#[derive(Clone, Copy, Drop)]
 pub struct ReplyPiece<'a> {
     /// The number of the attempt.
     pub attempt: usize,

@@ -16,11 +16,11 @@ use Rattle.relay_server.specs.Setup.{Setup}
 use Rattle.relay_course.specs.declared.awaited.Awaited.{Awaited}
 use Rattle.relay_course.specs.declared.awaited.Awaited.TheVariants.{Greeting, Ehlo, Helo, Mail, Rcpt, Data, Content}
 use Rattle.relay_course.specs.VerdictTable.{is_accepted}
-use Rattle.relay_course.specs.Progress.{Errand, Answered, answer_of, progress}
+use Rattle.relay_course.specs.Progress.{Delivery, Answered, answer_of, progress}
 use Rattle.relay_course.specs.Laws.{accepted_places, if_accepted_place, if_rcpt_place, rcpt_places}
 use Rattle.relay_course.specs.RelayLaws.{answered_rcpts, opening_answers, opening_replies}
 use Rattle.relay_course.proofs.Theorems.{all_rcpts_answered, answers_stay, rcpts_are_in_order}
-use Rattle.relay_meeting.specs.Script.{AreRcpts, AreTried, Tried, client_in, envelope_behind, opened_of, row_of_rcpt, with_tried}
+use Rattle.relay_meeting.specs.Script.{AreRcpts, AreTried, Tried, client_in, envelope_after, opened_of, row_of_rcpt, with_tried}
 use Rattle.relay_meeting.specs.Joined.{ChildHoldsItsPlaces, HaveReadRcpts, child_envelope, recipients_at}
 use Rattle.relay_meeting.proofs.TriedLemmas.{each_place_is_tried}
 use Rattle.relay_meeting.proofs.JoinLemmas.{two_relays_meet}
@@ -35,22 +35,22 @@ abbrev gone : List Tried → List Recipient
 gone [] = []
 gone (tried ∷ more) = if_goes tried ++ gone more
 
-one-behind : (envelope : Envelope) (recipient : Recipient) (routed goes : Bool)
+one-after : (envelope : Envelope) (recipient : Recipient) (routed goes : Bool)
     → with_tried envelope (record { recipient = recipient; routed = routed; goes = goes })
     ≡ record envelope { recipients = envelope.recipients ++ cond goes (recipient ∷ []) [] }
-one-behind envelope recipient routed true = refl
-one-behind envelope recipient routed false =
+one-after envelope recipient routed true = refl
+one-after envelope recipient routed false =
     ap (λ (l : List Recipient). record envelope { recipients = l }) (sym (append-nil envelope.recipients))
 
 -- the server's envelope has those that go
-all-behind : (envelope : Envelope) (tried : List Tried)
-    → envelope_behind envelope tried ≡ record envelope { recipients = envelope.recipients ++ gone tried }
-all-behind envelope [] =
+all-after : (envelope : Envelope) (tried : List Tried)
+    → envelope_after envelope tried ≡ record envelope { recipients = envelope.recipients ++ gone tried }
+all-after envelope [] =
     ap (λ (l : List Recipient). record envelope { recipients = l }) (sym (append-nil envelope.recipients))
-all-behind envelope (tried ∷ more) =
-    all-behind (with_tried envelope tried) more
+all-after envelope (tried ∷ more) =
+    all-after (with_tried envelope tried) more
     ∙ ap (λ (e : Envelope). record e { recipients = e.recipients ++ gone more })
-    (one-behind envelope tried.recipient tried.routed tried.goes)
+    (one-after envelope tried.recipient tried.routed tried.goes)
     ∙ ap (λ (l : List Recipient). record envelope { recipients = l })
     (append_assoc envelope.recipients (if_goes tried) (gone more))
 
@@ -75,13 +75,13 @@ accepted-gone setup recipients [] (tried ∷ more) rcpts all are = absurd all
 accepted-gone setup recipients (place ∷ places) [] rcpts all are = absurd all
 accepted-gone setup recipients (place ∷ places) (tried ∷ more) [] all are = absurd are
 accepted-gone setup recipients (place ∷ places) (tried ∷ more) (reply ∷ rcpts) all are =
-    let behind : List ℕ = accepted_places (answered_rcpts places rcpts) in
+    let after : List ℕ = accepted_places (answered_rcpts places rcpts) in
     let goes : is_accepted reply ≡ tried.goes =
     ap (λ (r : Reply). is_accepted r) are.0 ∙ goes-accepted setup.host tried.routed tried.goes in
     let at : ℕ → List Recipient = λ p. option_to_list (slice_get recipients p) in
-    flat_map-append at (cond (is_accepted reply) (place ∷ []) []) behind
-    ∙ ap (λ b. recipients_at recipients (cond b (place ∷ []) []) ++ recipients_at recipients behind) goes
-    ∙ ap (λ l. l ++ recipients_at recipients behind) (one-accepted recipients place tried.recipient tried.goes all.0)
+    flat_map-append at (cond (is_accepted reply) (place ∷ []) []) after
+    ∙ ap (λ b. recipients_at recipients (cond b (place ∷ []) []) ++ recipients_at recipients after) goes
+    ∙ ap (λ l. l ++ recipients_at recipients after) (one-accepted recipients place tried.recipient tried.goes all.0)
     ∙ ap (λ l. if_goes tried ++ l) (accepted-gone setup recipients places more rcpts all.2 are.1)
 
 -- where no RCPT was answered, none was accepted
@@ -119,35 +119,35 @@ rcpts-as-tried host (one ∷ tried) [] are = absurd are
 rcpts-as-tried host (one ∷ tried) (reply ∷ rcpts) are = ap suc (rcpts-as-tried host tried rcpts are.1)
 
 -- the accepted places of a client that has read the replies to all RCPTs
-read-accepted : (setup : Setup) (errand : Errand) (tried : List Tried) (replies : List Reply)
-    → AreTried setup errand.envelope.recipients errand.places tried → (held : HaveReadRcpts setup tried replies)
-    → accepted_places (progress errand replies).answered ≡ accepted_places (answered_rcpts errand.places held.rcpts)
-read-accepted setup errand tried replies all held =
+read-accepted : (setup : Setup) (delivery : Delivery) (tried : List Tried) (replies : List Reply)
+    → AreTried setup delivery.envelope.recipients delivery.places tried → (held : HaveReadRcpts setup tried replies)
+    → accepted_places (progress delivery replies).answered ≡ accepted_places (answered_rcpts delivery.places held.rcpts)
+read-accepted setup delivery tried replies all held =
     let greeting : Reply = reply_of setup.host row.Greeting in
     let hello : Reply = reply_of setup.host row.Extensions in
     let mail : Reply = reply_of setup.host row.SenderOk in
     let front : List Reply = opening_replies greeting hello mail held.rcpts in
-    let count : length held.rcpts ≡ length errand.places =
+    let count : length held.rcpts ≡ length delivery.places =
     rcpts-as-tried setup.host tried held.rcpts held.by_table
-    ∙ as_many_tried setup errand.envelope.recipients errand.places tried all in
-    let rcpts : List Answered = answered_rcpts errand.places held.rcpts in
-    let first = all_rcpts_answered errand greeting hello mail (reply_of setup.host row.StartMailInput) held.rcpts
+    ∙ as_many_tried setup delivery.envelope.recipients delivery.places tried all in
+    let rcpts : List Answered = answered_rcpts delivery.places held.rcpts in
+    let first = all_rcpts_answered delivery greeting hello mail (reply_of setup.host row.StartMailInput) held.rcpts
     (willing_relay setup.host) count in
-    let kept = answers_stay errand front held.later in
-    let answers : List Answered = opening_answers errand.places greeting hello mail held.rcpts in
-    let is : (progress errand replies).answered ≡ answers ++ kept.0 =
-    ap (λ (l : List Reply). (progress errand l).answered) held.replies_are ∙ kept.1 ∙ ap (λ l. l ++ kept.0) first in
-    let order = rcpts_are_in_order errand replies in
+    let kept = answers_stay delivery front held.later in
+    let answers : List Answered = opening_answers delivery.places greeting hello mail held.rcpts in
+    let is : (progress delivery replies).answered ≡ answers ++ kept.0 =
+    ap (λ (l : List Reply). (progress delivery l).answered) held.replies_are ∙ kept.1 ∙ ap (λ l. l ++ kept.0) first in
+    let order = rcpts_are_in_order delivery replies in
     let place_of : Answered → List ℕ = λ one. if_rcpt_place one.waited in
-    let places : errand.places ≡ (errand.places ++ rcpt_places kept.0) ++ order.0 =
+    let places : delivery.places ≡ (delivery.places ++ rcpt_places kept.0) ++ order.0 =
     order.1 ∙ ap (λ l. l ++ order.0) (ap rcpt_places is ∙ flat_map-append place_of answers kept.0
-    ∙ ap (λ l. l ++ rcpt_places kept.0) (answered_rcpts-places errand.places held.rcpts count)) in
+    ∙ ap (λ l. l ++ rcpt_places kept.0) (answered_rcpts-places delivery.places held.rcpts count)) in
     let none : rcpt_places kept.0 ≡ [] =
     empty-list (rcpt_places kept.0) (omega (
       arith,
       ap length places,
-      length-append (errand.places ++ rcpt_places kept.0) order.0,
-      length-append errand.places (rcpt_places kept.0),
+      length-append (delivery.places ++ rcpt_places kept.0) order.0,
+      length-append delivery.places (rcpt_places kept.0),
     )) in
     ap accepted_places is
     ∙ flat_map-append (λ one. if_accepted_place one.waited one.reply) answers kept.0
@@ -167,19 +167,19 @@ there-by true false many bare offers child begins h = absurd (omega (arith, h, a
 there-by false fits many bare offers child begins h = absurd (omega (arith, h, ap length begins.1, length-append offers begins.0))
 
 pub child_holds_its_places : ChildHoldsItsPlaces
-child_holds_its_places setup errand said closing input output replies rest is ends some =
-    let row_of = each_place_is_tried setup errand.envelope errand.places is.envelope is.within in
+child_holds_its_places setup delivery said closing input output replies rest is ends some =
+    let row_of = each_place_is_tried setup delivery.envelope delivery.places is.envelope is.within in
     let tried : List Tried = row_of.0 in
-    let met = two_relays_meet setup errand tried said closing input output replies rest is row_of.1 ends in
-    let held = offer_holds_its_places setup errand tried said closing input output replies rest is row_of.1 ends some in
-    let child : Offered = offered_of (client_in errand) (child_envelope errand tried) errand.text in
-    let accepted = ap (λ l. recipients_at errand.envelope.recipients l)
-    (read-accepted setup errand tried replies row_of.1 held)
-    ∙ accepted-gone setup errand.envelope.recipients errand.places tried held.rcpts row_of.1 held.by_table in
-    there-by (nat_le 1 (length (child_envelope errand tried).recipients))
-    (nat_le (length errand.text) setup.max_content) (nat_le 100 (received_count_of errand.text))
-    (is_refused_by setup.bare_newlines errand.text) said.offers child
+    let met = two_relays_meet setup delivery tried said closing input output replies rest is row_of.1 ends in
+    let held = offer_holds_its_places setup delivery tried said closing input output replies rest is row_of.1 ends some in
+    let child : Offered = offered_of (client_in delivery) (child_envelope delivery tried) delivery.text in
+    let accepted = ap (λ l. recipients_at delivery.envelope.recipients l)
+    (read-accepted setup delivery tried replies row_of.1 held)
+    ∙ accepted-gone setup delivery.envelope.recipients delivery.places tried held.rcpts row_of.1 held.by_table in
+    there-by (nat_le 1 (length (child_envelope delivery tried).recipients))
+    (nat_le (length delivery.text) setup.max_content) (nat_le 100 (received_count_of delivery.text))
+    (is_refused_by setup.bare_newlines delivery.text) said.offers child
     met.children some
-    ∙ ap (λ (e : Envelope). offered_of (client_in errand) e errand.text ∷ [])
-    (all-behind (opened_of errand.envelope) tried
-    ∙ ap (λ (l : List Recipient). record errand.envelope { recipients = l }) (sym accepted))
+    ∙ ap (λ (e : Envelope). offered_of (client_in delivery) e delivery.text ∷ [])
+    (all-after (opened_of delivery.envelope) tried
+    ∙ ap (λ (l : List Recipient). record delivery.envelope { recipients = l }) (sym accepted))

@@ -15,7 +15,7 @@ use Rattle.relay_course.specs.declared.reply_kind.ReplyKind.TheVariants.{Complet
 use Rattle.relay_course.specs.WrittenLine.{data_line, last_chunk}
 use Rattle.relay_course.specs.VerdictTable.{kind_of, rcpt_verdict_by, refusal, some_accepted, verdicts_of}
 use Rattle.relay_course.specs.Laws.{replies_in}
-use Rattle.relay_course.specs.Progress.{Answered, Errand, Progress, answer_of, behind_answer, behind_reply, ended_by, progress, rcpt_replies, with_answer, with_command, with_content, with_next}
+use Rattle.relay_course.specs.Progress.{Answered, Delivery, Progress, answer_of, after_answer, after_reply, ended_by, progress, rcpt_replies, with_answer, with_command, with_content, with_next}
 use Rattle.relay_course.proofs.Theorems.{answered_are_first, end_waits_for_nothing, reply_leads_on}
 
 -- no place is Taken
@@ -43,74 +43,74 @@ untaken_of (place ∷ places) (reply ∷ replies) =
     (λ dsn. rcpt_untaken (kind_of reply.code) reply dsn, untaken_of places replies)
 
 -- where the places that are left are Later, none is Taken
-later_ends : (errand : Errand) (old : Progress) (verdicts : List Verdict)
-    → (ended_by errand Later old).verdicts ≡ Some verdicts → AreUntaken verdicts
-later_ends errand old verdicts e =
-    subst AreUntaken (same_Some (verdicts_of errand.places (rcpt_replies old.answered) Later) verdicts e)
-    (untaken_of errand.places (rcpt_replies old.answered))
+later_ends : (delivery : Delivery) (old : Progress) (verdicts : List Verdict)
+    → (ended_by delivery Later old).verdicts ≡ Some verdicts → AreUntaken verdicts
+later_ends delivery old verdicts e =
+    subst AreUntaken (same_Some (verdicts_of delivery.places (rcpt_replies old.answered) Later) verdicts e)
+    (untaken_of delivery.places (rcpt_replies old.answered))
 
 content_begun : (ends : Bool) (one two : List ℕ) (old : Progress)
     → (cond ends (with_command one Data old) (with_command two Content old)).verdicts ≡ old.verdicts
 content_begun true one two old = refl
 content_begun false one two old = refl
 
-rcpts_end : (errand : Errand) (old : Progress) (some : Bool) (verdicts : List Verdict) → old.verdicts ≡ None
-    → (cond some (with_content errand old) (ended_by errand Later old)).verdicts ≡ Some verdicts → AreUntaken verdicts
-rcpts_end errand old true verdicts none e =
+rcpts_end : (delivery : Delivery) (old : Progress) (some : Bool) (verdicts : List Verdict) → old.verdicts ≡ None
+    → (cond some (with_content delivery old) (ended_by delivery Later old)).verdicts ≡ Some verdicts → AreUntaken verdicts
+rcpts_end delivery old true verdicts none e =
     absurd (none-some verdicts (sym none
-    ∙ sym (content_begun (ends_in_line_end errand.text) data_line (last_chunk errand.text) old) ∙ e))
-rcpts_end errand old false verdicts none e = later_ends errand old verdicts e
+    ∙ sym (content_begun (ends_in_line_end delivery.text) data_line (last_chunk delivery.text) old) ∙ e))
+rcpts_end delivery old false verdicts none e = later_ends delivery old verdicts e
 
-next_takes : (errand : Errand) (waits : List Awaited) (unasked : List ℕ) (old : Progress) (verdicts : List Verdict)
-    → old.verdicts ≡ None → (with_next errand waits unasked old).verdicts ≡ Some verdicts → AreUntaken verdicts
-next_takes errand (waited ∷ waits) unasked old verdicts none e = absurd (none-some verdicts (sym none ∙ e))
-next_takes errand [] (place ∷ more) old verdicts none e = absurd (none-some verdicts (sym none ∙ e))
-next_takes errand [] [] old verdicts none e =
-    rcpts_end errand old (some_accepted (rcpt_replies old.answered)) verdicts none e
+next_takes : (delivery : Delivery) (waits : List Awaited) (unasked : List ℕ) (old : Progress) (verdicts : List Verdict)
+    → old.verdicts ≡ None → (with_next delivery waits unasked old).verdicts ≡ Some verdicts → AreUntaken verdicts
+next_takes delivery (waited ∷ waits) unasked old verdicts none e = absurd (none-some verdicts (sym none ∙ e))
+next_takes delivery [] (place ∷ more) old verdicts none e = absurd (none-some verdicts (sym none ∙ e))
+next_takes delivery [] [] old verdicts none e =
+    rcpts_end delivery old (some_accepted (rcpt_replies old.answered)) verdicts none e
 
 -- a reply of the kind 4yz, whatever waited for it
-transient_takes : (errand : Errand) (waited : Awaited) (reply : Reply) (old : Progress) (verdicts : List Verdict)
-    → old.verdicts ≡ None → (behind_answer errand waited Transient reply old).verdicts ≡ Some verdicts
+transient_takes : (delivery : Delivery) (waited : Awaited) (reply : Reply) (old : Progress) (verdicts : List Verdict)
+    → old.verdicts ≡ None → (after_answer delivery waited Transient reply old).verdicts ≡ Some verdicts
     → AreUntaken verdicts
-transient_takes errand Greeting reply old verdicts none e = later_ends errand old verdicts e
-transient_takes errand Ehlo reply old verdicts none e = later_ends errand old verdicts e
-transient_takes errand Helo reply old verdicts none e = later_ends errand old verdicts e
-transient_takes errand Mail reply old verdicts none e = later_ends errand old verdicts e
-transient_takes errand (Rcpt place) reply old verdicts none e =
-    next_takes errand old.waits old.unasked old verdicts none e
-transient_takes errand Data reply old verdicts none e = later_ends errand old verdicts e
-transient_takes errand Content reply old verdicts none e = later_ends errand old verdicts e
+transient_takes delivery Greeting reply old verdicts none e = later_ends delivery old verdicts e
+transient_takes delivery Ehlo reply old verdicts none e = later_ends delivery old verdicts e
+transient_takes delivery Helo reply old verdicts none e = later_ends delivery old verdicts e
+transient_takes delivery Mail reply old verdicts none e = later_ends delivery old verdicts e
+transient_takes delivery (Rcpt place) reply old verdicts none e =
+    next_takes delivery old.waits old.unasked old verdicts none e
+transient_takes delivery Data reply old verdicts none e = later_ends delivery old verdicts e
+transient_takes delivery Content reply old verdicts none e = later_ends delivery old verdicts e
 
 -- where it was the last reply that an attempt read, and answered something, no place is Taken
-pub last_takes_none : (errand : Errand) (heard : List Reply) (reply : Reply) (verdicts : List Verdict)
+pub last_takes_none : (delivery : Delivery) (heard : List Reply) (reply : Reply) (verdicts : List Verdict)
     → kind_of reply.code ≡ Transient
-    → length (progress errand (heard ++ reply ∷ [])).answered ≡ length (heard ++ reply ∷ [])
-    → (progress errand (heard ++ reply ∷ [])).verdicts ≡ Some verdicts → AreUntaken verdicts
-last_takes_none errand heard reply verdicts kind each ended =
-    by (progress errand heard).waits refl (progress errand heard).verdicts refl
+    → length (progress delivery (heard ++ reply ∷ [])).answered ≡ length (heard ++ reply ∷ [])
+    → (progress delivery (heard ++ reply ∷ [])).verdicts ≡ Some verdicts → AreUntaken verdicts
+last_takes_none delivery heard reply verdicts kind each ended =
+    by (progress delivery heard).waits refl (progress delivery heard).verdicts refl
   where
-    same : progress errand (heard ++ reply ∷ []) ≡ behind_reply errand (progress errand heard) reply
-    same = reply_leads_on errand heard reply
+    same : progress delivery (heard ++ reply ∷ []) ≡ after_reply delivery (progress delivery heard) reply
+    same = reply_leads_on delivery heard reply
 
-    by : (waits : List Awaited) → (progress errand heard).waits ≡ waits → (were : Option (List Verdict))
-        → (progress errand heard).verdicts ≡ were → AreUntaken verdicts
+    by : (waits : List Awaited) → (progress delivery heard).waits ≡ waits → (were : Option (List Verdict))
+        → (progress delivery heard).verdicts ≡ were → AreUntaken verdicts
     by [] e were v =
-        let old : Progress = progress errand heard in
-        let first = answered_are_first errand heard in
-        let count : length (progress errand (heard ++ reply ∷ [])).answered ≡ length old.answered =
+        let old : Progress = progress delivery heard in
+        let first = answered_are_first delivery heard in
+        let count : length (progress delivery (heard ++ reply ∷ [])).answered ≡ length old.answered =
         ap (λ (now : Progress). length now.answered) same
-        ∙ ap (λ w. length (with_answer errand w reply old).answered) e in
+        ∙ ap (λ w. length (with_answer delivery w reply old).answered) e in
         let few = ap length first.1 ∙ length-append (replies_in old.answered) first.0 in
         let many = length-map old.answered (λ (one : Answered). one.reply) in
         let all = length-append heard (reply ∷ []) in
         absurd (omega (arith, count, few, many, all, each))
     by (waited ∷ waits) e (Some all) v =
-        let none = ap length (sym e ∙ end_waits_for_nothing errand heard all v) in
+        let none = ap length (sym e ∙ end_waits_for_nothing delivery heard all v) in
         absurd (omega (arith, none))
     by (waited ∷ waits) e None v =
-        let old : Progress = progress errand heard in
+        let old : Progress = progress delivery heard in
         let now : Progress = record old { waits = waits; answered = old.answered ++ answer_of waited reply ∷ [] } in
-        transient_takes errand waited reply now verdicts v
-        (ap (λ k. (behind_answer errand waited k reply now).verdicts) (sym kind)
-        ∙ ap (λ w. (with_answer errand w reply old).verdicts) (sym e)
+        transient_takes delivery waited reply now verdicts v
+        (ap (λ k. (after_answer delivery waited k reply now).verdicts) (sym kind)
+        ∙ ap (λ w. (with_answer delivery w reply old).verdicts) (sym e)
         ∙ ap (λ (p : Progress). p.verdicts) (sym same) ∙ ended)

@@ -27,13 +27,13 @@ use Rattle.relay_book.specs.declared.change.Verdict.TheVariants.{Later, Taken}
 use Rattle.relay_course.specs.declared.awaited.Awaited.TheVariants.{Data, Content}
 use Rattle.relay_course.specs.WrittenLine.{data_line, last_chunk}
 use Rattle.relay_course.specs.VerdictTable.{content_verdict_by, kind_of, rcpt_verdict, refusal, some_accepted, verdicts_of}
-use Rattle.relay_course.specs.Progress.{Errand, Answered, Progress, answer_of, progress}
+use Rattle.relay_course.specs.Progress.{Delivery, Answered, Progress, answer_of, progress}
 use Rattle.relay_course.specs.Course.{joined}
-use Rattle.relay_course.specs.Laws.{IsErrand}
+use Rattle.relay_course.specs.Laws.{IsDelivery}
 use Rattle.relay_course.specs.RelayLaws.{answered_rcpts, content_answers, content_replies, last_verdict, opening_replies, relay_progress, relay_replies}
 use Rattle.relay_course.proofs.Theorems.{commands_to_a_relay, end_is_end, end_waits_for_nothing}
-use Rattle.relay_meeting.specs.Meeting.{AreExpected, Plays, Step, replies_by, state_behind, step_of}
-use Rattle.relay_meeting.specs.Script.{AreRcpts, AreTried, Tried, course_of_last_chunk, course_of_mail_data, refusal_row, row_of_rcpt, quit_step, content_steps, rcpt_steps, with_tried, client_in, envelope_behind, opened_of, script_of}
+use Rattle.relay_meeting.specs.Meeting.{AreExpected, Plays, Step, replies_by, state_after, step_of}
+use Rattle.relay_meeting.specs.Script.{AreRcpts, AreTried, Tried, course_of_last_chunk, course_of_mail_data, refusal_row, row_of_rcpt, quit_step, content_steps, rcpt_steps, with_tried, client_in, envelope_after, opened_of, script_of}
 use Rattle.relay_meeting.specs.Joined.{AreJoined, HaveEnded, IsCutShort, MayClose, Tells, TwoRelaysEnd, child_envelope, verdict_at}
 use Rattle.relay_meeting.proofs.MeetLemmas.{either_begins, meeting, taken_expected}
 use Rattle.relay_meeting.proofs.ScriptLemmas.{script_is_servers}
@@ -46,7 +46,7 @@ pub plays_expected : (host : List ℕ) (script : List Step) (turns : List Turn) 
 plays_expected host script [] plays = tt
 plays_expected host [] (turn ∷ turns) plays = absurd plays
 plays_expected host (step ∷ script) (turn ∷ turns) plays =
-    (taken_expected host step.course turn (state_behind step.course) plays.1, plays_expected host script turns plays.2)
+    (taken_expected host step.course turn (state_after step.course) plays.1, plays_expected host script turns plays.2)
 
 -- the verdicts by the table
 accepted_verdict : (host : List ℕ) → rcpt_verdict (reply_of host row.RecipientOk) ≡ None
@@ -164,16 +164,16 @@ quit_answers host [] plays = refl
 quit_answers host (turn ∷ []) plays = ap (λ o. answers_in o ++ []) plays.1.1
 quit_answers host (turn ∷ next ∷ turns) plays = absurd plays.2
 
-behind_content : (answers more : List Answer) (last : Verdict) → more ≡ [] → Tells last answers → Tells last (answers ++ more)
-behind_content answers more last e tells =
+after_content : (answers more : List Answer) (last : Verdict) → more ≡ [] → Tells last answers → Tells last (answers ++ more)
+after_content answers more last e tells =
     subst (λ (l : List Answer). Tells last l) (sym (append-nil answers) ∙ ap (λ l. answers ++ l) (sym e)) tells
 
 -- the turns of the content, which come as far as its reply
 text_tells : (host : List ℕ) (client : Client) (envelope : Envelope) (text chunk : Step) (t : Bool) (turns : List Turn)
     (input content : Reply) (later : List Reply)
-    → ((turn : Turn) → Takes host text.course turn (state_behind text.course)
+    → ((turn : Turn) → Takes host text.course turn (state_after text.course)
     → Tells (verdict_by turn.reply) (answers_in turn.offer))
-    → ((turn : Turn) → Takes host chunk.course turn (state_behind chunk.course)
+    → ((turn : Turn) → Takes host chunk.course turn (state_after chunk.course)
     → Tells (verdict_by turn.reply) (answers_in turn.offer))
     → Plays host (cond t (step_of data_line (Replies row.StartMailInput (Receiving client envelope)) ∷ text ∷ quit_step
     ∷ []) (chunk ∷ quit_step ∷ [])) turns
@@ -185,97 +185,97 @@ text_tells host client envelope text chunk true (first ∷ []) input content lat
 text_tells host client envelope text chunk true (first ∷ turn ∷ turns) input content later a b plays e =
     let same : turn.reply ≡ content = cc in
     let told = subst (λ (r : Reply). Tells (verdict_by r) (answers_in turn.offer)) same (a turn plays.2.1) in
-    let behind =
-    behind_content (answers_in turn.offer) (answered_by turns) (verdict_by content) (quit_answers host turns plays.2.2)
+    let after =
+    after_content (answers_in turn.offer) (answered_by turns) (verdict_by content) (quit_answers host turns plays.2.2)
     told in
     subst (λ (l : List Answer). Tells (verdict_by content) l)
-    (ap (λ o. answers_in o ++ (answers_in turn.offer ++ answered_by turns)) (sym plays.1.1)) behind
+    (ap (λ o. answers_in o ++ (answers_in turn.offer ++ answered_by turns)) (sym plays.1.1)) after
 text_tells host client envelope text chunk false [] input content later a b plays e = absurd (omega (arith, ap length e))
 text_tells host client envelope text chunk false (turn ∷ turns) input content later a b plays e =
     let same : turn.reply ≡ content = cc in
     let told = subst (λ (r : Reply). Tells (verdict_by r) (answers_in turn.offer)) same (b turn plays.1) in
-    behind_content (answers_in turn.offer) (answered_by turns) (verdict_by content) (quit_answers host turns plays.2) told
+    after_content (answers_in turn.offer) (answered_by turns) (verdict_by content) (quit_answers host turns plays.2) told
 
 -- the last verdict, where a RCPT was accepted or not
 abbrev last_verdict_by : Bool → Reply → Verdict
 last_verdict_by some content = cond some (verdict_by content) Later
 
-last_tells : (host : List ℕ) (setup : Setup) (client : Client) (errand : Errand) (envelope : Envelope) (some : Bool)
+last_tells : (host : List ℕ) (setup : Setup) (client : Client) (delivery : Delivery) (envelope : Envelope) (some : Bool)
     (turns : List Turn) (input content : Reply) (later : List Reply)
-    → Plays host (cond some (content_steps setup client errand envelope) (quit_step ∷ [])) turns
-    → replies_by turns ≡ content_replies_by errand some input content ++ later
+    → Plays host (cond some (content_steps setup client delivery envelope) (quit_step ∷ [])) turns
+    → replies_by turns ≡ content_replies_by delivery some input content ++ later
     → Tells (last_verdict_by some content) (answered_by turns)
-last_tells host setup client errand envelope true turns input content later plays e =
-    let fits : Bool = nat_le (length errand.text) setup.max_content in
-    let many : Bool = nat_le 100 (received_count_of errand.text) in
-    let text : Step = step_of errand.dot_text (course_of_mail_data setup client envelope errand.text) in
-    let chunk : Step = step_of (last_chunk errand.text) (course_of_last_chunk setup client envelope errand.text) in
-    text_tells host client envelope text chunk (ends_in_line_end errand.text) turns input content later
-    (λ turn takes. content_tells host setup.bare_newlines client envelope errand.text (Command (Greeted client)) fits many turn
-    (state_behind text.course) takes)
-    (λ turn takes. content_tells host setup.bare_newlines client envelope errand.text (Command (Spent client)) fits many turn
-    (state_behind chunk.course) takes)
+last_tells host setup client delivery envelope true turns input content later plays e =
+    let fits : Bool = nat_le (length delivery.text) setup.max_content in
+    let many : Bool = nat_le 100 (received_count_of delivery.text) in
+    let text : Step = step_of delivery.dot_text (course_of_mail_data setup client envelope delivery.text) in
+    let chunk : Step = step_of (last_chunk delivery.text) (course_of_last_chunk setup client envelope delivery.text) in
+    text_tells host client envelope text chunk (ends_in_line_end delivery.text) turns input content later
+    (λ turn takes. content_tells host setup.bare_newlines client envelope delivery.text (Command (Greeted client)) fits many turn
+    (state_after text.course) takes)
+    (λ turn takes. content_tells host setup.bare_newlines client envelope delivery.text (Command (Spent client)) fits many turn
+    (state_after chunk.course) takes)
     plays e
-last_tells host setup client errand envelope false turns input content later plays e =
+last_tells host setup client delivery envelope false turns input content later plays e =
     inr (λ dsn. not_taken-later dsn, inl (quit_answers host turns plays))
 
-rcpts_tell : (host : List ℕ) (setup : Setup) (client : Client) (errand : Errand) (envelope : Envelope) (tried : List Tried)
+rcpts_tell : (host : List ℕ) (setup : Setup) (client : Client) (delivery : Delivery) (envelope : Envelope) (tried : List Tried)
     (turns : List Turn) (rcpts : List Reply) (some : Bool) (input content : Reply) (later : List Reply)
-    → Plays host (rcpt_steps setup client errand envelope tried) turns → AreRcpts host tried rcpts
-    → has_some (envelope_behind envelope tried) ≡ some
-    → replies_by turns ≡ rcpts ++ (content_replies_by errand some input content ++ later)
+    → Plays host (rcpt_steps setup client delivery envelope tried) turns → AreRcpts host tried rcpts
+    → has_some (envelope_after envelope tried) ≡ some
+    → replies_by turns ≡ rcpts ++ (content_replies_by delivery some input content ++ later)
     → Tells (last_verdict_by some content) (answered_by turns)
-rcpts_tell host setup client errand envelope [] turns [] some input content later plays are is e =
-    last_tells host setup client errand envelope some turns input content later
-    (subst (λ (b : Bool). Plays host (cond b (content_steps setup client errand envelope) (quit_step ∷ [])) turns) is plays) e
-rcpts_tell host setup client errand envelope [] turns (reply ∷ rcpts) some input content later plays are is e = absurd are
-rcpts_tell host setup client errand envelope (tried ∷ more) turns [] some input content later plays are is e = absurd are
-rcpts_tell host setup client errand envelope (tried ∷ more) [] (reply ∷ rcpts) some input content later plays are is e =
+rcpts_tell host setup client delivery envelope [] turns [] some input content later plays are is e =
+    last_tells host setup client delivery envelope some turns input content later
+    (subst (λ (b : Bool). Plays host (cond b (content_steps setup client delivery envelope) (quit_step ∷ [])) turns) is plays) e
+rcpts_tell host setup client delivery envelope [] turns (reply ∷ rcpts) some input content later plays are is e = absurd are
+rcpts_tell host setup client delivery envelope (tried ∷ more) turns [] some input content later plays are is e = absurd are
+rcpts_tell host setup client delivery envelope (tried ∷ more) [] (reply ∷ rcpts) some input content later plays are is e =
     absurd (omega (arith, ap length e))
-rcpts_tell host setup client errand envelope (tried ∷ more) (turn ∷ turns) (reply ∷ rcpts) some input content later plays
+rcpts_tell host setup client delivery envelope (tried ∷ more) (turn ∷ turns) (reply ∷ rcpts) some input content later plays
     are is e =
-    let tail : replies_by turns ≡ rcpts ++ (content_replies_by errand some input content ++ later) = cc in
-    let behind =
-    rcpts_tell host setup client errand (with_tried envelope tried) more turns rcpts some input content later plays.2
+    let tail : replies_by turns ≡ rcpts ++ (content_replies_by delivery some input content ++ later) = cc in
+    let after =
+    rcpts_tell host setup client delivery (with_tried envelope tried) more turns rcpts some input content later plays.2
     are.1 is tail in
     subst (λ (l : List Answer). Tells (last_verdict_by some content) l)
-    (ap (λ o. answers_in o ++ answered_by turns) (sym plays.1.1)) behind
+    (ap (λ o. answers_in o ++ answered_by turns) (sym plays.1.1)) after
 
-script_tells : (host : List ℕ) (setup : Setup) (errand : Errand) (tried : List Tried) (turns : List Turn) (hello mail : Reply)
+script_tells : (host : List ℕ) (setup : Setup) (delivery : Delivery) (tried : List Tried) (turns : List Turn) (hello mail : Reply)
     (rcpts : List Reply) (some : Bool) (input content : Reply) (later : List Reply)
-    → Plays host (script_of setup errand tried) turns → AreRcpts host tried rcpts → has_some (child_envelope errand tried) ≡ some
-    → replies_by turns ≡ hello ∷ mail ∷ (rcpts ++ (content_replies_by errand some input content ++ later))
+    → Plays host (script_of setup delivery tried) turns → AreRcpts host tried rcpts → has_some (child_envelope delivery tried) ≡ some
+    → replies_by turns ≡ hello ∷ mail ∷ (rcpts ++ (content_replies_by delivery some input content ++ later))
     → Tells (last_verdict_by some content) (answered_by turns)
-script_tells host setup errand tried [] hello mail rcpts some input content later plays are is e =
+script_tells host setup delivery tried [] hello mail rcpts some input content later plays are is e =
     absurd (omega (arith, ap length e))
-script_tells host setup errand tried (first ∷ []) hello mail rcpts some input content later plays are is e =
+script_tells host setup delivery tried (first ∷ []) hello mail rcpts some input content later plays are is e =
     absurd (omega (arith, ap length e))
-script_tells host setup errand tried (first ∷ second ∷ turns) hello mail rcpts some input content later plays are is e =
-    let tail : replies_by turns ≡ rcpts ++ (content_replies_by errand some input content ++ later) = cc in
-    let behind =
-    rcpts_tell host setup (client_in errand) errand (opened_of errand.envelope) tried turns rcpts some input content
+script_tells host setup delivery tried (first ∷ second ∷ turns) hello mail rcpts some input content later plays are is e =
+    let tail : replies_by turns ≡ rcpts ++ (content_replies_by delivery some input content ++ later) = cc in
+    let after =
+    rcpts_tell host setup (client_in delivery) delivery (opened_of delivery.envelope) tried turns rcpts some input content
     later plays.2.2 are is tail in
     subst (λ (l : List Answer). Tells (last_verdict_by some content) l)
     (ap (λ o. answers_in o ++ answered_by turns) (sym plays.2.1.1)
-    ∙ ap (λ o. answers_in o ++ answered_by (second ∷ turns)) (sym plays.1.1)) behind
+    ∙ ap (λ o. answers_in o ++ answered_by (second ∷ turns)) (sym plays.1.1)) after
 
 -- replies that ended the course of a whole conversation are all of it
-ended_whole : (errand : Errand) (replies whole : List Reply) (verdicts : List Verdict)
-    → (progress errand whole).waits ≡ [] → length (progress errand whole).answered ≡ length whole
-    → (progress errand replies).verdicts ≡ Some verdicts → length (progress errand replies).answered ≡ length replies
+ended_whole : (delivery : Delivery) (replies whole : List Reply) (verdicts : List Verdict)
+    → (progress delivery whole).waits ≡ [] → length (progress delivery whole).answered ≡ length whole
+    → (progress delivery replies).verdicts ≡ Some verdicts → length (progress delivery replies).answered ≡ length replies
     → Begins replies whole ⊎ Begins whole replies → replies ≡ whole
-ended_whole errand replies whole verdicts waits count ended each (inl ([], is)) = sym (append-nil replies) ∙ sym is
-ended_whole errand replies whole verdicts waits count ended each (inl (reply ∷ later, is)) =
-    let same : progress errand whole ≡ progress errand replies =
-    ap (progress errand) is ∙ end_is_end errand replies (reply ∷ later)
-    (end_waits_for_nothing errand replies verdicts ended) in
+ended_whole delivery replies whole verdicts waits count ended each (inl ([], is)) = sym (append-nil replies) ∙ sym is
+ended_whole delivery replies whole verdicts waits count ended each (inl (reply ∷ later, is)) =
+    let same : progress delivery whole ≡ progress delivery replies =
+    ap (progress delivery) is ∙ end_is_end delivery replies (reply ∷ later)
+    (end_waits_for_nothing delivery replies verdicts ended) in
     let a = ap (λ (c : Progress). length c.answered) same in
     let b = ap length is ∙ length-append replies (reply ∷ later) in
     absurd (omega (arith, a, b))
-ended_whole errand replies whole verdicts waits count ended each (inr ([], is)) = is ∙ append-nil whole
-ended_whole errand replies whole verdicts waits count ended each (inr (reply ∷ later, is)) =
-    let same : progress errand replies ≡ progress errand whole =
-    ap (progress errand) is ∙ end_is_end errand whole (reply ∷ later) waits in
+ended_whole delivery replies whole verdicts waits count ended each (inr ([], is)) = is ∙ append-nil whole
+ended_whole delivery replies whole verdicts waits count ended each (inr (reply ∷ later, is)) =
+    let same : progress delivery replies ≡ progress delivery whole =
+    ap (progress delivery) is ∙ end_is_end delivery whole (reply ∷ later) waits in
     let a = ap (λ (c : Progress). length c.answered) same in
     let b = ap length is ∙ length-append whole (reply ∷ later) in
     absurd (omega (arith, a, b))
@@ -295,48 +295,48 @@ either-count true true one two three first second third = refl
 either-count true false one two three first second third = refl
 either-count false ends one two three first second third = refl
 
-each-answers : (errand : Errand) (greeting hello mail input content : Reply) (rcpts : List Reply)
-    → length rcpts ≡ length errand.places
-    → length (relay_progress errand greeting hello mail rcpts input content).answered
-    ≡ length (relay_replies errand greeting hello mail rcpts input content)
-each-answers errand greeting hello mail input content rcpts e =
-    let answers : List Answered = answered_rcpts errand.places rcpts in
-    let last : List Answered = content_answers errand rcpts input content in
-    let behind : List Reply = content_replies errand rcpts input content in
-    let same : length last ≡ length behind =
-    either-count (some_accepted rcpts) (ends_in_line_end errand.text) (answer_of Data input)
+each-answers : (delivery : Delivery) (greeting hello mail input content : Reply) (rcpts : List Reply)
+    → length rcpts ≡ length delivery.places
+    → length (relay_progress delivery greeting hello mail rcpts input content).answered
+    ≡ length (relay_replies delivery greeting hello mail rcpts input content)
+each-answers delivery greeting hello mail input content rcpts e =
+    let answers : List Answered = answered_rcpts delivery.places rcpts in
+    let last : List Answered = content_answers delivery rcpts input content in
+    let after : List Reply = content_replies delivery rcpts input content in
+    let same : length last ≡ length after =
+    either-count (some_accepted rcpts) (ends_in_line_end delivery.text) (answer_of Data input)
     (answer_of Content content) (answer_of Content content) input content content in
-    omega (arith, length-append answers last, length-append rcpts behind, rcpts-count errand.places rcpts e, same)
+    omega (arith, length-append answers last, length-append rcpts after, rcpts-count delivery.places rcpts e, same)
 
 -- What both ends have said: the turns are of the script, and their replies, with others after them, are those of a
 -- whole conversation. Of these the client has read a beginning, and that of a server that closed.
-pub record Conversed (setup : Setup) (errand : Errand) (tried : List Tried) (closing : Option Reply) (turns : List Turn)
+pub record Conversed (setup : Setup) (delivery : Delivery) (tried : List Tried) (closing : Option Reply) (turns : List Turn)
     (replies : List Reply) : Type 0 where
-  pub plays : Plays setup.host (script_of setup errand tried) turns
+  pub plays : Plays setup.host (script_of setup delivery tried) turns
   pub heard : Begins replies (sent_by setup.host turns closing)
   pub later : List Reply
-  pub parts : AllReplies setup errand tried (replies_by turns ++ later)
+  pub parts : AllReplies setup delivery tried (replies_by turns ++ later)
 
-pub conversed : (setup : Setup) (errand : Errand) (tried : List Tried) (said : Said) (closing : Option Reply)
+pub conversed : (setup : Setup) (delivery : Delivery) (tried : List Tried) (said : Said) (closing : Option Reply)
     (input output : List ℕ) (replies : List Reply) (rest : List ℕ)
-    → IsErrand errand → AreTried setup errand.envelope.recipients errand.places tried
-    → (ends : AreJoined setup errand said closing input output replies rest)
-    → Conversed setup errand tried closing ends.dialogue.turns replies
-conversed setup errand tried said closing input output replies rest is all ends =
-    let script : List Step = script_of setup errand tried in
+    → IsDelivery delivery → AreTried setup delivery.envelope.recipients delivery.places tried
+    → (ends : AreJoined setup delivery said closing input output replies rest)
+    → Conversed setup delivery tried closing ends.dialogue.turns replies
+conversed setup delivery tried said closing input output replies rest is all ends =
+    let script : List Step = script_of setup delivery tried in
     let d = ends.dialogue in
     let heard = all_written setup said closing input replies rest d ends.numbered ends.closes ends.host ends.cut ends.down in
-    let octets : joined (progress errand replies).commands ≡ read_by d.turns ++ (d.rest ++ ends.up.0) =
+    let octets : joined (progress delivery replies).commands ≡ read_by d.turns ++ (d.rest ++ ends.up.0) =
     sym ends.written ∙ ends.up.1 ∙ ap (λ l. l ++ ends.up.0) d.input ∙ append_assoc (read_by d.turns) d.rest ends.up.0 in
-    let meets = meeting setup (reply_of setup.host row.Greeting) (λ l. (progress errand l).commands) script d.state d.turns
-    (option_to_list closing) replies heard.0 (d.rest ++ ends.up.0) (client_writes setup errand tried is all)
-    (script_is_servers setup errand tried is all) d.runs octets heard.1 in
+    let meets = meeting setup (reply_of setup.host row.Greeting) (λ l. (progress delivery l).commands) script d.state d.turns
+    (option_to_list closing) replies heard.0 (d.rest ++ ends.up.0) (client_writes setup delivery tried is all)
+    (script_is_servers setup delivery tried is all) d.runs octets heard.1 in
     let filled = fill setup.host script (replies_by d.turns) (plays_expected setup.host script d.turns meets.plays) in
     record {
       plays = meets.plays;
       heard = heard;
       later = filled.later;
-      parts = all_replies setup errand tried (replies_by d.turns ++ filled.later) filled.expected filled.all;
+      parts = all_replies setup delivery tried (replies_by d.turns ++ filled.later) filled.expected filled.all;
     }
 
 -- turns with an offer reach as far as the content's reply
@@ -354,40 +354,40 @@ content_reached host client envelope text chunk true false [] input content play
 content_reached host client envelope text chunk true false (turn ∷ turns) input content plays h = omega arith
 content_reached host client envelope text chunk false ends turns input content plays h = omega arith
 
-rcpts_reached : (host : List ℕ) (setup : Setup) (client : Client) (errand : Errand) (envelope : Envelope)
+rcpts_reached : (host : List ℕ) (setup : Setup) (client : Client) (delivery : Delivery) (envelope : Envelope)
     (tried : List Tried) (turns : List Turn) (some : Bool) (input content : Reply)
-    → Plays host (rcpt_steps setup client errand envelope tried) turns
-    → has_some (envelope_behind envelope tried) ≡ some → 0 < length (offered_by turns)
-    → length tried + length (content_replies_by errand some input content) ≤ length turns
-rcpts_reached host setup client errand envelope [] turns some input content plays is h =
+    → Plays host (rcpt_steps setup client delivery envelope tried) turns
+    → has_some (envelope_after envelope tried) ≡ some → 0 < length (offered_by turns)
+    → length tried + length (content_replies_by delivery some input content) ≤ length turns
+rcpts_reached host setup client delivery envelope [] turns some input content plays is h =
     let reached = content_reached host client envelope
-    (step_of errand.dot_text (course_of_mail_data setup client envelope errand.text))
-    (step_of (last_chunk errand.text) (course_of_last_chunk setup client envelope errand.text)) some
-    (ends_in_line_end errand.text) turns input content
-    (subst (λ (b : Bool). Plays host (cond b (content_steps setup client errand envelope) (quit_step ∷ [])) turns) is plays)
+    (step_of delivery.dot_text (course_of_mail_data setup client envelope delivery.text))
+    (step_of (last_chunk delivery.text) (course_of_last_chunk setup client envelope delivery.text)) some
+    (ends_in_line_end delivery.text) turns input content
+    (subst (λ (b : Bool). Plays host (cond b (content_steps setup client delivery envelope) (quit_step ∷ [])) turns) is plays)
     h in
     omega (arith, reached)
-rcpts_reached host setup client errand envelope (tried ∷ more) [] some input content plays is h =
+rcpts_reached host setup client delivery envelope (tried ∷ more) [] some input content plays is h =
     absurd (omega (arith, h))
-rcpts_reached host setup client errand envelope (tried ∷ more) (turn ∷ turns) some input content plays is h =
+rcpts_reached host setup client delivery envelope (tried ∷ more) (turn ∷ turns) some input content plays is h =
     let none = ap (λ o. length (offers_in o ++ offered_by turns)) plays.1.1 in
-    let behind = rcpts_reached host setup client errand (with_tried envelope tried) more turns some input content plays.2
+    let after = rcpts_reached host setup client delivery (with_tried envelope tried) more turns some input content plays.2
     is (omega (arith, h, none)) in
-    omega (arith, behind)
+    omega (arith, after)
 
-pub script_reached : (setup : Setup) (errand : Errand) (tried : List Tried) (turns : List Turn) (some : Bool)
-    (input content : Reply) → Plays setup.host (script_of setup errand tried) turns
-    → has_some (child_envelope errand tried) ≡ some → 0 < length (offered_by turns)
-    → suc (suc (length tried + length (content_replies_by errand some input content))) ≤ length turns
-script_reached setup errand tried [] some input content plays is h = absurd (omega (arith, h))
-script_reached setup errand tried (first ∷ []) some input content plays is h =
+pub script_reached : (setup : Setup) (delivery : Delivery) (tried : List Tried) (turns : List Turn) (some : Bool)
+    (input content : Reply) → Plays setup.host (script_of setup delivery tried) turns
+    → has_some (child_envelope delivery tried) ≡ some → 0 < length (offered_by turns)
+    → suc (suc (length tried + length (content_replies_by delivery some input content))) ≤ length turns
+script_reached setup delivery tried [] some input content plays is h = absurd (omega (arith, h))
+script_reached setup delivery tried (first ∷ []) some input content plays is h =
     absurd (omega (arith, h, ap (λ o. length (offers_in o ++ [])) plays.1.1))
-script_reached setup errand tried (first ∷ second ∷ turns) some input content plays is h =
+script_reached setup delivery tried (first ∷ second ∷ turns) some input content plays is h =
     let none = ap (λ o. length (offers_in o ++ offered_by (second ∷ turns))) plays.1.1 in
     let nothing = ap (λ o. length (offers_in o ++ offered_by turns)) plays.2.1.1 in
-    let behind = rcpts_reached setup.host setup (client_in errand) errand (opened_of errand.envelope) tried turns some input
+    let after = rcpts_reached setup.host setup (client_in delivery) delivery (opened_of delivery.envelope) tried turns some input
     content plays.2.2 is (omega (arith, h, none, nothing)) in
-    omega (arith, behind)
+    omega (arith, after)
 
 -- replies that were read begin those of the turns; or they are all of these, and that of a server that closed
 closed_or_not : (closing : Option Reply) (replies all : List Reply) → Begins replies (all ++ option_to_list closing)
@@ -421,12 +421,12 @@ nothing_more : {A : Type 0} (xs : List A) → length xs ≡ 0 → xs ≡ []
 nothing_more [] e = refl
 nothing_more (x ∷ xs) e = absurd (omega (arith, e))
 
-module _ (setup : Setup) (errand : Errand) (tried : List Tried) (said : Said) (closing : Option Reply)
+module _ (setup : Setup) (delivery : Delivery) (tried : List Tried) (said : Said) (closing : Option Reply)
     (input output : List ℕ) (replies : List Reply) (rest : List ℕ) (verdicts : List Verdict)
-    (is : IsErrand errand) (all : AreTried setup errand.envelope.recipients errand.places tried)
-    (ends : AreJoined setup errand said closing input output replies rest)
-    (each : length (progress errand replies).answered ≡ length replies)
-    (ended : (progress errand replies).verdicts ≡ Some verdicts) where
+    (is : IsDelivery delivery) (all : AreTried setup delivery.envelope.recipients delivery.places tried)
+    (ends : AreJoined setup delivery said closing input output replies rest)
+    (each : length (progress delivery replies).answered ≡ length replies)
+    (ended : (progress delivery replies).verdicts ≡ Some verdicts) where
   abbrev greeting : Reply
   greeting = reply_of setup.host row.Greeting
 
@@ -439,51 +439,51 @@ module _ (setup : Setup) (errand : Errand) (tried : List Tried) (said : Said) (c
   abbrev told : List Reply
   told = replies_by d.turns
 
-  talk : Conversed setup errand tried closing d.turns replies
-  talk = conversed setup errand tried said closing input output replies rest is all ends
+  talk : Conversed setup delivery tried closing d.turns replies
+  talk = conversed setup delivery tried said closing input output replies rest is all ends
 
-  parts : AllReplies setup errand tried (told ++ talk.later)
+  parts : AllReplies setup delivery tried (told ++ talk.later)
   parts = talk.parts
 
-  many : length tried ≡ length errand.places
-  many = as_many_tried setup errand.envelope.recipients errand.places tried all
+  many : length tried ≡ length delivery.places
+  many = as_many_tried setup delivery.envelope.recipients delivery.places tried all
 
   abbrev whole : List Reply
-  whole = relay_replies errand greeting hello parts.mail parts.rcpts parts.input parts.content
+  whole = relay_replies delivery greeting hello parts.mail parts.rcpts parts.input parts.content
 
-  abbrev behind : List Reply
-  behind = content_replies errand parts.rcpts parts.input parts.content
+  abbrev after : List Reply
+  after = content_replies delivery parts.rcpts parts.input parts.content
 
-  at : progress errand whole ≡ relay_progress errand greeting hello parts.mail parts.rcpts parts.input parts.content
-  at = commands_to_a_relay errand greeting hello parts.mail parts.input parts.content parts.rcpts parts.willing
+  at : progress delivery whole ≡ relay_progress delivery greeting hello parts.mail parts.rcpts parts.input parts.content
+  at = commands_to_a_relay delivery greeting hello parts.mail parts.input parts.content parts.rcpts parts.willing
       (parts.count ∙ many)
 
   -- the replies are all of a conversation, where they begin it or go beyond it
   all_of_it : Begins replies whole ⊎ Begins whole replies → replies ≡ whole
   all_of_it either =
-      ended_whole errand replies whole verdicts (ap (λ (end : Progress). end.waits) at)
+      ended_whole delivery replies whole verdicts (ap (λ (end : Progress). end.waits) at)
       (ap (λ (end : Progress). length end.answered) at
-      ∙ each-answers errand greeting hello parts.mail parts.input parts.content parts.rcpts (parts.count ∙ many))
+      ∙ each-answers delivery greeting hello parts.mail parts.input parts.content parts.rcpts (parts.count ∙ many))
       ended each either
 
   -- it was the dialogue's replies that ended the attempt
-  by_dialogue : Begins replies (greeting ∷ told) → HaveEnded setup errand tried said verdicts
+  by_dialogue : Begins replies (greeting ∷ told) → HaveEnded setup delivery tried said verdicts
   by_dialogue heard =
       let line : replies ++ (heard.0 ++ talk.later) ≡ whole ++ parts.quit ∷ [] =
       sym (append_assoc replies heard.0 talk.later) ∙ ap (λ l. l ++ talk.later) (sym heard.1) ∙ parts.replies_are in
       let same = all_of_it (either_begins replies whole (heard.0 ++ talk.later) (parts.quit ∷ []) line) in
       let last : Verdict = last_verdict parts.rcpts parts.content in
       let turned : greeting ∷ told ≡ whole ++ heard.0 = heard.1 ∙ ap (λ l. l ++ heard.0) same in
-      let rest_is : told ≡ hello ∷ parts.mail ∷ ((parts.rcpts ++ behind) ++ heard.0) = cc in
+      let rest_is : told ≡ hello ∷ parts.mail ∷ ((parts.rcpts ++ after) ++ heard.0) = cc in
       record {
         last = last;
-        verdicts_are = same_Some verdicts (verdicts_of errand.places parts.rcpts last)
-            (sym ended ∙ ap (λ l. (progress errand l).verdicts) same ∙ ap (λ (end : Progress). end.verdicts) at)
-            ∙ verdicts_are setup.host errand.places tried parts.rcpts last many parts.are;
+        verdicts_are = same_Some verdicts (verdicts_of delivery.places parts.rcpts last)
+            (sym ended ∙ ap (λ l. (progress delivery l).verdicts) same ∙ ap (λ (end : Progress). end.verdicts) at)
+            ∙ verdicts_are setup.host delivery.places tried parts.rcpts last many parts.are;
         tells = subst (λ (l : List Answer). Tells last l) (sym d.answers)
-            (script_tells setup.host setup errand tried d.turns hello parts.mail parts.rcpts
+            (script_tells setup.host setup delivery tried d.turns hello parts.mail parts.rcpts
             (some_accepted parts.rcpts) parts.input parts.content heard.0 talk.plays parts.are parts.some
-            (rest_is ∙ ap (λ l. hello ∷ parts.mail ∷ l) (append_assoc parts.rcpts behind heard.0)));
+            (rest_is ∙ ap (λ l. hello ∷ parts.mail ∷ l) (append_assoc parts.rcpts after heard.0)));
       }
 
   -- it was the reply with which the server closed
@@ -513,11 +513,11 @@ module _ (setup : Setup) (errand : Errand) (tried : List Tried) (said : Said) (c
         let even = closes.2 in
         let answers = ap length d.answers in
         let turned = turns-answered d.turns in
-        let reached = script_reached setup errand tried d.turns (some_accepted parts.rcpts) parts.input parts.content
+        let reached = script_reached setup delivery tried d.turns (some_accepted parts.rcpts) parts.input parts.content
         talk.plays parts.some (omega (arith, some, even, answers, turned)) in
         let count = length-map d.turns (λ (turn : Turn). turn.reply) in
         let rcpts = parts.count in
-        let size = length-append (opening_replies greeting hello parts.mail parts.rcpts) behind in
+        let size = length-append (opening_replies greeting hello parts.mail parts.rcpts) after in
         let same = all_of_it (inr (reaches (omega (arith, reached, count, rcpts, size)))) in
         let a = ap length same in
         let b = ap length replies_are in
@@ -529,17 +529,17 @@ module _ (setup : Setup) (errand : Errand) (tried : List Tried) (said : Said) (c
       reply = reply;
       closed = closed;
       none = none_offered said.offers no_offer;
-      untaken = last_takes_none errand (greeting ∷ told) reply verdicts (ap kind_of closes.1)
-          (subst (λ (l : List Reply). length (progress errand l).answered ≡ length l) replies_are each)
-          (subst (λ (l : List Reply). (progress errand l).verdicts ≡ Some verdicts) replies_are ended);
+      untaken = last_takes_none delivery (greeting ∷ told) reply verdicts (ap kind_of closes.1)
+          (subst (λ (l : List Reply). length (progress delivery l).answered ≡ length l) replies_are each)
+          (subst (λ (l : List Reply). (progress delivery l).verdicts ≡ Some verdicts) replies_are ended);
     }
 
-  so_ended : HaveEnded setup errand tried said verdicts ⊎ IsCutShort said closing verdicts
+  so_ended : HaveEnded setup delivery tried said verdicts ⊎ IsCutShort said closing verdicts
   so_ended = elim (closed_or_not closing replies (greeting ∷ told) talk.heard) [
     | inl heard ↦ inl (by_dialogue heard)
     | inr last ↦ inr (short last.0 last.1 last.2)
   ]
 
 pub two_relays_end : TwoRelaysEnd
-two_relays_end setup errand tried said closing input output replies rest verdicts is all ends each ended =
-    so_ended setup errand tried said closing input output replies rest verdicts is all ends each ended
+two_relays_end setup delivery tried said closing input output replies rest verdicts is all ends each ended =
+    so_ended setup delivery tried said closing input output replies rest verdicts is all ends each ended

@@ -26,11 +26,11 @@ use Rattle.relay_server.specs.Setup.{Setup}
 use Rattle.relay_server.specs.State.{State, Command, Greeted, Receiving, Spent, start}
 use Rattle.relay_server.proofs.Theorems.{replies_are_well_formed, runs_compose}
 use Rattle.relay_course.specs.WrittenLine.{data_line, last_chunk}
-use Rattle.relay_course.specs.Progress.{Errand, progress}
+use Rattle.relay_course.specs.Progress.{Delivery, progress}
 use Rattle.relay_octets.specs.Beginning.{Begins}
 use Rattle.relay_course.specs.Course.{joined}
-use Rattle.relay_meeting.specs.Meeting.{Plays, Step, replies_by, state_behind, step_of}
-use Rattle.relay_meeting.specs.Script.{Tried, course_of_last_chunk, course_of_mail_data, quit_step, content_steps, last_steps, rcpt_steps, with_tried, client_in, envelope_behind, opened_of, script_of}
+use Rattle.relay_meeting.specs.Meeting.{Plays, Step, replies_by, state_after, step_of}
+use Rattle.relay_meeting.specs.Script.{Tried, course_of_last_chunk, course_of_mail_data, quit_step, content_steps, last_steps, rcpt_steps, with_tried, client_in, envelope_after, opened_of, script_of}
 use Rattle.relay_meeting.specs.Joined.{MayClose, TwoRelaysMeet, child_envelope, child_of, output_with}
 use Rattle.relay_meeting.proofs.MeetLemmas.{meeting}
 use Rattle.relay_meeting.proofs.ScriptLemmas.{script_is_servers}
@@ -54,11 +54,11 @@ plays_offer : (host : List ℕ) (script : List Step) (turns : List Turn) → Pla
 plays_offer host script [] plays = (may_offer_in script, refl)
 plays_offer host [] (turn ∷ turns) plays = absurd plays
 plays_offer host (step ∷ script) (turn ∷ turns) plays =
-    let behind = plays_offer host script turns plays.2 in
-    let one = taken_offer host step.course turn (state_behind step.course) plays.1 in (
-      behind.0,
-      ap (λ l. may_offer step.course ++ l) behind.1 ∙ ap (λ l. l ++ (offered_by turns ++ behind.0)) (sym one)
-          ∙ sym (append_assoc (offers_in turn.offer) (offered_by turns) behind.0),
+    let after = plays_offer host script turns plays.2 in
+    let one = taken_offer host step.course turn (state_after step.course) plays.1 in (
+      after.0,
+      ap (λ l. may_offer step.course ++ l) after.1 ∙ ap (λ l. l ++ (offered_by turns ++ after.0)) (sym one)
+          ∙ sym (append_assoc (offers_in turn.offer) (offered_by turns) after.0),
     )
 
 offer_or_none : (client : Client) (envelope : Envelope) (content : List ℕ) (found : Option Row)
@@ -89,35 +89,35 @@ steps_offer : (client : Client) (envelope : Envelope) (text chunk : Step) (t : B
 steps_offer client envelope text chunk true one a b = append-nil (may_offer text.course) ∙ a
 steps_offer client envelope text chunk false one a b = append-nil (may_offer chunk.course) ∙ b
 
-last_offer : (setup : Setup) (client : Client) (errand : Errand) (envelope : Envelope) (some : Bool)
-    → may_offer_in (cond some (content_steps setup client errand envelope) (quit_step ∷ []))
-    ≡ cond some (cond (nat_le (length errand.text) setup.max_content)
-    (cond (nat_le 100 (received_count_of errand.text)) [] (cond (is_refused_by setup.bare_newlines errand.text) []
-    (offered_of client envelope errand.text ∷ []))) []) []
-last_offer setup client errand envelope true =
-    let fits : Bool = nat_le (length errand.text) setup.max_content in
-    let many : Bool = nat_le 100 (received_count_of errand.text) in
+last_offer : (setup : Setup) (client : Client) (delivery : Delivery) (envelope : Envelope) (some : Bool)
+    → may_offer_in (cond some (content_steps setup client delivery envelope) (quit_step ∷ []))
+    ≡ cond some (cond (nat_le (length delivery.text) setup.max_content)
+    (cond (nat_le 100 (received_count_of delivery.text)) [] (cond (is_refused_by setup.bare_newlines delivery.text) []
+    (offered_of client envelope delivery.text ∷ []))) []) []
+last_offer setup client delivery envelope true =
+    let fits : Bool = nat_le (length delivery.text) setup.max_content in
+    let many : Bool = nat_le 100 (received_count_of delivery.text) in
     let rule : BareNewlines = setup.bare_newlines in
-    steps_offer client envelope (step_of errand.dot_text (course_of_mail_data setup client envelope errand.text))
-    (step_of (last_chunk errand.text) (course_of_last_chunk setup client envelope errand.text))
-    (ends_in_line_end errand.text)
-    (cond fits (cond many [] (cond (is_refused_by rule errand.text) [] (offered_of client envelope errand.text ∷ []))) [])
-    (text_offer rule client envelope errand.text (Command (Greeted client)) fits many)
-    (text_offer rule client envelope errand.text (Command (Spent client)) fits many)
-last_offer setup client errand envelope false = refl
+    steps_offer client envelope (step_of delivery.dot_text (course_of_mail_data setup client envelope delivery.text))
+    (step_of (last_chunk delivery.text) (course_of_last_chunk setup client envelope delivery.text))
+    (ends_in_line_end delivery.text)
+    (cond fits (cond many [] (cond (is_refused_by rule delivery.text) [] (offered_of client envelope delivery.text ∷ []))) [])
+    (text_offer rule client envelope delivery.text (Command (Greeted client)) fits many)
+    (text_offer rule client envelope delivery.text (Command (Spent client)) fits many)
+last_offer setup client delivery envelope false = refl
 
-rcpt_offer : (setup : Setup) (client : Client) (errand : Errand) (envelope : Envelope) (tried : List Tried)
-    → may_offer_in (rcpt_steps setup client errand envelope tried) ≡ may_offer_in
-    (last_steps setup client errand (envelope_behind envelope tried))
-rcpt_offer setup client errand envelope [] = refl
-rcpt_offer setup client errand envelope (tried ∷ more) = rcpt_offer setup client errand (with_tried envelope tried) more
+rcpt_offer : (setup : Setup) (client : Client) (delivery : Delivery) (envelope : Envelope) (tried : List Tried)
+    → may_offer_in (rcpt_steps setup client delivery envelope tried) ≡ may_offer_in
+    (last_steps setup client delivery (envelope_after envelope tried))
+rcpt_offer setup client delivery envelope [] = refl
+rcpt_offer setup client delivery envelope (tried ∷ more) = rcpt_offer setup client delivery (with_tried envelope tried) more
 
-script_offer : (setup : Setup) (errand : Errand) (tried : List Tried)
-    → may_offer_in (script_of setup errand tried) ≡ child_of setup errand tried
-script_offer setup errand tried =
-    rcpt_offer setup (client_in errand) errand (opened_of errand.envelope) tried
-    ∙ last_offer setup (client_in errand) errand (child_envelope errand tried)
-    (nat_le 1 (length (child_envelope errand tried).recipients))
+script_offer : (setup : Setup) (delivery : Delivery) (tried : List Tried)
+    → may_offer_in (script_of setup delivery tried) ≡ child_of setup delivery tried
+script_offer setup delivery tried =
+    rcpt_offer setup (client_in delivery) delivery (opened_of delivery.envelope) tried
+    ∙ last_offer setup (client_in delivery) delivery (child_envelope delivery tried)
+    (nat_le 1 (length (child_envelope delivery tried).recipients))
 
 pub replies_written : (turns : List Turn) → written_by turns ≡ written_replies (replies_by turns)
 replies_written [] = refl
@@ -195,11 +195,11 @@ pub turns-answered : (turns : List Turn) → length (answered_by turns) ≡ leng
 turns-answered [] = refl
 turns-answered (turn ∷ turns) =
     let first = one-answered turn.offer in
-    let behind = turns-answered turns in
+    let after = turns-answered turns in
     omega (
       arith,
       first,
-      behind,
+      after,
       length-append (answers_in turn.offer) (answered_by turns),
       length-append (offers_in turn.offer) (offered_by turns),
     )
@@ -262,7 +262,7 @@ turned_by setup said (Some reply) d numbered closes (inr waiting) =
     ))
 
 pub two_relays_meet : TwoRelaysMeet
-two_relays_meet setup errand tried said closing input output replies rest is all ends =
+two_relays_meet setup delivery tried said closing input output replies rest is all ends =
     let greeting : Reply = reply_of setup.host row.Greeting in
     let t = turned_by setup said closing ends.dialogue ends.numbered ends.closes ends.dialogue.left in
     let sent : List Reply = sent_by setup.host t.turns closing in
@@ -270,11 +270,11 @@ two_relays_meet setup errand tried said closing input output replies rest is all
     sym (append_assoc input ends.down.0 t.unwritten) ∙ ap (λ l. l ++ t.unwritten) (sym ends.down.1) ∙ sym t.output in
     let heard = beginning_is_cut input (ends.down.0 ++ t.unwritten) rest replies sent
     (sent_formed setup said t.turns t.state closing ends.host ends.closes t.runs t.numbered) written ends.cut in
-    let octets : joined (progress errand replies).commands ≡ read_by t.turns ++ (t.unread ++ ends.up.0) =
+    let octets : joined (progress delivery replies).commands ≡ read_by t.turns ++ (t.unread ++ ends.up.0) =
     sym ends.written ∙ ends.up.1 ∙ ap (λ l. l ++ ends.up.0) t.input ∙ append_assoc (read_by t.turns) t.unread ends.up.0 in
-    let meets = meeting setup greeting (λ l. (progress errand l).commands) (script_of setup errand tried)
+    let meets = meeting setup greeting (λ l. (progress delivery l).commands) (script_of setup delivery tried)
     t.state t.turns (option_to_list closing) replies heard.0.0 (t.unread ++ ends.up.0)
-    (client_writes setup errand tried is all) (script_is_servers setup errand tried is all) t.runs octets heard.0.1 in
+    (client_writes setup delivery tried is all) (script_is_servers setup delivery tried is all) t.runs octets heard.0.1 in
     record {
       turns = t.turns;
       state = t.state;
@@ -284,9 +284,9 @@ two_relays_meet setup errand tried said closing input output replies rest is all
       unread = t.unread;
       input = t.input;
       offered = t.offers;
-      children = subst (λ l. Begins l (child_of setup errand tried)) (sym t.offers)
-          (subst (λ l. Begins (offered_by t.turns) l) (script_offer setup errand tried)
-          (plays_offer setup.host (script_of setup errand tried) t.turns meets.plays));
+      children = subst (λ l. Begins l (child_of setup delivery tried)) (sym t.offers)
+          (subst (λ l. Begins (offered_by t.turns) l) (script_offer setup delivery tried)
+          (plays_offer setup.host (script_of setup delivery tried) t.turns meets.plays));
     }
 
 -- the replies that were read begin those of the turns, and that with which the server closed

@@ -11,13 +11,13 @@ use Rattle.relay_server.specs.Unit.{IsUnit}
 use Rattle.relay_server.proofs.Theorems.{asked_is_a_unit, no_unit_is_empty, turn_is_of_its_unit}
 use Rattle.relay_octets.specs.Beginning.{Begins}
 use Rattle.relay_course.specs.Course.{joined}
-use Rattle.relay_meeting.specs.Meeting.{Meeting, Step, IsScript, IsExpected, AreExpected, Writes, Meets, commands_in, replies_by, state_behind}
+use Rattle.relay_meeting.specs.Meeting.{Meeting, Step, IsScript, IsExpected, AreExpected, Writes, Meets, commands_in, replies_by, state_after}
 
 -- of two lists that begin one list, one begins the other
-either_behind : {A : Type 0} (x y : A) (one two : List A) → Begins one two ⊎ Begins two one → x ≡ y
+either_after : {A : Type 0} (x y : A) (one two : List A) → Begins one two ⊎ Begins two one → x ≡ y
     → Begins (x ∷ one) (y ∷ two) ⊎ Begins (y ∷ two) (x ∷ one)
-either_behind x y one two (inl begins) e = inl (begins.0, cc)
-either_behind x y one two (inr begins) e = inr (begins.0, cc)
+either_after x y one two (inl begins) e = inl (begins.0, cc)
+either_after x y one two (inr begins) e = inr (begins.0, cc)
 
 pub either_begins : {A : Type 0} (one two rest more : List A) → one ++ rest ≡ two ++ more → Begins one two ⊎ Begins two one
 either_begins [] two rest more e = inl (two, refl)
@@ -25,18 +25,18 @@ either_begins (x ∷ one) [] rest more e = inr (x ∷ one, refl)
 either_begins (x ∷ one) (y ∷ two) rest more e =
     let head : x ≡ y = cc in
     let tail : one ++ rest ≡ two ++ more = cc in
-    either_behind x y one two (either_begins one two rest more tail) head
+    either_after x y one two (either_begins one two rest more tail) head
 
 begins_trans : {A : Type 0} (one two three : List A) → Begins one two → Begins two three → Begins one three
 begins_trans one two three a b = (a.0 ++ b.0, b.1 ∙ ap (λ l. l ++ b.0) a.1 ∙ append_assoc one a.0 b.0)
 
-expected_behind : (host : List ℕ) (done todo : List Step) (replies more : List Reply) → length replies ≡ length done
+expected_after : (host : List ℕ) (done todo : List Step) (replies more : List Reply) → length replies ≡ length done
     → AreExpected host done replies → AreExpected host todo more → AreExpected host (done ++ todo) (replies ++ more)
-expected_behind host [] todo [] more n a b = b
-expected_behind host [] todo (reply ∷ replies) more n a b = absurd a
-expected_behind host (step ∷ done) todo [] more n a b = absurd (omega arith)
-expected_behind host (step ∷ done) todo (reply ∷ replies) more n a b =
-    (a.0, expected_behind host done todo replies more (omega arith) a.1 b)
+expected_after host [] todo [] more n a b = b
+expected_after host [] todo (reply ∷ replies) more n a b = absurd a
+expected_after host (step ∷ done) todo [] more n a b = absurd (omega arith)
+expected_after host (step ∷ done) todo (reply ∷ replies) more n a b =
+    (a.0, expected_after host done todo replies more (omega arith) a.1 b)
 
 pub taken_expected : (host : List ℕ) (course : Course) (turn : Turn) (new : State) → Takes host course turn new
     → IsExpected host course turn.reply
@@ -44,7 +44,7 @@ taken_expected host (Replies row next) turn new takes = takes.0
 taken_expected host (Offers client envelope content) turn new takes = (takes.0, takes.1)
 
 taken_state : (host : List ℕ) (course : Course) (turn : Turn) (new : State) → Takes host course turn new
-    → new ≡ state_behind course
+    → new ≡ state_after course
 taken_state host (Replies row next) turn new takes = takes.2
 taken_state host (Offers client envelope content) turn new takes = takes.3
 
@@ -110,58 +110,58 @@ reaches (y ∷ front) (x ∷ one) two begins h =
     }
 
 -- where octets were written after the commands done, so was a command
-not_all_done : (front done : List (List ℕ)) (behind : List ℕ) → Begins front done → joined front ≡ joined done ++ behind
-    → 0 < length behind → ⊥
-not_all_done front done behind begins e h =
+not_all_done : (front done : List (List ℕ)) (after : List ℕ) → Begins front done → joined front ≡ joined done ++ after
+    → 0 < length after → ⊥
+not_all_done front done after begins e h =
     let whole =
     ap length (ap joined begins.1 ∙ joined-append front begins.0) ∙ length-append (joined front) (joined begins.0) in
-    let part = ap length e ∙ length-append (joined done) behind in
+    let part = ap length e ∙ length-append (joined done) after in
     omega (arith, whole, part)
 
-reached_by : (front done todo : List (List ℕ)) (behind : List ℕ) → Begins front (done ++ todo)
-    → joined front ≡ joined done ++ behind → 0 < length behind → Begins front done ⊎ Begins done front
+reached_by : (front done todo : List (List ℕ)) (after : List ℕ) → Begins front (done ++ todo)
+    → joined front ≡ joined done ++ after → 0 < length after → Begins front done ⊎ Begins done front
     → length done < length front
-reached_by front done todo behind begins e h (inl part) = absurd (not_all_done front done behind part e h)
-reached_by front done todo behind begins e h (inr ([], is)) =
-    absurd (not_all_done front done behind ([], sym (append-nil done) ∙ sym is ∙ sym (append-nil front)) e h)
-reached_by front done todo behind begins e h (inr (command ∷ tail, is)) =
+reached_by front done todo after begins e h (inl part) = absurd (not_all_done front done after part e h)
+reached_by front done todo after begins e h (inr ([], is)) =
+    absurd (not_all_done front done after ([], sym (append-nil done) ∙ sym is ∙ sym (append-nil front)) e h)
+reached_by front done todo after begins e h (inr (command ∷ tail, is)) =
     let n = ap length is ∙ length-append done (command ∷ tail) in
     omega (arith, n)
 
-reached : (commands front done todo : List (List ℕ)) (behind : List ℕ) → Begins front (done ++ todo)
-    → joined commands ≡ joined done ++ behind → 0 < length behind → (suc (length done) ≤ length front) ⊎ (front ≡ commands)
+reached : (commands front done todo : List (List ℕ)) (after : List ℕ) → Begins front (done ++ todo)
+    → joined commands ≡ joined done ++ after → 0 < length after → (suc (length done) ≤ length front) ⊎ (front ≡ commands)
     → length done < length front
-reached commands front done todo behind begins e h (inl long) = omega arith
-reached commands front done todo behind begins e h (inr is) =
-    reached_by front done todo behind begins (ap joined is ∙ e) h (either_begins front done begins.0 todo (sym begins.1))
+reached commands front done todo after begins e h (inl long) = omega arith
+reached commands front done todo after begins e h (inr is) =
+    reached_by front done todo after begins (ap joined is ∙ e) h (either_begins front done begins.0 todo (sym begins.1))
 
 -- what comes next of the client's octets is the script's next command
-pub record IsNext (commands done : List (List ℕ)) (next : List ℕ) (behind : List ℕ) : Type 0 where
+pub record IsNext (commands done : List (List ℕ)) (next : List ℕ) (after : List ℕ) : Type 0 where
   pub later : List ℕ
-  pub behind_is : behind ≡ next ++ later
+  pub after_is : after ≡ next ++ later
 
-next_of_tail : (tail later done commands todo : List (List ℕ)) (next behind : List ℕ) → Begins tail (next ∷ todo)
-    → 0 < length tail → commands ≡ (done ++ tail) ++ later → joined commands ≡ joined done ++ behind
-    → IsNext commands done next behind
-next_of_tail [] later done commands todo next behind begins h is e = absurd (omega arith)
-next_of_tail (command ∷ tail) later done commands todo next behind begins h is e =
+next_of_tail : (tail later done commands todo : List (List ℕ)) (next after : List ℕ) → Begins tail (next ∷ todo)
+    → 0 < length tail → commands ≡ (done ++ tail) ++ later → joined commands ≡ joined done ++ after
+    → IsNext commands done next after
+next_of_tail [] later done commands todo next after begins h is e = absurd (omega arith)
+next_of_tail (command ∷ tail) later done commands todo next after begins h is e =
     let whole = begins.1 in
     let same : next ≡ command = cc in
     let all : joined commands ≡ joined done ++ (command ++ joined (tail ++ later)) =
     ap joined (is ∙ append_assoc done (command ∷ tail) later) ∙ joined-append done (command ∷ (tail ++ later)) in
     record {
       later = joined (tail ++ later);
-      behind_is = append_cancel_left (joined done) behind (command ++ joined (tail ++ later)) (sym e ∙ all)
+      after_is = append_cancel_left (joined done) after (command ++ joined (tail ++ later)) (sym e ∙ all)
           ∙ ap (λ c. c ++ joined (tail ++ later)) (sym same);
     }
 
-next_is : (done todo : List (List ℕ)) (commands : List (List ℕ)) (next behind : List ℕ)
-    → Written commands (done ++ next ∷ todo) (suc (length done)) → joined commands ≡ joined done ++ behind
-    → 0 < length behind → IsNext commands done next behind
-next_is done todo commands next behind written e h =
-    let long = reached commands written.front done (next ∷ todo) behind written.of_script e h written.enough in
+next_is : (done todo : List (List ℕ)) (commands : List (List ℕ)) (next after : List ℕ)
+    → Written commands (done ++ next ∷ todo) (suc (length done)) → joined commands ≡ joined done ++ after
+    → 0 < length after → IsNext commands done next after
+next_is done todo commands next after written e h =
+    let long = reached commands written.front done (next ∷ todo) after written.of_script e h written.enough in
     let r = reaches written.front done (next ∷ todo) written.of_script long in
-    next_of_tail r.tail written.of_client.0 done commands todo next behind r.begins r.some
+    next_of_tail r.tail written.of_client.0 done commands todo next after r.begins r.some
     (written.of_client.1 ∙ ap (λ l. l ++ written.of_client.0) r.front_is) e
 
 -- no unit stands after a close
@@ -176,7 +176,7 @@ some_octets (octet ∷ octets) h = omega arith
 pub record TurnIs (setup : Setup) (step : Step) (turn : Turn) (new : State) : Type 0 where
   pub asked_is : turn.asked ≡ step.command
   pub takes : Takes setup.host step.course turn new
-  pub new_is : new ≡ state_behind step.course
+  pub new_is : new ≡ state_after step.course
 
 turn_is : (setup : Setup) (old new : State) (step : Step) (turn : Turn) (rest later : List ℕ)
     → Comes setup old step.command step.course → Answers setup old turn new → turn.asked ++ rest ≡ step.command ++ later
@@ -203,16 +203,16 @@ length-commands (step ∷ script) = ap suc (length-commands script)
 
 pub meet : (setup : Setup) (greeting : Reply) (commands : List Reply → List (List ℕ)) (done todo : List Step)
     → Writes setup.host greeting commands (done ++ todo)
-    → (replies : List Reply) (old new : State) (turns : List Turn) (behind heard more : List Reply) (unread : List ℕ)
+    → (replies : List Reply) (old new : State) (turns : List Turn) (after heard more : List Reply) (unread : List ℕ)
     → length replies ≡ length done → AreExpected setup.host done replies → IsScript setup old todo → Turns setup old turns new
     → joined (commands heard) ≡ joined (commands_in done) ++ (read_by turns ++ unread)
-    → (greeting ∷ replies) ++ (replies_by turns ++ behind) ≡ heard ++ more
+    → (greeting ∷ replies) ++ (replies_by turns ++ after) ≡ heard ++ more
     → Meets setup todo turns new
-meet setup greeting commands done todo writes replies old new [] behind heard more unread n expected script runs e r =
+meet setup greeting commands done todo writes replies old new [] after heard more unread n expected script runs e r =
     record { plays = tt; goes_on = subst (λ (s : State). IsScript setup s todo) runs script }
-meet setup greeting commands done [] writes replies old new (turn ∷ turns) behind heard more unread n expected script runs e r =
+meet setup greeting commands done [] writes replies old new (turn ∷ turns) after heard more unread n expected script runs e r =
     absurd (none_closed setup old runs.0 turn script runs.1)
-meet setup greeting commands done (step ∷ todo) writes replies old new (turn ∷ turns) behind heard more unread n expected
+meet setup greeting commands done (step ∷ todo) writes replies old new (turn ∷ turns) after heard more unread n expected
     script runs e r =
     let mid : State = runs.0 in
     let last : List ℕ = turn.asked ++ (read_by turns ++ unread) in
@@ -222,8 +222,8 @@ meet setup greeting commands done (step ∷ todo) writes replies old new (turn �
     let some = length-append turn.asked (read_by turns ++ unread) in
     let all =
     subst (λ (l : List Reply). AreExpected setup.host (done ++ step ∷ todo) l) (append-nil replies)
-    (expected_behind setup.host done (step ∷ todo) replies [] n expected tt) in
-    let either = either_begins heard (greeting ∷ replies) more (replies_by (turn ∷ turns) ++ behind) (sym r) in
+    (expected_after setup.host done (step ∷ todo) replies [] n expected tt) in
+    let either = either_begins heard (greeting ∷ replies) more (replies_by (turn ∷ turns) ++ after) (sym r) in
     let written = written_so_far setup.host greeting commands (done ++ step ∷ todo) writes replies heard all either in
     let count : length (greeting ∷ replies) ≡ suc (length (commands_in done)) = ap suc (n ∙ sym (length-commands done)) in
     let here = subst (λ k. Written (commands heard) (commands_in done ++ step.command ∷ commands_in todo) k) count
@@ -232,22 +232,22 @@ meet setup greeting commands done (step ∷ todo) writes replies old new (turn �
     let next =
     next_is (commands_in done) (commands_in todo) (commands heard) step.command last here octets
     (omega (arith, some, some_asked)) in
-    let is = turn_is setup old mid step turn (read_by turns ++ unread) next.later script.0 runs.1 next.behind_is in
+    let is = turn_is setup old mid step turn (read_by turns ++ unread) next.later script.0 runs.1 next.after_is in
     let later = meet setup greeting commands (done ++ step ∷ []) todo
     (subst (λ (s : List Step). Writes setup.host greeting commands s) (sym (append_assoc done (step ∷ []) todo)) writes)
-    (replies ++ turn.reply ∷ []) mid new turns behind heard more unread
+    (replies ++ turn.reply ∷ []) mid new turns after heard more unread
     (length-append replies (turn.reply ∷ []) ∙ ap (λ k. k + 1) n ∙ sym (length-append done (step ∷ [])))
-    (expected_behind setup.host done (step ∷ []) replies (turn.reply ∷ []) n expected
+    (expected_after setup.host done (step ∷ []) replies (turn.reply ∷ []) n expected
     (taken_expected setup.host step.course turn mid is.takes, tt))
     (subst (λ (s : State). IsScript setup s todo) (sym is.new_is) script.1) runs.2
     (octets ∙ sym (append_assoc (joined (commands_in done)) turn.asked (read_by turns ++ unread))
     ∙ ap (λ l. l ++ (read_by turns ++ unread)) (done_more done step turn is.asked_is))
-    (append_assoc (greeting ∷ replies) (turn.reply ∷ []) (replies_by turns ++ behind) ∙ r) in
+    (append_assoc (greeting ∷ replies) (turn.reply ∷ []) (replies_by turns ++ after) ∙ r) in
     record {
       plays = (is.asked_is, subst (λ (s : State). Takes setup.host step.course turn s) is.new_is is.takes, later.plays);
       goes_on = later.goes_on;
     }
 
 pub meeting : Meeting
-meeting setup greeting commands script new turns behind heard more unread writes is runs e r =
-    meet setup greeting commands [] script writes [] start new turns behind heard more unread refl tt is runs e r
+meeting setup greeting commands script new turns after heard more unread writes is runs e r =
+    meet setup greeting commands [] script writes [] start new turns after heard more unread refl tt is runs e r

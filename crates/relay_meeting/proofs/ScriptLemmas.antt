@@ -28,9 +28,9 @@ use Rattle.relay_server.specs.State.{CommandState, Fresh, Greeted, Open, Spent, 
 use Rattle.relay_server.specs.Unit.{Asked, AsksBy, announced_by, announced_of}
 use Rattle.relay_server.specs.Unit as asked
 use Rattle.relay_course.specs.WrittenLine.{ehlo_line, mail_line, rcpt_line, data_line, last_chunk, quit_line}
-use Rattle.relay_course.specs.Progress.{Errand}
-use Rattle.relay_meeting.specs.Meeting.{IsScript, step_of, state_behind}
-use Rattle.relay_course.specs.Laws.{IsErrand}
+use Rattle.relay_course.specs.Progress.{Delivery}
+use Rattle.relay_meeting.specs.Meeting.{IsScript, step_of, state_after}
+use Rattle.relay_course.specs.Laws.{IsDelivery}
 use Rattle.relay_meeting.specs.Script.{Tried, course_of_last_chunk, course_of_mail_data, row_of_rcpt, with_tried, quit_step, content_steps, rcpt_steps, opened_of, client_in, AreTried, IsTried, ScriptIsServers}
 
 announces_none : (b : Bool) (n : ℕ) → n ≡ 0 → 0 ≡ cond b n 0
@@ -69,11 +69,11 @@ quit_comes setup old =
 quits : (setup : Setup) (old : CommandState) → IsScript setup (Awaits old) (quit_step ∷ [])
 quits setup old = (quit_comes setup old, refl)
 
-ehlo_comes : (setup : Setup) (old : CommandState) (errand : Errand) → IsErrand errand
-    → Comes setup (Awaits old) (ehlo_line errand.host) (Replies row.Extensions (Awaits (Greeted (client_in errand))))
-ehlo_comes setup old errand is =
-    line_comes setup old (written_command (Ehlo errand.host)) (Ehlo errand.host) (asked.Hello (client_in errand))
-    (written_command_is_read (Ehlo errand.host) is.host) refl refl
+ehlo_comes : (setup : Setup) (old : CommandState) (delivery : Delivery) → IsDelivery delivery
+    → Comes setup (Awaits old) (ehlo_line delivery.host) (Replies row.Extensions (Awaits (Greeted (client_in delivery))))
+ehlo_comes setup old delivery is =
+    line_comes setup old (written_command (Ehlo delivery.host)) (Ehlo delivery.host) (asked.Hello (client_in delivery))
+    (written_command_is_read (Ehlo delivery.host) is.host) refl refl
 
 mail_comes : (setup : Setup) (client : Client) (envelope : Envelope) → IsEnvelope envelope
     → Comes setup (Awaits (Greeted client)) (mail_line true envelope)
@@ -89,8 +89,8 @@ mail_comes setup client envelope valid =
     (mail_is_command_line envelope valid).0 refl (Ok again.0, again.1, refl))
 
 -- what a RCPT is answered, and the state after it
-abbrev behind_rcpt : Client → Envelope → Recipient → Bool → Bool → Course
-behind_rcpt client envelope recipient routed goes =
+abbrev after_rcpt : Client → Envelope → Recipient → Bool → Bool → Course
+after_rcpt client envelope recipient routed goes =
     Replies (row_of_rcpt routed goes)
     (Awaits (Open client (with_tried envelope (record { recipient = recipient; routed = routed; goes = goes }))))
 
@@ -99,7 +99,7 @@ rcpt_by : (client : Client) (envelope : Envelope) (one two : Recipient) (routed 
     (cond has (Replies row.RecipientOk (Awaits
     (Open client (record envelope { recipients = envelope.recipients ++ one ∷ [] }))))
     (Replies row.NoRoute (Awaits (Open client envelope))))
-    ≡ behind_rcpt client envelope two routed (cond routed false has)
+    ≡ after_rcpt client envelope two routed (cond routed false has)
 rcpt_by client envelope one two true has e = refl
 rcpt_by client envelope one two false true e =
     ap (λ (r : Recipient). Replies row.RecipientOk
@@ -119,8 +119,8 @@ rcpt_course setup client envelope tried is few =
     (record envelope { recipients = envelope.recipients ++ recipient_from is.rcpt ∷ [] }))))
     (Replies row.NoRoute (Awaits (Open client envelope)))))) (lt-leb 100 (length envelope.recipients) few)
     ∙ rcpt_by client envelope (recipient_from is.rcpt) tried.recipient routed has is.same
-    ∙ ap (λ r. behind_rcpt client envelope tried.recipient r (cond r false has)) is.routed
-    ∙ ap (λ g. behind_rcpt client envelope tried.recipient tried.routed g) is.goes
+    ∙ ap (λ r. after_rcpt client envelope tried.recipient r (cond r false has)) is.routed
+    ∙ ap (λ g. after_rcpt client envelope tried.recipient tried.routed g) is.goes
 
 rcpt_comes : (setup : Setup) (client : Client) (envelope : Envelope) (tried : Tried) → IsTried setup tried
     → length envelope.recipients < 100 → Comes setup (Awaits (Open client envelope)) (rcpt_line true tried.recipient)
@@ -171,73 +171,73 @@ chunk_comes setup client envelope text short some =
     }
 
 -- the mail data that is sent after DATA
-sent_behind : (text dot_text : List ℕ) (test : Bool) → test ≡ true
+sent_after : (text dot_text : List ℕ) (test : Bool) → test ≡ true
     → MatchBool test (WritesDotText text dot_text) (dot_text ≡ []) → WritesDotText text dot_text
-sent_behind text dot_text true e writes = writes
-sent_behind text dot_text false e writes = absurd (cc)
+sent_after text dot_text true e writes = writes
+sent_after text dot_text false e writes = absurd (cc)
 
 -- after the content a command is awaited again
-offer_behind : (client : Client) (envelope : Envelope) (content : List ℕ) (found : Option Row)
-    → state_behind (offer_unless found client envelope content) ≡ Awaits (Greeted client)
-offer_behind client envelope content (Some why) = refl
-offer_behind client envelope content None = refl
+offer_after : (client : Client) (envelope : Envelope) (content : List ℕ) (found : Option Row)
+    → state_after (offer_unless found client envelope content) ≡ Awaits (Greeted client)
+offer_after client envelope content (Some why) = refl
+offer_after client envelope content None = refl
 
-content_behind : (rule : BareNewlines) (client : Client) (envelope : Envelope) (content : List ℕ) (many : Bool)
-    → state_behind (unless_refused rule (cond many (Replies row.TooManyReceived (Awaits (Greeted client)))
+content_after : (rule : BareNewlines) (client : Client) (envelope : Envelope) (content : List ℕ) (many : Bool)
+    → state_after (unless_refused rule (cond many (Replies row.TooManyReceived (Awaits (Greeted client)))
     (Offers client envelope content))) ≡ Awaits (Greeted client)
-content_behind rule client envelope content true = refl
-content_behind rule client envelope content false = offer_behind client envelope content (refusal_by rule content)
+content_after rule client envelope content true = refl
+content_after rule client envelope content false = offer_after client envelope content (refusal_by rule content)
 
-text_behind : (rule : BareNewlines) (client : Client) (envelope : Envelope) (content : List ℕ) (fits many : Bool)
-    → state_behind (unless_refused rule (cond fits (cond many (Replies row.TooManyReceived (Awaits (Greeted client)))
+text_after : (rule : BareNewlines) (client : Client) (envelope : Envelope) (content : List ℕ) (fits many : Bool)
+    → state_after (unless_refused rule (cond fits (cond many (Replies row.TooManyReceived (Awaits (Greeted client)))
     (Offers client envelope content)) (Replies row.ContentTooLarge (Awaits (Greeted client))))) ≡ Awaits (Greeted client)
-text_behind rule client envelope content true many = content_behind rule client envelope content many
-text_behind rule client envelope content false many = refl
+text_after rule client envelope content true many = content_after rule client envelope content many
+text_after rule client envelope content false many = refl
 
-chunk_behind : (rule : BareNewlines) (client : Client) (envelope : Envelope) (content : List ℕ) (fits many : Bool)
+chunk_after : (rule : BareNewlines) (client : Client) (envelope : Envelope) (content : List ℕ) (fits many : Bool)
     → (state : CommandState)
-    × (state_behind (unless_refused rule (cond fits (cond many (Replies row.TooManyReceived (Awaits (Greeted client)))
+    × (state_after (unless_refused rule (cond fits (cond many (Replies row.TooManyReceived (Awaits (Greeted client)))
     (Offers client envelope content)) (Replies row.ContentTooLarge (Awaits (Spent client))))) ≡ Awaits state)
-chunk_behind rule client envelope content true many = (Greeted client, content_behind rule client envelope content many)
-chunk_behind rule client envelope content false many = (Spent client, refl)
+chunk_after rule client envelope content true many = (Greeted client, content_after rule client envelope content many)
+chunk_after rule client envelope content false many = (Spent client, refl)
 
-content_script : (setup : Setup) (client : Client) (errand : Errand) (envelope : Envelope) (ends : Bool) → IsErrand errand
-    → nat_le 1 (length envelope.recipients) ≡ true → ends_in_line_end errand.text ≡ ends
+content_script : (setup : Setup) (client : Client) (delivery : Delivery) (envelope : Envelope) (ends : Bool) → IsDelivery delivery
+    → nat_le 1 (length envelope.recipients) ≡ true → ends_in_line_end delivery.text ≡ ends
     → IsScript setup (Awaits (Open client envelope))
-    (cond ends (step_of data_line (Replies row.StartMailInput (Receiving client envelope)) ∷ step_of errand.dot_text
-    (course_of_mail_data setup client envelope errand.text) ∷ quit_step ∷ [])
-    (step_of (last_chunk errand.text) (course_of_last_chunk setup client envelope errand.text) ∷ quit_step
+    (cond ends (step_of data_line (Replies row.StartMailInput (Receiving client envelope)) ∷ step_of delivery.dot_text
+    (course_of_mail_data setup client envelope delivery.text) ∷ quit_step ∷ [])
+    (step_of (last_chunk delivery.text) (course_of_last_chunk setup client envelope delivery.text) ∷ quit_step
     ∷ []))
-content_script setup client errand envelope true is some e =
-    let fits : Bool = nat_le (length errand.text) setup.max_content in
-    let many : Bool = nat_le 100 (received_count_of errand.text) in (
+content_script setup client delivery envelope true is some e =
+    let fits : Bool = nat_le (length delivery.text) setup.max_content in
+    let many : Bool = nat_le 100 (received_count_of delivery.text) in (
       data_comes setup client envelope some,
       (
         record {
-          content = errand.text;
-          reads = written_is_read errand.text errand.dot_text
-              (sent_behind errand.text errand.dot_text (ends_in_line_end errand.text) e is.dot_text);
+          content = delivery.text;
+          reads = written_is_read delivery.text delivery.dot_text
+              (sent_after delivery.text delivery.dot_text (ends_in_line_end delivery.text) e is.dot_text);
           course_is = refl;
         },
-        subst (λ (s : State). IsScript setup s (quit_step ∷ [])) (sym (text_behind setup.bare_newlines client envelope errand.text fits many))
+        subst (λ (s : State). IsScript setup s (quit_step ∷ [])) (sym (text_after setup.bare_newlines client envelope delivery.text fits many))
             (quits setup (Greeted client)),
       ),
     )
-content_script setup client errand envelope false is some e =
-    let fits : Bool = nat_le (length errand.text) setup.max_content in
-    let many : Bool = nat_le 100 (received_count_of errand.text) in
-    let behind = chunk_behind setup.bare_newlines client envelope errand.text fits many in (
-      chunk_comes setup client envelope errand.text is.short some,
-      subst (λ (s : State). IsScript setup s (quit_step ∷ [])) (sym behind.1) (quits setup behind.0),
+content_script setup client delivery envelope false is some e =
+    let fits : Bool = nat_le (length delivery.text) setup.max_content in
+    let many : Bool = nat_le 100 (received_count_of delivery.text) in
+    let after = chunk_after setup.bare_newlines client envelope delivery.text fits many in (
+      chunk_comes setup client envelope delivery.text is.short some,
+      subst (λ (s : State). IsScript setup s (quit_step ∷ [])) (sym after.1) (quits setup after.0),
     )
 
-last_script : (setup : Setup) (client : Client) (errand : Errand) (envelope : Envelope) (some : Bool) → IsErrand errand
+last_script : (setup : Setup) (client : Client) (delivery : Delivery) (envelope : Envelope) (some : Bool) → IsDelivery delivery
     → nat_le 1 (length envelope.recipients) ≡ some
     → IsScript setup (Awaits (Open client envelope))
-    (cond some (content_steps setup client errand envelope) (quit_step ∷ []))
-last_script setup client errand envelope true is e =
-    content_script setup client errand envelope (ends_in_line_end errand.text) is e refl
-last_script setup client errand envelope false is e = quits setup (Open client envelope)
+    (cond some (content_steps setup client delivery envelope) (quit_step ∷ []))
+last_script setup client delivery envelope true is e =
+    content_script setup client delivery envelope (ends_in_line_end delivery.text) is e refl
+last_script setup client delivery envelope false is e = quits setup (Open client envelope)
 
 with_tried-length : (envelope : Envelope) (recipient : Recipient) (routed goes : Bool)
     → length (with_tried envelope (record { recipient = recipient; routed = routed; goes = goes })).recipients
@@ -245,26 +245,26 @@ with_tried-length : (envelope : Envelope) (recipient : Recipient) (routed goes :
 with_tried-length envelope recipient routed true = omega (arith, length-append envelope.recipients (recipient ∷ []))
 with_tried-length envelope recipient routed false = omega arith
 
-rcpt_script : (setup : Setup) (client : Client) (errand : Errand) (recipients : List Recipient) (places : List ℕ)
-    (tried : List Tried) (envelope : Envelope) → IsErrand errand → AreTried setup recipients places tried
+rcpt_script : (setup : Setup) (client : Client) (delivery : Delivery) (recipients : List Recipient) (places : List ℕ)
+    (tried : List Tried) (envelope : Envelope) → IsDelivery delivery → AreTried setup recipients places tried
     → length envelope.recipients + length places ≤ 100
-    → IsScript setup (Awaits (Open client envelope)) (rcpt_steps setup client errand envelope tried)
-rcpt_script setup client errand recipients [] [] envelope is all few =
-    last_script setup client errand envelope (nat_le 1 (length envelope.recipients)) is refl
-rcpt_script setup client errand recipients [] (tried ∷ more) envelope is all few = absurd all
-rcpt_script setup client errand recipients (place ∷ places) [] envelope is all few = absurd all
-rcpt_script setup client errand recipients (place ∷ places) (tried ∷ more) envelope is all few = (
+    → IsScript setup (Awaits (Open client envelope)) (rcpt_steps setup client delivery envelope tried)
+rcpt_script setup client delivery recipients [] [] envelope is all few =
+    last_script setup client delivery envelope (nat_le 1 (length envelope.recipients)) is refl
+rcpt_script setup client delivery recipients [] (tried ∷ more) envelope is all few = absurd all
+rcpt_script setup client delivery recipients (place ∷ places) [] envelope is all few = absurd all
+rcpt_script setup client delivery recipients (place ∷ places) (tried ∷ more) envelope is all few = (
   rcpt_comes setup client envelope tried all.1 (omega arith),
-  rcpt_script setup client errand recipients places more (with_tried envelope tried) is all.2
+  rcpt_script setup client delivery recipients places more (with_tried envelope tried) is all.2
       (let n = with_tried-length envelope tried.recipient tried.routed tried.goes in omega arith),
 )
 
 pub script_is_servers : ScriptIsServers
-script_is_servers setup errand tried is all = (
-  ehlo_comes setup Fresh errand is,
+script_is_servers setup delivery tried is all = (
+  ehlo_comes setup Fresh delivery is,
   (
-    mail_comes setup (client_in errand) errand.envelope is.envelope,
-    rcpt_script setup (client_in errand) errand errand.envelope.recipients errand.places tried (opened_of errand.envelope)
+    mail_comes setup (client_in delivery) delivery.envelope is.envelope,
+    rcpt_script setup (client_in delivery) delivery delivery.envelope.recipients delivery.places tried (opened_of delivery.envelope)
         is all (omega (arith, is.few)),
   ),
 )

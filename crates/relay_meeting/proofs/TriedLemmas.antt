@@ -23,8 +23,8 @@ place_of : (recipients : List Recipient) (place : ℕ) → AllByRecursion IsReci
 place_of [] place valid h = absurd (omega arith)
 place_of (recipient ∷ recipients) zero valid h = record { recipient = recipient; valid = valid.0; at = refl }
 place_of (recipient ∷ recipients) (suc place) valid h =
-    let behind = place_of recipients place valid.1 (omega arith) in
-    record { recipient = behind.recipient; valid = behind.valid; at = behind.at }
+    let after = place_of recipients place valid.1 (omega arith) in
+    record { recipient = after.recipient; valid = after.valid; at = after.at }
 
 tried_all : (setup : Setup) (recipients : List Recipient) (places : List ℕ) → AllByRecursion IsRecipient recipients
     → AreWithin places recipients → (tried : List Tried) × AreTried setup recipients places tried
@@ -32,18 +32,18 @@ tried_all setup recipients [] valid within = ([], tt)
 tried_all setup recipients (place ∷ places) valid within =
     let here = place_of recipients place valid within.0 in
     let again = rcpt_is_read_again here.recipient here.valid in
-    let behind = tried_all setup recipients places valid within.1 in
+    let after = tried_all setup recipients places valid within.1 in
     let routed : Bool = refuses_path setup.routed_paths again.0.path in
     let tried : Tried = record {
       recipient = here.recipient;
       routed = routed;
       goes = cond routed false (is_some (hop_of setup.routes again.0.path));
     } in (
-      tried ∷ behind.0,
+      tried ∷ after.0,
       (
         here.at,
         (record { valid = here.valid; rcpt = again.0; reads = again.1; same = again.2; routed = refl; goes = refl }),
-        behind.1,
+        after.1,
       ),
     )
 

@@ -22,26 +22,26 @@ use Rattle.relay_server.specs.State.{State}
 use Rattle.relay_book.specs.declared.change.Verdict.{Verdict}
 use Rattle.relay_book.specs.declared.change.Verdict.TheVariants.{Taken}
 use Rattle.relay_course.specs.VerdictTable.{refusal}
-use Rattle.relay_course.specs.Progress.{Errand, progress}
+use Rattle.relay_course.specs.Progress.{Delivery, progress}
 use Rattle.relay_course.specs.Course.{joined}
-use Rattle.relay_course.specs.Laws.{IsErrand, accepted_places}
+use Rattle.relay_course.specs.Laws.{IsDelivery, accepted_places}
 use Rattle.relay_course.specs.RelayLaws.{opening_replies}
 use Rattle.relay_meeting.specs.Meeting.{Meets, replies_by}
-use Rattle.relay_meeting.specs.Script.{AreRcpts, AreTried, Tried, client_in, envelope_behind, opened_of, refusal_row, script_of}
+use Rattle.relay_meeting.specs.Script.{AreRcpts, AreTried, Tried, client_in, envelope_after, opened_of, refusal_row, script_of}
 
 -- MAIL's values, and the accepted recipients in order
-abbrev pub child_envelope : Errand → List Tried → Envelope
-child_envelope errand tried = envelope_behind (opened_of errand.envelope) tried
+abbrev pub child_envelope : Delivery → List Tried → Envelope
+child_envelope delivery tried = envelope_after (opened_of delivery.envelope) tried
 
--- what the server may offer of the errand: the text once, with that envelope; or nothing, where no recipient is
+-- what the server may offer of the delivery: the text once, with that envelope; or nothing, where no recipient is
 -- accepted, the text is too large, it has come in a circle, or the rule refuses it
-abbrev pub child_of : Setup → Errand → List Tried → List Offered
-child_of setup errand tried =
-    if nat_le 1 (length (child_envelope errand tried).recipients)
-    then (if nat_le (length errand.text) setup.max_content
-    then (if nat_le 100 (received_count_of errand.text) then []
-    else (if is_refused_by setup.bare_newlines errand.text then []
-    else offered_of (client_in errand) (child_envelope errand tried) errand.text ∷ []))
+abbrev pub child_of : Setup → Delivery → List Tried → List Offered
+child_of setup delivery tried =
+    if nat_le 1 (length (child_envelope delivery tried).recipients)
+    then (if nat_le (length delivery.text) setup.max_content
+    then (if nat_le 100 (received_count_of delivery.text) then []
+    else (if is_refused_by setup.bare_newlines delivery.text then []
+    else offered_of (client_in delivery) (child_envelope delivery tried) delivery.text ∷ []))
     else [])
     else []
 
@@ -57,42 +57,42 @@ MayClose said None = Unit {0}
 MayClose said (Some reply) = IsReply reply × (reply.code ≡ 421) × (length said.answers ≡ length said.offers)
 
 -- a server end with a dialogue, and perhaps a reply with which it closed unasked, and a client end with a course of
--- this errand, which has read these replies and a rest: each has read a prefix of what the other wrote
-pub record AreJoined (setup : Setup) (errand : Errand) (said : Said) (closing : Option Reply) (input output : List ℕ)
-    (replies : List Reply)
-    (rest : List ℕ) : Type 0 where
+-- this delivery, which has read these replies and a rest: each has read a prefix of what the other wrote
+pub record AreJoined (setup : Setup) (delivery : Delivery) (said : Said) (closing : Option Reply)
+    (input output : List ℕ) (replies : List Reply) (rest : List ℕ)
+    : Type 0 where
   pub dialogue : IsDialogue setup said
   pub numbered : AreNumbered said.answers
   pub closes : MayClose said closing
   pub host : IsHostName setup.host
   pub cut : CutsReplies input replies rest
-  pub written : output ≡ joined (progress errand replies).commands
+  pub written : output ≡ joined (progress delivery replies).commands
   pub up : Begins said.input output
   pub down : Begins input (output_with said.output closing)
 
 -- what the two have said: turns of the script, of which the client has read a prefix of the replies, and after all of
 -- these of the one with which the server closed, and no fault; and the text was offered at most once
-pub record HaveMet (setup : Setup) (errand : Errand) (tried : List Tried) (said : Said) (closing : Option Reply)
+pub record HaveMet (setup : Setup) (delivery : Delivery) (tried : List Tried) (said : Said) (closing : Option Reply)
     (replies : List Reply)
     (rest : List ℕ) : Type 0 where
   pub turns : List Turn
   pub state : State
-  pub meets : Meets setup (script_of setup errand tried) turns state
+  pub meets : Meets setup (script_of setup delivery tried) turns state
   pub read : Begins replies (reply_of setup.host Greeting ∷ (replies_by turns ++ option_to_list closing))
   pub sound : (fault : ReplyFault) → ¬ HasFault rest fault
   pub unread : List ℕ
   pub input : said.input ≡ read_by turns ++ unread
   pub offered : said.offers ≡ offered_by turns
-  pub children : Begins said.offers (child_of setup errand tried)
+  pub children : Begins said.offers (child_of setup delivery tried)
 
 -- Two relays meet so.
 abbrev pub TwoRelaysMeet : Type 0
 TwoRelaysMeet =
-    (setup : Setup) (errand : Errand) (tried : List Tried) (said : Said) (closing : Option Reply)
+    (setup : Setup) (delivery : Delivery) (tried : List Tried) (said : Said) (closing : Option Reply)
     (input output : List ℕ) (replies : List Reply) (rest : List ℕ)
-    → IsErrand errand → AreTried setup errand.envelope.recipients errand.places tried
-    → AreJoined setup errand said closing input output replies rest
-    → HaveMet setup errand tried said closing replies rest
+    → IsDelivery delivery → AreTried setup delivery.envelope.recipients delivery.places tried
+    → AreJoined setup delivery said closing input output replies rest
+    → HaveMet setup delivery tried said closing replies rest
 
 -- the verdict of a place: where the server doesn't take its recipient, it is refused, and else it has the last verdict
 abbrev pub verdict_at : List ℕ → Verdict → Tried → Verdict
@@ -105,7 +105,7 @@ Tells last answers =
     ⊎ (((dsn : Bool) → last ≢ Taken dsn) × ((answers ≡ []) ⊎ (answers ≡ Full ∷ [])))
 
 -- an attempt that its replies ended has these verdicts
-pub record HaveEnded (setup : Setup) (errand : Errand) (tried : List Tried) (said : Said) (verdicts : List Verdict)
+pub record HaveEnded (setup : Setup) (delivery : Delivery) (tried : List Tried) (said : Said) (verdicts : List Verdict)
     : Type 0 where
   pub last : Verdict
   pub verdicts_are : verdicts ≡ map (verdict_at setup.host last) tried
@@ -121,13 +121,13 @@ pub record IsCutShort (said : Said) (closing : Option Reply) (verdicts : List Ve
 -- An attempt at a relay ends so.
 abbrev pub TwoRelaysEnd : Type 0
 TwoRelaysEnd =
-    (setup : Setup) (errand : Errand) (tried : List Tried) (said : Said) (closing : Option Reply)
+    (setup : Setup) (delivery : Delivery) (tried : List Tried) (said : Said) (closing : Option Reply)
     (input output : List ℕ) (replies : List Reply) (rest : List ℕ) (verdicts : List Verdict)
-    → IsErrand errand → AreTried setup errand.envelope.recipients errand.places tried
-    → AreJoined setup errand said closing input output replies rest
-    → length (progress errand replies).answered ≡ length replies
-    → (progress errand replies).verdicts ≡ Some verdicts
-    → HaveEnded setup errand tried said verdicts ⊎ IsCutShort said closing verdicts
+    → IsDelivery delivery → AreTried setup delivery.envelope.recipients delivery.places tried
+    → AreJoined setup delivery said closing input output replies rest
+    → length (progress delivery replies).answered ≡ length replies
+    → (progress delivery replies).verdicts ≡ Some verdicts
+    → HaveEnded setup delivery tried said verdicts ⊎ IsCutShort said closing verdicts
 
 -- the client has read the replies to all RCPTs, each by the server's table, and those before them
 pub record HaveReadRcpts (setup : Setup) (tried : List Tried) (replies : List Reply) : Type 0 where
@@ -141,52 +141,52 @@ pub record HaveReadRcpts (setup : Setup) (tried : List Tried) (replies : List Re
 -- Where there is an offer, the client has read them.
 abbrev pub OfferHoldsItsPlaces : Type 0
 OfferHoldsItsPlaces =
-    (setup : Setup) (errand : Errand) (tried : List Tried) (said : Said) (closing : Option Reply)
+    (setup : Setup) (delivery : Delivery) (tried : List Tried) (said : Said) (closing : Option Reply)
     (input output : List ℕ) (replies : List Reply) (rest : List ℕ)
-    → IsErrand errand → AreTried setup errand.envelope.recipients errand.places tried
-    → AreJoined setup errand said closing input output replies rest → 0 < length said.offers
+    → IsDelivery delivery → AreTried setup delivery.envelope.recipients delivery.places tried
+    → AreJoined setup delivery said closing input output replies rest → 0 < length said.offers
     → HaveReadRcpts setup tried replies
 
 -- the recipients of these places
 abbrev pub recipients_at : List Recipient → List ℕ → List Recipient
 recipients_at recipients places = flat_map (λ place. option_to_list (slice_get recipients place)) places
 
--- the one child of an errand: MAIL's values, the recipients whose RCPTs the client knows as accepted, and the text
-abbrev pub child_by : Errand → List Reply → Offered
-child_by errand replies =
-    offered_of (client_in errand)
-    (record errand.envelope {
+-- the one child of a delivery: MAIL's values, the recipients whose RCPTs the client knows as accepted, and the text
+abbrev pub child_by : Delivery → List Reply → Offered
+child_by delivery replies =
+    offered_of (client_in delivery)
+    (record delivery.envelope {
       recipients =
-          recipients_at errand.envelope.recipients (accepted_places (progress errand replies).answered);
+          recipients_at delivery.envelope.recipients (accepted_places (progress delivery replies).answered);
     })
-    errand.text
+    delivery.text
 
 -- Where there is an offer, it is one, of the recipients whose RCPTs the client has read to be accepted, in order.
 abbrev pub ChildHoldsItsPlaces : Type 0
 ChildHoldsItsPlaces =
-    (setup : Setup) (errand : Errand) (said : Said) (closing : Option Reply) (input output : List ℕ)
+    (setup : Setup) (delivery : Delivery) (said : Said) (closing : Option Reply) (input output : List ℕ)
     (replies : List Reply) (rest : List ℕ)
-    → IsErrand errand → AreJoined setup errand said closing input output replies rest → 0 < length said.offers
-    → said.offers ≡ child_by errand replies ∷ []
+    → IsDelivery delivery → AreJoined setup delivery said closing input output replies rest → 0 < length said.offers
+    → said.offers ≡ child_by delivery replies ∷ []
 
 -- all of it: each place is tried as the server's table says; what was said; what the client has read if there is an
 -- offer, and that this is one; and how an attempt ends whose replies each answered something
-pub record HaveTalked (setup : Setup) (errand : Errand) (said : Said) (closing : Option Reply) (replies : List Reply)
-    (rest : List ℕ)
+pub record HaveTalked (setup : Setup) (delivery : Delivery) (said : Said) (closing : Option Reply)
+    (replies : List Reply) (rest : List ℕ)
     : Type 0 where
   pub tried : List Tried
-  pub are_tried : AreTried setup errand.envelope.recipients errand.places tried
-  pub met : HaveMet setup errand tried said closing replies rest
+  pub are_tried : AreTried setup delivery.envelope.recipients delivery.places tried
+  pub met : HaveMet setup delivery tried said closing replies rest
   pub held : 0 < length said.offers → HaveReadRcpts setup tried replies
-  pub child : 0 < length said.offers → said.offers ≡ child_by errand replies ∷ []
-  pub ended : (verdicts : List Verdict) → length (progress errand replies).answered ≡ length replies
-      → (progress errand replies).verdicts ≡ Some verdicts
-      → HaveEnded setup errand tried said verdicts ⊎ IsCutShort said closing verdicts
+  pub child : 0 < length said.offers → said.offers ≡ child_by delivery replies ∷ []
+  pub ended : (verdicts : List Verdict) → length (progress delivery replies).answered ≡ length replies
+      → (progress delivery replies).verdicts ≡ Some verdicts
+      → HaveEnded setup delivery tried said verdicts ⊎ IsCutShort said closing verdicts
 
--- What two relays have said to each other: of a valid errand all of it is so.
+-- What two relays have said to each other: of a valid delivery all of it is so.
 abbrev pub WhatRelaysSay : Type 0
 WhatRelaysSay =
-    (setup : Setup) (errand : Errand) (said : Said) (closing : Option Reply) (input output : List ℕ)
+    (setup : Setup) (delivery : Delivery) (said : Said) (closing : Option Reply) (input output : List ℕ)
     (replies : List Reply) (rest : List ℕ)
-    → IsErrand errand → AreJoined setup errand said closing input output replies rest
-    → HaveTalked setup errand said closing replies rest
+    → IsDelivery delivery → AreJoined setup delivery said closing input output replies rest
+    → HaveTalked setup delivery said closing replies rest

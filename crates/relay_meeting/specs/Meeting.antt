@@ -20,16 +20,16 @@ abbrev pub step_of : List ℕ → Course → Step
 step_of command course = record { command = command; course = course }
 
 -- the state after a course
-abbrev pub state_behind : Course → State
-state_behind (Replies row next) = next
-state_behind (Offers client envelope content) = Command (Greeted client)
+abbrev pub state_after : Course → State
+state_after (Replies row next) = next
+state_after (Offers client envelope content) = Command (Greeted client)
 
 -- from this state each command is a unit of which this comes, in the state after the one before, and the last one
 -- closes
 abbrev pub IsScript : Setup → State → List Step → Type 0
 IsScript setup old [] = old ≡ Closed
 IsScript setup old (step ∷ script) =
-    Comes setup old step.command step.course × IsScript setup (state_behind step.course) script
+    Comes setup old step.command step.course × IsScript setup (state_after step.course) script
 
 -- the commands of a script
 abbrev pub commands_in : List Step → List (List ℕ)
@@ -53,13 +53,13 @@ abbrev pub Plays : List ℕ → List Step → List Turn → Type 0
 Plays host script [] = Unit {0}
 Plays host [] (turn ∷ turns) = ⊥
 Plays host (step ∷ script) (turn ∷ turns) =
-    (turn.asked ≡ step.command) × Takes host step.course turn (state_behind step.course) × Plays host script turns
+    (turn.asked ≡ step.command) × Takes host step.course turn (state_after step.course) × Plays host script turns
 
 -- the script after some turns
-abbrev pub behind_turns : List Step → List Turn → List Step
-behind_turns script [] = script
-behind_turns [] (turn ∷ turns) = []
-behind_turns (step ∷ script) (turn ∷ turns) = behind_turns script turns
+abbrev pub after_turns : List Step → List Turn → List Step
+after_turns script [] = script
+after_turns [] (turn ∷ turns) = []
+after_turns (step ∷ script) (turn ∷ turns) = after_turns script turns
 
 -- the replies of turns
 abbrev pub replies_by : List Turn → List Reply
@@ -79,14 +79,14 @@ pub record Writes (host : List ℕ) (greeting : Reply) (commands : List Reply �
 -- the turns of a server are the first ones of a script, and the rest is still one
 pub record Meets (setup : Setup) (script : List Step) (turns : List Turn) (new : State) : Type 0 where
   pub plays : Plays setup.host script turns
-  pub goes_on : IsScript setup new (behind_turns script turns)
+  pub goes_on : IsScript setup new (after_turns script turns)
 
 -- Of a client that writes a script and a server that has read a prefix of what the client wrote after a prefix of the
 -- server's replies, and of any that come after those, the turns are of the script.
 abbrev pub Meeting : Type 0
 Meeting =
     (setup : Setup) (greeting : Reply) (commands : List Reply → List (List ℕ)) (script : List Step) (new : State)
-    (turns : List Turn) (behind heard more : List Reply) (unread : List ℕ)
+    (turns : List Turn) (after heard more : List Reply) (unread : List ℕ)
     → Writes setup.host greeting commands script → IsScript setup start script → Turns setup start turns new
-    → joined (commands heard) ≡ read_by turns ++ unread → greeting ∷ (replies_by turns ++ behind) ≡ heard ++ more
+    → joined (commands heard) ≡ read_by turns ++ unread → greeting ∷ (replies_by turns ++ after) ≡ heard ++ more
     → Meets setup script turns new

@@ -1,4 +1,4 @@
--- What two relays of ours say to each other: the script of an errand at a server, by what its table makes of each
+-- What two relays of ours say to each other: the script of a delivery at a server, by what its table makes of each
 -- place.
 use Rattle.std.specs.Prelude.{◌≡◌, ℕ, nat_le, Bool, true, false, List, [], ◌∷◌, ◌++◌, length, if◌then◌else◌, is_some}
 use Rattle.std.specs.Prelude.{slice_get, Some, Ok}
@@ -19,8 +19,8 @@ use Rattle.relay_server.specs.ReplyTable.{Course, Replies, course_of_text, cours
 use Rattle.relay_server.specs.Setup.{Setup}
 use Rattle.relay_server.specs.State.{Greeted, Open, Command, Receiving, Closed, client_of, start}
 use Rattle.relay_course.specs.WrittenLine.{ehlo_line, mail_line, rcpt_line, data_line, last_chunk, quit_line}
-use Rattle.relay_course.specs.Progress.{Errand, progress}
-use Rattle.relay_course.specs.Laws.{AreWithin, IsErrand}
+use Rattle.relay_course.specs.Progress.{Delivery, progress}
+use Rattle.relay_course.specs.Laws.{AreWithin, IsDelivery}
 use Rattle.relay_meeting.specs.Meeting.{IsScript, Step, Writes, step_of}
 
 -- the recipient of a place that is tried, whether the server refuses its path as a routed one, and whether it takes it
@@ -43,9 +43,9 @@ with_tried envelope tried =
     if tried.goes then record envelope { recipients = envelope.recipients ++ tried.recipient ∷ [] } else envelope
 
 -- the server's envelope after the RCPTs of all of these
-abbrev pub envelope_behind : Envelope → List Tried → Envelope
-envelope_behind envelope [] = envelope
-envelope_behind envelope (tried ∷ more) = envelope_behind (with_tried envelope tried) more
+abbrev pub envelope_after : Envelope → List Tried → Envelope
+envelope_after envelope [] = envelope
+envelope_after envelope (tried ∷ more) = envelope_after (with_tried envelope tried) more
 
 -- QUIT closes
 abbrev pub quit_step : Step
@@ -61,17 +61,17 @@ course_of_last_chunk setup client envelope text =
     unless_refused setup.bare_newlines (course_of_chunks setup.max_content client envelope text true)
 
 -- the content, and QUIT: mail data after DATA, or one last chunk
-abbrev pub content_steps : Setup → Client → Errand → Envelope → List Step
-content_steps setup client errand envelope =
-    if ends_in_line_end errand.text
+abbrev pub content_steps : Setup → Client → Delivery → Envelope → List Step
+content_steps setup client delivery envelope =
+    if ends_in_line_end delivery.text
     then step_of data_line (Replies row.StartMailInput (Receiving client envelope))
-    ∷ step_of errand.dot_text (course_of_mail_data setup client envelope errand.text) ∷ quit_step ∷ []
-    else step_of (last_chunk errand.text) (course_of_last_chunk setup client envelope errand.text) ∷ quit_step ∷ []
+    ∷ step_of delivery.dot_text (course_of_mail_data setup client envelope delivery.text) ∷ quit_step ∷ []
+    else step_of (last_chunk delivery.text) (course_of_last_chunk setup client envelope delivery.text) ∷ quit_step ∷ []
 
 -- what follows the RCPTs: the content where a recipient was accepted
-abbrev pub last_steps : Setup → Client → Errand → Envelope → List Step
-last_steps setup client errand envelope =
-    if nat_le 1 (length envelope.recipients) then content_steps setup client errand envelope else quit_step ∷ []
+abbrev pub last_steps : Setup → Client → Delivery → Envelope → List Step
+last_steps setup client delivery envelope =
+    if nat_le 1 (length envelope.recipients) then content_steps setup client delivery envelope else quit_step ∷ []
 
 -- the RCPT of a place
 abbrev pub rcpt_step : Client → Envelope → Tried → Step
@@ -80,26 +80,26 @@ rcpt_step client envelope tried =
     (Replies (row_of_rcpt tried.routed tried.goes) (Command (Open client (with_tried envelope tried))))
 
 -- the RCPTs of these places, and what follows them
-abbrev pub rcpt_steps : Setup → Client → Errand → Envelope → List Tried → List Step
-rcpt_steps setup client errand envelope [] = last_steps setup client errand envelope
-rcpt_steps setup client errand envelope (tried ∷ more) =
-    rcpt_step client envelope tried ∷ rcpt_steps setup client errand (with_tried envelope tried) more
+abbrev pub rcpt_steps : Setup → Client → Delivery → Envelope → List Tried → List Step
+rcpt_steps setup client delivery envelope [] = last_steps setup client delivery envelope
+rcpt_steps setup client delivery envelope (tried ∷ more) =
+    rcpt_step client envelope tried ∷ rcpt_steps setup client delivery (with_tried envelope tried) more
 
 -- MAIL's values, and no recipient yet
 abbrev pub opened_of : Envelope → Envelope
 opened_of envelope = record envelope { recipients = [] }
 
 -- the client as the server knows it: by EHLO and our host's name
-abbrev pub client_in : Errand → Client
-client_in errand = client_of errand.host Esmtp
+abbrev pub client_in : Delivery → Client
+client_in delivery = client_of delivery.host Esmtp
 
 -- EHLO, MAIL, the RCPTs, the content, QUIT
-abbrev pub script_of : Setup → Errand → List Tried → List Step
-script_of setup errand tried =
-    step_of (ehlo_line errand.host) (Replies row.Extensions (Command (Greeted (client_in errand))))
-    ∷ step_of (mail_line true errand.envelope)
-    (Replies row.SenderOk (Command (Open (client_in errand) (opened_of errand.envelope))))
-    ∷ rcpt_steps setup (client_in errand) errand (opened_of errand.envelope) tried
+abbrev pub script_of : Setup → Delivery → List Tried → List Step
+script_of setup delivery tried =
+    step_of (ehlo_line delivery.host) (Replies row.Extensions (Command (Greeted (client_in delivery))))
+    ∷ step_of (mail_line true delivery.envelope)
+    (Replies row.SenderOk (Command (Open (client_in delivery) (opened_of delivery.envelope))))
+    ∷ rcpt_steps setup (client_in delivery) delivery (opened_of delivery.envelope) tried
 
 -- the server says so of the place: its path is refused, or it goes where the table has a hop
 pub record IsTried (setup : Setup) (tried : Tried) : Type 0 where
@@ -128,17 +128,17 @@ EachPlaceIsTried =
 -- The script is what the server makes of the commands.
 abbrev pub ScriptIsServers : Type 0
 ScriptIsServers =
-    (setup : Setup) (errand : Errand) (tried : List Tried) → IsErrand errand
-    → AreTried setup errand.envelope.recipients errand.places tried
-    → IsScript setup start (script_of setup errand tried)
+    (setup : Setup) (delivery : Delivery) (tried : List Tried) → IsDelivery delivery
+    → AreTried setup delivery.envelope.recipients delivery.places tried
+    → IsScript setup start (script_of setup delivery tried)
 
--- A client of the errand writes the script.
+-- A client of the delivery writes the script.
 abbrev pub ClientWrites : Type 0
 ClientWrites =
-    (setup : Setup) (errand : Errand) (tried : List Tried) → IsErrand errand
-    → AreTried setup errand.envelope.recipients errand.places tried
-    → Writes setup.host (reply_of setup.host row.Greeting) (λ replies. (progress errand replies).commands)
-    (script_of setup errand tried)
+    (setup : Setup) (delivery : Delivery) (tried : List Tried) → IsDelivery delivery
+    → AreTried setup delivery.envelope.recipients delivery.places tried
+    → Writes setup.host (reply_of setup.host row.Greeting) (λ replies. (progress delivery replies).commands)
+    (script_of setup delivery tried)
 
 -- each RCPT's reply is by the table
 abbrev pub AreRcpts : List ℕ → List Tried → List Reply → Type 0

@@ -14,12 +14,12 @@ pub fn each_place_is_tried()
     ensures { EachPlaceIsTried }
 {}
 
-/// The script of an errand is what the server makes of its commands.
+/// The script of a delivery is what the server makes of its commands.
 pub fn script_is_servers()
     ensures { ScriptIsServers }
 {}
 
-/// A client of the errand writes the script.
+/// A client of the delivery writes the script.
 pub fn client_writes()
     ensures { ClientWrites }
 {}
@@ -44,7 +44,7 @@ pub fn child_holds_its_places()
     ensures { ChildHoldsItsPlaces }
 {}
 
-/// What two relays have said to each other of a valid errand, all of it.
+/// What two relays have said to each other of a valid delivery, all of it.
 pub fn what_relays_say()
     ensures { WhatRelaysSay }
 {}

@@ -2,10 +2,10 @@
 use Rattle.std.proofs.Common.{◌≡◌, ◌≢◌, ℕ, Option, None, Some, refl, sym, ◌∙◌, ap, subst}
 use Rattle.relay_loop.specs.Relay.{RelayState}
 use Rattle.relay_connections.proofs.Theorems.{same_value}
-use Rattle.relay_next_hops.specs.Errands.{StartsFor, left_of}
+use Rattle.relay_next_hops.specs.Deliveries.{StartsFor, left_of}
 use Rattle.relay_next_hops.specs.Portions.{Shares, portion_of}
-use Rattle.relay_next_hops.specs.declared.errand.Course.{Course}
-use Rattle.relay_next_hops.specs.declared.errand.Course.TheVariants.{Stays, Ended, Lost, TurnedAway, Void}
+use Rattle.relay_next_hops.specs.declared.delivery.Course.{Course}
+use Rattle.relay_next_hops.specs.declared.delivery.Course.TheVariants.{Stays, Ended, Lost, TurnedAway, Void}
 use Rattle.relay_next_hops.specs.declared.hop.Hop.{Hop}
 
 -- it was taken out, has come to this course, and is left

@@ -12,10 +12,10 @@ use Rattle.relay_log.specs.declared.hop_link.Loss.TheVariants.{Silent}
 use Rattle.relay_files.specs.declared.fault.Fault.{Fault}
 use Rattle.relay_connections.specs.Hearing.{turned}
 use Rattle.relay_connections.specs.Channel.{unread_of}
-use Rattle.relay_next_hops.specs.Errands.{KeepsErrand, left_of}
+use Rattle.relay_next_hops.specs.Deliveries.{KeepsDelivery, left_of}
 use Rattle.relay_next_hops.specs.Hearing.{AnswersEach, AnswersOne, IsAnswered, IsCourse, IsLate, UsesOwn, WasLeft, hearing_at}
-use Rattle.relay_next_hops.specs.declared.errand.Course.{Course}
-use Rattle.relay_next_hops.specs.declared.errand.Course.TheVariants.{Stays, Ended, Lost, TurnedAway, Void}
+use Rattle.relay_next_hops.specs.declared.delivery.Course.{Course}
+use Rattle.relay_next_hops.specs.declared.delivery.Course.TheVariants.{Stays, Ended, Lost, TurnedAway, Void}
 use Rattle.relay_next_hops.proofs.SlotLemmas.{none_taken, set_beside}
 use Rattle.relay_next_hops.specs.declared.hop.Hop.{Hop}
 
@@ -25,11 +25,11 @@ Answers = List (Result Answered NodeFault)
 -- Of so many connections those are gone over from the first on, and 0 comes after the last.
 module _ (count first step : ℕ) where
   -- the numbers after the one that is looked at next
-  abbrev behind : List ℕ
-  behind = turned count (first + (step + 1)) (count - (step + 1))
+  abbrev afterwards : List ℕ
+  afterwards = turned count (first + (step + 1)) (count - (step + 1))
 
   -- the one that is looked at next, and those after it
-  pub turned_next : step < count → turned count (first + step) (count - step) ≡ (first + step) % count ∷ behind
+  pub turned_next : step < count → turned count (first + step) (count - step) ≡ (first + step) % count ∷ afterwards
   turned_next below = ap (turned count (first + step)) left ∙ ap (λ (number : ℕ). (first + step) % count ∷ turned count number (count - (step + 1))) next where
     left : count - step ≡ suc (count - (step + 1))
     left = omega (arith, below)
@@ -38,7 +38,7 @@ module _ (count first step : ℕ) where
     next = omega arith
 
   -- a connection that has nothing to hear is passed over
-  pub passes : {S : Type 0} (tick : ℕ) (answers : Answers) (old new : List (Option (Hop S))) → step < count → hearing_at old ((first + step) % count) ≡ None → AnswersEach tick behind answers old new → AnswersEach tick (turned count (first + step) (count - step)) answers old new
+  pub passes : {S : Type 0} (tick : ℕ) (answers : Answers) (old new : List (Option (Hop S))) → step < count → hearing_at old ((first + step) % count) ≡ None → AnswersEach tick afterwards answers old new → AnswersEach tick (turned count (first + step) (count - step)) answers old new
   passes tick answers old new below none rest = subst (λ (order : List ℕ). AnswersEach tick order answers old new) (sym (turned_next below)) (inl (none, rest))
 
   -- no answer is left
@@ -46,7 +46,7 @@ module _ (count first step : ℕ) where
   stops tick old below some = subst (λ (order : List ℕ). AnswersEach tick order [] old old) (sym (turned_next below)) (inr (inl (some, refl, refl)))
 
   -- a connection that has is answered by the next
-  pub hears : {S : Type 0} (tick : ℕ) (answer : Result Answered NodeFault) (rest : Answers) (old between new : List (Option (Hop S))) → step < count → hearing_at old ((first + step) % count) ≢ None → AnswersOne tick ((first + step) % count) answer old between → AnswersEach tick behind rest between new → AnswersEach tick (turned count (first + step) (count - step)) (answer ∷ rest) old new
+  pub hears : {S : Type 0} (tick : ℕ) (answer : Result Answered NodeFault) (rest : Answers) (old between new : List (Option (Hop S))) → step < count → hearing_at old ((first + step) % count) ≢ None → AnswersOne tick ((first + step) % count) answer old between → AnswersEach tick afterwards rest between new → AnswersEach tick (turned count (first + step) (count - step)) (answer ∷ rest) old new
   hears tick answer rest old between new below some one goes_on = subst (λ (order : List ℕ). AnswersEach tick order (answer ∷ rest) old new) (sym (turned_next below)) (inr (inr (
     some,
     record {
@@ -61,16 +61,16 @@ module _ (count first step : ℕ) where
 
 module _ {X : Type 0} (f : ℕ → Option X) (found all : List X) (count first step : ℕ) (below : step < count) (so_far : found ++ filter_map f (turned count (first + step) (count - step)) ≡ all) where
   -- what the next one has to hear stands after what was found before
-  pub found_next : (value : X) → f ((first + step) % count) ≡ Some value → (found ++ value ∷ []) ++ filter_map f (behind count first step) ≡ all
-  found_next value is = append_assoc found (value ∷ []) (filter_map f (behind count first step)) ∙ ap (λ values. found ++ values) (sym here) ∙ so_far where
-    here : filter_map f (turned count (first + step) (count - step)) ≡ value ∷ filter_map f (behind count first step)
-    here = ap (filter_map f) (turned_next count first step below) ∙ ap (λ (value : Option X). cons_option value (filter_map f (behind count first step))) is
+  pub found_next : (value : X) → f ((first + step) % count) ≡ Some value → (found ++ value ∷ []) ++ filter_map f (afterwards count first step) ≡ all
+  found_next value is = append_assoc found (value ∷ []) (filter_map f (afterwards count first step)) ∙ ap (λ values. found ++ values) (sym here) ∙ so_far where
+    here : filter_map f (turned count (first + step) (count - step)) ≡ value ∷ filter_map f (afterwards count first step)
+    here = ap (filter_map f) (turned_next count first step below) ∙ ap (λ (value : Option X). cons_option value (filter_map f (afterwards count first step))) is
 
   -- it has nothing to hear, and is passed over
-  pub passed_next : f ((first + step) % count) ≡ None → found ++ filter_map f (behind count first step) ≡ all
+  pub passed_next : f ((first + step) % count) ≡ None → found ++ filter_map f (afterwards count first step) ≡ all
   passed_next is = ap (λ values. found ++ values) (sym here) ∙ so_far where
-    here : filter_map f (turned count (first + step) (count - step)) ≡ filter_map f (behind count first step)
-    here = ap (filter_map f) (turned_next count first step below) ∙ ap (λ (value : Option X). cons_option value (filter_map f (behind count first step))) is
+    here : filter_map f (turned count (first + step) (count - step)) ≡ filter_map f (afterwards count first step)
+    here = ap (filter_map f) (turned_next count first step below) ∙ ap (λ (value : Option X). cons_option value (filter_map f (afterwards count first step))) is
 
 -- after the last one nothing is left
 pub found_all : {X : Type 0} (f : ℕ → Option X) (found all : List X) (count first step : ℕ) → count ≤ step → found ++ filter_map f (turned count (first + step) (count - step)) ≡ all → found ≡ all
@@ -87,7 +87,7 @@ pub left_alone : {S : Type 0} (tick : ℕ) (hops : List (Option (Hop S))) (numbe
 left_alone {S} tick hops number answer left = record { own = by answer (slot_at hops number) left; others = λ other apart. refl } where
   by : (answer : Result Answered NodeFault) (slot : Option (Hop S)) → WasLeft answer → IsAnswered tick answer slot slot
   by answer None left = tt
-  by (Ok answered) (Some hop) left = record { goes_on = left.1; unread = inr (left, 0, refl); errand = record { aim = refl; message = refl; name = refl } }
+  by (Ok answered) (Some hop) left = record { goes_on = left.1; unread = inr (left, 0, refl); delivery = record { aim = refl; message = refl; name = refl } }
   by (Err fault) (Some hop) left = absurd left
 
 -- Where none is there, none is answered.
@@ -102,13 +102,13 @@ answered_by {S} tick hops taken new number hop after course answer there rest ow
 }
 
 -- its octets were used
-pub used_own : {S : Type 0} (tick : ℕ) (answer : Result Answered NodeFault) (old new : Hop S) (course : Course) → KeepsErrand old new → IsCourse tick answer old new course → IsAnswered tick answer (Some old) (left_of course new)
+pub used_own : {S : Type 0} (tick : ℕ) (answer : Result Answered NodeFault) (old new : Hop S) (course : Course) → KeepsDelivery old new → IsCourse tick answer old new course → IsAnswered tick answer (Some old) (left_of course new)
 used_own tick (Err fault) old new course keeps is = subst (λ (course : Course). IsAnswered tick (Err fault) (Some old) (left_of course new)) (sym is) tt
 used_own tick (Ok answered) old new course keeps is = by answered.last refl is where
   by : (last : Option Outbox) → answered.last ≡ last → MatchOption last ((unread_of new.channel ≡ drop answered.used (unread_of old.channel)) × ((course ≡ Stays) ⊎ ((course ≡ Lost Silent) × IsLate tick new))) (λ outbox. (noted : Option Noted) × (course ≡ Ended outbox noted)) → IsAnswered tick (Ok answered) (Some old) (left_of course new)
   by None none goes_on = by_course goes_on.1 where
     uses : UsesOwn answered old new
-    uses = record { goes_on = none; unread = inl goes_on.0; errand = keeps }
+    uses = record { goes_on = none; unread = inl goes_on.0; delivery = keeps }
 
     by_course : (course ≡ Stays) ⊎ ((course ≡ Lost Silent) × IsLate tick new) → IsAnswered tick (Ok answered) (Some old) (left_of course new)
     by_course (inl stays) = subst (λ (course : Course). IsAnswered tick (Ok answered) (Some old) (left_of course new)) (sym stays) uses
@@ -124,10 +124,10 @@ used_some tick (Ok answered) old new course is stays = by answered.last is where
   by (Some outbox) ended = absurd (cc (sym ended.1 ∙ stays))
 
 -- they were used alone
-pub used_alone : {S : Type 0} (tick : ℕ) (answer : Result Answered NodeFault) (old new : Hop S) (result : Result Course Fault) → KeepsErrand old new → WasLeft answer → IfOk result (λ course. course ≡ Stays → (used : ℕ) × (unread_of new.channel ≡ drop used (unread_of old.channel))) → IfOk result (λ course. IsAnswered tick answer (Some old) (left_of course new))
+pub used_alone : {S : Type 0} (tick : ℕ) (answer : Result Answered NodeFault) (old new : Hop S) (result : Result Course Fault) → KeepsDelivery old new → WasLeft answer → IfOk result (λ course. course ≡ Stays → (used : ℕ) × (unread_of new.channel ≡ drop used (unread_of old.channel))) → IfOk result (λ course. IsAnswered tick answer (Some old) (left_of course new))
 used_alone tick (Err fault) old new result keeps left used = absurd left
 used_alone tick (Ok answered) old new (Err fault) keeps left used = tt
-used_alone tick (Ok answered) old new (Ok Stays) keeps left used = record { goes_on = left.1; unread = inr (left, (used refl).0, (used refl).1); errand = keeps }
+used_alone tick (Ok answered) old new (Ok Stays) keeps left used = record { goes_on = left.1; unread = inr (left, (used refl).0, (used refl).1); delivery = keeps }
 used_alone tick (Ok answered) old new (Ok (Ended outbox noted)) keeps left used = inr (inl left)
 used_alone tick (Ok answered) old new (Ok (Lost loss)) keeps left used = inr (inl left)
 used_alone tick (Ok answered) old new (Ok TurnedAway) keeps left used = inr (inl left)

@@ -79,14 +79,14 @@ module _ (count : ℕ) where
   same_pads (number ∷ numbers) = inr (numbers, refl, same_pads numbers)
 
   none_pads : (from left : ℕ) → count ≤ from → Pads [] (range_with_len from left)
-  none_pads from zero behind = refl
-  none_pads from (suc left) behind = inl (behind, none_pads (from + 1) left (omega (arith, behind)))
+  none_pads from zero after = refl
+  none_pads from (suc left) after = inl (after, none_pads (from + 1) left (omega (arith, after)))
 
   longer_pads : (from left more : ℕ) → count ≤ from + left → Pads (range_with_len from left) (range_with_len from (left + more))
-  longer_pads from zero more behind = subst (λ (all : ℕ). Pads [] (range_with_len from all)) all (none_pads from more (omega (arith, behind))) where
+  longer_pads from zero more after = subst (λ (all : ℕ). Pads [] (range_with_len from all)) all (none_pads from more (omega (arith, after))) where
     all : more ≡ 0 + more
     all = omega arith
-  longer_pads from (suc left) more behind = subst (λ (all : ℕ). Pads (range_with_len from (suc left)) (range_with_len from all)) all (inr (range_with_len (from + 1) left, refl, longer_pads (from + 1) left more (omega (arith, behind)))) where
+  longer_pads from (suc left) more after = subst (λ (all : ℕ). Pads (range_with_len from (suc left)) (range_with_len from all)) all (inr (range_with_len (from + 1) left, refl, longer_pads (from + 1) left more (omega (arith, after)))) where
     all : suc (left + more) ≡ suc left + more
     all = omega arith
 
@@ -108,15 +108,15 @@ module _ (count : ℕ) where
       where
         all : count - first + (64 - count) ≡ 64 - first
         all = omega (arith, below, within)
-    by (inr behind) =
-        subst (λ (short : List ℕ). Pads short (turned 64 first 64)) (sym (ap (λ (start : ℕ). turned count start count) (anew behind) ∙ turned_range count 0 count (omega arith)))
+    by (inr after) =
+        subst (λ (short : List ℕ). Pads short (turned 64 first 64)) (sym (ap (λ (start : ℕ). turned count start count) (anew after) ∙ turned_range count 0 count (omega arith)))
         (subst (Pads (range_with_len 0 count)) (sym (in_order 64 first (omega (arith, low))))
         (joined_pads [] (range_with_len first (64 - first)) (range_with_len 0 count) (range_with_len 0 first)
-        (none_pads first (64 - first) behind)
+        (none_pads first (64 - first) after)
         (subst (λ (all : ℕ). Pads (range_with_len 0 count) (range_with_len 0 all)) all (longer_pads 0 count (first - count) (omega arith)))))
       where
         all : count + (first - count) ≡ first
-        all = omega (arith, behind)
+        all = omega (arith, after)
 
   -- what is found of the one order is found of the other, where nothing is found under the other numbers
   pub same_found : {X : Type 0} (f : ℕ → Option X) → ((number : ℕ) → count ≤ number → f number ≡ None) → (short long : List ℕ) → Pads short long → filter_map f short ≡ filter_map f long
@@ -159,8 +159,8 @@ order_is served = refl
 
 -- Those that stand are the first so many.
 module _ {S : Type 0} (served : Hops S) (standing : List (Option (Hop S))) (slots : (number : ℕ) → slot_at standing number ≡ slot_at served.hops number) (count start : ℕ) (all : count ≡ length standing) (within : length standing ≤ 64) (goes_on : served.first % 64 < count → start ≡ served.first % 64) (anew : count ≤ served.first % 64 → start ≡ 0) where
-  none_behind : (number : ℕ) → count ≤ number → slot_at served.hops number ≡ None
-  none_behind number past = sym (slots number) ∙ beyond standing number (omega (arith, all, past))
+  none_after : (number : ℕ) → count ≤ number → slot_at served.hops number ≡ None
+  none_after number past = sym (slots number) ∙ beyond standing number (omega (arith, all, past))
 
   pads : Pads count (turned count start count) (order_of served)
   pads = subst (Pads count (turned count start count)) (order_is served) (round_pads count (served.first % 64) start (omega (arith, all, within)) (omega arith) goes_on anew)
@@ -175,11 +175,11 @@ module _ {S : Type 0} (served : Hops S) (standing : List (Option (Hop S))) (slot
 
   -- what is found among them is all that is found
   pub round_found : {X : Type 0} (f : Option (Hop S) → Option X) → f None ≡ None → filter_map (λ number. f (slot_at served.hops number)) (turned count (start + 0) (count - 0)) ≡ filter_map (λ number. f (slot_at served.hops number)) (order_of served)
-  round_found f none = ap (filter_map (λ number. f (slot_at served.hops number))) begins ∙ same_found count (λ number. f (slot_at served.hops number)) (λ number past. ap f (none_behind number past) ∙ none) (turned count start count) (order_of served) pads
+  round_found f none = ap (filter_map (λ number. f (slot_at served.hops number))) begins ∙ same_found count (λ number. f (slot_at served.hops number)) (λ number past. ap f (none_after number past) ∙ none) (turned count start count) (order_of served) pads
 
   -- where they are answered, all are
   pub round_answered : (tick : ℕ) (answers : List (Result Answered NodeFault)) (new : List (Option (Hop S))) → AnswersEach tick (turned count (start + 0) (count - 0)) answers served.hops new → AnswersEach tick (order_of served) answers served.hops new
-  round_answered tick answers new each = same_answered count tick (turned count start count) (order_of served) answers served.hops new pads none_behind (subst (λ (order : List ℕ). AnswersEach tick order answers served.hops new) begins each)
+  round_answered tick answers new each = same_answered count tick (turned count start count) (order_of served) answers served.hops new pads none_after (subst (λ (order : List ℕ). AnswersEach tick order answers served.hops new) begins each)
 
 -- the number that is served first is one of those that stand
 pub first_low : (served count first : ℕ) → (served % 64 < count → first ≡ served % 64) → (count ≤ served % 64 → first ≡ 0) → 0 < count → first < count

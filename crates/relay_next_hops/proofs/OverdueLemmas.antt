@@ -27,16 +27,16 @@ same_message a b e = cc
 
 module _ {A : Type 0} (message : A → ℕ) (test : ℕ → Bool) where
   -- A test that looks at messages alone fails at the first, so the others decide.
-  find_behind : (tasks : List A) (m n : ℕ) → option_map message (slice_get tasks zero) ≡ Some m → test m ≡ false
+  find_after : (tasks : List A) (m n : ℕ) → option_map message (slice_get tasks zero) ≡ Some m → test m ≡ false
       → find (λ t. test (message t)) (take n (drop 1 tasks)) ≡ find (λ t. test (message t)) (take (suc n) tasks)
-  find_behind [] m n is fails = absurd (no_message m is)
-  find_behind (t ∷ ts) m n is fails =
+  find_after [] m n is fails = absurd (no_message m is)
+  find_after (t ∷ ts) m n is fails =
       sym (ap (λ b. cond b (Some t) (find (λ t. test (message t)) (take n ts))) (ap test (same_message _ _ is) ∙ fails))
 
   pub find_passes : (tasks : List A) (m n k : ℕ) → option_map message (slice_get tasks zero) ≡ Some m → test m ≡ false
       → n ≡ suc k → find (λ t. test (message t)) (take k (drop 1 tasks)) ≡ find (λ t. test (message t)) (take n tasks)
   find_passes tasks m n k is fails more =
-      find_behind tasks m k is fails ∙ ap (λ n. find (λ t. test (message t)) (take n tasks)) (sym more)
+      find_after tasks m k is fails ∙ ap (λ n. find (λ t. test (message t)) (take n tasks)) (sym more)
 
   -- It passes at the first, which is the one that is found.
   find_here : (tasks : List A) (m n : ℕ) → option_map message (slice_get tasks zero) ≡ Some m → test m ≡ true

@@ -7,11 +7,11 @@ use Rattle.relay_routes.specs.Routes.{Route, place_of}
 use Rattle.relay_slots.specs.Slots.{AreFree, OthersStay, slot_at}
 use Rattle.relay_connections.specs.Table.{count_of, count_of_such, is_such}
 use Rattle.relay_next_hops.specs.Counts.{CountsMatch, CountsMatchWith, is_in}
-use Rattle.relay_next_hops.specs.Errands.{AreAimed, IsAimed, KeepsErrand, left_of}
+use Rattle.relay_next_hops.specs.Deliveries.{AreAimed, IsAimed, KeepsDelivery, left_of}
 use Rattle.relay_next_hops.specs.Paces.{RunAsBefore, RunsOneLess, RunsOneMore, running_at}
-use Rattle.relay_next_hops.specs.declared.errand.Aim.{Aim}
-use Rattle.relay_next_hops.specs.declared.errand.Course.{Course}
-use Rattle.relay_next_hops.specs.declared.errand.Course.TheVariants.{Stays, Ended, Lost, TurnedAway, Void}
+use Rattle.relay_next_hops.specs.declared.delivery.Aim.{Aim}
+use Rattle.relay_next_hops.specs.declared.delivery.Course.{Course}
+use Rattle.relay_next_hops.specs.declared.delivery.Course.TheVariants.{Stays, Ended, Lost, TurnedAway, Void}
 use Rattle.relay_next_hops.specs.declared.hop.Hop.{Hop}
 
 -- a slot in which something stands is one of the table's
@@ -159,8 +159,8 @@ aimed_put routes hops number hop is aimed other standing there = by (eqb_tells o
     same = cc (sym (set_there hops number (Some hop) low) ∙ ap (slot_at (slice_set hops number (Some hop))) (sym own.1) ∙ there)
   by (inr apart) = aimed other standing (sym (set_beside hops number (Some hop) other apart.1) ∙ there)
 
--- what keeps its errand is aimed as before
-pub keeps_aim : {S : Type 0} (routes : List Route) (old new : Hop S) → KeepsErrand old new → IsAimed routes old → IsAimed routes new
+-- what keeps its delivery is aimed as before
+pub keeps_aim : {S : Type 0} (routes : List Route) (old new : Hop S) → KeepsDelivery old new → IsAimed routes old → IsAimed routes new
 keeps_aim routes old new keeps is = subst (λ (name : List ℕ). place_of routes name ≡ Some new.aim.at) (sym keeps.name) (is ∙ ap (λ aim. Some aim.at) (sym keeps.aim))
 
 -- in a free table none stands
@@ -175,8 +175,8 @@ none_counted such [] free = refl
 none_counted such (None ∷ slots) free = omega (arith, none_counted such slots free)
 none_counted such (Some value ∷ slots) free = absurd free
 
--- a connection that keeps its errand counts as before
-pub counts_keep : {S : Type 0} (old new : Hop S) (hops : List (Option (Hop S))) (paces : List Pace) → KeepsErrand old new → CountsMatchWith old hops paces → CountsMatchWith new hops paces
+-- a connection that keeps its delivery counts as before
+pub counts_keep : {S : Type 0} (old new : Hop S) (hops : List (Option (Hop S))) (paces : List Pace) → KeepsDelivery old new → CountsMatchWith old hops paces → CountsMatchWith new hops paces
 counts_keep old new hops paces keeps match_is lane = match_is lane ∙ ap (λ (aim : Aim). (if aim.lane == lane then 1 else 0) + count_of_such (is_in lane) hops) (sym keeps.aim)
 
 -- of one that doesn't stay nothing is left
@@ -206,32 +206,32 @@ module _ {S : Type 0} (hops : List (Option (Hop S))) (number : ℕ) (hop : Hop S
   pub taken_low : number < length (slice_set hops number None)
   taken_low = subst (λ (length : ℕ). number < length) (sym (length_set hops number None)) (some_within hops number hop there)
 
-  -- one that is taken out and put back with its errand counts as before, and is aimed as before
-  pub counts_back : (after : Hop S) (paces : List Pace) → KeepsErrand hop after → CountsMatch hops paces → CountsMatch (slice_set (slice_set hops number None) number (Some after)) paces
+  -- one that is taken out and put back with its delivery counts as before, and is aimed as before
+  pub counts_back : (after : Hop S) (paces : List Pace) → KeepsDelivery hop after → CountsMatch hops paces → CountsMatch (slice_set (slice_set hops number None) number (Some after)) paces
   counts_back after paces keeps match_is =
       counts_put (slice_set hops number None) number after paces taken_free taken_low (counts_keep hop after (slice_set hops number None) paces keeps (counts_taken hops number hop paces there match_is))
 
-  pub aimed_back : (routes : List Route) (after : Hop S) → KeepsErrand hop after → AreAimed routes hops → AreAimed routes (slice_set (slice_set hops number None) number (Some after))
+  pub aimed_back : (routes : List Route) (after : Hop S) → KeepsDelivery hop after → AreAimed routes hops → AreAimed routes (slice_set (slice_set hops number None) number (Some after))
   aimed_back routes after keeps aimed = aimed_put routes (slice_set hops number None) number after (keeps_aim routes hop after keeps (aimed number hop there)) (aimed_taken routes hops number aimed)
 
-  -- what is left of the counts while it is worked on, and it has its errand
-  pub counts_out : (after : Hop S) (old new : List Pace) → KeepsErrand hop after → RunAsBefore old new → CountsMatch hops old → CountsMatchWith after (slice_set hops number None) new
+  -- what is left of the counts while it is worked on, and it has its delivery
+  pub counts_out : (after : Hop S) (old new : List Pace) → KeepsDelivery hop after → RunAsBefore old new → CountsMatch hops old → CountsMatchWith after (slice_set hops number None) new
   counts_out after old new keeps same match_is =
       counts_with_stay after (slice_set hops number None) old new same (counts_keep hop after (slice_set hops number None) old keeps (counts_taken hops number hop old there match_is))
 
-below_or_behind : (number next : ℕ) → (number < next) ⊎ (next ≤ number)
-below_or_behind zero zero = inr (omega arith)
-below_or_behind zero (suc next) = inl (omega arith)
-below_or_behind (suc number) zero = inr (omega arith)
-below_or_behind (suc number) (suc next) = by (below_or_behind number next) where
+below_or_after : (number next : ℕ) → (number < next) ⊎ (next ≤ number)
+below_or_after zero zero = inr (omega arith)
+below_or_after zero (suc next) = inl (omega arith)
+below_or_after (suc number) zero = inr (omega arith)
+below_or_after (suc number) (suc next) = by (below_or_after number next) where
   by : (number < next) ⊎ (next ≤ number) → (suc number < suc next) ⊎ (suc next ≤ suc number)
   by (inl below) = inl (omega (arith, below))
-  by (inr behind) = inr (omega (arith, behind))
+  by (inr afterwards) = inr (omega (arith, afterwards))
 
 -- what a table says of a value that was put under a number
 module _ {S : Type 0} (old new : List (Option (Hop S))) (number : ℕ) (hop : Hop S) (stands : number < length old → new ≡ slice_set old number (Some hop)) (past : length old ≤ number → new ≡ old) where
   pub put_beside : OthersStay old new number
-  put_beside other apart = by (below_or_behind number (length old)) where
+  put_beside other apart = by (below_or_after number (length old)) where
     by : (number < length old) ⊎ (length old ≤ number) → slot_at new other ≡ slot_at old other
     by (inl low) = ap (λ hops. slot_at hops other) (stands low) ∙ set_beside old number (Some hop) other apart
     by (inr high) = ap (λ hops. slot_at hops other) (past high)
@@ -240,7 +240,7 @@ module _ {S : Type 0} (old new : List (Option (Hop S))) (number : ℕ) (hop : Ho
   put_there low = ap (λ hops. slot_at hops number) (stands low) ∙ set_there old number (Some hop) low
 
   pub put_aimed : (routes : List Route) → IsAimed routes hop → AreAimed routes old → AreAimed routes new
-  put_aimed routes is aimed = by (below_or_behind number (length old)) where
+  put_aimed routes is aimed = by (below_or_after number (length old)) where
     by : (number < length old) ⊎ (length old ≤ number) → AreAimed routes new
     by (inl low) = subst (AreAimed routes) (sym (stands low)) (aimed_put routes old number hop is aimed)
     by (inr high) = subst (AreAimed routes) (sym (past high)) aimed
@@ -262,21 +262,21 @@ none_stays (slot ∷ slots) (suc number) (suc other) there = none_stays slots nu
 
 -- where nothing stood before a slot that is emptied, nothing stands in it, nor before it
 pub cleared_more : {A : Type 0} (slots new : List (Option A)) (number : ℕ) → new ≡ slice_set slots number None → ((other : ℕ) → other < number → slot_at slots other ≡ None) → (other : ℕ) → other < number + 1 → slot_at new other ≡ None
-cleared_more slots new number is before other low = by (below_or_behind other number) where
+cleared_more slots new number is before other low = by (below_or_after other number) where
   by : (other < number) ⊎ (number ≤ other) → slot_at new other ≡ None
   by (inl below) = ap (λ slots. slot_at slots other) is ∙ none_stays slots number other (before other below)
-  by (inr behind) = ap (λ slots. slot_at slots other) is ∙ ap (slot_at (slice_set slots number None)) same ∙ set_none_there slots number where
+  by (inr afterwards) = ap (λ slots. slot_at slots other) is ∙ ap (slot_at (slice_set slots number None)) same ∙ set_none_there slots number where
     same : other ≡ number
-    same = omega (arith, low, behind)
+    same = omega (arith, low, afterwards)
 
 pub all_cleared : {A : Type 0} (slots : List (Option A)) (number count : ℕ) → count ≤ number → ((other : ℕ) → other < number → slot_at slots other ≡ None) → ((other : ℕ) → count ≤ other → slot_at slots other ≡ None) → AreFree slots
-all_cleared slots number count past before behind = free_of slots (λ other. by other (below_or_behind other number)) where
+all_cleared slots number count past before afterwards = free_of slots (λ other. by other (below_or_after other number)) where
   by : (other : ℕ) → (other < number) ⊎ (number ≤ other) → slot_at slots other ≡ None
   by other (inl low) = before other low
-  by other (inr high) = behind other (omega (arith, past, high))
+  by other (inr high) = afterwards other (omega (arith, past, high))
 
--- One is taken out, and worked on; it keeps its errand.
-module _ {S : Type 0} (hops taken : List (Option (Hop S))) (number : ℕ) (hop after : Hop S) (there : Some hop ≡ slot_at hops number) (rest : taken ≡ slice_set hops number None) (keeps : KeepsErrand hop after) where
+-- One is taken out, and worked on; it keeps its delivery.
+module _ {S : Type 0} (hops taken : List (Option (Hop S))) (number : ℕ) (hop after : Hop S) (there : Some hop ≡ slot_at hops number) (rest : taken ≡ slice_set hops number None) (keeps : KeepsDelivery hop after) where
   pub out_free : slot_at taken number ≡ None
   out_free = ap (λ hops. slot_at hops number) rest ∙ taken_free hops number hop (sym there)
 

@@ -10,9 +10,9 @@ use Rattle.relay_connections.specs.Channel.{unread_of}
 use Rattle.relay_connections.specs.Hearing.{turned}
 use Rattle.relay_log.specs.declared.hop_link.Loss.TheVariants.{Silent}
 use Rattle.relay_records.specs.declared.noted.Noted.{Noted}
-use Rattle.relay_next_hops.specs.Errands.{KeepsErrand}
-use Rattle.relay_next_hops.specs.declared.errand.Course.{Course}
-use Rattle.relay_next_hops.specs.declared.errand.Course.TheVariants.{Stays, Ended, Lost, Void}
+use Rattle.relay_next_hops.specs.Deliveries.{KeepsDelivery}
+use Rattle.relay_next_hops.specs.declared.delivery.Course.{Course}
+use Rattle.relay_next_hops.specs.declared.delivery.Course.TheVariants.{Stays, Ended, Lost, Void}
 use Rattle.relay_next_hops.specs.declared.hop.Hop.{Hop}
 use Rattle.relay_next_hops.specs.declared.hops.Hops.{Hops}
 
@@ -67,13 +67,13 @@ IsCourse tick (Ok answered) old new course =
     × ((course ≡ Stays) ⊎ ((course ≡ Lost Silent) × IsLate tick new)))
     (λ outbox. (noted : Option Noted) × (course ≡ Ended outbox noted))
 
--- A connection stays for its errand, without the used octets. If none was used, its attempt may hear them in a call of
--- its own, and then some are used.
+-- A connection stays for its delivery, without the used octets. If none was used, its attempt may hear them in a call
+-- of its own, and then some are used.
 pub record UsesOwn {S : Type 0} (answered : Answered) (old new : Hop S) : Type 0 where
   pub goes_on : answered.last ≡ None
   pub unread : (unread_of new.channel ≡ drop answered.used (unread_of old.channel))
       ⊎ (IsLeft answered × (used : ℕ) × (unread_of new.channel ≡ drop used (unread_of old.channel)))
-  pub errand : KeepsErrand old new
+  pub delivery : KeepsDelivery old new
 
 -- Below: at a tick.
 module _ {S : Type 0} (tick : ℕ) where

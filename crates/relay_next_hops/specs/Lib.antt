@@ -3,7 +3,7 @@ pub mod Paces
 pub mod Portions
 pub mod Lanes
 pub mod Listing
-pub mod Errands
+pub mod Deliveries
 pub mod Counts
 pub mod Hearing
 pub mod Losses
@@ -13,7 +13,7 @@ pub mod Steering
 pub mod Turns
 pub mod Overdue
 pub mod Tables
-pub mod Spares
+pub mod SpareDescriptors
 pub mod Readiness
 pub mod Phases
 pub mod Numbers

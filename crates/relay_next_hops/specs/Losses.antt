@@ -11,7 +11,7 @@ use Rattle.relay_loop.specs.Relay.{RelayState}
 use Rattle.relay_limits.specs.declared.pace.Pace.{Pace}
 use Rattle.relay_connections.specs.declared.clocks.Now.{Now}
 use Rattle.relay_next_hops.specs.Paces.{IsHeldAt}
-use Rattle.relay_next_hops.specs.declared.errand.Errand.{Errand}
+use Rattle.relay_next_hops.specs.declared.delivery.Delivery.{Delivery}
 use Rattle.relay_report.specs.Report.{reporter_of}
 
 -- Below: a call at a time, of a relay on a disk with these words.
@@ -61,15 +61,15 @@ abbrev pub StartsNothing
 StartsNothing words at message hop old new =
     StartsNone words at message hop old new ⊎ StartsAndRefuses words at message hop old new
 
--- the loss of an errand is recorded: that of its attempt, or, if it has none, that of one that begins for it
-abbrev pub Loses : {D : Type 0} → DiskWords D → ℕ → Errand → RelayState D → RelayState D → Option ℕ → Type 0
-Loses words at errand old new (Some attempt) = LosesAttempt words at old new attempt
-Loses words at errand old new None = StartsAndLoses words at errand.message errand.name old new
+-- the loss of a delivery is recorded: that of its attempt, or, if it has none, that of one that begins for it
+abbrev pub Loses : {D : Type 0} → DiskWords D → ℕ → Delivery → RelayState D → RelayState D → Option ℕ → Type 0
+Loses words at delivery old new (Some attempt) = LosesAttempt words at old new attempt
+Loses words at delivery old new None = StartsAndLoses words at delivery.message delivery.name old new
 
 -- the loss isn't recorded: no attempt may begin, or the node refuses the loss
-abbrev pub LosesNot : {D : Type 0} → DiskWords D → ℕ → Errand → RelayState D → RelayState D → Option ℕ → Type 0
-LosesNot words at errand old new (Some attempt) = RefusesLoss words at old new attempt
-LosesNot words at errand old new None = StartsNothing words at errand.message errand.name old new
+abbrev pub LosesNot : {D : Type 0} → DiskWords D → ℕ → Delivery → RelayState D → RelayState D → Option ℕ → Type 0
+LosesNot words at delivery old new (Some attempt) = RefusesLoss words at old new attempt
+LosesNot words at delivery old new None = StartsNothing words at delivery.message delivery.name old new
 
 -- the note of the last change was taken, and nothing else changes
 abbrev pub TakesNote : {D : Type 0} → RelayState D → RelayState D → Type 0
@@ -77,21 +77,21 @@ TakesNote old new =
     (new.node ≡ record old.node { records = record old.node.records { noted = None } })
     × (new.clients ≡ old.clients) × (new.hops ≡ old.hops)
 
--- the loss of an errand is recorded, and its note was taken
-pub record IsRecorded {D : Type 0} (words : DiskWords D) (at : ℕ) (errand : Errand) (old new : RelayState D)
+-- the loss of a delivery is recorded, and its note was taken
+pub record IsRecorded {D : Type 0} (words : DiskWords D) (at : ℕ) (delivery : Delivery) (old new : RelayState D)
     : Type 0 where
   pub between : RelayState D
-  pub loses : Loses words at errand old between errand.attempt
+  pub loses : Loses words at delivery old between delivery.attempt
   pub noted : TakesNote between new
 
 -- the loss is recorded, or the node refuses it
-abbrev pub IsRecordedOrRefused : {D : Type 0} → DiskWords D → ℕ → Errand → RelayState D → RelayState D → Type 0
-IsRecordedOrRefused words at errand old new =
-    IsRecorded words at errand old new ⊎ LosesNot words at errand old new errand.attempt
+abbrev pub IsRecordedOrRefused : {D : Type 0} → DiskWords D → ℕ → Delivery → RelayState D → RelayState D → Type 0
+IsRecordedOrRefused words at delivery old new =
+    IsRecorded words at delivery old new ⊎ LosesNot words at delivery old new delivery.attempt
 
--- An errand has ended as lost: that is recorded, or refused. If its attempt hasn't begun, and its next hop is on hold,
+-- A delivery has ended as lost: that is recorded, or refused. If its attempt hasn't begun, and its next hop is on hold,
 -- it stays due instead, and nothing changes.
-abbrev pub EndsLost : {D : Type 0} → DiskWords D → Now → Errand → List Pace → RelayState D → RelayState D → Type 0
-EndsLost words now errand paces old new =
-    ((errand.attempt ≡ None) × IsHeldAt now.tick paces errand.aim.lane × (new ≡ old))
-    ⊎ IsRecordedOrRefused words now.moment errand old new
+abbrev pub EndsLost : {D : Type 0} → DiskWords D → Now → Delivery → List Pace → RelayState D → RelayState D → Type 0
+EndsLost words now delivery paces old new =
+    ((delivery.attempt ≡ None) × IsHeldAt now.tick paces delivery.aim.lane × (new ≡ old))
+    ⊎ IsRecordedOrRefused words now.moment delivery old new

@@ -29,7 +29,7 @@ abbrev pub begun : Walk → Walk
 begun walk = record { left = walk.passed ++ walk.newer; passed = []; newer = [] }
 
 -- the numbers of these places, each once; no place has the number 0
-abbrev pub numbers_behind : ℕ → List (ℕ × ℕ) → List ℕ
-numbers_behind last [] = []
-numbers_behind last (place ∷ places) =
-    if place.0 == last then numbers_behind last places else place.0 ∷ numbers_behind place.0 places
+abbrev pub numbers_after : ℕ → List (ℕ × ℕ) → List ℕ
+numbers_after last [] = []
+numbers_after last (place ∷ places) =
+    if place.0 == last then numbers_after last places else place.0 ∷ numbers_after place.0 places

@@ -11,7 +11,7 @@ use Rattle.relay_loop.specs.Relay.{RelayState}
 use Rattle.relay_next_hops.specs.Lanes.{tasks_at}
 use Rattle.relay_next_hops.specs.Losses.{IsRecordedOrRefused}
 use Rattle.relay_next_hops.specs.Starting.{IsOfTask}
-use Rattle.relay_next_hops.specs.declared.errand.Errand.{Errand}
+use Rattle.relay_next_hops.specs.declared.delivery.Delivery.{Delivery}
 use Rattle.relay_next_hops.specs.declared.lane.Lane.{Lane}
 use Rattle.relay_next_hops.specs.declared.lane.Task.{Task}
 use Rattle.relay_next_hops.specs.declared.lanes.Lanes.{Lanes}
@@ -63,6 +63,6 @@ pub record TakesOut (lane : ℕ) (task : Task) (old new : Lanes) : Type 0 where
 -- the loss of the task was recorded, or refused
 pub record LosesTask {D : Type 0} (words : DiskWords D) (at : ℕ) (task : Task) (old new : RelayState D)
     : Type 0 where
-  pub errand : Errand
-  pub of_task : IsOfTask task errand
-  pub lost : IsRecordedOrRefused words at errand old new
+  pub delivery : Delivery
+  pub of_task : IsOfTask task delivery
+  pub lost : IsRecordedOrRefused words at delivery old new

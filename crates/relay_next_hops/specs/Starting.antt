@@ -15,12 +15,12 @@ use Rattle.relay_limits.specs.declared.pace.Pace.{Pace}
 use Rattle.relay_slots.specs.Slots.{IsFull, IsLeastFree, slot_at}
 use Rattle.relay_slots.specs.declared.slots.TheConstants.{SLOT_COUNT}
 use Rattle.relay_next_hops.specs.Counts.{unanswered_of}
-use Rattle.relay_next_hops.specs.Errands.{PutsFor}
+use Rattle.relay_next_hops.specs.Deliveries.{PutsFor}
 use Rattle.relay_next_hops.specs.Lanes.{IsPutBack, KeepsCounts, KeepsPlaces, tasks_at}
 use Rattle.relay_next_hops.specs.Losses.{EndsLost, TakesNote}
 use Rattle.relay_next_hops.specs.Paces.{MayBeginAt, RunsOneMore, has_answered_at}
-use Rattle.relay_next_hops.specs.declared.errand.Aim.{Aim}
-use Rattle.relay_next_hops.specs.declared.errand.Errand.{Errand}
+use Rattle.relay_next_hops.specs.declared.delivery.Aim.{Aim}
+use Rattle.relay_next_hops.specs.declared.delivery.Delivery.{Delivery}
 use Rattle.relay_next_hops.specs.declared.hop.Hop.{Hop}
 use Rattle.relay_next_hops.specs.declared.lane.Task.{Task}
 use Rattle.relay_next_hops.specs.declared.lanes.Lanes.{Lanes}
@@ -33,11 +33,11 @@ use Rattle.relay_next_hops.specs.declared.starting.Tried.{Tried}
 use Rattle.relay_next_hops.specs.declared.starting.Tried.TheVariants.{Connects, Wants, Fails, HasNoPlace}
 use Rattle.relay_report.specs.Report.{reporter_of}
 
--- the errand of a task without an attempt
-pub record IsOfTask (task : Task) (errand : Errand) : Type 0 where
-  pub message : errand.message ≡ task.message
-  pub name : errand.name ≡ task.hop
-  pub none : errand.attempt ≡ None
+-- the delivery of a task without an attempt
+pub record IsOfTask (task : Task) (delivery : Delivery) : Type 0 where
+  pub message : delivery.message ≡ task.message
+  pub name : delivery.name ≡ task.hop
+  pub none : delivery.attempt ≡ None
 
 -- A connection for the task is under this number; it was opened to the address that the routes give for its next hop.
 pub record ConnectsFor {D S : Type 0} (Opened : SocketAddrV4 → Channel S → Type 0) (lane number : ℕ) (task : Task)
@@ -51,14 +51,14 @@ pub record ConnectsFor {D S : Type 0} (Opened : SocketAddrV4 → Channel S → T
   pub runs : RunsOneMore lane lanes_old.paces lanes_new.paces
   pub places : KeepsPlaces lanes_old lanes_new
 
--- the task has ended as lost, as an errand of its lane
+-- the task has ended as lost, as a delivery of its lane
 pub record FailsFor {D : Type 0} (words : DiskWords D) (now : Now) (lane : ℕ) (task : Task) (paces : List Pace)
     (old new : RelayState D)
     : Type 0 where
-  pub errand : Errand
-  pub its_lane : errand.aim.lane ≡ lane
-  pub of_task : IsOfTask task errand
-  pub lost : EndsLost words now errand paces old new
+  pub delivery : Delivery
+  pub its_lane : delivery.aim.lane ≡ lane
+  pub of_task : IsOfTask task delivery
+  pub lost : EndsLost words now delivery paces old new
 
 -- the result for a task of a lane for which a connection was to begin under a number
 abbrev pub IsTried : {D S : Type 0} → DiskWords D → (SocketAddrV4 → Channel S → Type 0) → Now → ℕ → ℕ → Task

@@ -2,7 +2,7 @@
 use Rattle.std.specs.Prelude.{List}
 use Rattle.relay_routes.specs.Routes.{Route}
 use Rattle.relay_next_hops.specs.Counts.{CountsMatch}
-use Rattle.relay_next_hops.specs.Errands.{AreAimed}
+use Rattle.relay_next_hops.specs.Deliveries.{AreAimed}
 use Rattle.relay_next_hops.specs.declared.next_hops.NextHops.{NextHops}
 
 -- Each connection leads to the address that the routes give for its next hop, and each lane is running as many attempts

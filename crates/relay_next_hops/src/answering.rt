@@ -1,10 +1,10 @@
 //! The connection to a next hop after its attempt has heard replies.
 ghost use Rattle.std.specs.Prelude.{◌≡◌, ℕ, IfOk, Some, drop, false};
 ghost use Rattle.relay_connections.specs.Channel.{unread_of};
-ghost use Rattle.relay_next_hops.specs.Errands.{KeepsErrand, left_of};
+ghost use Rattle.relay_next_hops.specs.Deliveries.{KeepsDelivery, left_of};
 ghost use Rattle.relay_next_hops.specs.Hearing.{IsAnswered, IsCourse};
 
-use crate::errand::Course;
+use crate::delivery::Course;
 use crate::hearing::{has_ended, was_left};
 use crate::hop::Hop;
 use relay_connections::{Now, Stream};
@@ -24,7 +24,7 @@ impl<S: Stream> Hop<S> {
         noted: Option<Noted>,
         now: &Now,
     ) -> Result<Course, Fault>
-        ensures errand { KeepsErrand self.old self.new }
+        ensures delivery { KeepsDelivery self.old self.new }
         ensures uses { IfOk result (λ course. IsAnswered now.now.tick answer (Some self.old)
             (left_of course self.new)) }
     {
@@ -45,7 +45,7 @@ impl<S: Stream> Hop<S> {
         noted: Option<Noted>,
         now: &Now,
     ) -> Course
-        ensures errand { KeepsErrand self.old self.new }
+        ensures delivery { KeepsDelivery self.old self.new }
         ensures attempt { self.new.attempt ≡ self.old.attempt }
         ensures hears { self.new.hears ≡ false }
         ensures course { IsCourse now.now.tick answered self.old self.new result }
@@ -64,7 +64,7 @@ impl<S: Stream> Hop<S> {
         if let Some(outbox) = last {
             return Course::Ended(outbox, noted);
         }
-        self.phase = self.phase.behind(relay.to_hop(attempt));
+        self.phase = self.phase.after(relay.to_hop(attempt));
         self.wait_on(relay, attempt, now);
         self.flush(relay, attempt, now);
         self.unless_late(Course::Stays, now)
@@ -77,7 +77,7 @@ impl<S: Stream> Hop<S> {
         attempt: usize,
         now: &Now,
     ) -> Result<Course, Fault>
-        ensures errand { KeepsErrand self.old self.new }
+        ensures delivery { KeepsDelivery self.old self.new }
         ensures attempt { self.new.attempt ≡ self.old.attempt }
         ensures used { IfOk result (λ course. course ≡ Course.Stays → (used : ℕ)
             × (unread_of self.new.channel ≡ drop used (unread_of self.old.channel))) }

@@ -1,6 +1,6 @@
 //! Opening connections to next hops.
 ghost use Rattle.std.specs.Prelude.{◌≡◌, ◌-◌, ◌↔◌, ◌≤◌, ◌<◌, IfOk, IsTrue};
-ghost use Rattle.relay_next_hops.specs.declared.spares.TheConstants.{SPARE_COUNT};
+ghost use Rattle.relay_next_hops.specs.declared.spare_descriptors.TheConstants.{SPARE_COUNT};
 
 use std::io;
 use std::net::SocketAddrV4;
@@ -10,7 +10,7 @@ use std::net::SocketAddrV4;
 pub trait Dial {
     ghost use Rattle.std.specs.Prelude.{◌≡◌, ◌-◌, ◌↔◌, ◌≤◌, ◌<◌, ℕ, IfOk, IsTrue};
     ghost use Rattle.std.specs.declared.net.socket_addr.SocketAddrV4.{SocketAddrV4};
-    ghost use Rattle.relay_next_hops.specs.declared.spares.TheConstants.{SPARE_COUNT};
+    ghost use Rattle.relay_next_hops.specs.declared.spare_descriptors.TheConstants.{SPARE_COUNT};
 
     /// The streams that it opens.
     type Stream;

@@ -2,14 +2,14 @@
 ghost use Rattle.std.specs.Prelude.{◌≡◌, None, Ok, OnOk, Option, false, true};
 ghost use Rattle.relay_loop.specs.declared.outbox.Outbox.{Outbox};
 ghost use Rattle.relay_records.specs.declared.noted.Noted.{Noted};
-ghost use Rattle.relay_next_hops.specs.Errands.{portions_after};
+ghost use Rattle.relay_next_hops.specs.Deliveries.{portions_after};
 ghost use Rattle.relay_next_hops.specs.GoingOn.{ComesNext};
 ghost use Rattle.relay_next_hops.specs.Lanes.{KeepsCounts, KeepsPlaces, OnlyLane};
 ghost use Rattle.relay_next_hops.specs.Losses.{EndsLost, IsRecordedOrRefused, Loses, LosesAttempt, LosesNot};
 ghost use Rattle.relay_next_hops.specs.Losses.{RefusesLoss, StartsAndLoses, StartsNothing};
 ghost use Rattle.relay_next_hops.specs.Paces.{RunsOneLess};
 
-use crate::errand::{Course, Errand};
+use crate::delivery::{Course, Delivery};
 use crate::going_on::go_on;
 use crate::lanes::Lanes;
 use crate::portions::Portions;
@@ -21,7 +21,7 @@ use relay_loop::{Outbox, Relay};
 use relay_node::{NodeFault, Noted};
 use relay_routes::HostName;
 
-/// Does what follows after an errand has ended.
+/// Does what follows after a delivery has ended.
 #[tactic(auto, using(crate::proofs::PaceLemmas::less_then_same))]
 pub(crate) fn conclude<S: Stream + Drop, D: Disk>(
     registry: &S::Registry,
@@ -29,7 +29,7 @@ pub(crate) fn conclude<S: Stream + Drop, D: Disk>(
     lanes: &mut Lanes,
     portions: &mut Portions,
     leaving: &mut Leaving<S>,
-    ended: (Channel<S>, Errand),
+    ended: (Channel<S>, Delivery),
     course: Course,
     now: &Now,
     log: &mut Log<'_, Vec<u8>>,
@@ -40,23 +40,23 @@ pub(crate) fn conclude<S: Stream + Drop, D: Disk>(
     ensures next { (outbox : Outbox) (noted : Option Noted) → course ≡ Course.Ended outbox noted
         → ComesNext now.now.moment ended.1 relay.new lanes.new }
 {
-    let (channel, errand) = ended;
-    let is_shared = lanes.is_shared(&errand.aim);
-    lanes.ended(errand.aim.lane);
-    note_cut(portions, &errand, &course);
+    let (channel, delivery) = ended;
+    let is_shared = lanes.is_shared(&delivery.aim);
+    lanes.ended(delivery.aim.lane);
+    note_cut(portions, &delivery, &course);
     finish(
-        registry, relay, lanes, leaving, channel, errand, is_shared, course, now, log,
+        registry, relay, lanes, leaving, channel, delivery, is_shared, course, now, log,
     )
 }
 
 /// Takes note of an attempt that was cut off: the next ones for its message have half as many recipients.
-fn note_cut(portions: &mut Portions, errand: &Errand, course: &Course)
-    ensures { portions.new ≡ portions_after course.now errand.now.attempt errand.now.message portions.old }
+fn note_cut(portions: &mut Portions, delivery: &Delivery, course: &Course)
+    ensures { portions.new ≡ portions_after course.now delivery.now.attempt delivery.now.message portions.old }
 {
     match course {
         Course::Lost(Loss::Cut) => {
-            if errand.attempt.is_some() {
-                portions.halve(errand.message);
+            if delivery.attempt.is_some() {
+                portions.halve(delivery.message);
             }
         }
         Course::Lost(Loss::Refused | Loss::Unreachable | Loss::Silent)
@@ -67,14 +67,14 @@ fn note_cut(portions: &mut Portions, errand: &Errand, course: &Course)
     }
 }
 
-/// Does what is left to be done for an errand that counts no more among its lane's.
+/// Does what is left to be done for a delivery that counts no more among its lane's.
 fn finish<S: Stream + Drop, D: Disk>(
     registry: &S::Registry,
     relay: &mut Relay<D>,
     lanes: &mut Lanes,
     leaving: &mut Leaving<S>,
     channel: Channel<S>,
-    errand: Errand,
+    delivery: Delivery,
     is_shared: bool,
     course: Course,
     now: &Now,
@@ -82,30 +82,30 @@ fn finish<S: Stream + Drop, D: Disk>(
 ) -> Result<(), Fault>
     ensures counts { KeepsCounts lanes.old lanes.new }
     ensures next { (outbox : Outbox) (noted : Option Noted) → course ≡ Course.Ended outbox noted
-        → ComesNext now.now.moment errand relay.new lanes.new }
+        → ComesNext now.now.moment delivery relay.new lanes.new }
 {
-    let lane = errand.aim.lane;
+    let lane = delivery.aim.lane;
     match course {
         Course::Stays => Ok(()),
         Course::Ended(outbox, noted) => {
             end_well(
-                registry, lanes, leaving, channel, &errand, outbox, noted, now, log,
+                registry, lanes, leaving, channel, &delivery, outbox, noted, now, log,
             );
-            go_on(relay, lanes, errand, now);
+            go_on(relay, lanes, delivery, now);
             Ok(())
         }
         Course::TurnedAway => {
-            lanes.turn_away(lane, errand.into_task());
+            lanes.turn_away(lane, delivery.into_task());
             Ok(())
         }
         // It was refused, or closed without a greeting, while others are open: the next hop accepts no more of them.
-        Course::Lost(Loss::Refused | Loss::Cut) if is_shared && errand.attempt.is_none() => {
-            lanes.turn_away(lane, errand.into_task());
+        Course::Lost(Loss::Refused | Loss::Cut) if is_shared && delivery.attempt.is_none() => {
+            lanes.turn_away(lane, delivery.into_task());
             Ok(())
         }
-        Course::Lost(loss) => end_badly(relay, lanes, errand, loss, now, log),
+        Course::Lost(loss) => end_badly(relay, lanes, delivery, loss, now, log),
         Course::Void => {
-            tell_void(&errand, now, log);
+            tell_void(&delivery, now, log);
             Ok(())
         }
     }
@@ -117,7 +117,7 @@ fn end_well<S: Stream + Drop>(
     lanes: &mut Lanes,
     leaving: &mut Leaving<S>,
     channel: Channel<S>,
-    errand: &Errand,
+    delivery: &Delivery,
     outbox: Outbox,
     noted: Option<Noted>,
     now: &Now,
@@ -125,77 +125,77 @@ fn end_well<S: Stream + Drop>(
 )
     ensures counts { KeepsCounts lanes.old lanes.new }
 {
-    let lane = errand.aim.lane;
-    if errand.is_welcome {
+    let lane = delivery.aim.lane;
+    if delivery.is_welcome {
         lanes.ended_well(lane);
     }
-    tell_outcome(errand, noted, now, log);
+    tell_outcome(delivery, noted, now, log);
     leaving.take(registry, channel, outbox, Some(lane), now);
     lanes.note_leaving_of(lane, leaving);
 }
 
-/// Records that the attempt of an errand is lost. Once that is recorded, an attempt for the recipients that it left is
+/// Records that the attempt of a delivery is lost. Once that is recorded, an attempt for the recipients that it left is
 /// the next of its lane; otherwise these wait with those of the lost one.
 fn end_badly<D: Disk>(
     relay: &mut Relay<D>,
     lanes: &mut Lanes,
-    errand: Errand,
+    delivery: Delivery,
     loss: Loss,
     now: &Now,
     log: &mut Log<'_, Vec<u8>>,
 ) -> Result<(), Fault>
     ensures counts { KeepsCounts lanes.old lanes.new }
 {
-    let is_recorded = lose(relay, lanes, &errand, loss, now, log)?;
-    if is_recorded && errand.attempt.is_some() {
-        go_on(relay, lanes, errand, now);
+    let is_recorded = lose(relay, lanes, &delivery, loss, now, log)?;
+    if is_recorded && delivery.attempt.is_some() {
+        go_on(relay, lanes, delivery, now);
     }
     Ok(())
 }
 
-/// Records that the attempt of an errand is lost. A next hop that has said nothing is on hold then; and where it is
+/// Records that the attempt of a delivery is lost. A next hop that has said nothing is on hold then; and where it is
 /// already, an attempt that hasn't begun is none. Returns whether it is recorded.
 pub(crate) fn lose<D: Disk>(
     relay: &mut Relay<D>,
     lanes: &mut Lanes,
-    errand: &Errand,
+    delivery: &Delivery,
     loss: Loss,
     now: &Now,
     log: &mut Log<'_, Vec<u8>>,
 ) -> Result<bool, Fault>
-    ensures lost { OnOk result (EndsLost D.words now.now errand.now lanes.old.paces relay.old relay.new) }
+    ensures lost { OnOk result (EndsLost D.words now.now delivery.now lanes.old.paces relay.old relay.new) }
     ensures counts { KeepsCounts lanes.old lanes.new }
-    ensures only { OnlyLane errand.now.aim.lane lanes.old lanes.new }
+    ensures only { OnlyLane delivery.now.aim.lane lanes.old lanes.new }
     ensures tasks { lanes.new.lanes ≡ lanes.old.lanes }
     ensures config { relay.new.node.config ≡ relay.old.node.config }
 {
-    if errand.attempt.is_none() && lanes.is_held(errand.aim.lane, now) {
+    if delivery.attempt.is_none() && lanes.is_held(delivery.aim.lane, now) {
         return Ok(false);
     }
-    let unheard = log.talk_of(relay.node().message(errand.message));
-    let (is_recorded, noted) = record_and_note(relay, errand, now)?;
-    let talk = talk_of(errand, &unheard);
-    tell(errand, Some(loss), noted, talk, now, log);
-    if !errand.has_spoken {
-        hold(lanes, errand, loss, log, now);
+    let unheard = log.talk_of(relay.node().message(delivery.message));
+    let (is_recorded, noted) = record_and_note(relay, delivery, now)?;
+    let talk = talk_of(delivery, &unheard);
+    tell(delivery, Some(loss), noted, talk, now, log);
+    if !delivery.has_spoken {
+        hold(lanes, delivery, loss, log, now);
     }
     Ok(is_recorded)
 }
 
-/// Records that an errand is lost because its next hop is on hold.
+/// Records that a delivery is lost because its next hop is on hold.
 pub(crate) fn lose_held<D: Disk>(
     relay: &mut Relay<D>,
-    errand: Errand,
+    delivery: Delivery,
     now: &Now,
     log: &mut Log<'_, Vec<u8>>,
 ) -> Result<(), Fault>
-    ensures lost { OnOk result (IsRecordedOrRefused D.words now.now.moment errand relay.old relay.new) }
+    ensures lost { OnOk result (IsRecordedOrRefused D.words now.now.moment delivery relay.old relay.new) }
     ensures config { relay.new.node.config ≡ relay.old.node.config }
 {
-    let talk = log.talk_of(relay.node().message(errand.message));
-    let (is_recorded, noted) = record_and_note(relay, &errand, now)?;
+    let talk = log.talk_of(relay.node().message(delivery.message));
+    let (is_recorded, noted) = record_and_note(relay, &delivery, now)?;
     if is_recorded {
-        tell(&errand, Some(Loss::Unreachable), noted, &talk, now, log);
+        tell(&delivery, Some(Loss::Unreachable), noted, &talk, now, log);
     }
     Ok(())
 }
@@ -203,44 +203,44 @@ pub(crate) fn lose_held<D: Disk>(
 /// Ends an attempt as lost, as [`record_loss`] does, and takes its note.
 fn record_and_note<D: Disk>(
     relay: &mut Relay<D>,
-    errand: &Errand,
+    delivery: &Delivery,
     now: &Now,
 ) -> Result<(bool, Option<Noted>), Fault>
-    ensures lost { OnOk result (IsRecordedOrRefused D.words now.now.moment errand.now relay.old relay.new) }
+    ensures lost { OnOk result (IsRecordedOrRefused D.words now.now.moment delivery.now relay.old relay.new) }
     ensures config { relay.new.node.config ≡ relay.old.node.config }
 {
-    match record_loss(relay, errand, now) {
+    match record_loss(relay, delivery, now) {
         Ok(true) => Ok((true, relay.take_noted())),
         Ok(false) => Ok((false, None)),
         Err(fault) => Err(fault),
     }
 }
 
-/// Puts the next hop of an errand's lane on hold, because its connection has failed for this reason.
-fn hold(lanes: &mut Lanes, errand: &Errand, loss: Loss, log: &mut Log<'_, Vec<u8>>, now: &Now)
+/// Puts the next hop of a delivery's lane on hold, because its connection has failed for this reason.
+fn hold(lanes: &mut Lanes, delivery: &Delivery, loss: Loss, log: &mut Log<'_, Vec<u8>>, now: &Now)
     ensures counts { KeepsCounts lanes.old lanes.new }
-    ensures only { OnlyLane errand.now.aim.lane lanes.old lanes.new }
+    ensures only { OnlyLane delivery.now.aim.lane lanes.old lanes.new }
     ensures tasks { lanes.new.lanes ≡ lanes.old.lanes }
 {
-    if let Some(seconds) = lanes.hold(errand.aim.lane, now) {
-        if let Some(at) = lanes.place_of(errand.aim.lane) {
-            log.held_off(errand.name.as_slice(), at, seconds, loss);
+    if let Some(seconds) = lanes.hold(delivery.aim.lane, now) {
+        if let Some(at) = lanes.place_of(delivery.aim.lane) {
+            log.held_off(delivery.name.as_slice(), at, seconds, loss);
         }
     }
 }
 
 /// Ends an attempt as lost; if it hasn't begun, begins it first. Returns whether that is recorded: it isn't if there is
 /// too little memory or no number for it, or the message isn't due there any more.
-fn record_loss<D: Disk>(relay: &mut Relay<D>, errand: &Errand, now: &Now) -> Result<bool, Fault>
+fn record_loss<D: Disk>(relay: &mut Relay<D>, delivery: &Delivery, now: &Now) -> Result<bool, Fault>
     ensures lost { result ≡ Ok true
-        → Loses D.words now.now.moment errand.now relay.old relay.new errand.now.attempt }
+        → Loses D.words now.now.moment delivery.now relay.old relay.new delivery.now.attempt }
     ensures refused { result ≡ Ok false
-        → LosesNot D.words now.now.moment errand.now relay.old relay.new errand.now.attempt }
+        → LosesNot D.words now.now.moment delivery.now relay.old relay.new delivery.now.attempt }
     ensures config { relay.new.node.config ≡ relay.old.node.config }
 {
-    match errand.attempt {
+    match delivery.attempt {
         Some(attempt) => lose_attempt(relay, attempt, now),
-        None => lose_at_once(relay, errand.message, &errand.name, now),
+        None => lose_at_once(relay, delivery.message, &delivery.name, now),
     }
 }
 
@@ -276,30 +276,30 @@ fn lose_attempt<D: Disk>(relay: &mut Relay<D>, attempt: usize, now: &Now) -> Res
 }
 
 /// Returns what is known of an attempt for the log: what its next hop replied, if it has begun; else this.
-fn talk_of<'a>(errand: &'a Errand, unheard: &'a Talk) -> &'a Talk {
-    match &errand.talk {
-        Some(talk) if errand.attempt.is_some() => talk,
+fn talk_of<'a>(delivery: &'a Delivery, unheard: &'a Talk) -> &'a Talk {
+    match &delivery.talk {
+        Some(talk) if delivery.attempt.is_some() => talk,
         _ => unheard,
     }
 }
 
 /// Logs the outcome of an attempt, with what its next hop replied.
-fn tell_outcome(errand: &Errand, noted: Option<Noted>, now: &Now, log: &mut Log<'_, Vec<u8>>) {
-    match &errand.talk {
-        Some(talk) => tell(errand, None, noted, talk, now, log),
-        None => tell_void(errand, now, log),
+fn tell_outcome(delivery: &Delivery, noted: Option<Noted>, now: &Now, log: &mut Log<'_, Vec<u8>>) {
+    match &delivery.talk {
+        Some(talk) => tell(delivery, None, noted, talk, now, log),
+        None => tell_void(delivery, now, log),
     }
 }
 
 /// Logs that nothing was recorded of an attempt.
-fn tell_void(errand: &Errand, now: &Now, log: &mut Log<'_, Vec<u8>>) {
+fn tell_void(delivery: &Delivery, now: &Now, log: &mut Log<'_, Vec<u8>>) {
     let talk = log.talk_of(None);
-    tell(errand, None, None, &talk, now, log);
+    tell(delivery, None, None, &talk, now, log);
 }
 
 /// Logs the outcome of an attempt; `loss` is why its connection has failed, if it has.
 fn tell(
-    errand: &Errand,
+    delivery: &Delivery,
     loss: Option<Loss>,
     noted: Option<Noted>,
     talk: &Talk,
@@ -307,10 +307,10 @@ fn tell(
     log: &mut Log<'_, Vec<u8>>,
 ) {
     let attempt = Attempt {
-        number: errand.message,
-        hop: Some(errand.name.as_slice()),
-        at: Some(errand.aim.at),
-        age: errand.aim.age(now),
+        number: delivery.message,
+        hop: Some(delivery.name.as_slice()),
+        at: Some(delivery.aim.at),
+        age: delivery.aim.age(now),
         loss,
         noted,
     };

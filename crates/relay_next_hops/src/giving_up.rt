@@ -3,7 +3,7 @@ ghost use Rattle.std.specs.Prelude.{◌≡◌, ◌∷◌, [], ℕ, List, IfOk, O
 ghost use Rattle.relay_next_hops.specs.Lanes.{KeepsCounts};
 ghost use Rattle.relay_next_hops.specs.Starting.{IsGivenUp};
 
-use crate::errand::age_since;
+use crate::delivery::age_since;
 use crate::lanes::Lanes;
 use crate::starting::accepted_at;
 use relay_connections::Now;

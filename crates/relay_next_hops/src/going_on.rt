@@ -5,7 +5,7 @@ ghost use Rattle.relay_attempts.specs.Hops.{due_places_in, goes_to, is_any, is_d
 ghost use Rattle.relay_next_hops.specs.GoingOn.{GoesOnWith, is_due_there};
 ghost use Rattle.relay_next_hops.specs.Lanes.{KeepsCounts};
 
-use crate::errand::Errand;
+use crate::delivery::Delivery;
 use crate::lanes::Lanes;
 use crate::sorting::hop_of_place;
 use relay_book::{Message, Place};
@@ -15,19 +15,19 @@ use relay_envelope::Recipient;
 use relay_loop::Relay;
 use relay_routes::{HostName, Table};
 
-/// Puts the message of an errand whose attempt has ended before the others of its lane, if more of it is due there.
-pub(crate) fn go_on<D: Disk>(relay: &Relay<D>, lanes: &mut Lanes, errand: Errand, now: &Now)
-    ensures more { is_due_there relay.now errand.message errand.name now.now.moment ≡ true
-        → GoesOnWith errand lanes.old lanes.new }
-    ensures none { is_due_there relay.now errand.message errand.name now.now.moment ≡ false
+/// Puts the message of a delivery whose attempt has ended before the others of its lane, if more of it is due there.
+pub(crate) fn go_on<D: Disk>(relay: &Relay<D>, lanes: &mut Lanes, delivery: Delivery, now: &Now)
+    ensures more { is_due_there relay.now delivery.message delivery.name now.now.moment ≡ true
+        → GoesOnWith delivery lanes.old lanes.new }
+    ensures none { is_due_there relay.now delivery.message delivery.name now.now.moment ≡ false
         → lanes.new ≡ lanes.old }
     ensures counts { KeepsCounts lanes.old lanes.new }
 {
-    if !is_due_there(relay, errand.message, &errand.name, now) {
+    if !is_due_there(relay, delivery.message, &delivery.name, now) {
         return;
     }
-    let lane = errand.aim.lane;
-    lanes.put_back(lane, errand.into_rest());
+    let lane = delivery.aim.lane;
+    lanes.put_back(lane, delivery.into_rest());
 }
 
 /// Returns whether a place of a message is due that goes to this next hop.

@@ -2,11 +2,11 @@
 ghost use Rattle.std.specs.Prelude.{◌≡◌, ◌↔◌, ◌<◌, ◌≤◌, ◌%◌, IfOk, IfSome, IsTrue, List, OnOk, map, option_map};
 ghost use Rattle.relay_routes.specs.Routes.{Route};
 ghost use Rattle.relay_next_hops.specs.Counts.{CountsMatch};
-ghost use Rattle.relay_next_hops.specs.Errands.{AreAimed};
+ghost use Rattle.relay_next_hops.specs.Deliveries.{AreAimed};
 ghost use Rattle.relay_next_hops.specs.Hearing.{AnswersEach, AnswersOne, WasLeft, hearing_at, order_of, replies_of};
 ghost use Rattle.relay_next_hops.specs.Hearing.{reply_at, told_of};
 
-use crate::errand::Course;
+use crate::delivery::Course;
 use crate::hops::Hops;
 use crate::lanes::Lanes;
 use relay_connections::{Leaving, Now, Replied, Stream};

@@ -4,10 +4,10 @@ ghost use Rattle.relay_loop.specs.Outboxes.{unwritten_at};
 ghost use Rattle.relay_connections.specs.Channel.{unread_of};
 ghost use Rattle.relay_book.specs.Queue.{message_of};
 ghost use Rattle.relay_trace.specs.DateTime.{last_second};
-ghost use Rattle.relay_next_hops.specs.Errands.{KeepsErrand, StartsFor, last_due, starting_moment};
+ghost use Rattle.relay_next_hops.specs.Deliveries.{KeepsDelivery, StartsFor, last_due, starting_moment};
 ghost use Rattle.relay_next_hops.specs.Hearing.{IsLate, hearing_of};
 
-use crate::errand::{Aim, Course, Errand};
+use crate::delivery::{Aim, Course, Delivery};
 use crate::phase::Phase;
 use relay_book::Place;
 use relay_connections::{Channel, End, Now, Stream};
@@ -83,7 +83,7 @@ impl<S: Stream> Hop<S> {
     ) -> Self
         ensures channel { result.channel ≡ channel }
         ensures aim { result.aim ≡ aim }
-        ensures errand { (result.message ≡ message) × (result.name ≡ name) }
+        ensures delivery { (result.message ≡ message) × (result.name ≡ name) }
         ensures none { (result.attempt ≡ None) × (result.hears ≡ false) }
     {
         Hop {
@@ -97,15 +97,15 @@ impl<S: Stream> Hop<S> {
             hears: false,
             talk: Talk::new(alloc, tells),
             phase: Phase::Connecting,
-            idle_deadline: now.behind(Phase::Connecting.seconds(false)),
-            answer_deadline: now.behind(ANSWER_SECONDS),
+            idle_deadline: now.after(Phase::Connecting.seconds(false)),
+            answer_deadline: now.after(ANSWER_SECONDS),
         }
     }
 
-    /// Splits it into its connection and its errand.
-    pub(crate) fn into_parts(self) -> (Channel<S>, Errand)
+    /// Splits it into its connection and its delivery.
+    pub(crate) fn into_parts(self) -> (Channel<S>, Delivery)
         ensures aim { result.1.aim ≡ self.aim }
-        ensures errand { (result.1.message ≡ self.message) × (result.1.name ≡ self.name) }
+        ensures delivery { (result.1.message ≡ self.message) × (result.1.name ≡ self.name) }
         ensures attempt { result.1.attempt ≡ self.attempt }
     {
         let Hop {
@@ -122,7 +122,7 @@ impl<S: Stream> Hop<S> {
             idle_deadline: _,
             answer_deadline: _,
         } = self;
-        let errand = Errand {
+        let delivery = Delivery {
             aim,
             message,
             name,
@@ -131,7 +131,7 @@ impl<S: Stream> Hop<S> {
             is_welcome: greeting == Some(b'2'),
             talk: Some(talk),
         };
-        (channel, errand)
+        (channel, delivery)
     }
 
     /// Returns whether it is for this message and next hop, in this lane.
@@ -159,7 +159,7 @@ impl<S: Stream> Hop<S> {
         is_shared: bool,
         now: &Now,
     ) -> Result<Course, Fault>
-        ensures errand { KeepsErrand self.old self.new }
+        ensures delivery { KeepsDelivery self.old self.new }
         ensures keeps { self.old.attempt ≢ None → self.new.attempt ≡ self.old.attempt }
         ensures starts { self.old.attempt ≡ None → self.new.attempt ≢ None
             → StartsFor self.old.aim.early now.now.moment most self.old.message self.old.name self.new.attempt
@@ -181,7 +181,7 @@ impl<S: Stream> Hop<S> {
         is_shared: bool,
         now: &Now,
     ) -> Result<Course, Fault>
-        ensures errand { KeepsErrand self.old self.new }
+        ensures delivery { KeepsDelivery self.old self.new }
         ensures keeps { self.old.attempt ≢ None → self.new.attempt ≡ self.old.attempt }
         ensures starts { self.old.attempt ≡ None → self.new.attempt ≢ None
             → StartsFor self.old.aim.early now.now.moment most self.old.message self.old.name self.new.attempt
@@ -227,7 +227,7 @@ impl<S: Stream> Hop<S> {
 
     /// Waits for the greeting, once it is connected.
     fn connect(&mut self, now: &Now) -> Course
-        ensures errand { KeepsErrand self.old self.new }
+        ensures delivery { KeepsDelivery self.old self.new }
         ensures attempt { self.new.attempt ≡ self.old.attempt }
     {
         if !self.channel.may_write() {
@@ -236,8 +236,8 @@ impl<S: Stream> Hop<S> {
         match self.channel.has_connected() {
             Ok(true) => {
                 self.phase = Phase::Command;
-                self.idle_deadline = now.behind(self.phase.seconds(false));
-                self.answer_deadline = now.behind(ANSWER_SECONDS);
+                self.idle_deadline = now.after(self.phase.seconds(false));
+                self.answer_deadline = now.after(ANSWER_SECONDS);
                 Course::Stays
             }
             Ok(false) => {
@@ -257,7 +257,7 @@ impl<S: Stream> Hop<S> {
         is_shared: bool,
         now: &Now,
     ) -> Result<Course, Fault>
-        ensures errand { KeepsErrand self.old self.new }
+        ensures delivery { KeepsDelivery self.old self.new }
         ensures starts { self.old.attempt ≡ None → self.new.attempt ≢ None
             → StartsFor self.old.aim.early now.now.moment most self.old.message self.old.name self.new.attempt
             relay.old relay.new }
@@ -284,7 +284,7 @@ impl<S: Stream> Hop<S> {
         most: usize,
         now: &Now,
     ) -> Result<Course, Fault>
-        ensures errand { KeepsErrand self.old self.new }
+        ensures delivery { KeepsDelivery self.old self.new }
         ensures starts { self.old.attempt ≡ None → self.new.attempt ≢ None
             → StartsFor self.old.aim.early now.now.moment most self.old.message self.old.name self.new.attempt
             relay.old relay.new }
@@ -318,7 +318,7 @@ impl<S: Stream> Hop<S> {
 
     /// Writes, or, if nothing is unwritten, reads what its attempt may hear.
     fn exchange<D: Disk>(&mut self, relay: &mut Relay<D>, attempt: usize, now: &Now) -> Course
-        ensures errand { KeepsErrand self.old self.new }
+        ensures delivery { KeepsDelivery self.old self.new }
         ensures attempt { self.new.attempt ≡ self.old.attempt }
     {
         self.flush(relay, attempt, now);
@@ -345,17 +345,17 @@ impl<S: Stream> Hop<S> {
 
     /// Renews its deadlines, by what it waits for now.
     pub(crate) fn wait_on<D: Disk>(&mut self, relay: &Relay<D>, attempt: usize, now: &Now)
-        ensures errand { KeepsErrand self.old self.new }
+        ensures delivery { KeepsDelivery self.old self.new }
         ensures attempt { self.new.attempt ≡ self.old.attempt }
         ensures channel { (self.new.channel ≡ self.old.channel) × (self.new.hears ≡ self.old.hears) }
     {
         let writes = !relay.to_hop(attempt).is_empty();
-        self.idle_deadline = now.behind(self.phase.seconds(writes));
+        self.idle_deadline = now.after(self.phase.seconds(writes));
     }
 
     /// Writes as many unwritten octets as the next hop takes at once.
     pub(crate) fn flush<D: Disk>(&mut self, relay: &mut Relay<D>, attempt: usize, now: &Now)
-        ensures errand { KeepsErrand self.old self.new }
+        ensures delivery { KeepsDelivery self.old self.new }
         ensures attempt { self.new.attempt ≡ self.old.attempt }
         ensures unread { unread_of self.new.channel ≡ unread_of self.old.channel }
         ensures hears { self.new.hears ≡ self.old.hears }
@@ -367,7 +367,7 @@ impl<S: Stream> Hop<S> {
             }
             relay.wrote_to_hop(attempt, count);
             self.wait_on(relay, attempt, now);
-            self.answer_deadline = now.behind(ANSWER_SECONDS);
+            self.answer_deadline = now.after(ANSWER_SECONDS);
         }
     }
 }

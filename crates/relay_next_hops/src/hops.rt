@@ -4,16 +4,16 @@ ghost use Rattle.relay_slots.specs.Slots.{AreFree, IsFull, IsLeastFree, OthersSt
 ghost use Rattle.relay_connections.specs.Table.{count_of, is_such};
 ghost use Rattle.relay_limits.specs.declared.pace.Pace.{Pace};
 ghost use Rattle.relay_next_hops.specs.Counts.{CountsMatch, CountsMatchWith, is_unanswered, unanswered_of};
-ghost use Rattle.relay_next_hops.specs.Errands.{AreAimed, IsAimed, IsOpenedTo, PutsFor, StartsFor};
-ghost use Rattle.relay_next_hops.specs.Errands.{left_of, portions_after};
+ghost use Rattle.relay_next_hops.specs.Deliveries.{AreAimed, IsAimed, IsOpenedTo, PutsFor, StartsFor};
+ghost use Rattle.relay_next_hops.specs.Deliveries.{left_of, portions_after};
 ghost use Rattle.relay_next_hops.specs.Lanes.{KeepsCounts};
 ghost use Rattle.relay_next_hops.specs.Listing.{HasConnection};
 ghost use Rattle.relay_next_hops.specs.Portions.{fresh, portion_of};
 ghost use Rattle.relay_next_hops.specs.Readiness.{IsLeftHop};
 
+use crate::delivery::{Aim, Course};
 use crate::dial::Dial;
 use crate::ending::conclude;
-use crate::errand::{Aim, Course};
 use crate::hop::Hop;
 use crate::lane::Task;
 use crate::lanes::Lanes;

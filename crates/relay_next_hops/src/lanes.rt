@@ -7,7 +7,7 @@ ghost use Rattle.relay_next_hops.specs.Lanes.{OnlyLane, closed, tasks_at};
 ghost use Rattle.relay_next_hops.specs.Paces.{HasLane, IsHeldAt, MayBeginAt, RunsOneLess, RunsOneMore};
 ghost use Rattle.relay_next_hops.specs.Paces.{has_answered_at};
 
-use crate::errand::Aim;
+use crate::delivery::Aim;
 use crate::lane::{Lane, Task};
 use crate::numbers::Numbers;
 use crate::paces::Paces;
@@ -377,7 +377,7 @@ impl Lanes {
             return None;
         }
         let seconds = self.paces.hold(number, now.tick)?;
-        self.next_hold_end = self.next_hold_end.min(now.behind(seconds));
+        self.next_hold_end = self.next_hold_end.min(now.after(seconds));
         Some(seconds)
     }
 

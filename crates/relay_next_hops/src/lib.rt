@@ -3,9 +3,9 @@
 #![tactic(auto)]
 
 mod answering;
+mod delivery;
 mod dial;
 mod ending;
-mod errand;
 mod giving_up;
 mod going_on;
 mod hearing;
@@ -24,7 +24,7 @@ mod portions;
 mod scripted;
 mod sockets;
 mod sorting;
-mod spares;
+mod spare_descriptors;
 mod starting;
 mod steering;
 mod turning;
@@ -33,4 +33,4 @@ pub use dial::Dial;
 pub use next_hops::NextHops;
 pub use scripted::{PlacedStream, ScriptedDial};
 pub use sockets::Sockets;
-pub use spares::Spares;
+pub use spare_descriptors::SpareDescriptors;

@@ -120,7 +120,7 @@ impl Lanes {
         ensures walk { (self.new.queued ≡ self.old.queued) × (self.new.is_listing ≡ self.old.is_listing) }
     {
         if self.next_minute <= now.tick {
-            self.next_minute = now.behind(LISTING_SECONDS);
+            self.next_minute = now.after(LISTING_SECONDS);
             self.is_unsure = true;
             // The node says only that waiting mail is due, and nothing of what is due later. A walk also drops the
             // numbers of messages that have left.
@@ -258,7 +258,7 @@ impl Lanes {
         for lane in self.lanes.as_mut_slice() {
             lane.clear();
         }
-        self.next_minute = now.behind(LISTING_SECONDS);
+        self.next_minute = now.after(LISTING_SECONDS);
         self.next_due = u64::MAX;
         self.is_stale = false;
         self.is_unsure = true;

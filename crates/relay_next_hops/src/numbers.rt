@@ -1,7 +1,7 @@
 //! The numbers of the messages that may be queued, and a walk over them in parts, while messages arrive and leave.
 ghost use Rattle.std.specs.Prelude.{◌≡◌, ◌==◌, ◌↔◌, [], ◌∷◌, IfOk, IsTrue, MatchOption, OnErr, OnOk};
 ghost use Rattle.std.specs.List.{list_any};
-ghost use Rattle.relay_next_hops.specs.Numbers.{begun, no_numbers, numbers_behind, with_left, with_newer, with_passed};
+ghost use Rattle.relay_next_hops.specs.Numbers.{begun, no_numbers, numbers_after, with_left, with_newer, with_passed};
 
 use std::alloc::{AllocError, Global};
 use std::marker::Model;
@@ -62,7 +62,7 @@ impl Numbers {
     /// Returns the numbers of the messages of these held places, which are grouped by message. Fails if memory runs
     /// out.
     pub(crate) fn of_places(alloc: Global, places: &[(u64, u8)]) -> Result<Self, AllocError>
-        ensures numbers { IfOk result (λ numbers. numbers.newer ≡ numbers_behind 0 places.now) }
+        ensures numbers { IfOk result (λ numbers. numbers.newer ≡ numbers_after 0 places.now) }
         ensures rest { IfOk result (λ numbers. (numbers.left ≡ []) × (numbers.passed ≡ [])) }
     {
         let mut numbers = Numbers::new(alloc);

@@ -18,7 +18,7 @@ ghost use Rattle.relay_next_hops.specs.Paces.{IsHeldAt};
 use crate::ending::lose_held;
 use crate::lane::Task;
 use crate::lanes::Lanes;
-use crate::starting::{aim_of, errand_of};
+use crate::starting::{aim_of, delivery_of};
 use relay_book::Place;
 use relay_connections::Now;
 use relay_disk::Disk;
@@ -29,8 +29,8 @@ use relay_loop::Relay;
 /// How many seconds a message may be due at a next hop on hold before an attempt counts as lost without a connection.
 const OVERDUE_SECONDS: u64 = 4 * 60 * 60;
 
-/// Records the loss of the first overdue task of a lane on hold, among the next unchecked ones, unless a postmaster holds
-/// it. Returns whether there was one. Checks at most `checks` tasks, and subtracts what it has checked.
+/// Records the loss of the first overdue task of a lane on hold, among the next unchecked ones, unless a postmaster
+/// holds it. Returns whether there was one. Checks at most `checks` tasks, and subtracts what it has checked.
 pub(crate) fn lose_overdue<D: Disk>(
     relay: &mut Relay<D>,
     lanes: &mut Lanes,
@@ -72,7 +72,7 @@ pub(crate) fn lose_overdue<D: Disk>(
     let Some(aim) = aim_of(relay, lanes, &task, lane) else {
         return Ok(false);
     };
-    lose_held(relay, errand_of(task, aim), now, log)?;
+    lose_held(relay, delivery_of(task, aim), now, log)?;
     Ok(true)
 }
 

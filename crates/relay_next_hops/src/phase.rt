@@ -21,7 +21,7 @@ const CONTENT_SECONDS: u64 = 600;
 const COMMANDS: [&[u8]; 5] = [b"EHLO ", b"HELO ", b"MAIL FROM:", b"RCPT TO:", b"QUIT\r\n"];
 
 /// What is waited for.
-#[derive(Clone, Copy, Debug, PartialEq, Eq)]
+#[derive(Clone, Copy, PartialEq, Eq)]
 pub(crate) enum Phase {
     /// The connection.
     Connecting,
@@ -36,7 +36,7 @@ pub(crate) enum Phase {
 impl Phase {
     /// Returns what is waited for after these octets were sent. Mail data begins with a trace field, with a line of a
     /// report, or with the BDAT line of its chunk.
-    pub(crate) fn behind(self, octets: &[u8]) -> Self {
+    pub(crate) fn after(self, octets: &[u8]) -> Self {
         if octets.is_empty() {
             self
         } else if octets == b"DATA\r\n".as_slice() {

@@ -11,7 +11,7 @@ use std::marker::Model;
 const MESSAGE_COUNT: usize = 1_024;
 
 /// A message of which an attempt was cut off.
-#[derive(Clone, Copy, Debug)]
+#[derive(Clone, Copy)]
 pub(crate) struct Halved {
     pub(crate) message: u64,
     /// The most recipients of its next attempt.

@@ -2,7 +2,7 @@
 ghost use Rattle.std.specs.Prelude.{◌≡◌};
 
 use crate::dial::Dial;
-use crate::spares::SPARE_COUNT;
+use crate::spare_descriptors::SPARE_COUNT;
 use relay_connections::Stream;
 use std::collections::VecDeque;
 use std::io::{self, Error, ErrorKind};

@@ -2,7 +2,7 @@
 ghost use Rattle.std.specs.Prelude.{◌≡◌};
 
 use crate::dial::Dial;
-use crate::spares::Spares;
+use crate::spare_descriptors::SpareDescriptors;
 use mio::net::TcpStream;
 use std::io;
 use std::net::{Net, SocketAddr, SocketAddrV4};
@@ -10,7 +10,7 @@ use std::net::{Net, SocketAddr, SocketAddrV4};
 /// Opens the system's streams, and keeps spare descriptors for them. Nothing is known about where such a stream leads.
 pub struct Sockets<'a, N> {
     net: &'a N,
-    spares: Spares,
+    spares: SpareDescriptors,
 }
 
 // Written out, so that the proof of a caller that drops it stops at this function.
@@ -25,7 +25,7 @@ impl<N> Drop for Sockets<'_, N> {
 
 impl<'a, N: Net> Sockets<'a, N> {
     /// Makes a source of this system's streams, with these spare descriptors.
-    pub fn new(net: &'a N, spares: Spares) -> Self
+    pub fn new(net: &'a N, spares: SpareDescriptors) -> Self
         ensures { result.spares ≡ spares }
     {
         Sockets { net, spares }
@@ -33,7 +33,7 @@ impl<'a, N: Net> Sockets<'a, N> {
 }
 
 impl<N: Net> Dial for Sockets<'_, N> {
-    ghost use Rattle.relay_next_hops.specs.Spares.{held_of};
+    ghost use Rattle.relay_next_hops.specs.SpareDescriptors.{held_of};
 
     type Stream = TcpStream;
 

@@ -3,15 +3,15 @@ ghost use Rattle.std.specs.Prelude.{◌≡◌, ◌+◌, ◌<◌, ◌≤◌, IfOk
 ghost use Rattle.relay_book.specs.Queue.{message_of};
 ghost use Rattle.relay_routes.specs.Routes.{place_of};
 ghost use Rattle.relay_next_hops.specs.Counts.{CountsMatch, unanswered_of};
-ghost use Rattle.relay_next_hops.specs.Errands.{AreAimed, IsOpenedTo};
+ghost use Rattle.relay_next_hops.specs.Deliveries.{AreAimed, IsOpenedTo};
 ghost use Rattle.relay_next_hops.specs.Lanes.{OnlyLane, tasks_at};
 ghost use Rattle.relay_next_hops.specs.Paces.{HasLane};
 ghost use Rattle.relay_next_hops.specs.Starting.{IsBegun, IsEndOf, IsStep};
 ghost use Rattle.relay_next_hops.specs.Starting.{IsTried, OpensUnheld, back_of, step_after};
 
+use crate::delivery::{Aim, Delivery};
 use crate::dial::Dial;
 use crate::ending::lose;
-use crate::errand::{Aim, Errand};
 use crate::hops::Hops;
 use crate::lane::Task;
 use crate::lanes::Lanes;
@@ -30,7 +30,7 @@ const WANT_PAUSE: u64 = 1_000;
 const MOST_UNANSWERED: usize = 48;
 
 /// When connections may begin.
-#[derive(Clone, Copy, Debug)]
+#[derive(Clone, Copy)]
 pub(crate) struct Starts {
     /// The tick before which none begins.
     pub(crate) paused_until: u64,
@@ -69,7 +69,7 @@ impl Starts {
 }
 
 /// How far a lane has come in a turn.
-#[derive(Clone, Copy, Debug, PartialEq, Eq)]
+#[derive(Clone, Copy, PartialEq, Eq)]
 pub(crate) enum Begun {
     /// No more of it may begin now.
     AllDone,
@@ -84,7 +84,7 @@ pub(crate) enum Begun {
 }
 
 /// The result for the next task of a lane.
-#[derive(Clone, Copy, Debug, PartialEq, Eq)]
+#[derive(Clone, Copy, PartialEq, Eq)]
 pub(crate) enum Step {
     /// It has left the lane: a connection is being opened for it, none could be, or a postmaster holds it.
     Left,
@@ -99,7 +99,7 @@ pub(crate) enum Step {
 }
 
 /// The result of beginning a connection for a task.
-#[derive(Clone, Copy, Debug, PartialEq, Eq)]
+#[derive(Clone, Copy, PartialEq, Eq)]
 pub(crate) enum Tried {
     /// A connection is being opened for it.
     Connects,
@@ -258,7 +258,7 @@ fn start_task<S: Stream + Drop, N: Dial<Stream = S>, D: Disk>(
         }
         Err((task, error)) => {
             let loss = Loss::of_connecting(&error);
-            lose(relay, lanes, &errand_of(task, aim), loss, now, log)?;
+            lose(relay, lanes, &delivery_of(task, aim), loss, now, log)?;
             Ok(Tried::Fails)
         }
     }
@@ -301,13 +301,13 @@ pub(crate) fn accepted_at<D: Disk>(relay: &Relay<D>, message: u64) -> Option<Mom
     }
 }
 
-/// Returns the errand of a task for which no connection was made.
-pub(crate) fn errand_of(task: Task, aim: Aim) -> Errand
+/// Returns the delivery of a task for which no connection was made.
+pub(crate) fn delivery_of(task: Task, aim: Aim) -> Delivery
     ensures { (result.aim ≡ aim) × (result.message ≡ task.message) × (result.name ≡ task.hop)
         × (result.attempt ≡ None) }
 {
     let (message, name) = task.into_parts();
-    Errand {
+    Delivery {
         aim,
         message,
         name,

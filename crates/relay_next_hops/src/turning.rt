@@ -1,7 +1,7 @@
 //! In which order lanes have their turn, and how far a turn goes.
 ghost use Rattle.std.specs.Prelude.{◌≡◌, ◌≢◌, ◌⊎◌, ◌+◌, ◌<◌, ◌≤◌, ℕ, OnOk, false, length, min, true};
 ghost use Rattle.relay_next_hops.specs.Counts.{CountsMatch};
-ghost use Rattle.relay_next_hops.specs.Errands.{AreAimed};
+ghost use Rattle.relay_next_hops.specs.Deliveries.{AreAimed};
 ghost use Rattle.relay_next_hops.specs.Lanes.{IsNth, KeepsCounts, OnlyLane, tasks_at, turned_to};
 ghost use Rattle.relay_next_hops.specs.Starting.{IsDone, IsStoppedBy, OpensUnheld};
 ghost use Rattle.relay_next_hops.specs.Turns.{IsGoneOver, IsStopped};
@@ -63,13 +63,13 @@ fn nth(first: usize, step: usize, count: usize) -> usize
 /// Returns which of two lanes comes first from a third one on, of `count` lanes in a circle.
 pub(crate) fn nearer(from: usize, count: usize, one: Option<usize>, other: usize) -> Option<usize> {
     match one {
-        Some(one) if behind(from, count, one) <= behind(from, count, other) => Some(one),
+        Some(one) if after(from, count, one) <= after(from, count, other) => Some(one),
         _ => Some(other),
     }
 }
 
 /// Returns how many places a lane comes after another, of `count` lanes in a circle.
-fn behind(from: usize, count: usize, lane: usize) -> usize {
+fn after(from: usize, count: usize, lane: usize) -> usize {
     match lane.checked_sub(from) {
         Some(places) => places,
         None => lane.saturating_add(count.saturating_sub(from)),

@@ -2,7 +2,7 @@ mod AcceptLemmas
 mod ListenLemmas
 mod SpeakLemmas
 mod ReceiveLemmas
-mod HeardBehindLemmas
+mod HeardAfterLemmas
 mod QueuedLemmas
 mod NodeLemmas
 mod SeatLemmas

@@ -14,7 +14,7 @@ use Rattle.relay_attempts.specs.declared.reply.Replied.{Replied}
 use Rattle.relay_attempts.specs.declared.runs.Run.{Run}
 use Rattle.relay_attempts.specs.Attempts.{AttemptTable}
 use Rattle.relay_attempts.specs.Reply.{Told, told_more}
-use Rattle.relay_attempts.specs.Staging.{HasHeardBehind, MakesBehind, RefusesToHearBehind, RepliesBehind}
+use Rattle.relay_attempts.specs.Staging.{HasHeardAfter, MakesAfter, RefusesToHearAfter, RepliesAfter}
 use Rattle.relay_node.specs.declared.seat.Seat.{Seat}
 use Rattle.relay_node.specs.Node.{NodeState}
 use Rattle.relay_node.specs.StagedReplies.{RefusesToReplyInto, RepliesInto, UsesReplyInto}
@@ -22,24 +22,24 @@ use Rattle.relay_node.proofs.ReplyLemmas.{told_by_list}
 use Rattle.relay_report.specs.Report.{Reporter, reporter_of}
 
 -- changes that fit after others that do
-fit_behind : (queue : Queue) (changes pending : List Change) → FitsFrom queue changes
+fit_after : (queue : Queue) (changes pending : List Change) → FitsFrom queue changes
     → FitsFrom (fold step queue changes) pending → FitsFrom queue (changes ++ pending)
-fit_behind queue [] pending first second = second
-fit_behind queue (one ∷ changes) pending first second =
-    (first.0, fit_behind (step queue one) changes pending first.1 second)
+fit_after queue [] pending first second = second
+fit_after queue (one ∷ changes) pending first second =
+    (first.0, fit_after (step queue one) changes pending first.1 second)
 
 -- the list of records that await changes fits, with these
 pub awaited_fit : {D : Type 0} (honest : Type 0) (words : DiskWords D) (records : Kept D) (changes pending : List Change)
     (row : Row) → Awaits honest words records changes pending row → Fitting (changes ++ pending)
 awaited_fit honest words records changes pending row awaits =
-    fit_behind empty_queue changes pending awaits.fitting awaits.fits
+    fit_after empty_queue changes pending awaits.fitting awaits.fits
 
 -- what a reply has done by the queue it has done by the list
 module _ {D : Type 0} (honest : Type 0) (words : DiskWords D) (reporter : Reporter) (now : ℕ) (changes pending : List Change)
     (number : ℕ) (told : Told) (row : Row) (piece : List ℕ) (old new : NodeState D) (left : Row)
     (awaits : Awaits honest words old.records changes pending row) where
   by_change : (replied : Replied) (change : Option ℕ)
-      → RepliesBehind honest words reporter changes pending row now number told piece old.records new.records left
+      → RepliesAfter honest words reporter changes pending row now number told piece old.records new.records left
       new.attempts replied change
       → RepliesInto honest words reporter now changes pending number told row piece old new left replied change
   by_change replied None r = record {
@@ -55,7 +55,7 @@ module _ {D : Type 0} (honest : Type 0) (words : DiskWords D) (reporter : Report
   by_change replied (Some change) r = r
 
   pub replies_into : (result : Result Replied NodeFault)
-      → IfOk result (λ replied. RepliesBehind honest words reporter changes pending row now number told piece old.records
+      → IfOk result (λ replied. RepliesAfter honest words reporter changes pending row now number told piece old.records
       new.records left new.attempts replied replied.change)
       → IfOk result (λ replied. RepliesInto honest words reporter now changes pending number told row piece old new left
       replied replied.change)
@@ -66,7 +66,7 @@ module _ {D : Type 0} (honest : Type 0) (words : DiskWords D) (reporter : Report
 module _ {D : Type 0} (now number : ℕ) (old new : NodeState D) (row left : Row) (used : ℕ) where
   abbrev Made : Option ℕ → Type 0
   Made change =
-      MakesBehind (reporter_of old.config) now number old.attempts new.attempts used old.records new.records row left change
+      MakesAfter (reporter_of old.config) now number old.attempts new.attempts used old.records new.records row left change
 
   gone_by : (change : Option ℕ) → Made change → change ≢ None → slot_at new.attempts number ≡ None
   gone_by None made some = absurd (some refl)
@@ -88,7 +88,7 @@ module _ {D : Type 0} (now number : ℕ) (old new : NodeState D) (row left : Row
 -- what was used, whatever is told
 pub uses_into : {D : Type 0} (now number len : ℕ) (old new : NodeState D) (row left : Row)
     (result : Result Replied NodeFault)
-    → IfOk result (HasHeardBehind (reporter_of old.config) now number len old.attempts new.attempts old.records new.records row
+    → IfOk result (HasHeardAfter (reporter_of old.config) now number len old.attempts new.attempts old.records new.records row
     left)
     → IfOk result (UsesReplyInto now number len old new row left)
 uses_into now number len old new row left (Err fault) heard = tt
@@ -107,7 +107,7 @@ module _ {D : Type 0} (number : ℕ) (before after : AttemptTable) (old new : No
     (was : old.attempts ≡ before.runs) (is : new.attempts ≡ after.runs) (config : new.config ≡ old.config)
     (seats : new.seats ≡ old.seats) where
   -- what is left after it
-  refuses : (fault : NodeFault) → RefusesToHearBehind number before after old.records new.records row left fault
+  refuses : (fault : NodeFault) → RefusesToHearAfter number before after old.records new.records row left fault
       → RefusesToReplyInto number old new row left fault
   refuses NoMemory r = record {
     attempt = ap (λ (l : List (Option Run)). slot_at l number) is ∙ r.1;
@@ -139,14 +139,14 @@ module _ {D : Type 0} (number : ℕ) (before after : AttemptTable) (old new : No
   }
 
   pub refuses_reply_into : {T : Type 0} (result : Result T NodeFault)
-      → IfErr result (RefusesToHearBehind number before after old.records new.records row left)
+      → IfErr result (RefusesToHearAfter number before after old.records new.records row left)
       → IfErr result (RefusesToReplyInto number old new row left)
   refuses_reply_into (Ok value) r = tt
   refuses_reply_into (Err fault) r = refuses fault r
 
 -- an attempt that isn't there is unknown, and only such a one; the row stays at each fault
 module _ {D : Type 0} (number : ℕ) (before after : AttemptTable) (old new : Kept D) (row left : Row) where
-  none_else : (fault : NodeFault) → RefusesToHearBehind number before after old new row left fault
+  none_else : (fault : NodeFault) → RefusesToHearAfter number before after old new row left fault
       → slot_at before.runs number ≡ None → fault ≡ Unknown
   none_else NoMemory r none = absurd (r.0 none)
   none_else Stopped r none = absurd r
@@ -158,7 +158,7 @@ module _ {D : Type 0} (number : ℕ) (before after : AttemptTable) (old new : Ke
   none_else (Open cause) r none = absurd r
   none_else Full r none = absurd (r.0 none)
 
-  row_by : (fault : NodeFault) → RefusesToHearBehind number before after old new row left fault → left ≡ row
+  row_by : (fault : NodeFault) → RefusesToHearAfter number before after old new row left fault → left ≡ row
   row_by NoMemory r = r.3
   row_by Stopped r = absurd r
   row_by Unknown r = r.3
@@ -170,38 +170,38 @@ module _ {D : Type 0} (number : ℕ) (before after : AttemptTable) (old new : Ke
   row_by Full r = r.3
 
   pub row_stays : {T : Type 0} (result : Result T NodeFault)
-      → IfErr result (RefusesToHearBehind number before after old new row left) → OnErr result (left ≡ row)
+      → IfErr result (RefusesToHearAfter number before after old new row left) → OnErr result (left ≡ row)
   row_stays (Ok value) r = tt
   row_stays (Err fault) r = row_by fault r
 
   pub unknown_into : {T : Type 0} (result : Result T NodeFault)
-      → IfErr result (RefusesToHearBehind number before after old new row left) → result ≡ Err Unknown
+      → IfErr result (RefusesToHearAfter number before after old new row left) → result ≡ Err Unknown
       → slot_at before.runs number ≡ None
   unknown_into (Ok value) r e = absurd (cc)
   unknown_into {T = T} (Err fault) r e =
       let is : fault ≡ Unknown = cc in
-      (subst (RefusesToHearBehind number before after old new row left) is r).0
+      (subst (RefusesToHearAfter number before after old new row left) is r).0
 
   pub into_unknown : {T : Type 0} (result : Result T NodeFault) → OnOk result (slot_at before.runs number ≢ None)
-      → IfErr result (RefusesToHearBehind number before after old new row left) → slot_at before.runs number ≡ None
+      → IfErr result (RefusesToHearAfter number before after old new row left) → slot_at before.runs number ≡ None
       → result ≡ Err Unknown
   into_unknown (Ok value) there r none = absurd (there none)
   into_unknown (Err fault) there r none = ap Err (none_else fault r none)
 
 -- where it was heard, it was there
-pub heard_behind_there : {D : Type 0} (reporter : Reporter) (now number len : ℕ) (before after : List (Option Run))
+pub heard_after_there : {D : Type 0} (reporter : Reporter) (now number len : ℕ) (before after : List (Option Run))
     (old new : Kept D) (row left : Row) (result : Result Replied NodeFault)
-    → IfOk result (HasHeardBehind reporter now number len before after old new row left)
+    → IfOk result (HasHeardAfter reporter now number len before after old new row left)
     → OnOk result (slot_at before number ≢ None)
-heard_behind_there reporter now number len before after old new row left (Err fault) heard = tt
-heard_behind_there {D = D} reporter now number len before after old new row left (Ok replied) heard =
+heard_after_there reporter now number len before after old new row left (Err fault) heard = tt
+heard_after_there {D = D} reporter now number len before after old new row left (Ok replied) heard =
     by replied.change heard.makes
   where
     some_there : (run : Run) → slot_at before number ≡ Some run → slot_at before number ≢ None
     some_there run is none = absurd (cc)
 
     by : (change : Option ℕ)
-        → MakesBehind reporter now number before after replied.used old new row left change
+        → MakesAfter reporter now number before after replied.used old new row left change
         → slot_at before number ≢ None
     by None made = made.0
     by (Some change) made = some_there made.run made.was

@@ -14,7 +14,7 @@ use Rattle.relay_attempts.specs.declared.runs.Run.{Run}
 use Rattle.relay_node.specs.declared.receive.Received.{Received}
 use Rattle.relay_node.specs.declared.seat.Seat.{Seat}
 use Rattle.relay_node.specs.Node.{SeatHasSaid}
-use Rattle.relay_node.specs.Staging.{HearsBehind, HearsInto, ReceivesBehind, RefusesToHearInto}
+use Rattle.relay_node.specs.Staging.{HearsAfter, HearsInto, ReceivesAfter, RefusesToHearInto}
 use Rattle.relay_node.proofs.NodeLemmas.{goes_on, has_gone, is_open, not_closed, peer_of_taken, standing_of, taken_says}
 
 -- a call that stages nothing leaves records and row
@@ -32,23 +32,23 @@ module _ {D : Type 0} (old new : Kept D) (row left : Row) where
 
 module _ {D : Type 0} (honest : Type 0) (words : DiskWords D) (config : Config) (changes pending : List Change) (at number : ℕ) (piece : List ℕ) (old : List (Option Seat)) (taken : Seat) (runs more : List (Option Run))
     (was : Some taken ≡ slot_at old number) (new : Seat) (peer_kept : new.peer ≡ taken.peer) (before after : Kept D) (row left : Row) (received : Received)
-    (behind : HearsBehind honest words config changes pending at taken.peer taken.session.value new.session.value piece before row after left received) where
+    (afterwards : HearsAfter honest words config changes pending at taken.peer taken.session.value new.session.value piece before row after left received) where
   module _ (peer : List ℕ) (said : Said) (is : SeatHasSaid config old number peer said) where
-    heard : HearsInto config changes pending peer at said piece new.session.value before row after left behind.more received
+    heard : HearsInto config changes pending peer at said piece new.session.value before row after left afterwards.more received
     heard =
         let peer_is = peer_of_taken config peer number said old taken is was in
-        subst (λ p. HearsInto config changes pending p at said piece new.session.value before row after left behind.more received) peer_is (behind.hears said (taken_says config peer number said old taken is was))
+        subst (λ p. HearsInto config changes pending p at said piece new.session.value before row after left afterwards.more received) peer_is (afterwards.hears said (taken_says config peer number said old taken is was))
 
     new_peer : new.peer ≡ peer
     new_peer = peer_kept ∙ peer_of_taken config peer number said old taken is was
 
   -- the session was put back
-  pub receives_behind_on : (mid all : List (Option Seat)) → received.close ≡ false → number < length mid → all ≡ slice_set mid number (Some new)
-      → ReceivesBehind honest words config changes pending at number piece (standing_of config old runs before) row (standing_of config all more after) left received
-  receives_behind_on mid all going within set = record {
-    more = behind.more;
-    staged = behind.staged;
-    awaits = behind.awaits;
+  pub receives_after_on : (mid all : List (Option Seat)) → received.close ≡ false → number < length mid → all ≡ slice_set mid number (Some new)
+      → ReceivesAfter honest words config changes pending at number piece (standing_of config old runs before) row (standing_of config all more after) left received
+  receives_after_on mid all going within set = record {
+    more = afterwards.more;
+    staged = afterwards.staged;
+    awaits = afterwards.awaits;
     receives = λ peer said is.
         let h = heard peer said is in
         let peer_is = new_peer peer said is in
@@ -61,12 +61,12 @@ module _ {D : Type 0} (honest : Type 0) (words : DiskWords D) (config : Config) 
   }
 
   -- the session has closed
-  pub receives_behind_last : (rest : List (Option Seat)) → received.close ≡ true → rest ≡ slice_set old number None
-      → ReceivesBehind honest words config changes pending at number piece (standing_of config old runs before) row (standing_of config rest more after) left received
-  receives_behind_last rest is_last set = record {
-    more = behind.more;
-    staged = behind.staged;
-    awaits = behind.awaits;
+  pub receives_after_last : (rest : List (Option Seat)) → received.close ≡ true → rest ≡ slice_set old number None
+      → ReceivesAfter honest words config changes pending at number piece (standing_of config old runs before) row (standing_of config rest more after) left received
+  receives_after_last rest is_last set = record {
+    more = afterwards.more;
+    staged = afterwards.staged;
+    awaits = afterwards.awaits;
     receives = λ peer said is.
         let h = heard peer said is in
         record {
@@ -78,7 +78,7 @@ module _ {D : Type 0} (honest : Type 0) (words : DiskWords D) (config : Config) 
   }
 
   -- the session was put back, unless it has closed
-  pub receives_behind_by : (close : Bool) → received.close ≡ close → (mid all : List (Option Seat)) → mid ≡ slice_set old number None → number < length mid → all ≡ (if close then mid else slice_set mid number (Some new))
-      → ReceivesBehind honest words config changes pending at number piece (standing_of config old runs before) row (standing_of config all more after) left received
-  receives_behind_by true close_is mid all rest within put = receives_behind_last all close_is (put ∙ rest)
-  receives_behind_by false close_is mid all rest within put = receives_behind_on mid all close_is within put
+  pub receives_after_by : (close : Bool) → received.close ≡ close → (mid all : List (Option Seat)) → mid ≡ slice_set old number None → number < length mid → all ≡ (if close then mid else slice_set mid number (Some new))
+      → ReceivesAfter honest words config changes pending at number piece (standing_of config old runs before) row (standing_of config all more after) left received
+  receives_after_by true close_is mid all rest within put = receives_after_last all close_is (put ∙ rest)
+  receives_after_by false close_is mid all rest within put = receives_after_on mid all close_is within put

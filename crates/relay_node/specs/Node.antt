@@ -11,7 +11,7 @@ use Rattle.relay_routes.specs.declared.config.Config.{Config}
 use Rattle.relay_server.specs.declared.offer.Answer.TheVariants.{Queued}
 use Rattle.relay_server.specs.declared.session.Next.TheVariants as next
 use Rattle.relay_server.specs.declared.session.Session.{Session}
-use Rattle.relay_server.specs.Dialogue.{Offered, Said, IsDialogue, unread_behind}
+use Rattle.relay_server.specs.Dialogue.{Offered, Said, IsDialogue, unread_after}
 use Rattle.relay_server.specs.Session.{Stands, next_of, open_offers}
 use Rattle.relay_server.specs.Setup.{Setup, setup_for}
 use Rattle.relay_server.specs.State.{Closed}
@@ -66,7 +66,7 @@ HaveHistories config (Some seat ∷ seats) = HasHistory config seat.peer seat.se
 -- what was said is a dialogue that the server has closed, and octets after it belong to its rest
 pub record HasClosed (setup : Setup) (said : Said) : Type 0 where
   pub dialogue : IsDialogue setup said
-  pub unread : (octets : List ℕ) → (dialogue : IsDialogue setup (unread_behind said octets))
+  pub unread : (octets : List ℕ) → (dialogue : IsDialogue setup (unread_after said octets))
       × (dialogue.state ≡ Closed)
 
 -- the session of this number goes on after what was said, or it has closed, and is gone

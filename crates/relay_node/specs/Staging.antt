@@ -33,25 +33,25 @@ use Rattle.relay_node.specs.Room.{AnswersMore, EndsWithOffer, HasRoom, Overfills
 module _ {D : Type 0} (honest : Type 0) (words : DiskWords D) (config : Config) (changes pending : List Change)
     (peer : List ℕ) (at : ℕ) (offer : Offered) (old : Kept D) (row : Row) where
   -- how the next change is accepted
-  abbrev pub acceptance_behind : Acceptance
-  acceptance_behind = acceptance_by config peer (length changes + length pending + 1) at
+  abbrev pub acceptance_after : Acceptance
+  acceptance_after = acceptance_by config peer (length changes + length pending + 1) at
 
   -- how many octets the spool takes with the row
-  abbrev pub size_behind : ℕ
-  size_behind = old.spool.size + room_of row.bodies
+  abbrev pub size_after : ℕ
+  size_after = old.spool.size + room_of row.bodies
 
   -- the change of this number accepts the offer, there was room for it, and it is pending too
   pub record IsStagedAs (new : Kept D) (left : Row) (number : ℕ) : Type 0 where
     pub number_is : number ≡ length changes + length pending + 1
     pub accept : Accept
-    pub fits : HasRoom acceptance_behind config.spool_limit size_behind offer accept
+    pub fits : HasRoom acceptance_after config.spool_limit size_after offer accept
     pub awaits : Awaits honest words new changes (pending ++ change.Accept accept ∷ []) left
 
   -- the offer is staged; or there is no room for it, and nothing has changed
   abbrev pub StagesOffer : Kept D → Row → Answer → Type 0
   StagesOffer new left (answer.Queued number) = IsStagedAs new left number
   StagesOffer new left answer.Full =
-      Overfills acceptance_behind config.spool_limit size_behind offer × (new ≡ old) × (left ≡ row)
+      Overfills acceptance_after config.spool_limit size_after offer × (new ≡ old) × (left ≡ row)
 
 -- whatever the records keep, what the answer says of the queue is so, and no call went to a device
 pub record HasStaged {D : Type 0} (old new : Kept D) (given : Answer) : Type 0 where
@@ -81,13 +81,13 @@ IsStaged next (Some number) more = (accept : Accept) × (number ≡ next) × (mo
 -- changes and awaits those that are pending, which the row records.
 module _ (config : Config) (changes pending : List Change) (peer : List ℕ) (at : ℕ) where
   -- how the next change is accepted
-  abbrev pub next_behind : Acceptance
-  next_behind = acceptance_by config peer (length changes + length pending + 1) at
+  abbrev pub next_after : Acceptance
+  next_after = acceptance_by config peer (length changes + length pending + 1) at
 
   -- each of these offers would bring the spool, with the row, past its limit
-  abbrev pub HaveNoRoomBehind : {D : Type 0} → Kept D → Row → List Offered → Type 0
-  HaveNoRoomBehind old row offers =
-      AllByRecursion (Overfills next_behind config.spool_limit (old.spool.size + room_of row.bodies)) offers
+  abbrev pub HaveNoRoomAfter : {D : Type 0} → Kept D → Row → List Offered → Type 0
+  HaveNoRoomAfter old row offers =
+      AllByRecursion (Overfills next_after config.spool_limit (old.spool.size + room_of row.bodies)) offers
 
   -- after the refused offers one was staged: the change of this number accepts it, and no octet after it was read
   pub record QueuesInto {D : Type 0} (said later : Said) (refused : List Offered) (used : ℕ) (old : Kept D)
@@ -98,7 +98,7 @@ module _ (config : Config) (changes pending : List Change) (peer : List ℕ) (at
     pub answers : AnswersMore said later refused (offer ∷ []) (answer.Queued number ∷ [])
     pub ends : EndsWithOffer (setup_for config peer) later (said.answers ++ refusals refused)
     pub accept : Accept
-    pub fits : HasRoom next_behind config.spool_limit (old.spool.size + room_of row.bodies) offer accept
+    pub fits : HasRoom next_after config.spool_limit (old.spool.size + room_of row.bodies) offer accept
     pub more_is : more ≡ change.Accept accept ∷ []
     pub note : Noted
     pub noted : left.notes ≡ row.notes ++ note ∷ []
@@ -119,7 +119,7 @@ module _ (config : Config) (changes pending : List Change) (peer : List ℕ) (at
     pub input : later.input ≡ said.input ++ take received.used piece
     pub output : later.output ≡ said.output ++ received.out.items
     pub refused : List Offered
-    pub no_room : HaveNoRoomBehind old row refused
+    pub no_room : HaveNoRoomAfter old row refused
     pub makes : MakesInto said later refused received.used old row new left more received.change
     pub whole : received.change ≡ None → received.close ≡ false → received.used ≡ length piece
 
@@ -145,7 +145,7 @@ module _ (config : Config) (changes pending : List Change) (peer : List ℕ) (at
 -- these.
 module _ {D : Type 0} (honest : Type 0) (words : DiskWords D) (config : Config) (changes pending : List Change)
     (at : ℕ) where
-  pub record HearsBehind (peer : List ℕ) (old_session new_session : Session) (piece : List ℕ) (old : Kept D) (row : Row)
+  pub record HearsAfter (peer : List ℕ) (old_session new_session : Session) (piece : List ℕ) (old : Kept D) (row : Row)
       (new : Kept D) (left : Row) (received : Received)
       : Type 0 where
     pub more : List Change
@@ -154,7 +154,7 @@ module _ {D : Type 0} (honest : Type 0) (words : DiskWords D) (config : Config) 
     pub hears : (said : Said) → SessionHasSaid (setup_for config peer) old_session said
         → HearsInto config changes pending peer at said piece new_session old row new left more received
 
-  pub record ReceivesBehind (number : ℕ) (piece : List ℕ) (old : NodeState D) (row : Row) (new : NodeState D)
+  pub record ReceivesAfter (number : ℕ) (piece : List ℕ) (old : NodeState D) (row : Row) (new : NodeState D)
       (left : Row) (received : Received)
       : Type 0 where
     pub more : List Change

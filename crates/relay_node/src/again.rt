@@ -16,7 +16,7 @@ use relay_slots::Slots;
 use std::alloc::Global;
 
 /// A disk that wasn't opened, with the reason, and the configuration under which it was to be.
-#[derive(Debug, Drop)]
+#[derive(Drop)]
 pub struct NotReopened<D> {
     pub config: Config,
     pub refused: NotOpened<D>,

@@ -19,6 +19,7 @@ mod seat;
 mod speak;
 mod stage;
 mod trim;
+mod withdraw_into;
 
 pub use again::NotReopened;
 pub use node::{Connected, Node};

@@ -34,7 +34,7 @@ use std::alloc::Global;
 use std::marker::Model;
 
 /// A session that was opened.
-#[derive(Debug, Drop)]
+#[derive(Drop)]
 pub struct Connected {
     /// Its number, 0 to 63.
     pub session: usize,

@@ -16,7 +16,7 @@ use relay_trace::Moment;
 use std::alloc::Global;
 
 /// The result of a client's octets.
-#[derive(Debug, Drop)]
+#[derive(Drop)]
 pub struct Received {
     /// How many octets of the piece it has used.
     pub used: usize,

@@ -3,7 +3,7 @@ ghost use Rattle.std.specs.Prelude.{◌≡◌, ℕ, None, List, length, IfErr, I
 ghost use Rattle.relay_book.specs.declared.change.Change.{Change};
 ghost use Rattle.relay_node.specs.Node.{HasHistory, RefusesAt, SeatHasSaid, SessionHasSaid};
 ghost use Rattle.relay_node.specs.Room.{ComesToOffer};
-ghost use Rattle.relay_node.specs.Staging.{HearsBehind, IsHeardInto, ReceivesBehind, TakesInto, UsesPiece};
+ghost use Rattle.relay_node.specs.Staging.{HearsAfter, IsHeardInto, ReceivesAfter, TakesInto, UsesPiece};
 ghost use Rattle.relay_node.specs.Staging.{RefusesToHearInto, RefusesToReceiveInto};
 ghost use Rattle.relay_records.specs.Staged.{Awaits};
 ghost use Rattle.relay_server.specs.Dialogue.{Said};
@@ -39,7 +39,7 @@ impl<D: Disk> Node<D> {
     ) -> Result<Received, NodeFault>
         ensures receives { (changes pending : List Change)
             → Awaits D.honest D.words self.old.records changes pending row.old
-            → IfOk result (ReceivesBehind D.honest D.words self.old.config changes pending now session piece.now
+            → IfOk result (ReceivesAfter D.honest D.words self.old.config changes pending now session piece.now
             self.old row.old self.new row.new) }
         ensures full { (peer : List ℕ) (said : Said) → SeatHasSaid self.old.config self.old.seats session peer said
             → result ≡ Err NodeFault.Full → ComesToOffer (setup_for self.old.config peer) said piece.now }
@@ -82,7 +82,7 @@ fn hear_into<D: Disk>(
     requires { HasHistory config.now seat.old.peer seat.old.session.value }
     ensures hears { (changes pending : List Change)
         → Awaits D.honest D.words records.old changes pending row.old
-        → IfOk result (HearsBehind D.honest D.words config.now changes pending now seat.old.peer seat.old.session.value
+        → IfOk result (HearsAfter D.honest D.words config.now changes pending now seat.old.peer seat.old.session.value
         seat.new.session.value piece.now records.old row.old records.new row.new) }
     ensures full { (said : Said) → SessionHasSaid (setup_for config.now seat.old.peer) seat.old.session.value said
         → result ≡ Err NodeFault.Full → ComesToOffer (setup_for config.now seat.old.peer) said piece.now }

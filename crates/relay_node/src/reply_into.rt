@@ -2,7 +2,7 @@
 ghost use Rattle.std.specs.Prelude.{◌≡◌, ◌++◌, None, List, length, Err, IfOk, OnErr};
 ghost use Rattle.relay_report.specs.Report.{reporter_of};
 ghost use Rattle.relay_attempts.specs.Reply.{Told};
-ghost use Rattle.relay_attempts.specs.Staging.{HasNoRoomAtEndBehind};
+ghost use Rattle.relay_attempts.specs.Staging.{HasNoRoomAtEndAfter};
 ghost use Rattle.relay_book.specs.declared.change.Change.{Change};
 ghost use Rattle.relay_node.specs.Attempts.{Tells};
 ghost use Rattle.relay_node.specs.Node.{RefusesAt};
@@ -40,7 +40,7 @@ impl<D: Disk> Node<D> {
             → Awaits D.honest D.words self.old.records changes pending row.old
             → Tells self.old.config.host (changes ++ pending) self.old.attempts attempt told
             → result ≡ Err NodeFault.Full
-            → HasNoRoomAtEndBehind (reporter_of self.old.config) now told piece.now self.old.records row.old }
+            → HasNoRoomAtEndAfter (reporter_of self.old.config) now told piece.now self.old.records row.old }
         ensures used { IfOk result (UsesReplyInto now attempt (length piece.now) self.old self.new row.old row.new) }
         ensures rest { OthersStay self.old.attempts self.new.attempts attempt
             × (self.new.config ≡ self.old.config) × (self.new.seats ≡ self.old.seats) }

@@ -10,9 +10,9 @@ use Rattle.std.specs.List.{list_all}
 use Rattle.relay_octets.specs.Line.{crlf, HasNoCrlf, ReadsLine, ends_in_cr, begins_with_lf, has_crlf, FirstLineIsOne, FirstLineStays, CrlfIsTested, NoCrIsNoCrlf, JoinHasNoCrlf}
 
 -- a CR LF after some octets stands at their number
-occurs_behind : (octets before after : List ℕ) → octets ≡ before ++ crlf ++ after
+occurs_after : (octets before after : List ℕ) → octets ≡ before ++ crlf ++ after
     → OccursAt octets crlf (length before)
-occurs_behind octets before after e =
+occurs_after octets before after e =
     let here : drop (length before) octets ≡ crlf ++ after =
     ap (drop (length before)) (e ∙ append_assoc before crlf after)
     ∙ drop_at before (crlf ++ after) (length before) refl in
@@ -26,7 +26,7 @@ pub none_found : (octets : List ℕ) → Nowhere (OccursAt octets crlf) 0 (lengt
     → HasNoCrlf octets
 none_found octets nowhere = record {
   nowhere = λ before after e.
-      let here = occurs_behind octets before after e in
+      let here = occurs_after octets before after e in
       let fits : length octets ≡ length before + 2 + length after =
       ap length e ∙ length-append (before ++ crlf) after
       ∙ ap (λ n. n + length after) (length-append before crlf) in
@@ -51,7 +51,7 @@ first_found octets place none here = record {
         ∙ ap (λ n. n + length after) (length-append before crlf) in
         let short = length-take place octets in
         none.before (length before) (omega arith) (omega (arith, short))
-        (occurs_behind octets before (after ++ drop place octets) whole);
+        (occurs_after octets before (after ++ drop place octets) whole);
   };
 }
 

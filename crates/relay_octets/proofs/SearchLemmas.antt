@@ -22,25 +22,25 @@ lf_of : (octets : List ℕ) (k : ℕ) → OccursAt octets crlf k → get_or octe
 lf_of octets k here = here.reads 1 (omega arith)
 
 -- the LF of a CR LF that ends after `from` is among those that the search after it sees
-seen_behind : (octets : List ℕ) (from k : ℕ) → from ≤ k + 1 → OccursAt octets crlf k
+seen_after : (octets : List ℕ) (from k : ℕ) → from ≤ k + 1 → OccursAt octets crlf k
     → IsLineFeed octets from (k + 1 - from)
-seen_behind octets from k behind here =
+seen_after octets from k after here =
     let same : from + (k + 1 - from) ≡ k + 1 = omega arith in
     ap (λ o. o == 10)
     (get_or-drop from octets (k + 1 - from) 0 ∙ ap (λ i. get_or octets i 0) same ∙ lf_of octets k here)
 
 -- where no LF follows, there is no CR LF
-pub none_behind : (octets : List ℕ) (from : ℕ) → EndsNoneBefore octets from
+pub none_after : (octets : List ℕ) (from : ℕ) → EndsNoneBefore octets from
     → Nowhere (IsLineFeed octets from) 0 (length (drop from octets)) → HasNoCrlf octets
-none_behind octets from so_far nowhere =
+none_after octets from so_far nowhere =
     none_found octets
     (λ k low high here.
     elim (cases_lt (k + 1) from) [
       | inl before ↦ so_far.none k before here
-      | inr behind ↦
+      | inr after ↦
           let rest = length-drop from octets in
           let fits = here.fits in
-          nowhere (k + 1 - from) (omega arith) (omega arith) (seen_behind octets from k behind here)
+          nowhere (k + 1 - from) (omega arith) (omega arith) (seen_after octets from k after here)
     ])
 
 -- after an LF with no CR before it, the search goes on
@@ -56,8 +56,8 @@ goes_on octets from place so_far first no_cr =
       within = omega arith;
       none = λ k low here. elim (cases_lt (k + 1) from) [
         | inl before ↦ so_far.none k before here
-        | inr behind ↦ elim (cases_lt (k + 1) (from + place)) [
-          | inl apart ↦ first.before (k + 1 - from) (omega arith) (omega arith) (seen_behind octets from k behind here)
+        | inr after ↦ elim (cases_lt (k + 1) (from + place)) [
+          | inl apart ↦ first.before (k + 1 - from) (omega arith) (omega arith) (seen_after octets from k after here)
           | inr at ↦
               let same : from + place - 1 ≡ k = omega arith in
               no_cr (omega arith) (ap (λ i. get_or octets i 0) same ∙ cr_of octets k here)
@@ -73,12 +73,12 @@ reads_crlf octets k cr lf (suc zero) low = lf
 reads_crlf octets k cr lf (suc (suc j)) low = absurd (omega arith)
 
 -- an LF after a CR ends the first line
-pub found_behind : (octets : List ℕ) (from place line_feed : ℕ) → line_feed ≡ from + place
+pub found_after : (octets : List ℕ) (from place line_feed : ℕ) → line_feed ≡ from + place
     → EndsNoneBefore octets from
     → NoneBefore (IsLineFeed octets from) 0 (length (drop from octets)) place
     → IsLineFeed octets from place → 0 < line_feed → get_or octets (line_feed - 1) 0 ≡ 13
     → ReadsLine octets (take (line_feed - 1) octets) (drop (line_feed - 1 + 2) octets)
-found_behind octets from place line_feed is so_far first seen some cr =
+found_after octets from place line_feed is so_far first seen some cr =
     let rest = length-drop from octets in
     let high = first.high in
     let lf : get_or octets (line_feed - 1 + 1) 0 ≡ 10 =
@@ -91,7 +91,7 @@ found_behind octets from place line_feed is so_far first seen some cr =
       high = omega arith;
       before = λ k low high there. elim (cases_lt (k + 1) from) [
         | inl before ↦ so_far.none k before there
-        | inr behind ↦ first.before (k + 1 - from) (omega arith) (omega arith) (seen_behind octets from k behind there)
+        | inr after ↦ first.before (k + 1 - from) (omega arith) (omega arith) (seen_after octets from k after there)
       ];
     })
     here

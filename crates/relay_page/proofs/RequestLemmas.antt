@@ -29,11 +29,11 @@ pub two_hosts : (bytes : HeaderSpan → List ℕ × List ℕ) (headers : List He
 two_hosts bytes headers i default found within so_far is_found is_host =
     let front = hosts_among (map bytes (take i headers)) in
     let field = bytes (get_or headers i default) in
-    let behind = map bytes (drop (i + 1) headers) in
-    let whole : hosts_among (map bytes headers) ≡ front ++ hosts_among (field ∷ behind) =
+    let after = map bytes (drop (i + 1) headers) in
+    let whole : hosts_among (map bytes headers) ≡ front ++ hosts_among (field ∷ after) =
     ap (λ l. hosts_among (map bytes l)) (sym (take-append-drop i headers)) ∙ ap hosts_among (map-append bytes (take i headers) (drop i headers))
     ∙ hosts-append (map bytes (take i headers)) (map bytes (drop i headers)) ∙ at_drop_more (λ l. front ++ hosts_among (map bytes l)) headers i default within in
     sym (
-    ap only whole ∙ ap (λ (l : List (List ℕ)). only (l ++ hosts_among (field ∷ behind))) so_far
-    ∙ ap (λ b. only (list_of (option_copied found) ++ map (λ field. field.1) (cond b (field ∷ filter is_host_field behind) (filter is_host_field behind)))) is_host
-    ∙ two found field.1 (hosts_among behind) is_found)
+    ap only whole ∙ ap (λ (l : List (List ℕ)). only (l ++ hosts_among (field ∷ after))) so_far
+    ∙ ap (λ b. only (list_of (option_copied found) ++ map (λ field. field.1) (cond b (field ∷ filter is_host_field after) (filter is_host_field after)))) is_host
+    ∙ two found field.1 (hosts_among after) is_found)

@@ -7,7 +7,7 @@ use std::alloc::{AllocError, Global};
 pub const MINUTES: usize = 1_440;
 
 /// What was done in one minute.
-#[derive(Clone, Copy, Debug, Drop, PartialEq, Eq)]
+#[derive(Clone, Copy, Drop, PartialEq, Eq)]
 pub struct Minute {
     /// Messages that were accepted.
     pub accepted: u64,

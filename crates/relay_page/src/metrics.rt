@@ -7,7 +7,7 @@ use crate::survey::{Load, Loads};
 use std::alloc::AllocError;
 
 /// The type of a metric.
-#[derive(Clone, Copy, Debug, Drop, PartialEq, Eq)]
+#[derive(Clone, Copy, Drop, PartialEq, Eq)]
 pub enum Course {
     /// A value that only rises, from 0 at the relay's start.
     Counter,
@@ -108,7 +108,7 @@ pub fn push_alone(
 }
 
 /// A metric of each next hop.
-#[derive(Clone, Copy, Debug)]
+#[derive(Clone, Copy)]
 enum ByHop {
     Messages,
     Recipients,

@@ -14,7 +14,7 @@ use std::alloc::{AllocError, Global};
 const MOST_HOPS: usize = 100;
 
 /// Counts since the relay began.
-#[derive(Clone, Copy, Debug)]
+#[derive(Clone, Copy)]
 pub struct Totals {
     /// Messages that were accepted.
     pub accepted: u64,

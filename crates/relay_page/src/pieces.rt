@@ -8,7 +8,7 @@ use relay_lines::word::is_printable;
 use std::alloc::AllocError;
 
 /// A piece of a page.
-#[derive(Clone, Copy, Debug)]
+#[derive(Clone, Copy)]
 pub(crate) enum Piece<'a> {
     /// The relay's own markup, unchanged.
     Markup(&'static [u8]),

@@ -15,7 +15,7 @@ const HEIGHT: u64 = 100;
 const HIGHEST: u64 = 95;
 
 /// What is plotted.
-#[derive(Clone, Copy, Debug)]
+#[derive(Clone, Copy)]
 enum Curve {
     Accepted,
     Sent,

@@ -17,7 +17,7 @@ pub const MOST_OCTETS: usize = 4_096;
 const MOST_FIELDS: usize = 32;
 
 /// What a request can ask for.
-#[derive(Clone, Copy, Debug, Drop, PartialEq, Eq)]
+#[derive(Clone, Copy, Drop, PartialEq, Eq)]
 pub enum Target {
     /// The page, at `/`.
     Page,
@@ -28,7 +28,7 @@ pub enum Target {
 }
 
 /// What a request asks for.
-#[derive(Clone, Copy, Debug, Drop, PartialEq, Eq)]
+#[derive(Clone, Copy, Drop, PartialEq, Eq)]
 pub struct Asked {
     pub target: Target,
     /// Whether it is asked for by GET; a HEAD request gets only the response's head.
@@ -36,7 +36,7 @@ pub struct Asked {
 }
 
 /// Why a request is refused (RFC 9110, section 15.5).
-#[derive(Clone, Copy, Debug, Drop, PartialEq, Eq)]
+#[derive(Clone, Copy, Drop, PartialEq, Eq)]
 pub enum Refusal {
     /// 400: this isn't the head of a request, or it has no Host field or several.
     BadRequest,

@@ -14,7 +14,7 @@ Content-Security-Policy: default-src 'none'; style-src 'unsafe-inline'; base-uri
 frame-ancestors 'none'\r\n\r\n";
 
 /// The status code of a response.
-#[derive(Clone, Copy, Debug, Drop, PartialEq, Eq)]
+#[derive(Clone, Copy, Drop, PartialEq, Eq)]
 pub enum Code {
     /// 200
     Found,
@@ -33,7 +33,7 @@ pub enum Code {
 }
 
 /// The media type of a body.
-#[derive(Clone, Copy, Debug, Drop, PartialEq, Eq)]
+#[derive(Clone, Copy, Drop, PartialEq, Eq)]
 pub enum Kind {
     /// A page.
     Html,

@@ -7,7 +7,7 @@ use crate::survey::Load;
 use std::alloc::AllocError;
 
 /// A queued recipient.
-#[derive(Clone, Copy, Debug)]
+#[derive(Clone, Copy)]
 pub struct Waiting<'a> {
     /// The number of its message.
     pub number: u64,

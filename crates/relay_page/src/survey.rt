@@ -15,7 +15,7 @@ const FRESH: u64 = 1_000;
 pub type Mark = (u64, u8);
 
 /// What is queued for one next hop.
-#[derive(Clone, Copy, Debug)]
+#[derive(Clone, Copy)]
 pub struct Load {
     /// How many messages have a recipient there.
     pub messages: u64,

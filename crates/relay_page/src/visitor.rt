@@ -15,7 +15,7 @@ pub const MOST_WRITTEN: usize = 64 * 1024;
 pub const VISIT_TIME: u64 = 5_000;
 
 /// The stage of a visit.
-#[derive(Clone, Copy, Debug, PartialEq, Eq)]
+#[derive(Clone, Copy, PartialEq, Eq)]
 enum Stage {
     /// The request is being read.
     Reading,

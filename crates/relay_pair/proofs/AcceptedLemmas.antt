@@ -14,8 +14,8 @@ use Rattle.relay_course.specs.Extensions.{extensions_of}
 use Rattle.relay_course.specs.Laws.{accepted_places, if_accepted_place}
 use Rattle.relay_course.specs.VerdictTable.{content_verdict_by, is_accepted, kind_of, refusal, some_accepted}
 use Rattle.relay_course.specs.WrittenLine.{data_line, ehlo_line, helo_line, last_chunk, mail_line}
-use Rattle.relay_course.specs.Progress.{Answered, Errand, Progress, answer_of, at_greeting, behind_answer, behind_hello, behind_replies, ended_by, gone_on, progress, rcpt_replies, with_answer, with_command, with_content, with_mail, with_next, with_rcpt, with_rcpts}
-use Rattle.relay_pair.specs.Copied.{behind_mail, is_greeted_again}
+use Rattle.relay_course.specs.Progress.{Answered, Delivery, Progress, answer_of, at_greeting, after_answer, after_hello, after_replies, ended_by, gone_on, progress, rcpt_replies, with_answer, with_command, with_content, with_mail, with_next, with_rcpt, with_rcpts}
+use Rattle.relay_pair.specs.Copied.{after_mail, is_greeted_again}
 
 -- the places whose RCPT was accepted, by replies that come in the order of the places
 abbrev pub accepted_in : List ℕ → List Reply → List ℕ
@@ -40,58 +40,58 @@ one_more : (answered : List Answered) (one : Answered)
 one_more answered one = flat_map-append (λ (a : Answered). if_accepted_place a.waited a.reply) answered (one ∷ [])
     ∙ ap (λ l. accepted_places answered ++ l) (append-nil (if_accepted_place one.waited one.reply))
 
-module _ (errand : Errand) where
-  abbrev Behind : Progress → List Reply → Progress
-  Behind old replies = behind_replies errand old replies
+module _ (delivery : Delivery) where
+  abbrev After : Progress → List Reply → Progress
+  After old replies = after_replies delivery old replies
 
   abbrev Accepts : Progress → List Reply → List ℕ
-  Accepts old replies = accepted_places (Behind old replies).answered
+  Accepts old replies = accepted_places (After old replies).answered
 
   -- where nothing waits replies change nothing
-  over_stays : (replies : List Reply) (old : Progress) → old.waits ≡ [] → Behind old replies ≡ old
+  over_stays : (replies : List Reply) (old : Progress) → old.waits ≡ [] → After old replies ≡ old
   over_stays [] old over = refl
   over_stays (reply ∷ replies) old over =
-      ap (λ (p : Progress). Behind p replies) (ap (λ (w : List Awaited). with_answer errand w reply old) over)
+      ap (λ (p : Progress). After p replies) (ap (λ (w : List Awaited). with_answer delivery w reply old) over)
       ∙ over_stays replies old over
 
   -- a row of replies all of which answer something, after one that ended it, is empty
-  none_behind : (replies : List Reply) (old : Progress) (before : ℕ) → old.waits ≡ []
-      → length (Behind old replies).answered ≡ before + length replies → length old.answered ≡ before → replies ≡ []
-  none_behind [] old before over each had = refl
-  none_behind (reply ∷ replies) old before over each had =
+  none_after : (replies : List Reply) (old : Progress) (before : ℕ) → old.waits ≡ []
+      → length (After old replies).answered ≡ before + length replies → length old.answered ≡ before → replies ≡ []
+  none_after [] old before over each had = refl
+  none_after (reply ∷ replies) old before over each had =
       absurd (omega (arith, sym (ap (λ (p : Progress). length p.answered) (over_stays (reply ∷ replies) old over)) ∙ each, had))
 
   -- a reply after the last RCPT accepts no place
   content_ends : (kind : ReplyKind) (reply : Reply) (old : Progress)
-      → behind_answer errand Content kind reply old ≡ ended_by errand (content_verdict_by old.extensions.dsn kind reply) old
+      → after_answer delivery Content kind reply old ≡ ended_by delivery (content_verdict_by old.extensions.dsn kind reply) old
   content_ends kind reply old = refl
 
   quiet_content : (replies : List Reply) (old : Progress) → old.waits ≡ Content ∷ [] → Accepts old replies ≡ accepted_places old.answered
   quiet_content [] old waits = refl
   quiet_content (reply ∷ replies) old waits =
       let next : Progress = record old { waits = []; answered = old.answered ++ answer_of Content reply ∷ [] } in
-      let ended : Progress = ended_by errand (content_verdict_by next.extensions.dsn (kind_of reply.code) reply) next in
-      ap (λ (w : List Awaited). Accepts (with_answer errand w reply old) replies) waits
+      let ended : Progress = ended_by delivery (content_verdict_by next.extensions.dsn (kind_of reply.code) reply) next in
+      ap (λ (w : List Awaited). Accepts (with_answer delivery w reply old) replies) waits
       ∙ ap (λ (p : Progress). accepted_places p.answered) (over_stays replies ended refl)
       ∙ one_more old.answered (answer_of Content reply) ∙ append-nil (accepted_places old.answered)
 
-  behind_data : (kind : ReplyKind) (reply : Reply) (replies : List Reply) (old : Progress) → old.waits ≡ []
-      → Accepts (behind_answer errand Data kind reply old) replies ≡ accepted_places old.answered
-  behind_data Completion reply replies old waits =
-      ap (λ (p : Progress). accepted_places p.answered) (over_stays replies (ended_by errand Later old) refl)
-  behind_data Intermediate reply replies old waits =
-      quiet_content replies (with_command errand.dot_text Content old) (ap (λ (w : List Awaited). w ++ Content ∷ []) waits)
-  behind_data Transient reply replies old waits =
-      ap (λ (p : Progress). accepted_places p.answered) (over_stays replies (ended_by errand Later old) refl)
-  behind_data Permanent reply replies old waits =
-      ap (λ (p : Progress). accepted_places p.answered) (over_stays replies (ended_by errand (refusal reply) old) refl)
+  after_data : (kind : ReplyKind) (reply : Reply) (replies : List Reply) (old : Progress) → old.waits ≡ []
+      → Accepts (after_answer delivery Data kind reply old) replies ≡ accepted_places old.answered
+  after_data Completion reply replies old waits =
+      ap (λ (p : Progress). accepted_places p.answered) (over_stays replies (ended_by delivery Later old) refl)
+  after_data Intermediate reply replies old waits =
+      quiet_content replies (with_command delivery.dot_text Content old) (ap (λ (w : List Awaited). w ++ Content ∷ []) waits)
+  after_data Transient reply replies old waits =
+      ap (λ (p : Progress). accepted_places p.answered) (over_stays replies (ended_by delivery Later old) refl)
+  after_data Permanent reply replies old waits =
+      ap (λ (p : Progress). accepted_places p.answered) (over_stays replies (ended_by delivery (refusal reply) old) refl)
 
   quiet_data : (replies : List Reply) (old : Progress) → old.waits ≡ Data ∷ [] → Accepts old replies ≡ accepted_places old.answered
   quiet_data [] old waits = refl
   quiet_data (reply ∷ replies) old waits =
       let next : Progress = record old { waits = []; answered = old.answered ++ answer_of Data reply ∷ [] } in
-      ap (λ (w : List Awaited). Accepts (with_answer errand w reply old) replies) waits
-      ∙ behind_data (kind_of reply.code) reply replies next refl
+      ap (λ (w : List Awaited). Accepts (with_answer delivery w reply old) replies) waits
+      ∙ after_data (kind_of reply.code) reply replies next refl
       ∙ one_more old.answered (answer_of Data reply) ∙ append-nil (accepted_places old.answered)
 
   -- after the last RCPT's reply no place is accepted any more
@@ -103,11 +103,11 @@ module _ (errand : Errand) where
       quiet_content replies (with_command chunk Content old) (ap (λ (w : List Awaited). w ++ Content ∷ []) waits)
 
   rcpts_done : (some : Bool) (replies : List Reply) (old : Progress) → old.waits ≡ []
-      → Accepts (if some then with_content errand old else ended_by errand Later old) replies ≡ accepted_places old.answered
+      → Accepts (if some then with_content delivery old else ended_by delivery Later old) replies ≡ accepted_places old.answered
   rcpts_done true replies old waits =
-      content_by (ends_in_line_end errand.text) data_line (last_chunk errand.text) replies old waits
+      content_by (ends_in_line_end delivery.text) data_line (last_chunk delivery.text) replies old waits
   rcpts_done false replies old waits =
-      ap (λ (p : Progress). accepted_places p.answered) (over_stays replies (ended_by errand Later old) refl)
+      ap (λ (p : Progress). accepted_places p.answered) (over_stays replies (ended_by delivery Later old) refl)
 
   -- RCPTs wait, and others will be written: the replies are theirs, in turn
   abbrev AnswersRcpts : List Reply → Type 0
@@ -117,17 +117,17 @@ module _ (errand : Errand) where
 
   goes_on : (replies : List Reply) → AnswersRcpts replies → (old : Progress) (waiting unasked : List ℕ)
       → old.waits ≡ rcpts waiting → old.unasked ≡ unasked
-      → Accepts (gone_on errand old) replies ≡ accepted_places old.answered ++ accepted_in (waiting ++ unasked) replies
+      → Accepts (gone_on delivery old) replies ≡ accepted_places old.answered ++ accepted_in (waiting ++ unasked) replies
   goes_on replies others old (place ∷ waiting) unasked waits left =
-      ap (λ (w : List Awaited). Accepts (with_next errand w old.unasked old) replies) waits
+      ap (λ (w : List Awaited). Accepts (with_next delivery w old.unasked old) replies) waits
       ∙ others old place waiting unasked waits left
   goes_on replies others old [] (place ∷ unasked) waits left =
-      ap (λ (w : List Awaited). Accepts (with_next errand w old.unasked old) replies) waits
-      ∙ ap (λ (u : List ℕ). Accepts (with_next errand [] u old) replies) left
-      ∙ others (with_rcpt errand place unasked old) place [] unasked (ap (λ (w : List Awaited). w ++ Rcpt place ∷ []) waits) refl
+      ap (λ (w : List Awaited). Accepts (with_next delivery w old.unasked old) replies) waits
+      ∙ ap (λ (u : List ℕ). Accepts (with_next delivery [] u old) replies) left
+      ∙ others (with_rcpt delivery place unasked old) place [] unasked (ap (λ (w : List Awaited). w ++ Rcpt place ∷ []) waits) refl
   goes_on replies others old [] [] waits left =
-      ap (λ (w : List Awaited). Accepts (with_next errand w old.unasked old) replies) waits
-      ∙ ap (λ (u : List ℕ). Accepts (with_next errand [] u old) replies) left
+      ap (λ (w : List Awaited). Accepts (with_next delivery w old.unasked old) replies) waits
+      ∙ ap (λ (u : List ℕ). Accepts (with_next delivery [] u old) replies) left
       ∙ rcpts_done (some_accepted (rcpt_replies old.answered)) replies old waits
       ∙ sym (append-nil (accepted_places old.answered))
 
@@ -136,7 +136,7 @@ module _ (errand : Errand) where
   answers_rcpts (reply ∷ replies) old place waiting unasked waits left =
       let next : Progress = record old { waits = rcpts waiting; answered = old.answered ++ answer_of (Rcpt place) reply ∷ [] } in
       let others : List ℕ = accepted_in (waiting ++ unasked) replies in
-      ap (λ (w : List Awaited). Accepts (with_answer errand w reply old) replies) waits
+      ap (λ (w : List Awaited). Accepts (with_answer delivery w reply old) replies) waits
       ∙ goes_on replies (answers_rcpts replies) next waiting unasked refl left
       ∙ ap (λ (l : List ℕ). l ++ others) (one_more old.answered (answer_of (Rcpt place) reply))
       ∙ append_assoc (accepted_places old.answered) (if is_accepted reply then place ∷ [] else []) others
@@ -147,12 +147,12 @@ module _ (errand : Errand) where
 
   -- a reply ends the attempt: it is the last one, since each answers something
   ends_here : (verdict : Verdict) (replies : List Reply) (old : Progress) (before : ℕ) (places : List ℕ) (rest : List Reply → List Reply)
-      → rest [] ≡ [] → length (Behind (ended_by errand verdict old) replies).answered ≡ before + length replies
+      → rest [] ≡ [] → length (After (ended_by delivery verdict old) replies).answered ≡ before + length replies
       → length old.answered ≡ before
-      → Accepts (ended_by errand verdict old) replies ≡ accepted_places old.answered ++ accepted_in places (rest replies)
+      → Accepts (ended_by delivery verdict old) replies ≡ accepted_places old.answered ++ accepted_in places (rest replies)
   ends_here verdict replies old before places rest none each had =
-      let last : replies ≡ [] = none_behind replies (ended_by errand verdict old) before refl each had in
-      ap (λ (p : Progress). accepted_places p.answered) (over_stays replies (ended_by errand verdict old) refl)
+      let last : replies ≡ [] = none_after replies (ended_by delivery verdict old) before refl each had in
+      ap (λ (p : Progress). accepted_places p.answered) (over_stays replies (ended_by delivery verdict old) refl)
       ∙ sym (append-nil (accepted_places old.answered))
       ∙ ap (λ (l : List ℕ). accepted_places old.answered ++ l)
       (sym (ap (λ (l : List Reply). accepted_in places (rest l)) last ∙ ap (λ (l : List Reply). accepted_in places l) none
@@ -163,7 +163,7 @@ module _ (errand : Errand) where
 
   -- each of the replies after these answers has answered something
   abbrev Each : Progress → List Answered → List Reply → Type 0
-  Each start answered replies = length (Behind start replies).answered ≡ length answered + length replies
+  Each start answered replies = length (After start replies).answered ≡ length answered + length replies
 
   -- so these places are accepted by them
   abbrev Claims : Progress → List Answered → List Reply → List ℕ → List Reply → Type 0
@@ -171,14 +171,14 @@ module _ (errand : Errand) where
       Each start answered replies → Accepts start replies ≡ accepted_places answered ++ accepted_in places left
 
   ends_so : (verdict : Verdict) (replies : List Reply) (old : Progress) (places : List ℕ) (rest : List Reply → List Reply)
-      → rest [] ≡ [] → Claims (ended_by errand verdict old) old.answered replies places (rest replies)
+      → rest [] ≡ [] → Claims (ended_by delivery verdict old) old.answered replies places (rest replies)
   ends_so verdict replies old places rest none each =
       ends_here verdict replies old (length old.answered) places rest none each refl
 
   -- one reply, which answers what waited alone
   by_one : (waited : Awaited) (reply : Reply) (replies left : List Reply) (old next start : Progress) (places : List ℕ)
       → next.answered ≡ old.answered ++ answer_of waited reply ∷ []
-      → if_accepted_place waited reply ≡ [] → Behind old (reply ∷ replies) ≡ Behind start replies
+      → if_accepted_place waited reply ≡ [] → After old (reply ∷ replies) ≡ After start replies
       → Claims start next.answered replies places left
       → Claims old old.answered (reply ∷ replies) places left
   by_one waited reply replies left old next start places is none same claims each =
@@ -200,16 +200,16 @@ module _ (errand : Errand) where
       sym (append-nil (accepted_places old.answered))
       ∙ ap (λ (l : List ℕ). accepted_places old.answered ++ l) (sym (accepted_none places))
 
-  behind_mail_by : (kind : ReplyKind) (reply : Reply) (replies : List Reply) (old : Progress) (waiting unasked : List ℕ)
+  after_mail_by : (kind : ReplyKind) (reply : Reply) (replies : List Reply) (old : Progress) (waiting unasked : List ℕ)
       → old.waits ≡ rcpts waiting → old.unasked ≡ unasked
-      → Claims (behind_answer errand Mail kind reply old) old.answered replies (waiting ++ unasked) replies
-  behind_mail_by Completion reply replies old waiting unasked waits left each =
+      → Claims (after_answer delivery Mail kind reply old) old.answered replies (waiting ++ unasked) replies
+  after_mail_by Completion reply replies old waiting unasked waits left each =
       goes_on replies (answers_rcpts replies) old waiting unasked waits left
-  behind_mail_by Intermediate reply replies old waiting unasked waits left each =
+  after_mail_by Intermediate reply replies old waiting unasked waits left each =
       ends_so Later replies old (waiting ++ unasked) (λ l. l) refl each
-  behind_mail_by Transient reply replies old waiting unasked waits left each =
+  after_mail_by Transient reply replies old waiting unasked waits left each =
       ends_so Later replies old (waiting ++ unasked) (λ l. l) refl each
-  behind_mail_by Permanent reply replies old waiting unasked waits left each =
+  after_mail_by Permanent reply replies old waiting unasked waits left each =
       ends_so (refusal reply) replies old (waiting ++ unasked) (λ l. l) refl each
 
   answers_mail : (replies : List Reply) (old : Progress) (waiting unasked : List ℕ) → old.waits ≡ Mail ∷ rcpts waiting
@@ -217,32 +217,32 @@ module _ (errand : Errand) where
   answers_mail [] old waiting unasked waits left = by_none old (waiting ++ unasked)
   answers_mail (reply ∷ replies) old waiting unasked waits left =
       let next : Progress = record old { waits = rcpts waiting; answered = old.answered ++ answer_of Mail reply ∷ [] } in
-      by_one Mail reply replies replies old next (behind_answer errand Mail (kind_of reply.code) reply next) (waiting ++ unasked)
-      refl refl (ap (λ (w : List Awaited). Behind (with_answer errand w reply old) replies) waits)
-      (behind_mail_by (kind_of reply.code) reply replies next waiting unasked refl left)
+      by_one Mail reply replies replies old next (after_answer delivery Mail (kind_of reply.code) reply next) (waiting ++ unasked)
+      refl refl (ap (λ (w : List Awaited). After (with_answer delivery w reply old) replies) waits)
+      (after_mail_by (kind_of reply.code) reply replies next waiting unasked refl left)
 
   -- a group of RCPTs, which is written with MAIL
-  group_waits : (places : List ℕ) (old : Progress) → (with_rcpts errand places old).waits ≡ old.waits ++ rcpts places
+  group_waits : (places : List ℕ) (old : Progress) → (with_rcpts delivery places old).waits ≡ old.waits ++ rcpts places
   group_waits [] old = sym (append-nil old.waits)
   group_waits (place ∷ places) old =
-      group_waits places (with_rcpt errand place places old) ∙ append_assoc old.waits (Rcpt place ∷ []) (rcpts places)
+      group_waits places (with_rcpt delivery place places old) ∙ append_assoc old.waits (Rcpt place ∷ []) (rcpts places)
 
-  group_answered : (places : List ℕ) (old : Progress) → (with_rcpts errand places old).answered ≡ old.answered
+  group_answered : (places : List ℕ) (old : Progress) → (with_rcpts delivery places old).answered ≡ old.answered
   group_answered [] old = refl
-  group_answered (place ∷ places) old = group_answered places (with_rcpt errand place places old)
+  group_answered (place ∷ places) old = group_answered places (with_rcpt delivery place places old)
 
-  group_unasked : (places : List ℕ) (old : Progress) → old.unasked ≡ places → (with_rcpts errand places old).unasked ≡ []
+  group_unasked : (places : List ℕ) (old : Progress) → old.unasked ≡ places → (with_rcpts delivery places old).unasked ≡ []
   group_unasked [] old left = left
-  group_unasked (place ∷ places) old left = group_unasked places (with_rcpt errand place places old) refl
+  group_unasked (place ∷ places) old left = group_unasked places (with_rcpt delivery place places old) refl
 
-  mail_by : (grouped : Bool) (line : List ℕ) (replies : List Reply) (old : Progress) → old.waits ≡ [] → old.unasked ≡ errand.places
-      → Claims (if grouped then with_rcpts errand old.unasked (with_command line Mail old) else with_command line Mail old)
-      old.answered replies errand.places (drop 1 replies)
+  mail_by : (grouped : Bool) (line : List ℕ) (replies : List Reply) (old : Progress) → old.waits ≡ [] → old.unasked ≡ delivery.places
+      → Claims (if grouped then with_rcpts delivery old.unasked (with_command line Mail old) else with_command line Mail old)
+      old.answered replies delivery.places (drop 1 replies)
   mail_by false line replies old waits left each =
-      answers_mail replies (with_command line Mail old) [] errand.places (ap (λ (w : List Awaited). w ++ Mail ∷ []) waits) left each
+      answers_mail replies (with_command line Mail old) [] delivery.places (ap (λ (w : List Awaited). w ++ Mail ∷ []) waits) left each
   mail_by true line replies old waits left each =
       let mail : Progress = with_command line Mail old in
-      let group : Progress = with_rcpts errand old.unasked mail in
+      let group : Progress = with_rcpts delivery old.unasked mail in
       answers_mail replies group old.unasked []
       (group_waits old.unasked mail ∙ ap (λ (w : List Awaited). (w ++ Mail ∷ []) ++ rcpts old.unasked) waits)
       (group_unasked old.unasked mail refl)
@@ -250,85 +250,85 @@ module _ (errand : Errand) where
       ∙ ap (λ (l : List Answered). accepted_places l ++ accepted_in (old.unasked ++ []) (drop 1 replies)) (group_answered old.unasked mail)
       ∙ ap (λ (l : List ℕ). accepted_places old.answered ++ accepted_in l (drop 1 replies)) (append-nil old.unasked ∙ left)
 
-  sends_mail : (replies : List Reply) (old : Progress) → old.waits ≡ [] → old.unasked ≡ errand.places
-      → Claims (with_mail errand old) old.answered replies errand.places (drop 1 replies)
-  sends_mail replies old waits left = mail_by old.extensions.pipelining (mail_line old.extensions.dsn errand.envelope) replies old waits left
+  sends_mail : (replies : List Reply) (old : Progress) → old.waits ≡ [] → old.unasked ≡ delivery.places
+      → Claims (with_mail delivery old) old.answered replies delivery.places (drop 1 replies)
+  sends_mail replies old waits left = mail_by old.extensions.pipelining (mail_line old.extensions.dsn delivery.envelope) replies old waits left
 
-  hello_by : (whole chunking : Bool) (replies : List Reply) (old : Progress) → old.waits ≡ [] → old.unasked ≡ errand.places
-      → Claims (if whole then with_mail errand old else (if chunking then with_mail errand old else ended_by errand CantSend old))
-      old.answered replies errand.places (drop 1 replies)
+  hello_by : (whole chunking : Bool) (replies : List Reply) (old : Progress) → old.waits ≡ [] → old.unasked ≡ delivery.places
+      → Claims (if whole then with_mail delivery old else (if chunking then with_mail delivery old else ended_by delivery CantSend old))
+      old.answered replies delivery.places (drop 1 replies)
   hello_by true chunking replies old waits left = sends_mail replies old waits left
   hello_by false true replies old waits left = sends_mail replies old waits left
-  hello_by false false replies old waits left = ends_so CantSend replies old errand.places (λ l. drop 1 l) refl
+  hello_by false false replies old waits left = ends_so CantSend replies old delivery.places (λ l. drop 1 l) refl
 
-  greeted : (replies : List Reply) (old : Progress) → old.waits ≡ [] → old.unasked ≡ errand.places
-      → Claims (behind_hello errand old) old.answered replies errand.places (drop 1 replies)
-  greeted replies old waits left = hello_by (ends_in_line_end errand.text) old.extensions.chunking replies old waits left
+  greeted : (replies : List Reply) (old : Progress) → old.waits ≡ [] → old.unasked ≡ delivery.places
+      → Claims (after_hello delivery old) old.answered replies delivery.places (drop 1 replies)
+  greeted replies old waits left = hello_by (ends_in_line_end delivery.text) old.extensions.chunking replies old waits left
 
   -- after HELO
-  behind_helo_by : (kind : ReplyKind) (reply : Reply) (replies : List Reply) (old : Progress) → old.waits ≡ []
-      → old.unasked ≡ errand.places
-      → Claims (behind_answer errand Helo kind reply old) old.answered replies errand.places (drop 1 replies)
-  behind_helo_by Completion reply replies old waits left = greeted replies old waits left
-  behind_helo_by Intermediate reply replies old waits left = ends_so Later replies old errand.places (λ l. drop 1 l) refl
-  behind_helo_by Transient reply replies old waits left = ends_so Later replies old errand.places (λ l. drop 1 l) refl
-  behind_helo_by Permanent reply replies old waits left = ends_so (refusal reply) replies old errand.places (λ l. drop 1 l) refl
+  after_helo_by : (kind : ReplyKind) (reply : Reply) (replies : List Reply) (old : Progress) → old.waits ≡ []
+      → old.unasked ≡ delivery.places
+      → Claims (after_answer delivery Helo kind reply old) old.answered replies delivery.places (drop 1 replies)
+  after_helo_by Completion reply replies old waits left = greeted replies old waits left
+  after_helo_by Intermediate reply replies old waits left = ends_so Later replies old delivery.places (λ l. drop 1 l) refl
+  after_helo_by Transient reply replies old waits left = ends_so Later replies old delivery.places (λ l. drop 1 l) refl
+  after_helo_by Permanent reply replies old waits left = ends_so (refusal reply) replies old delivery.places (λ l. drop 1 l) refl
 
-  answers_helo : (replies : List Reply) (old : Progress) → old.waits ≡ Helo ∷ [] → old.unasked ≡ errand.places
-      → Claims old old.answered replies errand.places (drop 2 replies)
-  answers_helo [] old waits left = by_none old errand.places
+  answers_helo : (replies : List Reply) (old : Progress) → old.waits ≡ Helo ∷ [] → old.unasked ≡ delivery.places
+      → Claims old old.answered replies delivery.places (drop 2 replies)
+  answers_helo [] old waits left = by_none old delivery.places
   answers_helo (reply ∷ replies) old waits left =
       let next : Progress = record old { waits = []; answered = old.answered ++ answer_of Helo reply ∷ [] } in
-      by_one Helo reply replies (drop 1 replies) old next (behind_answer errand Helo (kind_of reply.code) reply next) errand.places
-      refl refl (ap (λ (w : List Awaited). Behind (with_answer errand w reply old) replies) waits)
-      (behind_helo_by (kind_of reply.code) reply replies next refl left)
+      by_one Helo reply replies (drop 1 replies) old next (after_answer delivery Helo (kind_of reply.code) reply next) delivery.places
+      refl refl (ap (λ (w : List Awaited). After (with_answer delivery w reply old) replies) waits)
+      (after_helo_by (kind_of reply.code) reply replies next refl left)
 
   -- after EHLO
-  behind_ehlo_by : (kind : ReplyKind) (reply : Reply) (replies : List Reply) (old : Progress) → old.waits ≡ []
-      → old.unasked ≡ errand.places
-      → Claims (behind_answer errand Ehlo kind reply old) old.answered replies errand.places
+  after_ehlo_by : (kind : ReplyKind) (reply : Reply) (replies : List Reply) (old : Progress) → old.waits ≡ []
+      → old.unasked ≡ delivery.places
+      → Claims (after_answer delivery Ehlo kind reply old) old.answered replies delivery.places
       (drop (if is_greeted_again kind then 2 else 1) replies)
-  behind_ehlo_by Completion reply replies old waits left = greeted replies (record old { extensions = extensions_of reply }) waits left
-  behind_ehlo_by Intermediate reply replies old waits left = ends_so Later replies old errand.places (λ l. drop 1 l) refl
-  behind_ehlo_by Transient reply replies old waits left = ends_so Later replies old errand.places (λ l. drop 1 l) refl
-  behind_ehlo_by Permanent reply replies old waits left =
-      answers_helo replies (with_command (helo_line errand.host) Helo old) (ap (λ (w : List Awaited). w ++ Helo ∷ []) waits) left
+  after_ehlo_by Completion reply replies old waits left = greeted replies (record old { extensions = extensions_of reply }) waits left
+  after_ehlo_by Intermediate reply replies old waits left = ends_so Later replies old delivery.places (λ l. drop 1 l) refl
+  after_ehlo_by Transient reply replies old waits left = ends_so Later replies old delivery.places (λ l. drop 1 l) refl
+  after_ehlo_by Permanent reply replies old waits left =
+      answers_helo replies (with_command (helo_line delivery.host) Helo old) (ap (λ (w : List Awaited). w ++ Helo ∷ []) waits) left
 
-  abbrev behind_greeting : List Reply → List Reply
-  behind_greeting [] = []
-  behind_greeting (ehlo ∷ replies) = drop (if is_greeted_again (kind_of ehlo.code) then 2 else 1) replies
+  abbrev after_greeting : List Reply → List Reply
+  after_greeting [] = []
+  after_greeting (ehlo ∷ replies) = drop (if is_greeted_again (kind_of ehlo.code) then 2 else 1) replies
 
-  answers_ehlo : (replies : List Reply) (old : Progress) → old.waits ≡ Ehlo ∷ [] → old.unasked ≡ errand.places
-      → Claims old old.answered replies errand.places (behind_greeting replies)
-  answers_ehlo [] old waits left = by_none old errand.places
+  answers_ehlo : (replies : List Reply) (old : Progress) → old.waits ≡ Ehlo ∷ [] → old.unasked ≡ delivery.places
+      → Claims old old.answered replies delivery.places (after_greeting replies)
+  answers_ehlo [] old waits left = by_none old delivery.places
   answers_ehlo (reply ∷ replies) old waits left =
       let next : Progress = record old { waits = []; answered = old.answered ++ answer_of Ehlo reply ∷ [] } in
-      by_one Ehlo reply replies (behind_greeting (reply ∷ replies)) old next
-      (behind_answer errand Ehlo (kind_of reply.code) reply next) errand.places
-      refl refl (ap (λ (w : List Awaited). Behind (with_answer errand w reply old) replies) waits)
-      (behind_ehlo_by (kind_of reply.code) reply replies next refl left)
+      by_one Ehlo reply replies (after_greeting (reply ∷ replies)) old next
+      (after_answer delivery Ehlo (kind_of reply.code) reply next) delivery.places
+      refl refl (ap (λ (w : List Awaited). After (with_answer delivery w reply old) replies) waits)
+      (after_ehlo_by (kind_of reply.code) reply replies next refl left)
 
   -- after the greeting
-  behind_greeting_by : (kind : ReplyKind) (reply : Reply) (replies : List Reply) (old : Progress) → old.waits ≡ []
-      → old.unasked ≡ errand.places
-      → Claims (behind_answer errand Greeting kind reply old) old.answered replies errand.places (behind_greeting replies)
-  behind_greeting_by Completion reply replies old waits left =
-      answers_ehlo replies (with_command (ehlo_line errand.host) Ehlo old) (ap (λ (w : List Awaited). w ++ Ehlo ∷ []) waits) left
-  behind_greeting_by Intermediate reply replies old waits left = ends_so Later replies old errand.places behind_greeting refl
-  behind_greeting_by Transient reply replies old waits left = ends_so Later replies old errand.places behind_greeting refl
-  behind_greeting_by Permanent reply replies old waits left = ends_so (refusal reply) replies old errand.places behind_greeting refl
+  after_greeting_by : (kind : ReplyKind) (reply : Reply) (replies : List Reply) (old : Progress) → old.waits ≡ []
+      → old.unasked ≡ delivery.places
+      → Claims (after_answer delivery Greeting kind reply old) old.answered replies delivery.places (after_greeting replies)
+  after_greeting_by Completion reply replies old waits left =
+      answers_ehlo replies (with_command (ehlo_line delivery.host) Ehlo old) (ap (λ (w : List Awaited). w ++ Ehlo ∷ []) waits) left
+  after_greeting_by Intermediate reply replies old waits left = ends_so Later replies old delivery.places after_greeting refl
+  after_greeting_by Transient reply replies old waits left = ends_so Later replies old delivery.places after_greeting refl
+  after_greeting_by Permanent reply replies old waits left = ends_so (refusal reply) replies old delivery.places after_greeting refl
 
-  behind_both : (greeting : Reply) (replies : List Reply) → behind_greeting replies ≡ behind_mail (greeting ∷ replies)
-  behind_both greeting [] = refl
-  behind_both greeting (ehlo ∷ replies) = refl
+  after_both : (greeting : Reply) (replies : List Reply) → after_greeting replies ≡ after_mail (greeting ∷ replies)
+  after_both greeting [] = refl
+  after_both greeting (ehlo ∷ replies) = refl
 
   -- the places that were accepted, where each reply has answered something
-  pub accepted_by_replies : (replies : List Reply) → length (progress errand replies).answered ≡ length replies
-      → accepted_places (progress errand replies).answered ≡ accepted_in errand.places (behind_mail replies)
-  accepted_by_replies [] each = by_none (at_greeting errand) errand.places each
+  pub accepted_by_replies : (replies : List Reply) → length (progress delivery replies).answered ≡ length replies
+      → accepted_places (progress delivery replies).answered ≡ accepted_in delivery.places (after_mail replies)
+  accepted_by_replies [] each = by_none (at_greeting delivery) delivery.places each
   accepted_by_replies (reply ∷ replies) each =
-      let next : Progress = record (at_greeting errand) { waits = []; answered = answer_of Greeting reply ∷ [] } in
-      by_one Greeting reply replies (behind_greeting replies) (at_greeting errand) next
-      (behind_answer errand Greeting (kind_of reply.code) reply next) errand.places refl refl refl
-      (behind_greeting_by (kind_of reply.code) reply replies next refl refl) (omega (arith, each))
-      ∙ ap (λ (l : List Reply). accepted_in errand.places l) (behind_both reply replies)
+      let next : Progress = record (at_greeting delivery) { waits = []; answered = answer_of Greeting reply ∷ [] } in
+      by_one Greeting reply replies (after_greeting replies) (at_greeting delivery) next
+      (after_answer delivery Greeting (kind_of reply.code) reply next) delivery.places refl refl refl
+      (after_greeting_by (kind_of reply.code) reply replies next refl refl) (omega (arith, each))
+      ∙ ap (λ (l : List Reply). accepted_in delivery.places l) (after_both reply replies)

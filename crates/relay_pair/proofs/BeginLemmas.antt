@@ -26,7 +26,7 @@ use Rattle.relay_events.specs.Begin.{begun_with}
 use Rattle.relay_pair.specs.Network.{HaveOneHost, IsHostBefore}
 use Rattle.relay_events.specs.Relays.{AreBound, HaveOwnNames}
 use Rattle.relay_hosts.specs.Room.{HasRoom, lines_held, lines_left}
-use Rattle.relay_events.specs.Told.{IsToldOfBreaks}
+use Rattle.relay_events.specs.Told.{LearnsOfBreaks}
 
 none_there : {A : Type 0} (place : ℕ) (value : A) → slice_get {X = A} [] place ≡ Some value → ⊥
 none_there zero value is = false≢true (ap is_some is)
@@ -268,7 +268,7 @@ module _ {D : Type 0} (honest : Type 0) (words : DiskWords D) where
           (same_node new.is.node standing (sym new.is.up ∙ up)) (free_none new.is.node.attempts new.is.idle.none_runs slot)));
     }
 
-    pub begun_are_told : IsToldOfBreaks (begun_with hosts)
+    pub begun_are_told : LearnsOfBreaks (begun_with hosts)
     begun_are_told number link is = absurd (no_link number link is)
 
     pub begun_has_room : (free : ℕ) → HasRoom (begun_with hosts) free

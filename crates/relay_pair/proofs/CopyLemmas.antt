@@ -29,7 +29,7 @@ use Rattle.relay_world.specs.GivingUp.{Withdrawing}
 use Rattle.relay_world.specs.Once.{IsTriedOnce}
 use Rattle.relay_world.specs.World.{World, link_at}
 use Rattle.relay_world.proofs.Theorems.{decided_by}
-use Rattle.relay_pair.specs.Copied.{AreReplies, CountsBy, CountsCopies, accepts_place, behind_mail, is_no_memory}
+use Rattle.relay_pair.specs.Copied.{AreReplies, CountsBy, CountsCopies, accepts_place, after_mail, is_no_memory}
 use Rattle.relay_events.proofs.Theorems.{value_same}
 use Rattle.relay_pair.proofs.AcceptedLemmas.{accepted_by_replies, accepted_in}
 
@@ -54,7 +54,7 @@ one_tested true true more place tried rest is others has = refl
 one_tested true false more place tried rest is others has = others has
 one_tested false true more place tried rest is others has = elim (Contains-append_cases (tried ∷ []) rest place has) [
   | inl first ↦ absurd (false≢true (is (one_only tried place first)))
-  | inr behind ↦ others behind
+  | inr afterwards ↦ others afterwards
 ]
 one_tested false false more place tried rest is others has = others has
 
@@ -106,22 +106,22 @@ module _ {D : Type 0} (honest : Type 0) (words : DiskWords D) (world : World D) 
       decided = decided_by honest words world lists bound once node message place tried.host tried.changes link attempt is_attempt replies
           read.0 its_node its_message read.1
 
-      accepted : accepted_places (progress decided.errand replies).answered ≡ accepted_in attempt.places.items (behind_mail replies)
-      accepted = accepted_by_replies decided.errand replies decided.each
-          ∙ ap (λ (l : List ℕ). accepted_in l (behind_mail replies)) decided.places_are
+      accepted : accepted_places (progress decided.delivery replies).answered ≡ accepted_in attempt.places.items (after_mail replies)
+      accepted = accepted_by_replies decided.delivery replies decided.each
+          ∙ ap (λ (l : List ℕ). accepted_in l (after_mail replies)) decided.places_are
 
-      pub copied : accepts_place place attempt.places.items (behind_mail replies) ≡ true
+      pub copied : accepts_place place attempt.places.items (after_mail replies) ≡ true
           → CopiesBy world lists node message place attempt (length (children_of world attempt))
       copied found = inl (
         decided.passes.1 (subst (λ (l : List ℕ). Contains l place) (sym accepted)
-            (found_there place attempt.places.items (behind_mail replies) found)),
+            (found_there place attempt.places.items (after_mail replies) found)),
         refl,
       )
 
-      pub not_copied : accepts_place place attempt.places.items (behind_mail replies) ≡ false
+      pub not_copied : accepts_place place attempt.places.items (after_mail replies) ≡ false
           → CopiesBy world lists node message place attempt 0
       not_copied none = inr (
-        (λ passing. false≢true (sym none ∙ there_found place attempt.places.items (behind_mail replies)
+        (λ passing. false≢true (sym none ∙ there_found place attempt.places.items (after_mail replies)
             (subst (λ (l : List ℕ). Contains l place) accepted (decided.passes.0 passing)))),
         refl,
       )

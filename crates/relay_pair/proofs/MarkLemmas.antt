@@ -41,18 +41,18 @@ one_more {D = D} hosts node host before now held all within there its added so_f
     ∙ so_far
 
 -- nothing is left of a row after its end
-none_behind : {A : Type 0} (xs : List A) (place : ℕ) → length xs ≤ place → drop place xs ≡ []
-none_behind [] zero past = refl
-none_behind [] (suc place) past = refl
-none_behind (x ∷ xs) zero past = absurd (omega (arith, past))
-none_behind (x ∷ xs) (suc place) past = none_behind xs place (omega (arith, past))
+none_after : {A : Type 0} (xs : List A) (place : ℕ) → length xs ≤ place → drop place xs ≡ []
+none_after [] zero past = refl
+none_after [] (suc place) past = refl
+none_after (x ∷ xs) zero past = absurd (omega (arith, past))
+none_after (x ∷ xs) (suc place) past = none_after xs place (omega (arith, past))
 
 -- and after the last node the places so far are all
 pub all_marked : {D : Type 0} (hosts : List (Host D)) (node : ℕ) (marks all : List (ℕ × ℕ × ℕ)) → length hosts ≤ node
     → marks ++ marks_from node (drop node hosts) ≡ all → marks ≡ all
 all_marked {D = D} hosts node marks all past so_far =
     sym (append-nil marks)
-    ∙ ap (λ (l : List (Host D)). marks ++ marks_from node l) (sym (none_behind hosts node past))
+    ∙ ap (λ (l : List (Host D)). marks ++ marks_from node l) (sym (none_after hosts node past))
     ∙ so_far
 
 module _ {D : Type 0} (honest : Type 0) (words : DiskWords D) where

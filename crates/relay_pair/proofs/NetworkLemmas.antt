@@ -103,7 +103,7 @@ pub no_route : (routes : List Route) (name : List ℕ) → is_some (place_of rou
     → Contains routes route → route.hop.name ≢ name
 no_route [] name is route has own = let less = has.1 in omega (arith, less)
 no_route (first ∷ routes) name is route has own =
-    by (λ rest behind. no_route routes name rest route behind own) (bytes_eq name first.hop.name) refl
+    by (λ rest after. no_route routes name rest route after own) (bytes_eq name first.hop.name) refl
   where
     by : (is_some (place_of routes name) ≡ false → Contains routes route → ⊥)
         → (b : Bool) → bytes_eq name first.hop.name ≡ b → ⊥
@@ -117,10 +117,10 @@ no_route (first ∷ routes) name is route has own =
         at_place (further rest) has
       where
         at_place : (Contains routes route → ⊥) → Contains (first ∷ routes) route → ⊥
-        at_place behind (zero, within, here) =
+        at_place after (zero, within, here) =
             true≢false (sym ((bytes_eq-Decides name first.hop.name).1 (sym own ∙ ap (λ (r : Route). r.hop.name) (sym here)))
             ∙ other)
-        at_place behind (suc k, within, here) = behind (k, omega (arith, within), here)
+        at_place after (suc k, within, here) = after (k, omega (arith, within), here)
 
 pub sends_home : (config : Config) → is_some (place_of config.routes.routes config.host) ≡ true → SendsHome config
 sends_home config is = let found = found_route config.routes.routes config.host is in

@@ -35,10 +35,10 @@ is_greeted_again Transient = false
 is_greeted_again Permanent = true
 
 -- the replies after the one to MAIL: the greeting and the replies to EHLO, perhaps HELO, and MAIL come before
-abbrev pub behind_mail : List Reply → List Reply
-behind_mail [] = []
-behind_mail (greeting ∷ []) = []
-behind_mail (greeting ∷ ehlo ∷ replies) = drop (if is_greeted_again (kind_of ehlo.code) then 2 else 1) replies
+abbrev pub after_mail : List Reply → List Reply
+after_mail [] = []
+after_mail (greeting ∷ []) = []
+after_mail (greeting ∷ ehlo ∷ replies) = drop (if is_greeted_again (kind_of ehlo.code) then 2 else 1) replies
 
 -- whether the RCPT of this place was accepted, given the replies in the order of the places
 abbrev pub accepts_place : ℕ → List ℕ → List Reply → Bool

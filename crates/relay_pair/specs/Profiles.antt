@@ -54,13 +54,13 @@ abbrev pub routes_to_others : ℕ → ℕ → List Route
 routes_to_others count node = map route_to_node (filter (λ other. not (other == node)) (range_with_len 0 count))
 
 -- the node after this one, in a circle of this many
-abbrev pub node_behind : ℕ → ℕ → ℕ
-node_behind count node = if nat_lt (node + 1) count then node + 1 else 0
+abbrev pub node_after : ℕ → ℕ → ℕ
+node_after count node = if nat_lt (node + 1) count then node + 1 else 0
 
 -- the routes for mail that isn't for another node: to the node after this one, and outside
 abbrev pub routes_of_the_rest : ℕ → ℕ → List Route
 routes_of_the_rest count node =
-    route_to (codes "loop.example") (host_of (node_behind count node)) (address_of (node_behind count node))
+    route_to (codes "loop.example") (host_of (node_after count node)) (address_of (node_after count node))
     ∷ route_to (host_of node) (codes "out.example") outside_address
     ∷ route_to (codes "out.example") (codes "out.example") outside_address
     ∷ []

@@ -1,7 +1,7 @@
 //! How many copies of a message reach a recipient from a node.
 ghost use Rattle.std.specs.Prelude.{◌≡◌, ◌==◌, ◌&&◌, ◌≤◌, [], ◌∷◌, length, slice_get, Some, IfOk};
 ghost use Rattle.relay_course.specs.VerdictTable.{is_accepted};
-ghost use Rattle.relay_pair.specs.Copied.{AreReplies, CountsBy, CountsCopies, accepts_place, behind_mail};
+ghost use Rattle.relay_pair.specs.Copied.{AreReplies, CountsBy, CountsCopies, accepts_place, after_mail};
 ghost use Rattle.relay_pair.specs.Copied.{is_greeted_again, is_no_memory};
 ghost use Rattle.relay_events.specs.Relays.{AreBound, world_of};
 ghost use Rattle.relay_world.specs.Ledger.{accepts_on};
@@ -128,7 +128,7 @@ fn is_no_memory(fault: ReplyFault) -> bool
 
 /// Returns the replies to the RCPTs of an attempt, and all that follow.
 fn rcpt_replies(replies: &[Reply]) -> &[Reply]
-    ensures { result.now ≡ behind_mail replies.now }
+    ensures { result.now ≡ after_mail replies.now }
 {
     if replies.len() < 2 {
         return &[];

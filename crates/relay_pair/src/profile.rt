@@ -2,7 +2,7 @@
 ghost use Rattle.std.specs.Prelude.{◌≡◌, ◌<◌, ◌≤◌, [], ◌∷◌, ◌++◌, codes, IfOk, OnOk};
 ghost use Rattle.relay_envelope.specs.HostName.{IsHostName};
 ghost use Rattle.relay_pair.specs.Profiles.{AreProfiles, IsProfile, address_of, first_routes, host_of, mail_at};
-ghost use Rattle.relay_pair.specs.Profiles.{node_behind, route_to, route_to_node, routes_among, routes_of_the_rest};
+ghost use Rattle.relay_pair.specs.Profiles.{node_after, route_to, route_to_node, routes_among, routes_of_the_rest};
 ghost use Rattle.relay_pair.specs.Profiles.{routes_to_others, second_routes};
 ghost use Rattle.relay_routes.specs.Routes.{in_lower_case, with_route};
 
@@ -118,7 +118,7 @@ fn add_rest(alloc: Global, routes: &mut Table, count: usize, node: usize) -> Res
     ensures host { routes.new.host ≡ routes.old.host }
     ensures routes { OnOk result (routes.new.routes ≡ routes.old.routes ++ routes_of_the_rest count node) }
 {
-    let next = node_behind(count, node);
+    let next = node_after(count, node);
     let (name, address) = (host_of(next), address_of(next));
     add_lowered(alloc, routes, b"loop.example", &name, address)?;
     add_lowered(alloc, routes, &host_of(node), b"out.example", OUTSIDE)?;
@@ -143,9 +143,9 @@ fn add_lowered(
 }
 
 /// Returns the index of the node after this one; node 0 comes after the last.
-fn node_behind(count: usize, node: usize) -> usize
+fn node_after(count: usize, node: usize) -> usize
     requires { node < count }
-    ensures value { result ≡ node_behind count node }
+    ensures value { result ≡ node_after count node }
     ensures within { result < count }
 {
     if node + 1 < count { node + 1 } else { 0 }

@@ -20,9 +20,9 @@ module _ (held piece : List ℕ) (ahead : ℕ) (within : ahead ≤ length piece)
   more_same count fits =
       let put = take count (drop ahead piece) in
       let all = length-append held put in
-      let behind = length-drop ahead piece in
+      let after = length-drop ahead piece in
       let some = length-take count (drop ahead piece) in
-      let place : length (held ++ put) - (ahead + count) ≡ length held - ahead = omega (arith, all, behind, some, fits, is_held) in
+      let place : length (held ++ put) - (ahead + count) ≡ length held - ahead = omega (arith, all, after, some, fits, is_held) in
       ap (λ (n : ℕ). drop n (held ++ put)) place
       ∙ drop-append-le (length held - ahead) held put (omega arith)
       ∙ ap (λ (xs : List ℕ). xs ++ put) same
@@ -46,9 +46,9 @@ more_text held piece ahead count =
     ∙ ap (λ (xs : List ℕ). held ++ xs) (take-append-drop count (drop ahead piece))
 
 -- what stands after a window, by the piece after it
-pub behind_is : (pieces rest : List (Vec ℕ Global)) (piece : Vec ℕ Global) (ahead : ℕ) → pieces ≡ piece ∷ rest → ahead ≤ length piece.items
+pub after_is : (pieces rest : List (Vec ℕ Global)) (piece : Vec ℕ Global) (ahead : ℕ) → pieces ≡ piece ∷ rest → ahead ≤ length piece.items
     → drop ahead (joined pieces) ≡ drop ahead piece.items ++ joined rest
-behind_is pieces rest piece ahead is within =
+after_is pieces rest piece ahead is within =
     ap (λ (all : List (Vec ℕ Global)). drop ahead (joined all)) is
     ∙ drop-append-le ahead piece.items (joined rest) within
 
@@ -56,11 +56,11 @@ behind_is pieces rest piece ahead is within =
 pub same_text : (pieces rest : List (Vec ℕ Global)) (piece : Vec ℕ Global) (old new : List ℕ) (was ahead : ℕ) → pieces ≡ piece ∷ rest → was ≤ length piece.items → ahead ≤ length piece.items
     → new ++ drop ahead piece.items ≡ old ++ drop was piece.items → new ++ drop ahead (joined pieces) ≡ old ++ drop was (joined pieces)
 same_text pieces rest piece old new was ahead is fits within same =
-    ap (λ (xs : List ℕ). new ++ xs) (behind_is pieces rest piece ahead is within)
+    ap (λ (xs : List ℕ). new ++ xs) (after_is pieces rest piece ahead is within)
     ∙ sym (append_assoc new (drop ahead piece.items) (joined rest))
     ∙ ap (λ (xs : List ℕ). xs ++ joined rest) same
     ∙ append_assoc old (drop was piece.items) (joined rest)
-    ∙ ap (λ (xs : List ℕ). old ++ xs) (sym (behind_is pieces rest piece was is fits))
+    ∙ ap (λ (xs : List ℕ). old ++ xs) (sym (after_is pieces rest piece was is fits))
 
 -- a piece that is put after all others
 pub put_first : (pieces : List (Vec ℕ Global)) (piece : Vec ℕ Global) (ahead : ℕ) → ahead ≤ length (first_of pieces)
@@ -74,9 +74,9 @@ first_within : (pieces : List (Vec ℕ Global)) → length (first_of pieces) ≤
 first_within [] = omega arith
 first_within (first ∷ pieces) = let all = length-append first.items (joined pieces) in omega (arith, all)
 
-pub put_behind : (pieces : List (Vec ℕ Global)) (piece : Vec ℕ Global) (ahead : ℕ) → ahead ≤ length (first_of pieces)
+pub put_after : (pieces : List (Vec ℕ Global)) (piece : Vec ℕ Global) (ahead : ℕ) → ahead ≤ length (first_of pieces)
     → drop ahead (joined (pieces ++ piece ∷ [])) ≡ drop ahead (joined pieces) ++ piece.items
-put_behind pieces piece ahead within =
+put_after pieces piece ahead within =
     let first = first_within pieces in
     ap (drop ahead) (flat_map-append (λ (one : Vec ℕ Global). one.items) pieces (piece ∷ []) ∙ ap (λ (xs : List ℕ). joined pieces ++ xs) (append-nil piece.items))
     ∙ drop-append-le ahead (joined pieces) piece.items (omega (arith, within, first))
@@ -100,7 +100,7 @@ module _ (pieces rest : List (Vec ℕ Global)) (piece : Vec ℕ Global) (is : pi
   -- the piece is let go, where all of it stands in the window
   pub let_go : (ahead : ℕ) → ahead ≡ length piece.items → drop ahead (joined pieces) ≡ joined rest
   let_go ahead all =
-      behind_is pieces rest piece ahead is (omega (arith, all))
+      after_is pieces rest piece ahead is (omega (arith, all))
       ∙ ap (λ (xs : List ℕ). xs ++ joined rest) (ap (λ (n : ℕ). drop n piece.items) all ∙ drop_all (length piece.items) piece.items (omega arith))
 
   pub fewer_let_go : (was : ℕ) → was ≤ length piece.items → length (joined rest) + length rest < length (drop was (joined pieces)) + length pieces
@@ -121,4 +121,4 @@ module _ (pieces rest : List (Vec ℕ Global)) (piece : Vec ℕ Global) (is : pi
       ap (λ (n : ℕ). new ++ drop n (joined rest)) none
       ∙ ap (λ (xs : List ℕ). xs ++ joined rest) front
       ∙ append_assoc old (drop was piece.items) (joined rest)
-      ∙ ap (λ (xs : List ℕ). old ++ xs) (sym (behind_is pieces rest piece was is fits))
+      ∙ ap (λ (xs : List ℕ). old ++ xs) (sym (after_is pieces rest piece was is fits))

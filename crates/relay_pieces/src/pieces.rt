@@ -36,7 +36,7 @@ impl Pieces {
 
     /// Makes a text of one readable piece. Allocates nothing.
     pub fn of_one(alloc: Global, text: Vec<u8>) -> Self
-        ensures { result ≡ record { front = text.items; behind = []; left = 0 } }
+        ensures { result ≡ record { front = text.items; after = []; left = 0 } }
     {
         Pieces {
             window: Window {
@@ -90,7 +90,7 @@ impl Pieces {
     /// follow them; if it runs out, the text is lost.
     pub fn hold_first(&mut self, count: usize) -> Result<(), AllocError>
         ensures text { OnOk result (text_of self.new ≡ text_of self.old) }
-        ensures held { OnOk result (length self.new.front < count → self.new.behind ≡ []) }
+        ensures held { OnOk result (length self.new.front < count → self.new.after ≡ []) }
         ensures memory { OnErr result ((length self.old.front < count) × (0 < self.old.left)) }
     {
         if self.front().len() >= count {
@@ -102,7 +102,7 @@ impl Pieces {
     /// Takes up pieces until `count` octets are readable or none is left.
     fn take_up_to(&mut self, count: usize) -> Result<(), AllocError>
         ensures text { OnOk result (text_of self.new ≡ text_of self.old) }
-        ensures held { OnOk result (length self.new.front < count → self.new.behind ≡ []) }
+        ensures held { OnOk result (length self.new.front < count → self.new.after ≡ []) }
         ensures memory { OnErr result (0 < self.old.left) }
     {
         while self.front().len() < count {

@@ -33,9 +33,9 @@ impl Window {
         ensures more { OnOk result (self.old.ahead < length piece.now → self.old.ahead < self.new.ahead) }
     {
         self.settle(piece);
-        let behind = &piece[self.ahead..];
-        let count = self.held.len().max(SEAM).min(behind.len());
-        self.held.extend_from_slice(&behind[..count])?;
+        let after = &piece[self.ahead..];
+        let count = self.held.len().max(SEAM).min(after.len());
+        self.held.extend_from_slice(&after[..count])?;
         self.ahead += count;
         Ok(())
     }

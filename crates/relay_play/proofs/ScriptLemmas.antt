@@ -159,15 +159,15 @@ module _ (honest : Type 0) (words : DiskWords MemoryDisk) where
   )
 
   -- a line of the rest has ended, and was played after what had begun
-  pub line_used : (octets before rest begun line behind filled after : List ℕ) (old now later : PlayState)
-      → AreUsedTo octets before old rest begun now → HasNoLineFeed line → rest ≡ line ++ 10 ∷ behind
+  pub line_used : (octets before rest begun line afterwards filled after : List ℕ) (old now later : PlayState)
+      → AreUsedTo octets before old rest begun now → HasNoLineFeed line → rest ≡ line ++ 10 ∷ afterwards
       → filled ≡ begun ++ line → PlaysLine honest words filled now later → after ≡ []
-      → AreUsedTo octets before old behind after later
-  line_used octets before rest begun line behind filled after old now later so_far none its fills does empty =
+      → AreUsedTo octets before old afterwards after later
+  line_used octets before rest begun line afterwards filled after old now later so_far none its fills does empty =
       let ended = line ++ 10 ∷ [] in (
         so_far.0 ++ ended,
-        so_far.1 ∙ ap (λ l. so_far.0 ++ l) (its ∙ sym (append_assoc line (10 ∷ []) behind))
-            ∙ sym (append_assoc so_far.0 ended behind),
+        so_far.1 ∙ ap (λ l. so_far.0 ++ l) (its ∙ sym (append_assoc line (10 ∷ []) afterwards))
+            ∙ sym (append_assoc so_far.0 ended afterwards),
         λ first front played.
             subst (λ a. HasPlayed honest words first (front ++ (so_far.0 ++ ended)) a later) (sym empty)
             (subst (λ f. HasPlayed honest words first f [] later) (append_assoc front so_far.0 ended)

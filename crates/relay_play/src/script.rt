@@ -126,7 +126,7 @@ impl Player {
     {
         let mut seen = Vec::new(self.alloc);
         let end = self.play_lines(octets, &mut seen);
-        hand_out(seen.as_slice(), writer)?;
+        write_lines(seen.as_slice(), writer)?;
         end
     }
 
@@ -137,7 +137,7 @@ impl Player {
     {
         let mut seen = Vec::new(self.alloc);
         let end = self.play_begun(&mut seen);
-        hand_out(seen.as_slice(), writer)?;
+        write_lines(seen.as_slice(), writer)?;
         end
     }
 
@@ -150,10 +150,10 @@ impl Player {
             self.new.begun.items self.new.play) }
     {
         let mut rest = octets;
-        while let Some((line, behind)) = first_line(rest) {
+        while let Some((line, after)) = first_line(rest) {
             self.begun.extend_from_slice(line)?;
             self.play_begun(seen)?;
-            rest = behind;
+            rest = after;
         }
         Ok(self.begun.extend_from_slice(rest)?)
     }
@@ -182,7 +182,7 @@ fn first_line(text: &[u8]) -> Option<(&[u8], &[u8])>
 }
 
 /// Writes results, if there are any; also before a fault is returned.
-fn hand_out<W: Write>(seen: &[u8], writer: &mut W) -> Result<(), PlayFault> {
+fn write_lines<W: Write>(seen: &[u8], writer: &mut W) -> Result<(), PlayFault> {
     if seen.is_empty() {
         return Ok(());
     }

@@ -1,5 +1,5 @@
 mod ProfileLemmas
-mod SavingLemmas
 mod SessionLemmas
 mod StatusLemmas
-mod WithdrawalLemmas
+mod TaskLemmas
+mod WordLemmas

@@ -2,19 +2,14 @@
 //! writer.
 #![tactic(auto)]
 
-mod control_client;
 mod descriptors;
 mod dispatch;
 mod looks;
-mod offline;
-mod report;
-mod requests;
-mod saving;
+mod relaying;
 mod setup;
-mod steering;
-mod steering_fault;
+mod statuses;
 mod streams;
-mod withdrawing;
+mod tasks;
 
 pub use descriptors::hold_standard_streams;
 pub use dispatch::{command, refuse_streams, refuse_words};

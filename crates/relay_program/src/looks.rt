@@ -1,5 +1,6 @@
 //! The subcommands that show the queue.
-use relay_arguments::Listing;
+use relay_arguments::{Listing, Look};
+use relay_files::list;
 use relay_queue::{
     Filter, ListForm, MessageForm, QueueFault, StatusForm, print_list, print_message, print_status,
     read_age,
@@ -9,8 +10,23 @@ use std::fs::File;
 use std::io::Write;
 use std::rt::{Clock, Env, Files};
 
+/// Prints what is asked of the queue.
+pub(crate) fn look<R: Files<File = File> + Env + Clock + AllocGlobal, W: Write>(
+    alloc: Global,
+    rt: &R,
+    asked: Look<'_>,
+    writer: &mut W,
+) -> Result<(), QueueFault> {
+    match asked {
+        Look::List(file) => list(alloc, rt, file, writer).map_err(QueueFault::Files),
+        Look::Listing { file, asked } => list_rows(alloc, rt, file, &asked, writer),
+        Look::Show { file, number, raw } => show(alloc, rt, file, number, raw, writer),
+        Look::Status { file, prometheus } => status(alloc, rt, file, prometheus, writer),
+    }
+}
+
 /// Prints the queued recipients that match the options.
-pub(crate) fn list_rows<R: Files<File = File> + Env + Clock + AllocGlobal, W: Write>(
+fn list_rows<R: Files<File = File> + Env + Clock + AllocGlobal, W: Write>(
     alloc: Global,
     rt: &R,
     path: &str,
@@ -44,7 +60,7 @@ fn asked_age(text: &str) -> Result<u64, QueueFault> {
 }
 
 /// Prints a message, or its text only.
-pub(crate) fn show<R: Files<File = File> + Env + Clock + AllocGlobal, W: Write>(
+fn show<R: Files<File = File> + Env + Clock + AllocGlobal, W: Write>(
     alloc: Global,
     rt: &R,
     path: &str,
@@ -61,7 +77,7 @@ pub(crate) fn show<R: Files<File = File> + Env + Clock + AllocGlobal, W: Write>(
 }
 
 /// Prints a summary of the queue by next hop.
-pub(crate) fn status<R: Files<File = File> + Env + Clock + AllocGlobal, W: Write>(
+fn status<R: Files<File = File> + Env + Clock + AllocGlobal, W: Write>(
     alloc: Global,
     rt: &R,
     path: &str,

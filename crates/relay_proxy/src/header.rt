@@ -13,7 +13,7 @@ use crate::source::Source;
 const SHORTEST: usize = 12;
 
 /// A header.
-#[derive(Clone, Copy, Debug, Drop)]
+#[derive(Clone, Copy, Drop)]
 pub struct Header {
     /// What it says of the client.
     pub source: Source,
@@ -22,7 +22,7 @@ pub struct Header {
 }
 
 /// What octets begin with.
-#[derive(Clone, Copy, Debug, Drop)]
+#[derive(Clone, Copy, Drop)]
 pub enum Reading {
     /// A whole header.
     Found(Header),

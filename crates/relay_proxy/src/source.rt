@@ -1,7 +1,7 @@
 use std::net::SocketAddrV4;
 
 /// What a header says of the client.
-#[derive(Clone, Copy, Debug, Drop)]
+#[derive(Clone, Copy, Drop)]
 pub enum Source {
     /// Nothing: the connection's own address stands. The proxy speaks for itself, or doesn't know its client.
     Own,

@@ -1,6 +1,8 @@
 mod GroupLemmas
 mod JoinLemmas
+mod ObjectLemmas
 mod PartLemmas
+mod PrintableLemmas
 mod RowLemmas
 mod ScreenLemmas
 mod TakenLemmas

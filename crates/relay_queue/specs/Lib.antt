@@ -4,5 +4,6 @@ pub mod Row
 pub mod Filter
 pub mod Picks
 pub mod Table
+pub mod Object
 pub mod Printed
 pub mod Selection

@@ -1,8 +1,6 @@
 -- What `list`, `show` and `status` print: it is of the queue that files were opened to, and a terminal may see it.
-use Rattle.std.specs.Prelude.{◌≡◌, ℕ, ◌*◌, ◌/◌, ◌-◌, ◌^◌, min, max, List, [], ◌++◌, map, codes, decimal}
+use Rattle.std.specs.Prelude.{◌≡◌, ℕ, ◌*◌, ◌/◌, ◌-◌, ◌^◌, min, max, List, ◌++◌, codes, decimal}
 use Rattle.std.specs.Prelude.{Option, None, Some, Ok}
-use Rattle.std.specs.List.{flat_map}
-use Rattle.std.specs.Option.{option_map_or}
 use Rattle.std.specs.Io.KnownBytes.{Appends}
 use Rattle.relay_disk.specs.declared.file.FileDisk.{FileDisk}
 use Rattle.relay_routes.specs.Config.{ReadsConfig}
@@ -20,26 +18,15 @@ use Rattle.relay_queue.specs.declared.calls.StatusForm.{StatusForm}
 use Rattle.relay_queue.specs.declared.calls.StatusForm.TheVariants.{Table as StatusTable, Metrics}
 use Rattle.relay_queue.specs.declared.filter.Filter.{Filter}
 use Rattle.relay_queue.specs.Amounts.{size_text}
+use Rattle.relay_queue.specs.Object.{objects_text}
 use Rattle.relay_queue.specs.Picks.{AreListed}
-use Rattle.relay_queue.specs.Row.{queued_at}
-use Rattle.relay_queue.specs.Screen.{AreSafe, IsShownText, shown_line}
+use Rattle.relay_queue.specs.Screen.{AreSafe, IsShownText}
 use Rattle.relay_queue.specs.Table.{IsTable}
-
--- the line of a recipient as an object, if it is queued
-abbrev pub object_line : RouteTable → Queue → (ℕ × ℕ × ℕ) × List ℕ → List ℕ
-object_line table queue row =
-    option_map_or (λ _. shown_line row.1) (queued_at table queue (row.0.1, row.0.2)) []
-
--- recipients as objects: a line for each key, in their order
-pub record AreObjects (table : RouteTable) (queue : Queue) (keys : List (ℕ × ℕ × ℕ)) (text : List ℕ) : Type 0 where
-  pub rows : List ((ℕ × ℕ × ℕ) × List ℕ)
-  pub keys_are : map (λ row. row.0) rows ≡ keys
-  pub text_is : text ≡ flat_map (object_line table queue) rows
 
 -- the recipients with these keys, in a form
 abbrev pub IsList : ListForm → ℕ → RouteTable → Queue → List (ℕ × ℕ × ℕ) → List ℕ → Type 0
 IsList Table now table queue keys text = IsTable now table queue keys text
-IsList Json now table queue keys text = AreObjects table queue keys text
+IsList Json now table queue keys text = text ≡ objects_text now table queue keys
 
 -- the queued recipients that pass the filter were printed, in the order of the list, by the routes of a configuration;
 -- the time is what the clock has said, of which nothing is known

@@ -5,7 +5,7 @@ ghost use Rattle.relay_queue.specs.Printed.{IsList, IsTextPrinted, ShowsFill};
 
 use crate::fault::QueueFault;
 use crate::filter::Filter;
-use crate::json::json_text;
+use crate::json_lines::json_text;
 use crate::message_text::message_text;
 use crate::metrics::metrics_text;
 use crate::picks::{Key, listed_keys};
@@ -26,7 +26,7 @@ use std::io::Write;
 use std::rt::{Clock, Env, Files};
 
 /// The output format of a list.
-#[derive(Clone, Copy, Debug)]
+#[derive(Clone, Copy)]
 pub enum ListForm {
     /// A table for people.
     Table,
@@ -35,7 +35,7 @@ pub enum ListForm {
 }
 
 /// The output format of a message.
-#[derive(Clone, Copy, Debug)]
+#[derive(Clone, Copy)]
 pub enum MessageForm {
     /// Its envelope and its text, for people.
     Shown,
@@ -44,7 +44,7 @@ pub enum MessageForm {
 }
 
 /// The output format of the status.
-#[derive(Clone, Copy, Debug)]
+#[derive(Clone, Copy)]
 pub enum StatusForm {
     /// A table for people.
     Table,

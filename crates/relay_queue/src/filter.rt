@@ -8,7 +8,7 @@ use relay_lines::word::is_word;
 use relay_trace::Moment;
 
 /// Selects the queued recipients to list: those that match every field that is set.
-#[derive(Clone, Copy, Debug)]
+#[derive(Clone, Copy)]
 pub struct Filter<'a> {
     /// The name of the next hop, in any letter case.
     pub hop: Option<&'a [u8]>,

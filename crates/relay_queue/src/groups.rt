@@ -15,7 +15,7 @@ use std::alloc::{AllocError, Global};
 pub(crate) type Mark = (u64, u8);
 
 /// Held places of a message.
-#[derive(Debug, Drop)]
+#[derive(Drop)]
 pub struct Selected {
     /// The number of the message.
     pub message: u64,

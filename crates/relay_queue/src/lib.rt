@@ -8,7 +8,7 @@ mod columns;
 mod fault;
 mod filter;
 mod groups;
-mod json;
+mod json_lines;
 mod message_text;
 mod metrics;
 mod picks;

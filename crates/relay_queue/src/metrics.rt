@@ -10,7 +10,7 @@ use relay_trace::Moment;
 use std::alloc::{AllocError, Global};
 
 /// A metric of each next hop.
-#[derive(Clone, Copy, Debug)]
+#[derive(Clone, Copy)]
 enum ByHop {
     Messages,
     Recipients,

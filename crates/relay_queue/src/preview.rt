@@ -25,7 +25,7 @@ use std::rt::{Clock, Files};
 const MOST_LINES: usize = 10;
 
 /// The queued mail that a selection takes.
-#[derive(Debug, Drop)]
+#[derive(Drop)]
 pub struct Taken {
     /// The messages with a selected recipient, in the order of the queue, each once.
     pub messages: Vec<Selected>,

@@ -10,7 +10,7 @@ use relay_routes::Table;
 use relay_trace::Moment;
 
 /// A queued recipient, as a view shows it.
-#[derive(Clone, Copy, Debug)]
+#[derive(Clone, Copy)]
 pub struct Row<'a> {
     /// The number of its message.
     pub number: u64,

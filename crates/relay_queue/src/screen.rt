@@ -10,7 +10,7 @@ use std::marker::Model;
 
 /// Text for a terminal: printable ASCII and line feeds only. Printable octets of mail are shown as they are, all others
 /// as `\xHH`.
-#[derive(Debug, Drop)]
+#[derive(Drop)]
 pub struct Screen {
     text: Vec<u8>,
 }

@@ -12,7 +12,7 @@ use relay_lines::word::is_word;
 use relay_trace::Moment;
 
 /// Selects queued recipients to withdraw: those that match every field that is set. Without fields it selects none.
-#[derive(Clone, Copy, Debug)]
+#[derive(Clone, Copy)]
 pub struct Selection<'a> {
     /// The numbers of messages, in decimal, with commas between them.
     pub numbers: Option<&'a [u8]>,

@@ -20,7 +20,7 @@ const SIZE_WIDTH: usize = 12;
 const AGE_WIDTH: usize = 8;
 
 /// The size of the spool.
-#[derive(Clone, Copy, Debug)]
+#[derive(Clone, Copy)]
 pub(crate) struct Fill {
     /// Its size, in octets.
     pub(crate) size: u64,

@@ -7,7 +7,7 @@ use relay_routes::Table;
 use std::alloc::{AllocError, Global};
 
 /// What is queued for one next hop.
-#[derive(Clone, Copy, Debug)]
+#[derive(Clone, Copy)]
 pub(crate) struct Summary {
     /// How many messages have a recipient there.
     pub(crate) messages: u64,

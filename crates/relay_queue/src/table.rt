@@ -34,7 +34,7 @@ const WIDEST: usize = 40;
 const NO_HOP: &[u8] = b"-";
 
 /// The widths of the columns of texts.
-#[derive(Clone, Copy, Debug)]
+#[derive(Clone, Copy)]
 struct Widths {
     reverse_path: usize,
     path: usize,
@@ -42,7 +42,7 @@ struct Widths {
 }
 
 /// The sums of the last line.
-#[derive(Clone, Copy, Debug)]
+#[derive(Clone, Copy)]
 struct Totals {
     messages: u64,
     recipients: u64,
@@ -253,7 +253,7 @@ fn push_tries(screen: &mut Screen, row: &Row<'_>, time: &[u8]) -> Result<(), All
 }
 
 /// Returns how many seconds ago the message of a recipient was accepted.
-fn age_of(row: &Row<'_>, now: Moment) -> u64
+pub(crate) fn age_of(row: &Row<'_>, now: Moment) -> u64
     ensures { result ≡ now - row.now.accepted }
 {
     now.seconds().saturating_sub(row.accepted.seconds())
@@ -307,7 +307,7 @@ fn totals_of<D: Disk>(records: &Records<D>, keys: &[Key], now: Moment) -> Totals
 }
 
 /// Returns how many seconds ago the message of the first of these recipients was accepted.
-fn age_of_first(keys: &[Key], now: Moment) -> Option<u64>
+pub(crate) fn age_of_first(keys: &[Key], now: Moment) -> Option<u64>
     ensures { result ≡ option_map (λ key. now - key.0) (slice_get keys.now 0) }
 {
     match keys.first() {

@@ -37,15 +37,15 @@ rest_last : (queue : Queue) (bodies : List (List ℕ)) (body : List ℕ) (left :
     → (mid : Queue) × ReadsQueue queue bodies mid × ReadsBody mid body left
 rest_last queue [] body left reads = (queue, refl, subst (ReadsBody queue body) (sym reads.2) reads.1)
 rest_last queue (first ∷ bodies) body left reads =
-    let behind = rest_last reads.0 bodies body left reads.2 in
-    (behind.0, (reads.0, reads.1, behind.1), behind.2)
+    let after = rest_last reads.0 bodies body left reads.2 in
+    (after.0, (reads.0, reads.1, after.1), after.2)
 
 all_last : (front : List (List ℕ)) (body : List ℕ) (left : Queue) → ReadsAll (front ++ body ∷ []) left
     → (mid : Queue) × ReadsAll front mid × ReadsAt (length front) mid body left
 all_last [] body left reads = (empty_queue, refl, subst (ReadsFirst body) (sym reads.2) reads.1)
 all_last (first ∷ front) body left reads =
-    let behind = rest_last reads.0 front body left reads.2 in
-    (behind.0, (reads.0, reads.1, behind.1), behind.2)
+    let after = rest_last reads.0 front body left reads.2 in
+    (after.0, (reads.0, reads.1, after.1), after.2)
 
 -- what was read may be stored
 pub read_queue : (bodies : List (List ℕ)) (left : Queue) → ReadsAll bodies left → IsQueue left

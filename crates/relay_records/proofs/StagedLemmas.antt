@@ -26,9 +26,9 @@ queue_of_all : (changes pending : List Change) → queue_of (changes ++ pending)
 queue_of_all changes pending = fold-append step empty_queue changes pending
 
 -- changes that fit after others that do
-fit_behind : (queue : Queue) (changes pending : List Change) → FitsFrom queue changes → FitsFrom (fold step queue changes) pending → FitsFrom queue (changes ++ pending)
-fit_behind queue [] pending first second = second
-fit_behind queue (change ∷ changes) pending first second = (first.0, fit_behind (step queue change) changes pending first.1 second)
+fit_after : (queue : Queue) (changes pending : List Change) → FitsFrom queue changes → FitsFrom (fold step queue changes) pending → FitsFrom queue (changes ++ pending)
+fit_after queue [] pending first second = second
+fit_after queue (change ∷ changes) pending first second = (first.0, fit_after (step queue change) changes pending first.1 second)
 
 -- a note more
 notes_more : (queue : Queue) (pending : List Change) (notes : List Noted) (change : Change) (note : Noted) → AreNotes queue pending notes
@@ -66,8 +66,8 @@ row_is_full words old new NotEmpty refused other memory = absurd refused
 row_is_full words old new NoSecond refused other memory = absurd refused
 
 -- the next number after them
-next_behind : (changes pending : List Change) → (queue_of (changes ++ pending)).next ≡ length changes + length pending + 1
-next_behind changes pending =
+next_after : (changes pending : List Change) → (queue_of (changes ++ pending)).next ≡ length changes + length pending + 1
+next_after changes pending =
     let next = next_is_one_more (changes ++ pending) in
     let all = length-append changes pending in
     omega (arith, next, all)
@@ -89,19 +89,19 @@ module _ {D : Type 0} (honest : Type 0) (words : DiskWords D) where
   -- those that are awaited have numbers
   pub awaited_are_numbered : (records : Kept D) (changes pending : List Change) (row : Row) → Awaits honest words records changes pending row
       → records.queue.next ≡ length changes + length pending + 1
-  awaited_are_numbered records changes pending row awaits = ap (λ (q : Queue). q.next) awaits.queue ∙ next_behind changes pending
+  awaited_are_numbered records changes pending row awaits = ap (λ (q : Queue). q.next) awaits.queue ∙ next_after changes pending
 
   -- a change more is awaited
   pub one_more_awaited : (old new : Kept D) (row left : Row) (changes pending : List Change) (change : Change) (used number : ℕ)
       → Awaits honest words old changes pending row → FitsQueue old.queue change → Stages old new row left change used number
       → Awaits honest words new changes (pending ++ change ∷ []) left
   one_more_awaited old new row left changes pending change used number awaits fits stages =
-      let behind : old.queue ≡ fold step (queue_of changes) pending = awaits.queue ∙ queue_of_all changes pending in
+      let after : old.queue ≡ fold step (queue_of changes) pending = awaits.queue ∙ queue_of_all changes pending in
       let noted = subst (λ (n : ℕ). NotesNext old.queue change (encode change) n stages.note) (sym stages.notes_next.used_is) stages.notes_next in
       record {
         live = ap (λ (s : Stored D). s.live) stages.spool ∙ awaits.live;
         fitting = awaits.fitting;
-        fits = one_more_fits (queue_of changes) pending change awaits.fits (subst (λ (q : Queue). FitsQueue q change) behind fits);
+        fits = one_more_fits (queue_of changes) pending change awaits.fits (subst (λ (q : Queue). FitsQueue q change) after fits);
         queue = stages.queue ∙ ap (λ (q : Queue). step q change) awaits.queue ∙ sym (queue_of_more (changes ++ pending) change)
             ∙ ap queue_of (append_assoc changes pending (change ∷ []));
         bodies = λ h. subst (λ (s : Stored D). StandsFor s.bodies changes) (sym stages.spool) (awaits.bodies h);
@@ -109,7 +109,7 @@ module _ {D : Type 0} (honest : Type 0) (words : DiskWords D) where
         row_is = stages.bodies ∙ ap (λ (b : List (List ℕ)). b ++ encode change ∷ []) awaits.row_is ∙ sym (map-append encode pending (change ∷ []));
         notes = subst (λ (ns : List Noted). AreNotes (queue_of changes) (pending ++ change ∷ []) ns) (sym stages.notes)
             (notes_more (queue_of changes) pending row.notes change stages.note awaits.notes
-            (subst (λ (q : Queue). NotesNext q change (encode change) stages.note.used stages.note) behind noted));
+            (subst (λ (q : Queue). NotesNext q change (encode change) stages.note.used stages.note) after noted));
       }
 
   -- The fields of the records are seen apart while a call changes them; `seen` is the value that they make.
@@ -133,7 +133,7 @@ module _ {D : Type 0} (honest : Type 0) (words : DiskWords D) where
     settled new notes queue appended same = record {
       keeps = record {
         live = appended.live;
-        fitting = fit_behind empty_queue changes pending awaits.fitting awaits.fits;
+        fitting = fit_after empty_queue changes pending awaits.fitting awaits.fits;
         queue = queue ∙ seen_queue;
         bodies = λ h. with_all h new.spool.bodies (appended.bodies_are h);
         images = λ h image left. let found = appended.images h image left in (found.0, found.1, with_all h found.0 found.2);
@@ -168,7 +168,7 @@ module _ {D : Type 0} (honest : Type 0) (words : DiskWords D) where
         stopped = stopped;
         fitting = awaits.fitting;
         fits = awaits.fits;
-        next = ap (λ (q : Queue). q.next) (queue ∙ seen_queue) ∙ next_behind changes pending;
+        next = ap (λ (q : Queue). q.next) (queue ∙ seen_queue) ∙ next_after changes pending;
         images = λ h image left. image_is h image ((stop h).now image left);
       };
       notes_are = subst (λ (ns : List Noted). AreNotes (queue_of changes) pending ns) (sym same) awaits.notes;

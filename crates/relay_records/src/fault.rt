@@ -49,7 +49,7 @@ pub enum NodeFault {
 }
 
 /// Disks that weren't opened, or on which no records were made, with the reason.
-#[derive(Debug, Drop)]
+#[derive(Drop)]
 pub struct NotOpened<D> {
     pub cause: Cause,
     pub disk: Disks<D>,

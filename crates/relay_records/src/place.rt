@@ -5,7 +5,7 @@ ghost use Rattle.relay_records.specs.HeldPlace.{waiting_in};
 use relay_book::Message;
 
 /// A held place of a message.
-#[derive(Clone, Copy, Debug)]
+#[derive(Clone, Copy)]
 pub struct HeldPlace<'a> {
     /// The forward path of its recipient, with its brackets.
     pub path: &'a [u8],

@@ -42,7 +42,7 @@ impl<D: Disk> Records<D> {
         ensures full { (result ≡ Err NodeFault.Full) ↔ ((2 ^ 62 < self.old.queue.next)
             ⊎ (2 ^ 40 < self.old.spool.size + room_of row.old.bodies + 5 + length octets)) }
     {
-        if !self.has_number() || !self.has_room_behind(row, &octets) {
+        if !self.has_number() || !self.has_room_after(row, &octets) {
             return Err(NodeFault::Full);
         }
         let noted = note_of(alloc, &self.book, &change, octets, used)?;
@@ -54,7 +54,7 @@ impl<D: Disk> Records<D> {
     }
 
     /// Returns whether the spool may grow by the bodies of a row and by this one after them.
-    fn has_room_behind(&self, row: &Staged, octets: &Octets) -> bool
+    fn has_room_after(&self, row: &Staged, octets: &Octets) -> bool
         ensures { IsTrue result
             ↔ (self.now.spool.size + room_of row.now.bodies + 5 + length octets.now ≤ 2 ^ 40) }
     {

@@ -15,7 +15,7 @@ use Rattle.relay_routes.specs.declared.report_form.ReportForm.TheVariants.{Plain
 use Rattle.relay_report.specs.Multipart.{body_part, closing_line, dash_boundary, encoding_field, encoding_of, is_eight_bit, multipart_text, part_fields, part_head, returned_type}
 use Rattle.relay_report.specs.Parts.{BeginsOnce, IsThreeOf}
 use Rattle.relay_report.specs.Split.{OpensWith, part_of}
-use Rattle.relay_report.proofs.CutLemmas.{nowhere_behind_line}
+use Rattle.relay_report.proofs.CutLemmas.{nowhere_after_line}
 
 -- octets above CR and LF
 abbrev pub is_above : ℕ → Bool
@@ -150,7 +150,7 @@ piece_free : (boundary fields part : List ℕ) → IsHead fields → IsAbove (da
 piece_free boundary fields part is above none =
     mark_nowhere (dash_boundary boundary) (piece fields part)
     (subst (StandsNowhere (dash_boundary boundary)) (regroup (crlf ++ fields) part ∙ append_assoc crlf fields (crlf ++ part))
-    (nowhere_behind_line (dash_boundary boundary) ((crlf ++ fields) ++ (13 ∷ [])) part
+    (nowhere_after_line (dash_boundary boundary) ((crlf ++ fields) ++ (13 ∷ [])) part
     (λ place within e. omega (arith, above_at (dash_boundary boundary) place above.test within, e))
     (no_dashes boundary _ is.dashes) none))
 
@@ -162,26 +162,26 @@ head_end fields part is =
     subst (λ l. header_end_of (l ++ (crlf ++ part)) ≡ length l) (sym is.text_is)
     (goes ∙ ap (λ n. length (lines_text is.lines) + n) stops ∙ add-zero (length (lines_text is.lines)))
 
-part_behind : (head part : List ℕ) → header_end_of (head ++ (crlf ++ part)) ≡ length head → part ≡ part_of (crlf ++ (head ++ (crlf ++ part)))
-part_behind head part end =
+part_after : (head part : List ℕ) → header_end_of (head ++ (crlf ++ part)) ≡ length head → part ≡ part_of (crlf ++ (head ++ (crlf ++ part)))
+part_after head part end =
     let size : length (head ++ crlf) ≡ header_end_of (head ++ (crlf ++ part)) + 2 = omega (arith, end, length-append head crlf) in
     sym (drop_at (head ++ crlf) part (header_end_of (head ++ (crlf ++ part)) + 2) size)
     ∙ ap (drop (header_end_of (head ++ (crlf ++ part)) + 2)) (append_assoc head crlf part)
     ∙ ap (λ l. drop (header_end_of l + 2) l) (sym (drop_at crlf (head ++ (crlf ++ part)) 2 refl))
 
 piece_part : (fields part : List ℕ) → IsHead fields → part ≡ part_of (piece fields part)
-piece_part fields part is = part_behind fields part (head_end fields part is)
+piece_part fields part is = part_after fields part (head_end fields part is)
 
 -- the pieces one after another
 abbrev mark_text : List ℕ → List ℕ → List ℕ → List ℕ → List ℕ
 mark_text c w f part = (((w ++ c) ++ f) ++ c) ++ part ++ c
 
-abbrev behind_first : List ℕ → List ℕ → List ℕ → List ℕ → List ℕ → List ℕ → List ℕ → List ℕ
-behind_first c w g h two three tail = (c ++ w) ++ ((c ++ (g ++ (c ++ two))) ++ ((c ++ w) ++ ((c ++ (h ++ (c ++ three))) ++ ((c ++ w) ++ tail))))
+abbrev after_first : List ℕ → List ℕ → List ℕ → List ℕ → List ℕ → List ℕ → List ℕ → List ℕ
+after_first c w g h two three tail = (c ++ w) ++ ((c ++ (g ++ (c ++ two))) ++ ((c ++ w) ++ ((c ++ (h ++ (c ++ three))) ++ ((c ++ w) ++ tail))))
 
 joined_pieces : (c w f g h one two three d : List ℕ)
     → mark_text c w f one ++ mark_text c w g two ++ mark_text c w h three ++ ((w ++ d) ++ c)
-    ≡ w ++ (c ++ ((f ++ (c ++ one)) ++ behind_first c w g h two three (d ++ c)))
+    ≡ w ++ (c ++ ((f ++ (c ++ one)) ++ after_first c w g h two three (d ++ c)))
 joined_pieces c w f g h one two three d = simp append_assoc
 
 -- a text opens with a boundary that cuts it in these three parts
@@ -208,7 +208,7 @@ multipart_opens boundary one two kind encoding three is above first second third
   second = piece status_fields two;
   third = piece (part_fields kind encoding) three;
   opens = record {
-    behind = dash_boundary boundary ++ (crlf ++ rest);
+    after = dash_boundary boundary ++ (crlf ++ rest);
     empty_line = record { text = ap (λ l. crlf ++ l) whole; first = no_crlf_nil };
     boundary_line = record {
       text = sym (append_assoc (dash_boundary boundary) crlf rest);
@@ -237,7 +237,7 @@ multipart_opens boundary one two kind encoding three is above first second third
     status_fields = part_fields (codes "message/delivery-status") []
 
     after : List ℕ
-    after = behind_first crlf (dash_boundary boundary) status_fields (part_fields kind encoding) two three (codes "--" ++ crlf)
+    after = after_first crlf (dash_boundary boundary) status_fields (part_fields kind encoding) two three (codes "--" ++ crlf)
 
     rest : List ℕ
     rest = (text_fields ++ (crlf ++ one)) ++ after

@@ -8,12 +8,12 @@ use Rattle.std.specs.Option.{option_to_list}
 use Rattle.memchr.specs.Find.{OccursAt, NoneBefore, FindsNeedle}
 use Rattle.memchr.proofs.lemmas.MatchLemmas.{OccursAt-split, OccursAt-from_part}
 use Rattle.relay_report.specs.Boundary.{StandsIn, numbered}
-use Rattle.relay_report.specs.Numbers.{leading, beginnings, all_begun, Collects, Collecting, NextIsBehind}
+use Rattle.relay_report.specs.Numbers.{leading, beginnings, all_begun, Collects, Collecting, NextIsAfter}
 use Rattle.relay_report.proofs.BegunLemmas.{started, started_finds, started_only}
 
 -- a word after some octets stands at their number
-pub occurs_behind : (text word before after : List ℕ) → text ≡ before ++ (word ++ after) → OccursAt text word (length before)
-occurs_behind text word before after e =
+pub occurs_after : (text word before after : List ℕ) → text ≡ before ++ (word ++ after) → OccursAt text word (length before)
+occurs_after text word before after e =
     let here : drop (length before) text ≡ word ++ after = ap (drop (length before)) e ∙ drop_at before (word ++ after) (length before) refl in
     let fits : length text ≡ length before + (length word + length after) =
     ap length e ∙ length-append before (word ++ after) ∙ ap (λ n. length before + n) (length-append word after) in
@@ -23,8 +23,8 @@ pub before_end : (text word before after : List ℕ) → text ≡ before ++ (wor
 before_end text word before after e = let fits : length text ≡ length before + length (word ++ after) = ap length e ∙ length-append before (word ++ after) in omega (arith, fits)
 
 -- what stands after a place stands in the whole
-pub stands_behind : (word text : List ℕ) (place : ℕ) → StandsIn word (drop place text) → StandsIn word text
-stands_behind word text place stands = record {
+pub stands_after : (word text : List ℕ) (place : ℕ) → StandsIn word (drop place text) → StandsIn word text
+stands_after word text place stands = record {
   before = take place text ++ stands.before;
   after = stands.after;
   text_is = sym (take-append-drop place text) ∙ ap (λ l. take place text ++ l) stands.text_is ∙ sym (append_assoc (take place text) stands.before (word ++ stands.after));
@@ -47,8 +47,8 @@ un_numbered : (stem text before after : List ℕ) (k : ℕ) → text ≡ before 
 un_numbered stem text before after k e = e ∙ ap (λ l. before ++ l) (append_assoc stem (decimal k) after)
 
 -- what was found after the stem's first place stands in the text
-behind_stands : (stem rest : List ℕ) (place k : ℕ) → OccursAt rest stem place → Contains (started (drop (place + length stem) rest)) k → StandsIn (numbered stem k) rest
-behind_stands stem rest place k at has =
+after_stands : (stem rest : List ℕ) (place k : ℕ) → OccursAt rest stem place → Contains (started (drop (place + length stem) rest)) k → StandsIn (numbered stem k) rest
+after_stands stem rest place k at has =
     let (after, e, fits) = started_only k (drop (place + length stem) rest) has in
     record {
       before = take place rest;
@@ -58,9 +58,9 @@ behind_stands stem rest place k at has =
 
 -- a numbered stem in the rest is found at the first place, or stands after it
 found_or_later : (stem rest : List ℕ) (place step k : ℕ) → NoneBefore (OccursAt rest stem) 0 (length rest + 1) place → OccursAt rest stem place
-    → NextIsBehind stem step → k < 2 ^ 64 → StandsIn (numbered stem k) rest
+    → NextIsAfter stem step → k < 2 ^ 64 → StandsIn (numbered stem k) rest
     → Contains (started (drop (place + length stem) rest)) k ⊎ StandsIn (numbered stem k) (drop (place + step) rest)
-found_or_later stem rest place step k none at behind fits stands =
+found_or_later stem rest place step k none at afterwards fits stands =
     split (cases_lt (length stands.before) place) (cases_eq (length stands.before) place) (cases_lt (length stands.before) (place + step))
   where
     e : rest ≡ stands.before ++ (stem ++ (decimal k ++ stands.after))
@@ -68,17 +68,17 @@ found_or_later stem rest place step k none at behind fits stands =
 
     at_place : length stands.before ≡ place → Contains (started (drop (place + length stem) rest)) k
     at_place same =
-        let behind : drop (place + length stem) rest ≡ decimal k ++ stands.after =
+        let afterwards : drop (place + length stem) rest ≡ decimal k ++ stands.after =
         sym (drop-drop (length stem) place rest) ∙ ap (drop (length stem)) (ap (drop place) e ∙ drop_at stands.before (stem ++ (decimal k ++ stands.after)) place same) ∙ drop_at stem (decimal k ++ stands.after) (length stem) refl in
-        subst (λ l. Contains (started l) k) (sym behind) (started_finds k stands.after fits)
+        subst (λ l. Contains (started l) k) (sym afterwards) (started_finds k stands.after fits)
 
     here : OccursAt rest stem (length stands.before)
-    here = occurs_behind rest stem stands.before (decimal k ++ stands.after) e
+    here = occurs_after rest stem stands.before (decimal k ++ stands.after) e
 
     between : place ≤ length stands.before → (length stands.before ≡ place → ⊥) → length stands.before < place + step → ⊥
     between far differs near =
         let there : length stands.before ≡ place + (length stands.before - place) = omega (arith, far) in
-        behind rest place (length stands.before - place) at (omega (arith, far, differs)) (omega (arith, far, near)) (subst (OccursAt rest stem) there here)
+        afterwards rest place (length stands.before - place) at (omega (arith, far, differs)) (omega (arith, far, near)) (subst (OccursAt rest stem) there here)
 
     split : (length stands.before < place) ⊎ (place ≤ length stands.before) → (length stands.before ≡ place) ⊎ (length stands.before ≡ place → ⊥)
         → (length stands.before < place + step) ⊎ (place + step ≤ length stands.before)
@@ -90,12 +90,12 @@ found_or_later stem rest place step k none at behind fits stands =
 
 -- one more place of the stem
 pub collect_step : (stem text rest more old now new : List ℕ) (place step : ℕ) → Collecting stem text rest old now → FindsNeedle rest stem 0 (Some place)
-    → NextIsBehind stem step → new ≡ now ++ started (drop (place + length stem) rest) → more ≡ drop (place + step) rest → Collecting stem text more old new
-collect_step stem text rest more old now new place step so found behind new_is more_is = record {
+    → NextIsAfter stem step → new ≡ now ++ started (drop (place + length stem) rest) → more ≡ drop (place + step) rest → Collecting stem text more old new
+collect_step stem text rest more old now new place step so found afterwards new_is more_is = record {
   keeps = λ k has. subst (λ l. Contains l k) (sym new_is) (Contains-append_left now _ k (so.keeps k has));
   finds = λ k fits stands. finds k fits (so.finds k fits stands);
   only = λ k has. only k (Contains-append_cases now _ k (subst (λ l. Contains l k) new_is has));
-  part = λ k stands. so.part k (stands_behind (numbered stem k) rest (place + step) (subst (StandsIn (numbered stem k)) more_is stands));
+  part = λ k stands. so.part k (stands_after (numbered stem k) rest (place + step) (subst (StandsIn (numbered stem k)) more_is stands));
   shorter = let less = length-drop (place + step) rest in omega (arith, so.shorter, less, ap length more_is);
 }
   where
@@ -105,15 +105,15 @@ collect_step stem text rest more old now new place step so found behind new_is m
 
     finds : (k : ℕ) → k < 2 ^ 64 → Contains now k ⊎ StandsIn (numbered stem k) rest → Contains new k ⊎ StandsIn (numbered stem k) more
     finds k fits (inl has) = inl (subst (λ l. Contains l k) (sym new_is) (Contains-append_left now _ k has))
-    finds k fits (inr stands) = right k (found_or_later stem rest place step k found.0 found.1 behind fits stands)
+    finds k fits (inr stands) = right k (found_or_later stem rest place step k found.0 found.1 afterwards fits stands)
 
     only : (k : ℕ) → Contains now k ⊎ Contains (started (drop (place + length stem) rest)) k → Contains old k ⊎ StandsIn (numbered stem k) text
     only k (inl has) = so.only k has
-    only k (inr has) = inr (so.part k (behind_stands stem rest place k found.1 has))
+    only k (inr has) = inr (so.part k (after_stands stem rest place k found.1 has))
 
 -- the numbers of a list with the longest one at a place after them
-pub begun_behind : (taken : List ℕ) (more text : List ℕ) → more ≡ taken ++ option_to_list (leading text) → all_begun more ≡ all_begun taken ++ started text
-begun_behind taken more text e = ap all_begun e ∙ flat_map-append (beginnings 20) taken (option_to_list (leading text))
+pub begun_after : (taken : List ℕ) (more text : List ℕ) → more ≡ taken ++ option_to_list (leading text) → all_begun more ≡ all_begun taken ++ started text
+begun_after taken more text e = ap all_begun e ∙ flat_map-append (beginnings 20) taken (option_to_list (leading text))
 
 -- where the stem isn't found any more, all is found
 pub collect_end : (stem text rest old now : List ℕ) → Collecting stem text rest old now → FindsNeedle rest stem 0 None → Collects stem text old now
@@ -127,4 +127,4 @@ collect_end stem text rest old now so none = record {
     finds k (inl has) = has
     finds k (inr stands) =
         let e = un_numbered stem rest stands.before stands.after k stands.text_is in
-        absurd (none (length stands.before) (omega arith) (before_end rest stem stands.before (decimal k ++ stands.after) e) (occurs_behind rest stem stands.before (decimal k ++ stands.after) e))
+        absurd (none (length stands.before) (omega arith) (before_end rest stem stands.before (decimal k ++ stands.after) e) (occurs_after rest stem stands.before (decimal k ++ stands.after) e))

@@ -40,8 +40,8 @@ begins_says stem text e = (bytes_eq-Decides (take (length stem) text) stem).0 e
 here_finds : (stem text after : List ℕ) (k : ℕ) → k < 2 ^ 64 → text ≡ stem ++ (decimal k ++ after) → Contains (excluded_here stem text) k
 here_finds stem text after k fits e =
     let yes_begins = begins_true stem text (ap (take (length stem)) e ∙ take_at stem (decimal k ++ after) (length stem) refl) in
-    let behind : drop (length stem) text ≡ decimal k ++ after = ap (drop (length stem)) e ∙ drop_at stem (decimal k ++ after) (length stem) refl in
-    subst (λ l. Contains l k) (sym (here_yes stem text yes_begins ∙ ap begun behind)) (begun_finds k after fits)
+    let afterwards : drop (length stem) text ≡ decimal k ++ after = ap (drop (length stem)) e ∙ drop_at stem (decimal k ++ after) (length stem) refl in
+    subst (λ l. Contains l k) (sym (here_yes stem text yes_begins ∙ ap begun afterwards)) (begun_finds k after fits)
 
 pub excluded_finds : (stem text before after : List ℕ) (k : ℕ) → k < 2 ^ 64 → text ≡ before ++ (stem ++ (decimal k ++ after)) → Contains (excluded stem text) k
 excluded_finds stem [] before after k fits e =
@@ -55,16 +55,16 @@ here_only : (stem text : List ℕ) (k : ℕ) → Contains (excluded_here stem te
 here_only stem text k has = split (begins stem text) refl
   where
     stands : (rest : List ℕ) → drop (length stem) text ≡ decimal k ++ rest → take (length stem) text ≡ stem → StandsIn (numbered stem k) text
-    stands rest behind front = record {
+    stands rest afterwards front = record {
       before = [];
       after = rest;
-      text_is = sym (take-append-drop (length stem) text) ∙ ap (λ l. l ++ drop (length stem) text) front ∙ ap (λ l. stem ++ l) behind ∙ sym (append_assoc stem (decimal k) rest);
+      text_is = sym (take-append-drop (length stem) text) ∙ ap (λ l. l ++ drop (length stem) text) front ∙ ap (λ l. stem ++ l) afterwards ∙ sym (append_assoc stem (decimal k) rest);
     }
 
     split : (b : Bool) → begins stem text ≡ b → StandsIn (numbered stem k) text
     split true e =
-        let (rest, behind, fits) = begun_only k (drop (length stem) text) (subst (λ l. Contains l k) (here_yes stem text e) has) in
-        stands rest behind (begins_says stem text e)
+        let (rest, afterwards, fits) = begun_only k (drop (length stem) text) (subst (λ l. Contains l k) (here_yes stem text e) has) in
+        stands rest afterwards (begins_says stem text e)
     split false e = absurd (none_in k (subst (λ l. Contains l k) (here_no stem text e) has))
 
 pub excluded_only : (stem text : List ℕ) (k : ℕ) → Contains (excluded stem text) k → StandsIn (numbered stem k) text

@@ -299,8 +299,8 @@ header_each told date boundary may day above few =
 
 -- a report is the lines of its header section, an empty line, and more
 pub record HasHeader (told : Told) (text date boundary : List ℕ) : Type 0 where
-  pub behind : List ℕ
-  pub text_is : text ≡ lines_text (header_lines told date boundary) ++ (crlf ++ behind)
+  pub after : List ℕ
+  pub text_is : text ≡ lines_text (header_lines told date boundary) ++ (crlf ++ after)
   pub filled : AllByRecursion IsFilledLine (header_lines told date boundary)
   pub each : AllByRecursion IsShortLine (header_lines told date boundary)
 
@@ -314,7 +314,7 @@ short_day accepted (Some date) is = short_date (accepted + patience) date is
 has_header : (told : Told) (text : List ℕ) → MayBeTold told → (is : IsReport told text) → HasHeader told text is.date is.boundary
 unfolding report_text
 has_header told text may is = record {
-  behind = parts;
+  after = parts;
   text_is =
       is.text_is ∙ append_assoc (header_fields told is.date (encoding_of told.form (third_part told)) ++ field (codes "Content-Type") (report_type is.boundary)) crlf parts
       ∙ ap (λ l. l ++ (crlf ++ parts)) (header_is told is.date is.boundary);
@@ -333,17 +333,17 @@ has_header told text may is = record {
 header_section : (told : Told) (text date boundary : List ℕ) → HasHeader told text date boundary → HasShortLines (take (header_end_of text) text)
 header_section told text date boundary has = record {
   lines = header_lines told date boundary;
-  text_is = ap (λ l. take (header_end_of l) l) has.text_is ∙ take_at (lines_text (header_lines told date boundary)) (crlf ++ has.behind) end end_is;
+  text_is = ap (λ l. take (header_end_of l) l) has.text_is ∙ take_at (lines_text (header_lines told date boundary)) (crlf ++ has.after) end end_is;
   each = has.each;
 }
   where
     end : ℕ
-    end = header_end_of (lines_text (header_lines told date boundary) ++ (crlf ++ has.behind))
+    end = header_end_of (lines_text (header_lines told date boundary) ++ (crlf ++ has.after))
 
     end_is : length (lines_text (header_lines told date boundary)) ≡ end
     end_is =
-        let goes = (header_goes_on (header_lines told date boundary) (crlf ++ has.behind) has.filled).1 in
-        let stops = (header_ends_at_empty_line has.behind).1 in
+        let goes = (header_goes_on (header_lines told date boundary) (crlf ++ has.after) has.filled).1 in
+        let stops = (header_ends_at_empty_line has.after).1 in
         omega (arith, goes, stops)
 
 pub report_has_short_lines : ReportHasShortLines
@@ -369,6 +369,6 @@ none_received told date boundary = none_in_form told.form (list_any is_eight_bit
 pub report_has_no_received : ReportHasNoReceived
 report_has_no_received told text may is =
     let has = has_header told text may is in
-    let goes = (header_goes_on (header_lines told is.date is.boundary) (crlf ++ has.behind) has.filled).0 in
-    let stops = (header_ends_at_empty_line has.behind).0 in
+    let goes = (header_goes_on (header_lines told is.date is.boundary) (crlf ++ has.after) has.filled).0 in
+    let stops = (header_ends_at_empty_line has.after).0 in
     omega (arith, ap received_count_of has.text_is, goes, stops, none_received told is.date is.boundary)

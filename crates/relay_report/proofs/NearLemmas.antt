@@ -2,7 +2,7 @@
 use Rattle.std.proofs.Common.{◌≡◌, ◌⊎◌, inl, inr, ℕ, ◌+◌, ◌<◌, ◌≤◌, List, Some, length, take, drop, get_or, get_or-drop, get_or-take, length-drop, sym, subst, ap, ◌∙◌, arith}
 use Rattle.std.proofs.lemmas.Bool.{cases_lt, eq-eqb}
 use Rattle.memchr.specs.Find.{OccursAt, FindsNeedle, IsFirstByte, is_byte}
-use Rattle.relay_report.specs.Numbers.{NextIsBehind}
+use Rattle.relay_report.specs.Numbers.{NextIsAfter}
 
 -- a word stands at a place where what is there begins with it
 pub stands_there : (text word : List ℕ) (place : ℕ) → place ≤ length text → OccursAt (drop place text) word 0 → OccursAt text word place
@@ -25,11 +25,11 @@ overlaps text word place far short one two = record {
 }
 
 -- one octet after a place is no later than the next one
-pub first_step : (word : List ℕ) → NextIsBehind word 1
+pub first_step : (word : List ℕ) → NextIsAfter word 1
 first_step word text place far one some near two = absurd (omega (arith, some, near))
 
 -- one octet further, where it doesn't begin with its own end
-pub further : (word : List ℕ) (step : ℕ) → step ≤ length word → NextIsBehind word step → (OccursAt word (drop step word) 0 → ⊥) → NextIsBehind word (step + 1)
+pub further : (word : List ℕ) (step : ℕ) → step ≤ length word → NextIsAfter word step → (OccursAt word (drop step word) 0 → ⊥) → NextIsAfter word (step + 1)
 further word step short so not_here text place far one some near two = split (cases_lt far step)
   where
     split : (far < step) ⊎ (step ≤ far) → ⊥

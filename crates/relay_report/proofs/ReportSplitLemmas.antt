@@ -18,9 +18,9 @@ free_in : (word text : List ℕ) → (StandsIn word text → ⊥) → StandsNowh
 free_in word text without = record { nowhere = λ before after e. without (record { before = before; after = after; text_is = e }) }
 
 -- after its header section
-behind_header_is : (lines : List (List ℕ)) (rest : List ℕ) → AllByRecursion IsFilledLine lines
+after_header_is : (lines : List (List ℕ)) (rest : List ℕ) → AllByRecursion IsFilledLine lines
     → drop (header_end_of (lines_text lines ++ (crlf ++ rest))) (lines_text lines ++ (crlf ++ rest)) ≡ crlf ++ rest
-behind_header_is lines rest each =
+after_header_is lines rest each =
     let goes = (header_goes_on lines (crlf ++ rest) each).1 in
     let stops = (header_ends_at_empty_line rest).1 in
     drop_at (lines_text lines) (crlf ++ rest) (header_end_of (lines_text lines ++ (crlf ++ rest))) (omega (arith, goes, stops))
@@ -43,7 +43,7 @@ pub report_comes_apart : ReportComesApart
 unfolding report_text
 report_comes_apart told text may is =
     has_opened text (crlf ++ parts) (first_part told is.arrival is.until) (second_part told is.date is.arrival is.until) (third_part told)
-    (ap (λ l. drop (header_end_of l) l) whole ∙ behind_header_is (header_lines told is.date is.boundary) parts lines)
+    (ap (λ l. drop (header_end_of l) l) whole ∙ after_header_is (header_lines told is.date is.boundary) parts lines)
     (multipart_opens is.boundary (first_part told is.arrival is.until) (second_part told is.date is.arrival is.until) (returned_type (returns_whole told)) (encoding_of told.form (third_part told)) (third_part told) (returned_head told.form (returns_whole told) (third_part told)) dashed
     (nowhere (first_part told is.arrival is.until) (λ stands. is.boundary_is.is_least.free (inl stands)))
     (nowhere (second_part told is.date is.arrival is.until) (λ stands. is.boundary_is.is_least.free (inr (inl stands))))

@@ -14,8 +14,8 @@ use Rattle.relay_report.proofs.CutLemmas.{parts_come_back}
 -- where a text opens is fixed by the text
 pub opens_is_one : (text line rest other more : List ℕ) → OpensWith text line rest → OpensWith text other more → (line ≡ other) × (rest ≡ more)
 opens_is_one text line rest other more a b =
-    let behind = first_line_is_one text [] a.behind [] b.behind a.empty_line b.empty_line in
-    first_line_is_one b.behind line rest other more (subst (λ l. ReadsLine l line rest) behind.1 a.boundary_line) b.boundary_line
+    let after = first_line_is_one text [] a.after [] b.after a.empty_line b.empty_line in
+    first_line_is_one b.after line rest other more (subst (λ l. ReadsLine l line rest) after.1 a.boundary_line) b.boundary_line
 
 pub parts_are_one : PartsAreOne
 parts_are_one text one two three first second third a b =
@@ -72,53 +72,53 @@ pub cr_begins_not : (line : List ℕ) (place : ℕ) → IsFirstByte (is_byte 13)
 cr_begins_not line place found once = once.once (suc (suc place)) (omega arith) (omega (arith, found.0.high)) (eqb-true (slice_index line place) 13 found.1)
 
 -- the line end and the line are the text's front
-pub delimits : (text behind line mark pieces : List ℕ) (size : ℕ) → ReadsLine text [] behind → ReadsLine behind (take size behind) (drop (size + 2) behind) → size + 2 ≤ length behind
-    → line ≡ take size behind → BeginsOnce (crlf ++ line) → mark ≡ take (size + 2) text → pieces ≡ drop (size + 2) text → Delimits text mark pieces
-delimits text behind line mark pieces size empty reads within line_is once mark_is pieces_are = record {
-  line = take size behind;
-  rest = drop (size + 2) behind;
+pub delimits : (text after line mark pieces : List ℕ) (size : ℕ) → ReadsLine text [] after → ReadsLine after (take size after) (drop (size + 2) after) → size + 2 ≤ length after
+    → line ≡ take size after → BeginsOnce (crlf ++ line) → mark ≡ take (size + 2) text → pieces ≡ drop (size + 2) text → Delimits text mark pieces
+delimits text after line mark pieces size empty reads within line_is once mark_is pieces_are = record {
+  line = take size after;
+  rest = drop (size + 2) after;
   opens = opens;
-  mark_is = mark_is ∙ ap (take (size + 2)) whole ∙ take_at (crlf ++ take size behind) (crlf ++ drop (size + 2) behind) (size + 2) long;
-  pieces_are = pieces_are ∙ ap (drop (size + 2)) whole ∙ drop_at (crlf ++ take size behind) (crlf ++ drop (size + 2) behind) (size + 2) long;
+  mark_is = mark_is ∙ ap (take (size + 2)) whole ∙ take_at (crlf ++ take size after) (crlf ++ drop (size + 2) after) (size + 2) long;
+  pieces_are = pieces_are ∙ ap (drop (size + 2)) whole ∙ drop_at (crlf ++ take size after) (crlf ++ drop (size + 2) after) (size + 2) long;
 }
   where
-    opens : OpensWith text (take size behind) (drop (size + 2) behind)
-    opens = record { behind = behind; empty_line = empty; boundary_line = reads; no_cr = subst (λ l. BeginsOnce (crlf ++ l)) line_is once }
+    opens : OpensWith text (take size after) (drop (size + 2) after)
+    opens = record { after = after; empty_line = empty; boundary_line = reads; no_cr = subst (λ l. BeginsOnce (crlf ++ l)) line_is once }
 
-    whole : text ≡ (crlf ++ take size behind) ++ (crlf ++ drop (size + 2) behind)
-    whole = opening text (take size behind) (drop (size + 2) behind) opens
+    whole : text ≡ (crlf ++ take size after) ++ (crlf ++ drop (size + 2) after)
+    whole = opening text (take size after) (drop (size + 2) after) opens
 
-    long : length (crlf ++ take size behind) ≡ size + 2
-    long = let cut = length-take size behind in omega (arith, cut, within)
+    long : length (crlf ++ take size after) ≡ size + 2
+    long = let cut = length-take size after in omega (arith, cut, within)
 
 -- a line with a CR opens nothing
-pub cr_opens_none : (text behind line : List ℕ) (size : ℕ) → ReadsLine text [] behind → ReadsLine behind (take size behind) (drop (size + 2) behind)
-    → line ≡ take size behind → (BeginsOnce (crlf ++ line) → ⊥) → OpensWithNone text
-cr_opens_none text behind line size empty reads line_is not_once = record {
+pub cr_opens_none : (text after line : List ℕ) (size : ℕ) → ReadsLine text [] after → ReadsLine after (take size after) (drop (size + 2) after)
+    → line ≡ take size after → (BeginsOnce (crlf ++ line) → ⊥) → OpensWithNone text
+cr_opens_none text after line size empty reads line_is not_once = record {
   none = λ other more opens.
-      let same = first_line_is_one text [] behind [] opens.behind empty opens.empty_line in
-      let lines = first_line_is_one opens.behind (take size behind) (drop (size + 2) behind) other more (subst (λ l. ReadsLine l (take size behind) (drop (size + 2) behind)) same.1 reads) opens.boundary_line in
+      let same = first_line_is_one text [] after [] opens.after empty opens.empty_line in
+      let lines = first_line_is_one opens.after (take size after) (drop (size + 2) after) other more (subst (λ l. ReadsLine l (take size after) (drop (size + 2) after)) same.1 reads) opens.boundary_line in
       not_once (subst (λ l. BeginsOnce (crlf ++ l)) (sym (line_is ∙ lines.0)) opens.no_cr);
 }
 
 -- an empty line with no line after it opens nothing
-pub line_opens_none : (text behind : List ℕ) → ReadsLine text [] behind → HasNoCrlf behind → OpensWithNone text
-line_opens_none text behind empty none = record {
+pub line_opens_none : (text after : List ℕ) → ReadsLine text [] after → HasNoCrlf after → OpensWithNone text
+line_opens_none text after empty none = record {
   none = λ other more opens.
-      let same = first_line_is_one text [] behind [] opens.behind empty opens.empty_line in
+      let same = first_line_is_one text [] after [] opens.after empty opens.empty_line in
       none.nowhere other more (same.1 ∙ opens.boundary_line.text);
 }
 
 pub none_opens_none : (text : List ℕ) → HasNoEmptyLine text → OpensWithNone text
-none_opens_none text without = record { none = λ line rest opens. without.none opens.behind opens.empty_line }
+none_opens_none text without = record { none = λ line rest opens. without.none opens.after opens.empty_line }
 
 -- a text whose first line isn't empty has no empty line at its front
 pub other_line : (text line rest : List ℕ) (size : ℕ) → ReadsLine text line rest → line ≡ take size text → size + 2 ≤ length text → (size ≡ 0 → ⊥) → HasNoEmptyLine text
 other_line text line rest size reads line_is within some = record {
-  none = λ behind empty.
-      let same = first_line_is_one text line rest [] behind reads empty in
+  none = λ after empty.
+      let same = first_line_is_one text line rest [] after reads empty in
       some (let cut = length-take size text in omega (arith, cut, within, ap length line_is, ap length same.0));
 }
 
 pub no_line : (text : List ℕ) → HasNoCrlf text → HasNoEmptyLine text
-no_line text none = record { none = λ behind empty. none.nowhere [] behind empty.text }
+no_line text none = record { none = λ after empty. none.nowhere [] after empty.text }

@@ -59,7 +59,7 @@ pub record Collecting (stem text rest old new : List ℕ) : Type 0 where
   pub shorter : length rest ≤ length text
 
 -- after a place of the word its next one is at least so far
-abbrev pub NextIsBehind : List ℕ → ℕ → Type 0
-NextIsBehind word step =
+abbrev pub NextIsAfter : List ℕ → ℕ → Type 0
+NextIsAfter word step =
     (text : List ℕ) (place far : ℕ) → OccursAt text word place → 0 < far → far < step → OccursAt text word (place + far)
     → ⊥

@@ -19,8 +19,8 @@ CutIsOne =
     → CutsAt mark text piece rest → CutsAt mark text other more → (piece ≡ other) × (rest ≡ more)
 
 -- a word without an LF stands nowhere in two texts with an LF between, if it is in neither
-abbrev pub NowhereBehindLine : Type 0
-NowhereBehindLine =
+abbrev pub NowhereAfterLine : Type 0
+NowhereAfterLine =
     (word front back : List ℕ) → ((place : ℕ) → place < length word → slice_index word place ≢ 10)
     → StandsNowhere word front → StandsNowhere word back → StandsNowhere word (front ++ (10 ∷ back))
 

@@ -9,9 +9,9 @@ use Rattle.relay_report.specs.Parts.{BeginsOnce, IsThreeOf}
 
 -- the text begins with an empty line and a boundary's line, in which no CR stands, and the rest follows
 pub record OpensWith (text line rest : List ℕ) : Type 0 where
-  pub behind : List ℕ
-  pub empty_line : ReadsLine text [] behind
-  pub boundary_line : ReadsLine behind line rest
+  pub after : List ℕ
+  pub empty_line : ReadsLine text [] after
+  pub boundary_line : ReadsLine after line rest
   pub no_cr : BeginsOnce (crlf ++ line)
 
 -- the text begins so with no line
@@ -20,7 +20,7 @@ pub record OpensWithNone (text : List ℕ) : Type 0 where
 
 -- the text begins with no empty line
 pub record HasNoEmptyLine (text : List ℕ) : Type 0 where
-  pub none : (behind : List ℕ) → ReadsLine text [] behind → ⊥
+  pub none : (after : List ℕ) → ReadsLine text [] after → ⊥
 
 -- the text opens with the line of this mark, and the rest begins with the line's end
 pub record Delimits (text mark pieces : List ℕ) : Type 0 where
@@ -31,12 +31,12 @@ pub record Delimits (text mark pieces : List ℕ) : Type 0 where
   pub pieces_are : pieces ≡ crlf ++ rest
 
 -- what is after a header section and its empty line
-abbrev pub behind_header : List ℕ → List ℕ
-behind_header text = drop (header_end_of text + 2) text
+abbrev pub after_header : List ℕ → List ℕ
+after_header text = drop (header_end_of text + 2) text
 
 -- the part of a piece: what is after the end of the boundary's line, the header section, and its empty line
 abbrev pub part_of : List ℕ → List ℕ
-part_of piece = behind_header (drop 2 piece)
+part_of piece = after_header (drop 2 piece)
 
 -- Three parts of a text: after its header section stands the boundary's line, which cuts what follows into pieces.
 pub record HasParts (text one two three : List ℕ) : Type 0 where

@@ -2,7 +2,7 @@
 ghost use Rattle.std.specs.Prelude.{◌≡◌, ◌++◌, ◌+◌, ◌<◌, ◌≤◌, length, drop, take, IfSome, OnOk, MatchOption, Some};
 ghost use Rattle.std.specs.Option.{option_to_list};
 ghost use Rattle.memchr.specs.Find.{FindsNeedle};
-ghost use Rattle.relay_report.specs.Numbers.{all_begun, grown, leading, longer, Collects, NextIsBehind};
+ghost use Rattle.relay_report.specs.Numbers.{all_begun, grown, leading, longer, Collects, NextIsAfter};
 
 use memchr::arch::all::is_prefix;
 use memchr::memchr;
@@ -78,8 +78,8 @@ pub(crate) fn collect(
     let step = least_step(stem.needle());
     let mut rest = text;
     while let Some(place) = find_stem(rest, stem) {
-        push_leading(taken, behind(rest, place + stem.needle().len()))?;
-        rest = behind(rest, place + step);
+        push_leading(taken, after(rest, place + stem.needle().len()))?;
+        rest = after(rest, place + step);
     }
     Ok(())
 }
@@ -88,7 +88,7 @@ pub(crate) fn collect(
 #[tactic(auto, using(crate::proofs::NearLemmas::first_step))]
 fn least_step(stem: &[u8]) -> usize
     requires { 0 < length stem.now }
-    ensures behind { NextIsBehind stem.now result }
+    ensures after { NextIsAfter stem.now result }
     ensures within { (0 < result) × (result ≤ length stem.now) }
 {
     for step in 1..stem.len() {
@@ -121,7 +121,7 @@ fn find_near(text: &[u8], stem: &[u8]) -> Option<usize>
     match memchr(stem[0], front(text)) {
         None => None,
         Some(place) => {
-            if is_prefix(behind(text, place), stem) {
+            if is_prefix(after(text, place), stem) {
                 Some(place)
             } else {
                 None
@@ -139,7 +139,7 @@ fn front(text: &[u8]) -> &[u8]
 }
 
 /// Returns what stands from a place on.
-fn behind(text: &[u8], place: usize) -> &[u8]
+fn after(text: &[u8], place: usize) -> &[u8]
     requires { place ≤ length text.now }
     ensures { result.now ≡ drop place text.now }
 {

@@ -10,7 +10,7 @@ use relay_octets::find_crlf;
 use relay_trace::header_end;
 
 /// The three parts of a report, without what is between them.
-#[derive(Clone, Copy, Debug)]
+#[derive(Clone, Copy)]
 pub struct Parts<'a> {
     /// The part for people.
     pub first: &'a [u8],
@@ -25,7 +25,7 @@ pub fn split_report(text: &[u8]) -> Option<Parts<'_>>
     ensures { MatchOption result (HasNoParts text.now)
         (λ parts. HasParts text.now parts.first.now parts.second.now parts.third.now) }
 {
-    let start = behind(text, header_end(text));
+    let start = after(text, header_end(text));
     match delimiter(start) {
         None => None,
         Some((mark, pieces)) => match split_in_three(pieces, mark) {
@@ -45,12 +45,12 @@ fn delimiter(text: &[u8]) -> Option<(&[u8], &[u8])>
         (λ parts. Delimits text.now parts.0.now parts.1.now) }
     ensures once { MatchOption result (Unit {0}) (λ parts. BeginsOnce parts.0.now) }
 {
-    match behind_empty_line(text) {
+    match after_empty_line(text) {
         None => None,
-        Some(behind) => match find_crlf(behind) {
+        Some(after) => match find_crlf(after) {
             None => None,
             Some(size) => {
-                let (line, _) = behind.split_at(size);
+                let (line, _) = after.split_at(size);
                 if has_no_cr(line) {
                     Some(text.split_at(size + 2))
                 } else {
@@ -62,15 +62,15 @@ fn delimiter(text: &[u8]) -> Option<(&[u8], &[u8])>
 }
 
 /// Returns what is after an empty line at the front.
-fn behind_empty_line(text: &[u8]) -> Option<&[u8]>
-    ensures line { MatchOption result (HasNoEmptyLine text.now) (λ behind. ReadsLine text.now [] behind.now) }
-    ensures shorter { MatchOption result (Unit {0}) (λ behind. length behind.now + 2 ≤ length text.now) }
+fn after_empty_line(text: &[u8]) -> Option<&[u8]>
+    ensures line { MatchOption result (HasNoEmptyLine text.now) (λ after. ReadsLine text.now [] after.now) }
+    ensures shorter { MatchOption result (Unit {0}) (λ after. length after.now + 2 ≤ length text.now) }
 {
     match find_crlf(text) {
         None => None,
         Some(size) => {
             if size == 0 {
-                Some(behind(text, 2))
+                Some(after(text, 2))
             } else {
                 None
             }
@@ -92,12 +92,12 @@ fn has_no_cr(line: &[u8]) -> bool
 fn part_of(piece: &[u8]) -> &[u8]
     ensures { result.now ≡ part_of piece.now }
 {
-    let headed = behind(piece, 2);
-    behind(headed, header_end(headed).saturating_add(2))
+    let headed = after(piece, 2);
+    after(headed, header_end(headed).saturating_add(2))
 }
 
 /// Returns what is after this many octets: nothing if there are fewer.
-fn behind(text: &[u8], size: usize) -> &[u8]
+fn after(text: &[u8], size: usize) -> &[u8]
     ensures { result.now ≡ drop size text.now }
 {
     if size < text.len() {
@@ -116,8 +116,8 @@ pub(crate) fn cut_at<'a>(text: &'a [u8], mark: &[u8]) -> Option<(&'a [u8], &'a [
     match memmem::find(text, mark) {
         None => None,
         Some(place) => {
-            let (piece, behind) = text.split_at(place);
-            let (_, rest) = behind.split_at(mark.len());
+            let (piece, after) = text.split_at(place);
+            let (_, rest) = after.split_at(mark.len());
             Some((piece, rest))
         }
     }
@@ -134,7 +134,7 @@ pub(crate) fn split_in_three<'a>(
 {
     match cut_at(text, mark) {
         None => None,
-        Some((one, behind)) => match cut_at(behind, mark) {
+        Some((one, after)) => match cut_at(after, mark) {
             None => None,
             Some((two, more)) => match cut_at(more, mark) {
                 None => None,

@@ -24,7 +24,7 @@ use std::alloc::{AllocError, Global};
 const USUAL_LEN: usize = 1024;
 
 /// The values that a report is made of.
-#[derive(Clone, Copy, Debug)]
+#[derive(Clone, Copy)]
 pub struct Report<'a> {
     /// In which form it is written.
     pub form: ReportForm,

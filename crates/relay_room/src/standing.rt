@@ -7,7 +7,7 @@ ghost use Rattle.relay_room.specs.Standing.{MayBegin, bounded_limit, standing_at
 const OUTCOME: usize = 65_536;
 
 /// How a relay stands with the room on its disk.
-#[derive(Clone, Copy, Debug, PartialEq, Eq)]
+#[derive(Clone, Copy, PartialEq, Eq)]
 pub enum Standing {
     /// The ballast is there.
     Roomy,
@@ -25,12 +25,12 @@ impl Standing {
     pub fn untested() -> Self
         ensures { result ≡ standing_at_failure Standing.Roomy 0 }
     {
-        Standing::Roomy.behind_failure(0)
+        Standing::Roomy.after_failure(0)
     }
 
     /// How it stands once the device has failed: nothing is known of the room. If it was short of it before, an outcome
     /// has taken more than there was, and attempts wait for as much as the ballast has, which is of this size.
-    pub fn behind_failure(self, size: usize) -> Self
+    pub fn after_failure(self, size: usize) -> Self
         ensures standing { result ≡ standing_at_failure self size }
         ensures held { (grown : ℕ) → ¬ MayBegin result grown }
     {
@@ -42,7 +42,7 @@ impl Standing {
     }
 
     /// How it is after a test that found this room, where the ballast is of this size.
-    pub fn behind_test(self, room: usize, size: usize) -> Self
+    pub fn after_test(self, room: usize, size: usize) -> Self
         requires { size < 2 ^ 62 }
         ensures { result ≡ standing_at_test self room size }
     {

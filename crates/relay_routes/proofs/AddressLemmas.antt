@@ -50,13 +50,13 @@ colon_place : (front back : List ℕ) → HasNo 58 front → position_or_len is_
 colon_place [] back h = refl
 colon_place (octet ∷ front) back h = rw (h.0, colon_place front back h.1) (omega arith)
 
-drop_behind : (front : List ℕ) (octet : ℕ) (back : List ℕ) → drop (suc (length front)) (front ++ octet ∷ back) ≡ back
-drop_behind [] octet back = refl
-drop_behind (first ∷ front) octet back = drop_behind front octet back
+drop_after : (front : List ℕ) (octet : ℕ) (back : List ℕ) → drop (suc (length front)) (front ++ octet ∷ back) ≡ back
+drop_after [] octet back = refl
+drop_after (first ∷ front) octet back = drop_after front octet back
 
 -- what stands after the first colon
 after_colon : (front back : List ℕ) → HasNo 58 front → after_first is_colon (front ++ 58 ∷ back) ≡ back
-after_colon front back h = rw (colon_place front back h, add-one) (drop_behind front 58 back)
+after_colon front back h = rw (colon_place front back h, add-one) (drop_after front 58 back)
 
 -- what is neither a digit nor a dot stands in no address
 pub has_no-dotted : (stop a b c d : ℕ) → 10 ≤ digit_value stop → 46 == stop ≡ false → a < 256 → b < 256 → c < 256 → d < 256 → HasNo stop (dotted_text a b c d)
@@ -162,8 +162,8 @@ plain_address text address (ip, port, text_is, dotted, (digits, port_is, number,
     let p : HasParts address = parts_of_dotted address ip dotted in
     let ip_is : ip ≡ dotted_text p.a p.b p.c p.d = dotted_is_parts address ip dotted in
     let whole : text ≡ dotted_text p.a p.b p.c p.d ++ 58 ∷ digits = text_is ∙ cc (ip_is, port_is) in
-    let behind : after_first is_colon text ≡ digits = ap (after_first is_colon) whole ∙ after_colon _ digits (no_colon_in_parts address p) in
-    let (written, some) = plain_numeral digits (v4_port address) number.0 number.1 fits (ap begins_with_zero (sym behind) ∙ plain) in
+    let after : after_first is_colon text ≡ digits = ap (after_first is_colon) whole ∙ after_colon _ digits (no_colon_in_parts address p) in
+    let (written, some) = plain_numeral digits (v4_port address) number.0 number.1 fits (ap begins_with_zero (sym after) ∙ plain) in
     record {
       valid = record {
         four = ap length p.octets_are;
@@ -181,9 +181,9 @@ address_is_plain text address is =
     let dotted : IsDotted (dotted_text p.a p.b p.c p.d) (ipv4_octets (v4_ip address)) = record { a = p.a; b = p.b; c = p.c; d = p.d; fit = p.fit; value = p.octets_are; spelled = refl } in
     let whole : text ≡ dotted_text p.a p.b p.c p.d ++ 58 ∷ decimal (v4_port address) = is.text_is ∙ text_of_parts address p in
     let fits = is.valid.port_fits in
-    let behind : after_first is_colon text ≡ decimal (v4_port address) = ap (after_first is_colon) whole ∙ after_colon _ (decimal (v4_port address)) (no_colon_in_parts address p) in (
+    let after : after_first is_colon text ≡ decimal (v4_port address) = ap (after_first is_colon) whole ∙ after_colon _ (decimal (v4_port address)) (no_colon_in_parts address p) in (
       (dotted_text p.a p.b p.c p.d, 58 ∷ decimal (v4_port address), whole, dotted, (decimal (v4_port address), refl, decimal_is_IsNumeral (v4_port address) (omega arith), fits)),
-      ap begins_with_zero behind ∙ no_zero_first (decimal (v4_port address)) (first_decimal (v4_port address) is.valid.some_port (omega arith)),
+      ap begins_with_zero after ∙ no_zero_first (decimal (v4_port address)) (first_decimal (v4_port address) is.valid.some_port (omega arith)),
     )
 
 first_place : (octet : ℕ) (text : List ℕ) (place : ℕ) → NoneBefore (Passes (is_byte octet) text) 0 (length text) place → Passes (is_byte octet) text place → position_or_len (λ o. o == octet) text ≡ place
@@ -194,11 +194,11 @@ first_place octet text place none here =
     (λ within. here)
 
 -- what a search for the first colon finds
-pub behind_found : (text : List ℕ) (place : ℕ) → NoneBefore (Passes (is_byte 58) text) 0 (length text) place → Passes (is_byte 58) text place → after_first is_colon text ≡ drop (place + 1) text
-behind_found text place none here = ap (λ n. drop (n + 1) text) (first_place 58 text place none here)
+pub after_found : (text : List ℕ) (place : ℕ) → NoneBefore (Passes (is_byte 58) text) 0 (length text) place → Passes (is_byte 58) text place → after_first is_colon text ≡ drop (place + 1) text
+after_found text place none here = ap (λ n. drop (n + 1) text) (first_place 58 text place none here)
 
-pub behind_none : (text : List ℕ) → ((k : ℕ) → 0 ≤ k → k < length text → ¬ Passes (is_byte 58) text k) → after_first is_colon text ≡ []
-behind_none text nowhere =
+pub after_none : (text : List ℕ) → ((k : ℕ) → 0 ≤ k → k < length text → ¬ Passes (is_byte 58) text k) → after_first is_colon text ≡ []
+after_none text nowhere =
     let e = position_or_len_is is_colon text (length text) 0 (omega arith) (λ k h. false_from_ne_true (get_or text k 0 == 58) (λ e. nowhere k (omega arith) h e)) (λ past. absurd (omega arith)) in
     drop_all _ text (omega (arith, e))
 

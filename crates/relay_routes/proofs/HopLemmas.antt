@@ -9,7 +9,7 @@ use Rattle.relay_envelope.proofs.Theorems.{domain_in_is_domain_of, host_name_is_
 use Rattle.relay_routes.specs.declared.hop.Hop.{Hop}
 use Rattle.relay_routes.specs.Routes.{Agrees, AllAgree, Route, RouteTable, entry_of, first_there, hop_for, in_lower_case, place_of, HopAtIsHopOf, HopHasItsPlace}
 use Rattle.relay_routes.specs.Settings.{ConfigIsNamed}
-use Rattle.relay_routes.proofs.RouteLemmas.{bytes_are, bytes_same, place_behind, place_here}
+use Rattle.relay_routes.proofs.RouteLemmas.{bytes_are, bytes_same, place_after, place_here}
 
 -- another path's text is not that of the null path
 is_no_null : (path : Path) → IsPath path → (path ≡ Null → ⊥) → bytes_eq (path_text path) (codes "<>") ≡ false
@@ -51,12 +51,12 @@ entry_placed (route ∷ routes) domain hop agree found =
           let is : route.hop ≡ hop = same_Some route.hop hop (rw here at found) in
           place_here route routes hop.name (bytes_are hop.name route.hop.name (ap (λ h. h.name) (sym is))) ∙ ap (λ h. Some h.at) is
       | inr elsewhere ↦
-          let behind : entry_of routes domain ≡ Some hop = rw elsewhere at found in
+          let after : entry_of routes domain ≡ Some hop = rw elsewhere at found in
           elim (cases_Bool (bytes_eq hop.name route.hop.name)) [
             | inl named ↦
                 place_here route routes hop.name named
-                ∙ ap Some (entry_agrees route routes domain hop agree.0 behind (sym (bytes_same hop.name route.hop.name named)))
-            | inr other ↦ place_behind route routes hop.name other ∙ entry_placed routes domain hop agree.1 behind
+                ∙ ap Some (entry_agrees route routes domain hop agree.0 after (sym (bytes_same hop.name route.hop.name named)))
+            | inr other ↦ place_after route routes hop.name other ∙ entry_placed routes domain hop agree.1 after
           ]
     ]
 

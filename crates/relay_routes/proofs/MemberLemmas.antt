@@ -17,7 +17,7 @@ use Rattle.relay_routes.specs.declared.fault.RouteFault.TheVariants.{BadDomain, 
 use Rattle.relay_routes.specs.declared.key.Key.{Key}
 use Rattle.relay_routes.specs.declared.key.Key.TheVariants.{Host, Routes}
 use Rattle.relay_routes.proofs.AddressLemmas.{address_is_one}
-use Rattle.relay_routes.proofs.RouteLemmas.{agree_with_one_more, bytes_same, place_here, place_behind}
+use Rattle.relay_routes.proofs.RouteLemmas.{agree_with_one_more, bytes_same, place_here, place_after}
 
 -- a value gives one hop
 pub hop_is_one : (value : Data) (one two : Hop) → GivesHop value one → GivesHop value two → one ≡ two
@@ -38,7 +38,7 @@ route_is_one key value one two a b =
     λ j. record { domain = domain j; hop = hop j }
 
 -- what stands after the routes of the members so far
-pub record Behind (rest : Members) (routes whole : List Route) : Type 0 where
+pub record After (rest : Members) (routes whole : List Route) : Type 0 where
   pub tail : List Route
   pub whole_is : whole ≡ routes ++ tail
   pub are_routes : AreRoutes rest tail
@@ -46,7 +46,7 @@ pub record Behind (rest : Members) (routes whole : List Route) : Type 0 where
 -- these routes are those of the members before the rest, and they agree
 pub record Walked (all rest : Members) (routes : List Route) : Type 0 where
   pub sound : (tail : List Route) → AreRoutes rest tail → AreRoutes all (routes ++ tail)
-  pub complete : (whole : List Route) → AreRoutes all whole → Behind rest routes whole
+  pub complete : (whole : List Route) → AreRoutes all whole → After rest routes whole
   pub agree : AllAgree routes
 
 pub walked_none : (all : Members) → Walked all all []
@@ -57,10 +57,10 @@ walked_none all = record {
 }
 
 -- the routes of members that begin with one begin with its route
-behind_step : (key : List ℕ) (value : Data) (rest : Members) (route : Route) (routes whole : List Route) → GivesRoute key value route → Behind (member key value rest) routes whole → Behind rest (routes ++ route ∷ []) whole
-behind_step key value rest route routes whole gives behind = by behind.tail behind.whole_is behind.are_routes
+after_step : (key : List ℕ) (value : Data) (rest : Members) (route : Route) (routes whole : List Route) → GivesRoute key value route → After (member key value rest) routes whole → After rest (routes ++ route ∷ []) whole
+after_step key value rest route routes whole gives after = by after.tail after.whole_is after.are_routes
   where
-    by : (tail : List Route) → whole ≡ routes ++ tail → AreRoutes (member key value rest) tail → Behind rest (routes ++ route ∷ []) whole
+    by : (tail : List Route) → whole ≡ routes ++ tail → AreRoutes (member key value rest) tail → After rest (routes ++ route ∷ []) whole
     by [] whole_is are = absurd are
     by (first ∷ tail) whole_is are = record {
       tail = tail;
@@ -71,7 +71,7 @@ behind_step key value rest route routes whole gives behind = by behind.tail behi
 pub walked_more : (all : Members) (key : List ℕ) (value : Data) (rest : Members) (routes : List Route) (route : Route) → Walked all (member key value rest) routes → GivesRoute key value route → AllAgree (routes ++ route ∷ []) → Walked all rest (routes ++ route ∷ [])
 walked_more all key value rest routes route walked gives agree = record {
   sound = λ tail are. rw append_assoc (walked.sound (route ∷ tail) (gives, are));
-  complete = λ whole are. behind_step key value rest route routes whole gives (walked.complete whole are);
+  complete = λ whole are. after_step key value rest route routes whole gives (walked.complete whole are);
   agree = agree;
 }
 
@@ -114,16 +114,16 @@ place_is_own (one ∷ routes) route place agree found =
       | inl here ↦
           same_Some place one.hop.at (sym found ∙ place_here one routes route.hop.name here)
           ∙ agree.0.places (sym (bytes_same route.hop.name one.hop.name here))
-      | inr elsewhere ↦ place_is_own routes route place agree.1 (sym (place_behind one routes route.hop.name elsewhere) ∙ found)
+      | inr elsewhere ↦ place_is_own routes route place agree.1 (sym (place_after one routes route.hop.name elsewhere) ∙ found)
     ]
 
 -- where a member's route doesn't agree with those before it, the members say no routes that agree
 pub disagreeing : (all : Members) (key : List ℕ) (value : Data) (rest : Members) (routes whole : List Route) (route : Route) → Walked all (member key value rest) routes → GivesRoute key value route
     → (IsSome (entry_of routes route.domain) ⊎ HasOtherPlace routes route.hop) → AreRoutes all whole → AllAgree whole → ⊥
 disagreeing all key value rest routes whole route walked gives fault are agree =
-    let behind = behind_step key value rest route routes whole gives (walked.complete whole are) in
-    let whole_is = behind.whole_is ∙ append_assoc routes (route ∷ []) behind.tail in
-    let each = agree_before routes route behind.tail (rw whole_is at agree) in
+    let after = after_step key value rest route routes whole gives (walked.complete whole are) in
+    let whole_is = after.whole_is ∙ append_assoc routes (route ∷ []) after.tail in
+    let each = agree_before routes route after.tail (rw whole_is at agree) in
     elim fault [
       | inl some ↦ entry_is_new routes route each some
       | inr other ↦ other.other (place_is_own routes route other.place each other.first)

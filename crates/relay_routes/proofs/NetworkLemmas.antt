@@ -54,31 +54,31 @@ alone text None none nowhere = λ network is. by network is
 alone text (Some network) none at = inr at
 
 -- no text writes a network where no number below 100 stands after its first "/"
-pub no_length : (text address behind : List ℕ) → text ≡ address ++ 47 ∷ behind → HasNo 47 address → ((number : ℕ) → number < 100 → behind ≡ decimal number → ⊥) → (network : Network) → ¬ IsNetworkText text network
-no_length text address behind text_is none nowhere network (inl p) =
-    let (front, back) = split_is_one 47 address p.address behind (decimal p.length) none (no_slash p.address (ipv4_octets network.first) p.is_at.first) (sym text_is ∙ text_of_prefix text network p) in
+pub no_length : (text address after : List ℕ) → text ≡ address ++ 47 ∷ after → HasNo 47 address → ((number : ℕ) → number < 100 → after ≡ decimal number → ⊥) → (network : Network) → ¬ IsNetworkText text network
+no_length text address after text_is none nowhere network (inl p) =
+    let (front, back) = split_is_one 47 address p.address after (decimal p.length) none (no_slash p.address (ipv4_octets network.first) p.is_at.first) (sym text_is ∙ text_of_prefix text network p) in
     let few = network.valid.short in
     let is = p.is_at.length_is in
     nowhere p.length (omega (arith, few, is)) back
-no_length text address behind text_is none nowhere network (inr at) =
-    has_stop 47 address behind (subst (λ (t : List ℕ). HasNo 47 t) text_is (no_slash text (ipv4_octets network.first) at.first))
+no_length text address after text_is none nowhere network (inr at) =
+    has_stop 47 address after (subst (λ (t : List ℕ). HasNo 47 t) text_is (no_slash text (ipv4_octets network.first) at.first))
 
 -- an address, "/" and a length
-pub prefixed : (text address behind : List ℕ) (number : ℕ) (result : Option Network) → text ≡ address ++ 47 ∷ behind → HasNo 47 address → number < 100 → behind ≡ decimal number
+pub prefixed : (text address after : List ℕ) (number : ℕ) (result : Option Network) → text ≡ address ++ 47 ∷ after → HasNo 47 address → number < 100 → after ≡ decimal number
     → MatchOption result ((network : Network) → ¬ IsNetworkAt address number network) (IsNetworkAt address number)
     → MatchOption result ((network : Network) → ¬ IsNetworkText text network) (IsNetworkText text)
-prefixed text address behind number None text_is none small is nowhere = λ network written. by network written
+prefixed text address after number None text_is none small is nowhere = λ network written. by network written
   where
     by : (network : Network) → IsNetworkText text network → ⊥
     by network (inl p) =
-        let (front, back) = split_is_one 47 address p.address behind (decimal p.length) none (no_slash p.address (ipv4_octets network.first) p.is_at.first) (sym text_is ∙ text_of_prefix text network p) in
+        let (front, back) = split_is_one 47 address p.address after (decimal p.length) none (no_slash p.address (ipv4_octets network.first) p.is_at.first) (sym text_is ∙ text_of_prefix text network p) in
         let few = network.valid.short in
         let length_is = p.is_at.length_is in
         let same : p.length ≡ number = decimal_injective p.length number (omega (arith, few, length_is)) (omega arith) (sym back ∙ is) in
         nowhere network (record { first = subst (λ (t : List ℕ). IsIpv4Text t network.first) (sym front) p.is_at.first; length_is = length_is ∙ same })
     by network (inr at) =
-        has_stop 47 address behind (subst (λ (t : List ℕ). HasNo 47 t) text_is (no_slash text (ipv4_octets network.first) at.first))
-prefixed text address behind number (Some network) text_is none small is at =
+        has_stop 47 address after (subst (λ (t : List ℕ). HasNo 47 t) text_is (no_slash text (ipv4_octets network.first) at.first))
+prefixed text address after number (Some network) text_is none small is at =
     inl (record { address = address; length = number; text_is = text_is ∙ ap (λ b. address ++ 47 ∷ b) is ∙ sym (append_assoc address (codes "/") (decimal number)); is_at = at })
 
 -- a network is its first address and the length of its prefix

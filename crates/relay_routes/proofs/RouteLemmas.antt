@@ -58,8 +58,8 @@ entry_absent route routes domain absent =
 pub place_here : (route : Route) (routes : List Route) (name : List ℕ) → bytes_eq name route.hop.name ≡ true → place_of (route ∷ routes) name ≡ Some route.hop.at
 place_here route routes name here = rw here
 
-pub place_behind : (route : Route) (routes : List Route) (name : List ℕ) → bytes_eq name route.hop.name ≡ false → place_of (route ∷ routes) name ≡ place_of routes name
-place_behind route routes name elsewhere = rw elsewhere
+pub place_after : (route : Route) (routes : List Route) (name : List ℕ) → bytes_eq name route.hop.name ≡ false → place_of (route ∷ routes) name ≡ place_of routes name
+place_after route routes name elsewhere = rw elsewhere
 
 -- each route to this name goes to this place
 abbrev GoesTo : List ℕ → SocketAddrV4 → Route → Type 0
@@ -82,10 +82,10 @@ goes_to (route ∷ routes) name place agree known =
           ] in
           (λ same. at, goes_with route name place routes (sym (bytes_same name route.hop.name here)) at agree.0)
       | inr elsewhere ↦
-          let behind = place_behind route routes name elsewhere in
+          let after = place_after route routes name elsewhere in
           let rest : (place_of routes name ≡ None) ⊎ (place_of routes name ≡ Some place) = elim known [
-            | inl none ↦ inl (sym behind ∙ none)
-            | inr some ↦ inr (sym behind ∙ some)
+            | inl none ↦ inl (sym after ∙ none)
+            | inr some ↦ inr (sym after ∙ some)
           ] in
           (λ same. absurd (bytes_differ name route.hop.name elsewhere (sym same)), goes_to routes name place agree.1 rest)
     ]
@@ -93,9 +93,9 @@ goes_to (route ∷ routes) name place agree known =
 each_agrees : (routes : List Route) (domain : List ℕ) (hop : Hop) → entry_of routes domain ≡ None → AllByRecursion (GoesTo hop.name hop.at) routes → AllByRecursion (λ one. Agrees one (record { domain = domain; hop = hop })) routes
 each_agrees [] domain hop absent goes = tt
 each_agrees (route ∷ routes) domain hop absent goes =
-    let (elsewhere, behind) = entry_absent route routes domain absent in (
+    let (elsewhere, after) = entry_absent route routes domain absent in (
       record { domains = λ same. bytes_differ domain route.domain elsewhere (sym same); places = goes.0 },
-      each_agrees routes domain hop behind goes.1,
+      each_agrees routes domain hop after goes.1,
     )
 
 -- routes agree with one more for another domain, whose name has no other place

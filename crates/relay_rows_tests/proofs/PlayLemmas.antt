@@ -29,11 +29,11 @@ left_in_two rest used =
     sym (take-append-drop used rest) ∙ ap (λ l. take used rest ++ l) (sym (take_rest rest used))
 
 -- octets whose front has come fall into all that has come and what is left
-behind_used : (octets used rest piece : List ℕ) (n count : ℕ) → octets ≡ used ++ rest
+after_used : (octets used rest piece : List ℕ) (n count : ℕ) → octets ≡ used ++ rest
     → piece ≡ take n rest
     → count ≤ length piece
     → octets ≡ (used ++ take count piece) ++ take (length rest - count) (drop count rest)
-behind_used octets used rest piece n count octets_are is within =
+after_used octets used rest piece n count octets_are is within =
     let left = take (length rest - count) (drop count rest) in
     octets_are ∙ ap (λ r. used ++ r) (left_in_two rest count)
     ∙ ap (λ t. used ++ (t ++ left)) (sym (front_of rest piece n count is within))
@@ -60,7 +60,7 @@ line_goes_on octets rest piece n come old new so_far is more =
     record {
       used = so_far.used ++ piece;
       octets_are =
-          behind_used octets so_far.used rest piece n (length piece) so_far.octets_are is (omega arith)
+          after_used octets so_far.used rest piece n (length piece) so_far.octets_are is (omega arith)
           ∙ ap (λ p. (so_far.used ++ p) ++ left) whole;
       come_is = ap (λ m. m + length piece) so_far.come_is ∙ sym (length-append so_far.used piece);
       holds = more so_far.used so_far.holds;
@@ -76,7 +76,7 @@ line_ends octets rest piece outcome n come count old new so_far is within ends t
     let left = take (length rest - count) (drop count rest) in
     let come_now = so_far.used ++ take count piece in
     let reads = first_line_stays come_now line [] left ended.1 in
-    let all = behind_used octets so_far.used rest piece n count so_far.octets_are is within in
+    let all = after_used octets so_far.used rest piece n count so_far.octets_are is within in
     let P : List ℕ → Type 0 = λ o. ReadsLine o line left in
     let whole = ap length ended.1.text ∙ length-append (line ++ crlf) [] in
     let end = length-append line crlf in
@@ -127,7 +127,7 @@ replies_go_on octets rest piece out out_now n count old new so_far is within rea
       used = so_far.used ++ take count piece;
       replies = so_far.replies ++ some.0;
       part = some.1;
-      octets_are = behind_used octets so_far.used rest piece n count so_far.octets_are is within;
+      octets_are = after_used octets so_far.used rest piece n count so_far.octets_are is within;
       reads = some.2;
       out_is =
           some.3 ∙ ap (λ o. o ++ written_replies some.0) so_far.out_is

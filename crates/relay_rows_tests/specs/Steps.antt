@@ -26,10 +26,10 @@ pub record ReadsSoFar (octets rest out : List ℕ) (reader : ReplyReader) : Type
 
 -- of these octets the reader reads further replies, which are written after the others
 abbrev pub ReadsSome : ReplyReader → ReplyReader → List ℕ → List ℕ → List ℕ → Type 0
-ReadsSome old new before behind octets =
+ReadsSome old new before after octets =
     (used : List ℕ) (replies : List Reply) (part : List ℕ) → HasRead old used replies part
     → (more : List Reply) × (rest : List ℕ) × HasRead new (used ++ octets) (replies ++ more) rest
-    × (behind ≡ before ++ written_replies more)
+    × (after ≡ before ++ written_replies more)
 
 -- the piece has this fault after what was read, and the reader reads no further; or memory ran out
 abbrev pub FindsFault : ReplyReader → ReplyReader → List ℕ → ReplyFault → Type 0

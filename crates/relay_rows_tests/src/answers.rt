@@ -56,7 +56,7 @@ impl Scene {
     /// Compacts the spool, and tells its sizes before and after that.
     pub fn compact(&mut self, node: &mut MemoryNode) {
         match compact(node) {
-            Ok((before, behind)) => self.tell_numbers(before as u64, behind as u64),
+            Ok((before, after)) => self.tell_numbers(before as u64, after as u64),
             Err(fault) => self.tell_fault(fault),
         }
     }

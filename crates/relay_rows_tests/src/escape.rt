@@ -10,9 +10,9 @@ pub fn unescaped(alloc: Global, text: &[u8]) -> Result<Octets, AllocError>
 {
     let mut octets = Vec::with_capacity(alloc, text.len())?;
     let mut rest = text;
-    while let Some((octet, behind)) = first_octet(rest) {
+    while let Some((octet, after)) = first_octet(rest) {
         octets.push(octet)?;
-        rest = behind;
+        rest = after;
     }
     Ok(Octets::new(octets))
 }
@@ -24,8 +24,8 @@ fn first_octet(text: &[u8]) -> Option<(u8, &[u8])>
     ensures shorter { IfSome result (λ first. length first.1.now < length text.now) }
 {
     match text {
-        [b'\\', letter, behind @ ..] => Some((escaped(*letter), behind)),
-        [octet, behind @ ..] => Some((*octet, behind)),
+        [b'\\', letter, after @ ..] => Some((escaped(*letter), after)),
+        [octet, after @ ..] => Some((*octet, after)),
         [] => None,
     }
 }

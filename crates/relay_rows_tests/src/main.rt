@@ -9,8 +9,8 @@
 //!
 //! It plays each scenario on a node over memory: in one piece, with what the other sides say cut in two at each octet,
 //! octet by octet, and in one piece among this many other clients that 64 are there; or, where a device fails, for each
-//! call and each stop. The outcome of each event is compared with what is written down. Then it shows a run of a network
-//! and which configurations make one, and runs each measurement of bench/ on a few octets.
+//! call and each stop. The outcome of each event is compared with what is written down. Then it shows a run of a
+//! network and which configurations make one, and runs each measurement of bench/ on a few octets.
 //!
 //! By the word `books` and a folder it shows the rows of books there alone, by `file` and a path it plays the scenarios
 //! of that file alone, and by `bench` it runs the measurement that the next words name.

@@ -107,15 +107,15 @@ fn push_fault(
     if fault == ReplyFault::NoMemory {
         return Err(AllocError);
     }
-    let behind = text_behind(reader);
+    let after = text_after(reader);
     out.extend_from_slice(text_of(fault))?;
     out.extend_from_slice(b", ")?;
-    out.extend_from_slice(behind)?;
+    out.extend_from_slice(after)?;
     Ok(())
 }
 
 /// Returns the word of what is answered after a fault.
-fn text_behind(reader: &mut ReplyReader) -> &'static [u8]
+fn text_after(reader: &mut ReplyReader) -> &'static [u8]
     ensures { HasFailed reader.old → result.now ≡ reply_fault_word ReplyFault.BadLine }
 {
     match reader.feed(b"250 a\r\n") {

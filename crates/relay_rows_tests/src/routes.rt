@@ -43,8 +43,8 @@ fn document_of(answer: &mut Answer, lines: &str) -> String {
     }
 }
 
-/// Tells what a configuration says: its values without the routes, whether it refuses bare line ends and routed paths, and
-/// whether its reports are rich, or its fault.
+/// Tells what a configuration says: its values without the routes, whether it refuses bare line ends and routed paths,
+/// and whether its reports are rich, or its fault.
 fn tell_config(answer: &mut Answer, document: &str) {
     match Config::read(answer.alloc, document) {
         Ok(config) => tell_values(answer, &config),

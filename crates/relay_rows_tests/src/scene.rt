@@ -45,9 +45,10 @@ impl Scene {
     /// `at 1000` sets the clock, `fuse` the disks' fuse as the course of the scenario says, `fuse 5` to five calls,
     /// `compact` compacts the spool, and `connect 2` opens two sessions. `give client 0` gives a session what `>` lines
     /// say, in pieces, and `give hop 0` an attempt; `part hop 0` gives as many octets of it as the course has calls,
-    /// `once client 0` gives all in one call, `hold client 0` all in pieces, and tells what is written, and `turns hop 0
-    /// hop 1` gives two peers each octet. Further events are `end 0` of a session, `start 1 next.example` and `lose 0` of
-    /// an attempt, `give_up 1` of a message, and `crowd`, by which other clients take all places that are left.
+    /// `once client 0` gives all in one call, `hold client 0` all in pieces, and tells what is written, and
+    /// `turns hop 0 hop 1` gives two peers each octet. Further events are `end 0` of a session, `start 1 next.example`
+    /// and `lose 0` of an attempt, `give_up 1` of a message, and `crowd`, by which other clients take all places that
+    /// are left.
     pub fn perform(&mut self, node: &mut MemoryNode, step: &Step<'_>, word: &str, rest: Words<'_>) {
         let mut words = rest;
         match word {

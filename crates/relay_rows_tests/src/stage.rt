@@ -95,7 +95,7 @@ impl<'a> Stage<'a> {
             return;
         };
         if which == "second" {
-            self.put_behind(disk);
+            self.put_after(disk);
         } else {
             self.disks = Some(Disks {
                 first: disk,
@@ -105,7 +105,7 @@ impl<'a> Stage<'a> {
     }
 
     /// Puts a second disk after the first, if there is one.
-    fn put_behind(&mut self, disk: MemoryDisk) {
+    fn put_after(&mut self, disk: MemoryDisk) {
         if let Some(disks) = &mut self.disks {
             disks.second = disk;
         }

@@ -1,4 +1,5 @@
 mod AnswerLemmas
-mod DoorLemmas
+mod AcceptorLemmas
+mod ReloadLemmas
 mod SteeringLemmas
 mod WithdrawalLemmas

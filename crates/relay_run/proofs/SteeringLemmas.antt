@@ -20,4 +20,5 @@ module _ {S : Type 0} (tick caller : ℕ) (old new : Option Drain) (before after
   turned_still (Release scope) same turned drains = same_still same turned drains
   turned_still (Return names) same turned drains = same_still same turned drains
   turned_still (Discard names) same turned drains = same_still same turned drains
-  turned_still Reload same turned drains = same_still same turned drains
+  turned_still Reload (drain, stops) turned drains =
+      stops ∙ turned (subst (λ (it : Option Drain). it ≢ None) drain drains)

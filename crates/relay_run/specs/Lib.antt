@@ -4,4 +4,5 @@ pub mod Reopening
 pub mod Room
 pub mod Withdrawing
 pub mod Steering
+pub mod Reloading
 pub mod Tidying

@@ -3,7 +3,12 @@ use Rattle.std.specs.Prelude.{◌≡◌, ◌⊎◌, ℕ, ◌*◌, ◌≤◌, min
 use Rattle.relay_disk.specs.declared.disks.Disks.{Disks}
 use Rattle.relay_disk.specs.declared.file.FileDisk.{FileDisk}
 use Rattle.relay_disk.specs.File.{sync_failed}
+use Rattle.relay_routes.specs.declared.config.Config.{Config}
 use Rattle.relay_run.specs.declared.known.Known.{Known}
+use Rattle.relay_run.specs.declared.reopening.Opening.{Opening}
+use Rattle.relay_run.specs.declared.reopening.Opening.TheVariants.{Done, Failed as Fails}
+use Rattle.relay_run.specs.declared.reopening.Why.{Why}
+use Rattle.relay_run.specs.declared.reopening.Why.TheVariants.{Failed, Renewed, Reloaded}
 
 -- a sync of one of the two files has failed since it was opened
 abbrev pub HasFailedToSync : Disks FileDisk → Type 0
@@ -28,3 +33,26 @@ abbrev pub IsWhole : Known → ℕ → ℕ → Type 0
 IsWhole known found_next found_size =
     MatchOption known.compacted (HasAll known.next_number known.size found_next found_size)
     (λ left. IsEither known.next_number known.size left found_next found_size)
+
+-- the configuration is this one, but for the limit of the spool, which is lower while the relay is short of room
+pub record KeepsConfig (config opened : Config) : Type 0 where
+  pub host : opened.host ≡ config.host
+  pub listen : opened.listen ≡ config.listen
+  pub spool : opened.spool ≡ config.spool
+  pub max_content : opened.max_content ≡ config.max_content
+  pub bare_newlines : opened.bare_newlines ≡ config.bare_newlines
+  pub routes : opened.routes ≡ config.routes
+  pub trusted_clients : opened.trusted_clients ≡ config.trusted_clients
+  pub routed_paths : opened.routed_paths ≡ config.routed_paths
+  pub reports : opened.reports ≡ config.reports
+
+-- the configuration of a spool that is opened again for this reason: another one only by a reload
+abbrev pub config_for : Why → Config → Config
+config_for Failed config = config
+config_for Renewed config = config
+config_for (Reloaded other) config = other
+
+-- the configuration of a spool that was to be opened
+abbrev pub config_in : Opening → Config
+config_in (Done relay) = relay.node.config
+config_in (Fails closed) = closed.config

@@ -25,9 +25,10 @@ IsDraining steering = steering.drain ≢ None
 abbrev pub TurnsAway : {S : Type 0} → Steering → Clients S → Type 0
 TurnsAway steering clients = IsDraining steering → clients.stops ≡ true
 
--- attempts may begin: no drain was asked for, and there is room for their outcomes
+-- attempts may begin: no drain was asked for, no reload waits, and there is room for their outcomes
 pub record MayBegin {F : Type 0} (steering : Steering) (room : Room F) (size : ℕ) : Type 0 where
   pub goes_on : steering.drain ≡ None
+  pub keeps : steering.reload ≡ None
   pub room_holds : MayStart room size
 
 -- the drain was asked for, and no attempt runs any more or its time is over
@@ -42,7 +43,7 @@ abbrev pub joined_drain : ℕ → ℕ → Option Drain → Drain
 joined_drain until caller None = record { until = until; caller = caller }
 joined_drain until caller (Some drain) = record { until = min drain.until until; caller = drain.caller }
 
--- A request to drain was served, and clients are served no more. No other request changes anything of that.
+-- A request to drain was served, and clients that come are served no more. No other request changes anything of that.
 abbrev pub DrainsBy
     : {S : Type 0} → ℕ → ℕ → Request → Option Drain → Option Drain → Clients S → Clients S → Type 0
 DrainsBy tick caller (Drains seconds) old new clients_old clients_new =
@@ -53,7 +54,7 @@ DrainsBy tick caller (Hold scope) old new clients_old clients_new = (new ≡ old
 DrainsBy tick caller (Release scope) old new clients_old clients_new = (new ≡ old) × (clients_new ≡ clients_old)
 DrainsBy tick caller (Return names) old new clients_old clients_new = (new ≡ old) × (clients_new ≡ clients_old)
 DrainsBy tick caller (Discard names) old new clients_old clients_new = (new ≡ old) × (clients_new ≡ clients_old)
-DrainsBy tick caller Reload old new clients_old clients_new = (new ≡ old) × (clients_new ≡ clients_old)
+DrainsBy tick caller Reload old new clients_old clients_new = (new ≡ old) × (clients_new.stops ≡ clients_old.stops)
 
 module _ {D : Type 0} (honest : Type 0) (words : DiskWords D) (at : ℕ) where
   -- what a request at this time did to the relay: only `return` and `discard` change it, and only by the places that

@@ -12,12 +12,15 @@ use std::fs::{self, File, Permissions};
 use std::io::{self, ErrorKind};
 use std::net::Net;
 use std::os::fd::{AsFd, AsRawFd};
-use std::os::unix::fs::{FileTypeExt, PermissionsExt};
+use std::os::unix::fs::{FileTypeExt, PermissionsExt, chown};
 use std::os::unix::net::{SocketAddr, UnixListener as BlockingListener};
 use std::rt::Files;
 
 /// The mode of its file: the user that runs the relay may send requests, and root.
 const MODE: u32 = 0o600;
+
+/// The mode of its file if a group may send requests too.
+const GROUP_MODE: u32 = 0o660;
 
 /// The most callers that wait to be accepted.
 const BACKLOG: i32 = 16;
@@ -49,16 +52,18 @@ impl ControlSocket {
     /// How many tokens it has.
     pub(crate) const TOKENS: usize = 1 + MOST_CALLERS;
 
-    /// Opens the socket at this path, or none. Removes a socket that an earlier run left there: the caller holds the
-    /// spool's lock, so nobody serves it. Fails if the socket can't be made, or memory runs out.
+    /// Opens the socket at this path, or none, for this group too, if any. Removes a socket that an earlier run left
+    /// there: the caller holds the spool's lock, so nobody serves it. Fails if the socket can't be made, it can't be
+    /// given to the group, or memory runs out.
     pub(crate) fn open<R: Files<File = File> + Net>(
         alloc: Global,
         rt: &R,
         registry: &Registry,
         path: Option<&str>,
+        group: Option<u32>,
     ) -> io::Result<Self> {
         let listener = match path {
-            Some(path) => Some(listener_at(rt, registry, path)?),
+            Some(path) => Some(listener_at(rt, registry, path, group)?),
             None => None,
         };
         Ok(ControlSocket {
@@ -137,11 +142,12 @@ impl ControlSocket {
     }
 }
 
-/// Returns the registered listener at a path.
+/// Returns the registered listener at a path, for the members of this group too, if any.
 fn listener_at<R: Files<File = File> + Net>(
     rt: &R,
     registry: &Registry,
     path: &str,
+    group: Option<u32>,
 ) -> io::Result<UnixListener> {
     remove_old(rt, path)?;
     let socket = rt.unix_socket()?;
@@ -149,6 +155,11 @@ fn listener_at<R: Files<File = File> + Net>(
     checked(libc::fchmod(socket.as_raw_fd(), MODE))?;
     rt.bind_unix(socket.as_fd(), &SocketAddr::from_pathname(path)?)?;
     fs::set_permissions(rt, path, Permissions::from_mode(MODE))?;
+    if let Some(group) = group {
+        // The file belongs to the group before its members may use it, and never to another that may.
+        chown(rt, path, None, Some(group))?;
+        fs::set_permissions(rt, path, Permissions::from_mode(GROUP_MODE))?;
+    }
     checked(libc::net::listen(socket.as_raw_fd(), BACKLOG))?;
     let listener = BlockingListener::from(socket);
     listener.set_nonblocking(true)?;

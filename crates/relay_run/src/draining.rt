@@ -13,7 +13,7 @@ use relay_disk::Disk;
 const ANSWER_TIME: u64 = 5_000;
 
 /// The drain that was asked for.
-#[derive(Clone, Copy, Debug)]
+#[derive(Clone, Copy)]
 pub(crate) struct Drain {
     /// The tick at which the relay stops at the latest.
     pub(crate) until: u64,
@@ -42,12 +42,13 @@ impl<S: Stream + Drop, D: Disk + Drop, F: Disk + Drop> Shell<S, D, F> {
     pub(crate) fn begin_drain(&mut self, caller: usize, seconds: u16, now: &Now)
         ensures drain { self.new.steering.drain ≡ Some (joined_drain
             (min (now.now.tick + seconds * 1000) (2 ^ 64 - 1)) caller self.old.steering.drain) }
+        ensures reload { self.new.steering.reload ≡ self.old.steering.reload }
         ensures clients { self.new.clients ≡ stopped self.old.clients }
         ensures relay { self.new.relay ≡ self.old.relay }
         ensures rest { (self.new.next_hops ≡ self.old.next_hops) × (self.new.leaving ≡ self.old.leaving)
-            × (self.new.door ≡ self.old.door) × (self.new.room ≡ self.old.room) }
+            × (self.new.acceptor ≡ self.old.acceptor) × (self.new.room ≡ self.old.room) }
     {
-        let until = now.behind(u64::from(seconds));
+        let until = now.after(u64::from(seconds));
         let steering = &mut self.steering;
         steering
             .socket

@@ -2,7 +2,7 @@
 use relay_disk::{Disk, Disks, FileDisk, Side};
 
 /// How many calls on each file of a spool had failed at some time.
-#[derive(Clone, Copy, Debug)]
+#[derive(Clone, Copy)]
 pub(crate) struct Failures {
     first: u64,
     second: u64,

@@ -1,4 +1,8 @@
 //! The file of held mail, which is beside the spool: `SPOOL.held`.
+ghost use Rattle.std.specs.Prelude.{IfOk};
+ghost use Rattle.relay_run.specs.Reloading.{HoldsAlike};
+
+use relay_control::laws::held_reads_back;
 use relay_control::{Held, HeldFault, read_held, write_held};
 use relay_files::Fault;
 use std::alloc::{AllocError, Global};
@@ -73,6 +77,20 @@ impl HeldMail {
         fs::rename(files, self.new_path.as_str(), self.path.as_str())?;
         // A stop must not bring the old file back.
         File::open(files, folder_of(self.path.as_str()))?.sync_all()
+    }
+}
+
+/// Returns a copy of held mail. Fails if memory runs out.
+pub(crate) fn copy_held(alloc: Global, held: &Held) -> Result<Held, AllocError>
+    ensures { IfOk result (HoldsAlike held.now) }
+{
+    held_reads_back();
+    let Ok(text) = write_held(alloc, held) else {
+        return Err(AllocError);
+    };
+    match read_held(alloc, text.as_str()) {
+        Ok(copy) => Ok(copy),
+        Err(_) => Err(AllocError),
     }
 }
 

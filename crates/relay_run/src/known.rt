@@ -7,7 +7,7 @@ use relay_loop::Relay;
 
 /// What was known of a spool after the last turn without a fault. A change that a failed call was adding counts as
 /// added in the relay itself, so the relay can't be asked for this.
-#[derive(Clone, Copy, Debug)]
+#[derive(Clone, Copy)]
 pub(crate) struct Known {
     /// The number of the next change.
     next_number: u64,

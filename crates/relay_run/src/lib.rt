@@ -2,19 +2,23 @@
 //! become ready, over one node.
 #![tactic(auto)]
 
+mod acceptor;
 mod answers;
 mod control;
-mod door;
 mod draining;
 mod failures;
 mod held_mail;
+mod holding;
 mod known;
 mod listen;
+mod pauses;
+mod reload;
 mod reopening;
 mod reporter;
 mod room;
 mod serving;
 mod shell;
+mod source;
 mod start;
 mod status_page;
 mod status_texts;

@@ -1,5 +1,5 @@
 //! Where clients come from: a listener, or a script of clients.
-use crate::door::Door;
+use crate::acceptor::Acceptor;
 use mio::net::{TcpListener, TcpStream};
 use mio::{Interest, Registry, Token};
 use std::io::{self, ErrorKind};
@@ -51,7 +51,7 @@ pub(crate) fn listener_at<N: Net>(
     at: SocketAddrV4,
 ) -> io::Result<TcpListener> {
     let mut listener = TcpListener::bind(net, SocketAddr::V4(at))?;
-    registry.register(&mut listener, Token(Door::TOKEN), Interest::READABLE)?;
+    registry.register(&mut listener, Token(Acceptor::TOKEN), Interest::READABLE)?;
     Ok(listener)
 }
 

@@ -1,12 +1,13 @@
 //! Opening a spool again after its device has failed, on the files that are open and locked already.
-ghost use Rattle.std.specs.Prelude.{ℕ, ◌≡◌, IfErr, IfOk, IsErr};
-ghost use Rattle.relay_run.specs.Reopening.{HasFailedToSync, IsWhole, next_pause};
+ghost use Rattle.std.specs.Prelude.{ℕ, ◌≡◌, IfErr, IfOk, IsErr, OnOk};
+ghost use Rattle.relay_run.specs.Reopening.{HasFailedToSync, IsWhole, KeepsConfig, config_for, config_in};
 ghost use Rattle.relay_run.specs.Room.{MayStart};
 
-use crate::door::refuse_all;
+use crate::acceptor::refuse_all;
 use crate::failures::Failures;
 use crate::known::Known;
 use crate::listen::Listen;
+use crate::pauses::Pauses;
 use crate::reporter::Reporter;
 use crate::room::Room;
 use relay_connections::Stream;
@@ -20,13 +21,6 @@ use std::io::Write;
 use std::rt::Clock;
 use std::time::Duration;
 
-/// The first pause before a spool is opened again, in seconds. It doubles after each further failure, up to
-/// `LONGEST_PAUSE`.
-const FIRST_PAUSE: u64 = 1;
-
-/// The longest pause, in seconds.
-const LONGEST_PAUSE: u64 = 60;
-
 /// The greatest limit that a spool may have, in octets.
 const GREATEST_LIMIT: u64 = 549_755_813_888;
 
@@ -35,46 +29,6 @@ const TELLINGS: u64 = 5;
 
 /// How many milliseconds are between two of these times.
 const TELLING_PAUSE: u64 = 200;
-
-/// The pauses before a spool is opened again.
-#[derive(Clone, Copy, Debug)]
-pub(crate) struct Pauses {
-    /// The next pause, in seconds.
-    seconds: u64,
-    /// The size of the spool when it was opened last, in octets.
-    opened_size: usize,
-    /// How many calls had failed then.
-    failures: Failures,
-}
-
-impl Pauses {
-    /// Returns the pauses for a spool of this size, before any failure.
-    pub(crate) fn new(size: usize) -> Self {
-        Pauses {
-            seconds: FIRST_PAUSE,
-            opened_size: size,
-            failures: Failures::none(),
-        }
-    }
-
-    /// Notes that the device has failed while the spool had this size. If the size has changed since the spool was
-    /// opened, there was room meanwhile, and the pauses begin again.
-    fn note_failure(&mut self, size: usize) {
-        if self.opened_size != size {
-            self.seconds = FIRST_PAUSE;
-        }
-    }
-
-    /// Returns the next pause in seconds, and doubles it.
-    fn next(&mut self) -> u64
-        ensures pause { result ≡ self.old.seconds }
-        ensures longer { self.new.seconds ≡ next_pause self.old.seconds }
-    {
-        let seconds = self.seconds;
-        self.seconds = seconds.saturating_mul(2).min(LONGEST_PAUSE);
-        seconds
-    }
-}
 
 /// A spool that isn't open, and its configuration.
 struct Closed {
@@ -101,12 +55,14 @@ enum Opening {
 }
 
 /// Why a spool is opened again.
-#[derive(Clone, Copy, Debug)]
+#[derive(Drop)]
 pub(crate) enum Why {
     /// Its device has failed.
     Failed,
     /// There is room again, after its limit was lowered for lack of room.
     Renewed,
+    /// The relay has this configuration from now on.
+    Reloaded(Config),
 }
 
 /// Opens the spool of a relay again, and checks that it is the known one: if its device has failed, once a test finds
@@ -124,10 +80,59 @@ pub(crate) fn reopen<C: Clock, E: Write, S: Stream + Drop, L: Listen<Stream = S>
     ensures whole { IfOk result (λ opened. IsWhole known opened.node.records.queue.next
         opened.node.records.spool.size) }
     ensures tested { why ≡ Why.Failed → IfOk result (λ _. MayStart room.new known.size) }
+    ensures config { IfOk result (λ opened. KeepsConfig (config_for why relay.node.config) opened.node.config) }
 {
     match why {
         Why::Failed => open_again(reporter, relay, known, listener, room, pauses),
         Why::Renewed => open_bounded(reporter.alloc, relay, known, room),
+        Why::Reloaded(config) => {
+            open_under(config, reporter, relay, known, listener, room, pauses)
+        }
+    }
+}
+
+/// Opens the spool of a relay under another configuration, with the limit that the room allows; later if its device
+/// fails, or memory runs out. Drops all connections. Fails if a sync has failed, or if the spool's content isn't what
+/// was known.
+fn open_under<C: Clock, E: Write, S: Stream + Drop, L: Listen<Stream = S>>(
+    config: Config,
+    reporter: &mut Reporter<'_, C, E>,
+    relay: Relay<FileDisk>,
+    known: Known,
+    listener: &mut L,
+    room: &mut Room,
+    pauses: &mut Pauses,
+) -> Result<Relay<FileDisk>, Fault>
+    ensures synced { HasFailedToSync relay.node.records.spool.disk → IsErr result }
+    ensures whole { IfOk result (λ opened. IsWhole known opened.node.records.queue.next
+        opened.node.records.spool.size) }
+    ensures config { IfOk result (λ opened. KeepsConfig config opened.node.config) }
+{
+    let mut closed = Closed::of(relay.into_node());
+    sync(&mut closed.disks)?;
+    closed.config = config;
+    open_configured(reporter, closed, known, listener, room, pauses)
+}
+
+/// Opens a spool whose configuration is new, as [`open_under`].
+fn open_configured<C: Clock, E: Write, S: Stream + Drop, L: Listen<Stream = S>>(
+    reporter: &mut Reporter<'_, C, E>,
+    closed: Closed,
+    known: Known,
+    listener: &mut L,
+    room: &mut Room,
+    pauses: &mut Pauses,
+) -> Result<Relay<FileDisk>, Fault>
+    ensures whole { IfOk result (λ opened. IsWhole known opened.node.records.queue.next
+        opened.node.records.spool.size) }
+    ensures config { IfOk result (λ opened. KeepsConfig closed.config opened.node.config) }
+{
+    let mut closed = closed;
+    room.reconfigure(&closed.config, known.size());
+    closed.bound(room)?;
+    match closed.open(reporter.alloc)? {
+        Opening::Done(relay) => unless_less(known, relay, room),
+        Opening::Failed(closed) => await_device(reporter, closed, known, listener, room, pauses),
     }
 }
 
@@ -147,9 +152,29 @@ fn open_again<C: Clock, E: Write, S: Stream + Drop, L: Listen<Stream = S>>(
     ensures whole { IfOk result (λ opened. IsWhole known opened.node.records.queue.next
         opened.node.records.spool.size) }
     ensures tested { IfOk result (λ _. MayStart room.new known.size) }
+    ensures config { IfOk result (λ opened. KeepsConfig relay.node.config opened.node.config) }
 {
     pauses.note_failure(known.size());
-    let mut closed = Closed::of(relay.into_node());
+    let closed = Closed::of(relay.into_node());
+    await_device(reporter, closed, known, listener, room, pauses)
+}
+
+/// Opens a spool whose device has failed, after 1 second, 2, 4 and up to 60, as [`open_again`].
+fn await_device<C: Clock, E: Write, S: Stream + Drop, L: Listen<Stream = S>>(
+    reporter: &mut Reporter<'_, C, E>,
+    closed: Closed,
+    known: Known,
+    listener: &mut L,
+    room: &mut Room,
+    pauses: &mut Pauses,
+) -> Result<Relay<FileDisk>, Fault>
+    ensures synced { HasFailedToSync closed.disks → IsErr result }
+    ensures whole { IfOk result (λ opened. IsWhole known opened.node.records.queue.next
+        opened.node.records.spool.size) }
+    ensures tested { IfOk result (λ _. MayStart room.new known.size) }
+    ensures config { IfOk result (λ opened. KeepsConfig closed.config opened.node.config) }
+{
+    let mut closed = closed;
     let failed = pauses.failures.side(&closed.disks);
     sync(&mut closed.disks)?;
     let reason = room.fail();
@@ -168,6 +193,7 @@ pub(crate) fn open_bounded(
     ensures synced { HasFailedToSync relay.node.records.spool.disk → IsErr result }
     ensures whole { IfOk result (λ opened. IsWhole known opened.node.records.queue.next
         opened.node.records.spool.size) }
+    ensures config { IfOk result (λ opened. KeepsConfig relay.node.config opened.node.config) }
 {
     let mut closed = Closed::of(relay.into_node());
     sync(&mut closed.disks)?;
@@ -181,8 +207,9 @@ fn open_at_once(
     known: Known,
     room: &mut Room,
 ) -> Result<Relay<FileDisk>, Fault>
-    ensures { IfOk result (λ opened. IsWhole known opened.node.records.queue.next
+    ensures whole { IfOk result (λ opened. IsWhole known opened.node.records.queue.next
         opened.node.records.spool.size) }
+    ensures config { IfOk result (λ opened. KeepsConfig closed.config opened.node.config) }
 {
     let mut closed = closed;
     closed.bound(room)?;
@@ -205,6 +232,7 @@ fn wait_for_room<C: Clock, E: Write, S: Stream + Drop, L: Listen<Stream = S>>(
     ensures whole { IfOk result (λ opened. IsWhole known opened.node.records.queue.next
         opened.node.records.spool.size) }
     ensures tested { IfOk result (λ _. MayStart room.new known.size) }
+    ensures config { IfOk result (λ opened. KeepsConfig closed.config opened.node.config) }
 {
     let mut closed = closed;
     let line = refusal(reporter.alloc, &closed.config)?;
@@ -237,6 +265,7 @@ fn unless_less(
     ensures whole { IfOk result (λ opened. IsWhole known opened.node.records.queue.next
         opened.node.records.spool.size) }
     ensures stays { (size : ℕ) → MayStart room.old size → MayStart room.new size }
+    ensures same { IfOk result (λ opened. opened ≡ relay) }
 {
     if !known.is_in(&Known::of(&relay)) {
         return Err(Fault::Device);
@@ -281,14 +310,17 @@ fn sync(disks: &mut Disks<FileDisk>) -> Result<(), Fault>
 impl Closed {
     /// Returns the spool of a node.
     fn of(node: Node<FileDisk>) -> Self
-        ensures { result.disks ≡ node.records.spool.disk }
+        ensures disks { result.disks ≡ node.records.spool.disk }
+        ensures config { result.config ≡ node.config }
     {
         let (config, disks) = node.into_parts();
         Closed { config, disks }
     }
 
     /// Sets the limit that the room allows.
-    fn bound(&mut self, room: &Room) -> Result<(), Fault> {
+    fn bound(&mut self, room: &Room) -> Result<(), Fault>
+        ensures { OnOk result (KeepsConfig self.old.config self.new.config) }
+    {
         let (Ok(first), Ok(second)) = (self.disks.first.size(), self.disks.second.size()) else {
             return Err(Fault::Device);
         };
@@ -298,7 +330,9 @@ impl Closed {
     }
 
     /// Opens the spool. Fails if its content isn't a spool.
-    fn open(self, alloc: Global) -> Result<Opening, Fault> {
+    fn open(self, alloc: Global) -> Result<Opening, Fault>
+        ensures { IfOk result (λ opening. config_in opening ≡ self.config) }
+    {
         let Closed { config, disks } = self;
         match Node::open_again(alloc, config, disks) {
             Ok(node) => match Relay::new(alloc, node) {

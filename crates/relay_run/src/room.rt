@@ -82,7 +82,7 @@ impl Room {
         ensures standing { self.new.standing ≡ standing_at_failure self.old.standing self.old.size }
         ensures held { (size : ℕ) → ¬ MayStart self.new size }
     {
-        self.standing = self.standing.behind_failure(self.size as usize);
+        self.standing = self.standing.after_failure(self.size as usize);
         self.renewal = u64::MAX;
         let reason = self.file.reason(self.size as usize);
         // What can't be given up is no ballast either.
@@ -107,7 +107,7 @@ impl<F: Disk> Room<F> {
             Ok(room) => room,
             Err(DiskFault::Device) => 0,
         };
-        self.standing = self.standing.behind_test(room, size);
+        self.standing = self.standing.after_test(room, size);
         self.tested_size = spool_size;
     }
 
@@ -118,14 +118,26 @@ impl<F: Disk> Room<F> {
             return false;
         }
         self.test(spool_size);
-        self.next_test = now.behind(TEST_SECONDS);
+        self.next_test = now.after(TEST_SECONDS);
         if self.is_short() {
             return false;
         }
         if limit != self.configured {
-            self.renewal = now.behind(DRAIN_SECONDS);
+            self.renewal = now.after(DRAIN_SECONDS);
         }
         true
+    }
+
+    /// Takes the limits of this configuration, and tests the room beside a spool of this many octets, unless the
+    /// ballast is there and has the right size.
+    pub(crate) fn reconfigure(&mut self, config: &Config, spool_size: usize) {
+        self.configured = config.spool_limit;
+        let size = ballast_size(config.max_content);
+        if size != self.size {
+            self.size = size;
+            self.standing = Standing::untested();
+        }
+        self.test(spool_size);
     }
 
     /// Returns whether the relay is short of room.

@@ -1,6 +1,7 @@
+use crate::acceptor::Acceptor;
 use crate::control::ControlSocket;
-use crate::door::Door;
 use crate::shell::{Shell, SystemShell};
+use crate::source::Source;
 use crate::start::{
     Settings, kept_file, locked_relay, log_form, open_listener, open_page, open_steering,
     read_settings, say_ready,
@@ -9,7 +10,7 @@ use crate::status_page::StatusPage;
 use crate::turns::{System, serve};
 use mio::{Events, Poll};
 use relay_files::Fault;
-use relay_next_hops::{Sockets, Spares};
+use relay_next_hops::{Sockets, SpareDescriptors};
 use relay_slots::SLOT_COUNT;
 use std::alloc::Global;
 use std::fs::File;
@@ -49,19 +50,29 @@ pub fn run<
         balancers,
         allowed,
         control,
+        control_group,
     } = read_settings(alloc, rt, path)?;
     let at = config.listen;
     let form = log_form(quiet, &limits);
+    let source = Source {
+        path: path.to_string(alloc)?,
+        quiet,
+        control,
+        control_group,
+        status_port: limits.status_port,
+    };
     let (relay, room) = locked_relay(alloc, rt, config)?;
-    let dial = Sockets::new(rt, Spares::new(alloc, kept_file(rt, path)?)?);
+    let dial = Sockets::new(rt, SpareDescriptors::new(alloc, kept_file(rt, path)?)?);
     let Ok(poll) = Poll::new(rt) else {
         return Err(Fault::Socket);
     };
     let listener = open_listener(alloc, rt, poll.registry(), at, form, errors)?;
     let page = open_page(alloc, rt, poll.registry(), &limits, &relay)?;
-    let steering = open_steering(alloc, rt, poll.registry(), control, &relay)?;
-    let door = Door::new(alloc, balancers)?;
-    let mut shell: SystemShell = Shell::new(alloc, relay, door, room, steering, &limits, allowed)?;
+    let steering = open_steering(alloc, rt, poll.registry(), source, &relay)?;
+    let acceptor = Acceptor::new(alloc, balancers)?;
+    let mut shell: SystemShell = Shell::new(
+        alloc, relay, acceptor, room, steering, &limits, allowed,
+    )?;
     let held = shell.steering.held_mail.read(rt)?;
     shell.next_hops.set_held(held);
     shell.next_hops.prepare(&shell.relay)?;
@@ -75,6 +86,6 @@ pub fn run<
         events,
         page,
     };
-    let _drained = serve(alloc, system, shell, form, errors)?;
+    let _drained = serve(alloc, system, shell, errors)?;
     Ok(())
 }

@@ -1,16 +1,18 @@
-ghost use Rattle.std.specs.Prelude.{◌≡◌, ◌⊎◌, ◌↔◌, None, Some, IfErr, IfOk, IsErr, IsTrue, OnOk};
+ghost use Rattle.std.specs.Prelude.{◌≡◌, ◌↔◌, None, IfOk, IsErr, IsTrue};
 ghost use Rattle.relay_connections.specs.Welcome.{KeepsRules};
-ghost use Rattle.relay_run.specs.Reopening.{HasFailedToSync, IsWhole};
+ghost use Rattle.relay_run.specs.Reloading.{IsReloading};
+ghost use Rattle.relay_run.specs.Reopening.{HasFailedToSync, IsWhole, KeepsConfig, config_for};
 ghost use Rattle.relay_run.specs.Room.{MayStart};
 ghost use Rattle.relay_run.specs.Steering.{IsDraining, MayBegin, TurnsAway};
-ghost use Rattle.relay_run.specs.Tidying.{FailsToCompact, IsCompacted, KeepsRest, MayBeTrimmed, compacted_size_of};
 
-use crate::door::Door;
+use crate::acceptor::Acceptor;
 use crate::known::Known;
 use crate::listen::Listen;
-use crate::reopening::{Pauses, Why, reopen};
+use crate::pauses::Pauses;
+use crate::reopening::{Why, reopen};
 use crate::reporter::Reporter;
 use crate::room::Room;
+use crate::start::log_form;
 use crate::steering::Steering;
 use crate::tidying::Tidying;
 use mio::net::TcpStream;
@@ -18,7 +20,7 @@ use relay_connections::{Clients, Intake, Leaving, Now, Replied, Stream};
 use relay_disk::{Disk, FileDisk};
 use relay_files::Fault;
 use relay_limits::{AllowedClients, Limits};
-use relay_log::Log;
+use relay_log::{Form, Log};
 use relay_loop::Relay;
 use relay_next_hops::{Dial, NextHops};
 use relay_node::NodeFault;
@@ -31,15 +33,17 @@ use std::rt::Clock;
 /// streams, and what reports their readiness, is passed to each turn.
 pub(crate) struct Shell<S, D: Disk, F> {
     pub(crate) relay: Relay<D>,
-    pub(crate) door: Door<S>,
+    pub(crate) acceptor: Acceptor<S>,
     pub(crate) clients: Clients<S>,
     pub(crate) next_hops: NextHops<S>,
     pub(crate) leaving: Leaving<S>,
     pub(crate) tidying: Tidying,
     pauses: Pauses,
     pub(crate) room: Room<F>,
-    known: Known,
+    pub(crate) known: Known,
     pub(crate) steering: Steering,
+    /// The format of the log; `None` if nothing is logged.
+    pub(crate) form: Option<Form>,
 }
 
 /// The shell of `run`, over the system's streams and files.
@@ -50,7 +54,7 @@ impl<S: Drop, D: Disk + Drop, F: Drop> Drop for Shell<S, D, F> {
     fn drop(self) {
         let Shell {
             relay: _relay,
-            door: _door,
+            acceptor: _acceptor,
             clients: _clients,
             next_hops: _next_hops,
             leaving: _leaving,
@@ -59,6 +63,7 @@ impl<S: Drop, D: Disk + Drop, F: Drop> Drop for Shell<S, D, F> {
             room: _room,
             known: _,
             steering: _steering,
+            form: _,
         } = self;
     }
 }
@@ -69,7 +74,7 @@ impl<S: Stream + Drop, D: Disk + Drop, F: Disk + Drop> Shell<S, D, F> {
     pub(crate) fn new(
         alloc: Global,
         relay: Relay<D>,
-        door: Door<S>,
+        acceptor: Acceptor<S>,
         room: Room<F>,
         steering: Steering,
         limits: &Limits,
@@ -82,9 +87,10 @@ impl<S: Stream + Drop, D: Disk + Drop, F: Disk + Drop> Shell<S, D, F> {
         let leaving = Leaving::new(alloc, u64::from(limits.client_timeout))?;
         let pauses = Pauses::new(relay.node().size());
         let known = Known::of(&relay);
+        let form = log_form(steering.source.quiet, limits);
         Ok(Shell {
             relay,
-            door,
+            acceptor,
             clients,
             next_hops,
             leaving,
@@ -93,6 +99,7 @@ impl<S: Stream + Drop, D: Disk + Drop, F: Disk + Drop> Shell<S, D, F> {
             room,
             known,
             steering,
+            form,
         })
     }
 
@@ -111,11 +118,14 @@ impl<S: Stream + Drop, D: Disk + Drop, F: Disk + Drop> Shell<S, D, F> {
         self.room.is_renewed(now)
     }
 
-    /// Returns whether attempts may begin: no drain was asked for, and there is room for their outcomes.
+    /// Returns whether attempts may begin: no drain was asked for, no reload waits, and there is room for their
+    /// outcomes.
     pub(crate) fn may_start(&self) -> bool
         ensures { IsTrue result ↔ MayBegin self.now.steering self.now.room self.now.relay.node.records.spool.size }
     {
-        !self.steering.is_draining() && self.room.may_start(self.relay.node().size())
+        !self.steering.is_draining()
+            && !self.steering.is_reloading()
+            && self.room.may_start(self.relay.node().size())
     }
 
     /// Does for each connection one thing that can be done at once, and begins due attempts. If the relay is short of
@@ -135,7 +145,33 @@ impl<S: Stream + Drop, D: Disk + Drop, F: Disk + Drop> Shell<S, D, F> {
         if self.room.look(node.size(), node.config().spool_limit, now) {
             log.shortage_ended();
         }
-        self.door.admit(
+        self.admit(listener, dial, registry, now, log)?;
+        self.attend_to_next_hops(registry, now, log)?;
+        self.exchange(registry, now, log)?;
+        if self.leaving.serve(now) > 0 {
+            self.acceptor.resume();
+            self.next_hops.note_leaving(&self.leaving);
+        }
+        self.begin(clock, dial, registry, now, log)
+    }
+
+    /// Takes the clients that are waiting. While a reload waits, they wait too.
+    fn admit<L: Listen<Stream = S>, N: Dial<Stream = S>>(
+        &mut self,
+        listener: &mut L,
+        dial: &mut N,
+        registry: &S::Registry,
+        now: &Now,
+        log: &mut Log<'_, Vec<u8>>,
+    ) -> Result<(), Fault>
+        ensures rules { (self.new.steering ≡ self.old.steering) × KeepsRules self.old.clients self.new.clients }
+        ensures waits { IsReloading self.old.steering → (self.new.relay ≡ self.old.relay)
+            × (self.new.clients ≡ self.old.clients) }
+    {
+        if self.steering.is_reloading() {
+            return Ok(());
+        }
+        self.acceptor.admit(
             listener,
             dial,
             registry,
@@ -144,64 +180,7 @@ impl<S: Stream + Drop, D: Disk + Drop, F: Disk + Drop> Shell<S, D, F> {
             &mut self.leaving,
             now,
             log,
-        )?;
-        self.attend_to_next_hops(registry, now, log)?;
-        self.exchange(registry, now, log)?;
-        if self.leaving.serve(now) > 0 {
-            self.door.resume();
-            self.next_hops.note_leaving(&self.leaving);
-        }
-        self.begin(clock, dial, registry, now, log)
-    }
-
-    /// Compacts the spool after a turn, if that is due and worth it, and there is room for it. A fault means that a
-    /// compaction has failed; its size is known then.
-    pub(crate) fn tidy(&mut self, now: &Now, log: &mut Log<'_, Vec<u8>>) -> Result<(), Fault>
-        ensures tidies { OnOk result ((self.new.relay ≡ self.old.relay)
-            ⊎ IsCompacted D.honest D.words self.old.tidying.was_full self.old.relay self.new.relay) }
-        ensures failed { IfErr result (λ fault. (fault ≡ Fault.Device)
-            × FailsToCompact self.old.tidying.was_full self.old.relay self.new.relay
-            × (self.new.known.compacted ≡ Some (compacted_size_of self.old.relay))) }
-        ensures known { (self.new.known.next_number ≡ self.old.known.next_number)
-            × (self.new.known.size ≡ self.old.known.size) }
-        ensures rest { (self.new.clients ≡ self.old.clients) × (self.new.next_hops ≡ self.old.next_hops)
-            × (self.new.leaving ≡ self.old.leaving) × (self.new.door ≡ self.old.door)
-            × (self.new.steering ≡ self.old.steering) }
-    {
-        if !self.tidying.may_be_due(now) {
-            return Ok(());
-        }
-        let is_quiet = !self.is_ready(now);
-        if !self.tidying.is_due(&self.relay, is_quiet, now) {
-            return Ok(());
-        }
-        // To compute this takes a walk over the whole queue.
-        let node = self.relay.node();
-        let left = node.compacted_size();
-        if !self.room.has_room_for(left, node.size()) {
-            self.tidying.pause(now);
-            return Ok(());
-        }
-        self.known = self.known.compacting(left);
-        if self
-            .tidying
-            .tidy(&mut self.relay, left, is_quiet, now, log)?
-        {
-            self.room.note_compacted();
-        }
-        Ok(())
-    }
-
-    /// Drops some octets of the spool's other file after a turn, if it may have any.
-    pub(crate) fn trim(&mut self) -> Result<(), Fault>
-        ensures trimmed { OnOk result ((self.new.relay ≡ self.old.relay)
-            ⊎ MayBeTrimmed D.honest D.words self.old.relay self.new.relay) }
-        ensures failed { IfErr result (λ fault. (fault ≡ Fault.Device) × KeepsRest self.old.relay self.new.relay) }
-        ensures rest { (self.new.clients ≡ self.old.clients) × (self.new.next_hops ≡ self.old.next_hops)
-            × (self.new.leaving ≡ self.old.leaving) × (self.new.door ≡ self.old.door)
-            × (self.new.known ≡ self.old.known) × (self.new.steering ≡ self.old.steering) }
-    {
-        self.tidying.trim(&mut self.relay)
+        )
     }
 
     /// Makes connections to next hops, and reads from those that have replied.
@@ -235,7 +214,7 @@ impl<S: Stream + Drop, D: Disk + Drop, F: Disk + Drop> Shell<S, D, F> {
             self.tidying.note_full(now, log);
         }
         if intake.closed {
-            self.door.resume();
+            self.acceptor.resume();
         }
         let closed = self.next_hops.answer(
             replied,
@@ -285,11 +264,12 @@ impl<S: Stream + Drop, D: Disk + Drop, F: Disk + Drop> Shell<S, D, F> {
     {
         if closed {
             self.tidying.note_shrunk();
-            self.door.resume();
+            self.acceptor.resume();
         }
     }
 
-    /// Begins due attempts, but none while there is no room for their outcomes, or after a drain was asked for.
+    /// Begins due attempts, but none while there is no room for their outcomes, after a drain was asked for, or while a
+    /// reload waits.
     fn begin<C: Clock, N: Dial<Stream = S>>(
         &mut self,
         clock: &C,
@@ -331,13 +311,34 @@ impl<S: Stream + Drop> Shell<S, FileDisk, RoomFile> {
         ensures tested { why ≡ Why.Failed → IfOk result (λ shell. MayStart shell.room self.known.size) }
         ensures rules { IfOk result (λ shell. (shell.steering ≡ self.steering)
             × KeepsRules self.clients shell.clients) }
+        ensures config { IfOk result (λ shell. KeepsConfig (config_for why self.relay.node.config)
+            shell.relay.node.config) }
     {
         self.clients.clear();
         self.leaving.clear();
-        self.door.clear();
+        self.acceptor.clear();
+        self.opened(reporter, listener, why)
+    }
+
+    /// Returns the same relay with its spool opened again for this reason.
+    pub(crate) fn opened<C: Clock, E: Write, L: Listen<Stream = S>>(
+        self,
+        reporter: &mut Reporter<'_, C, E>,
+        listener: &mut L,
+        why: Why,
+    ) -> Result<Self, Fault>
+        ensures synced { HasFailedToSync self.relay.node.records.spool.disk → IsErr result }
+        ensures whole { IfOk result (λ shell. IsWhole self.known shell.relay.node.records.queue.next
+            shell.relay.node.records.spool.size) }
+        ensures tested { why ≡ Why.Failed → IfOk result (λ shell. MayStart shell.room self.known.size) }
+        ensures same { IfOk result (λ shell. (shell.steering ≡ self.steering) × (shell.clients ≡ self.clients)
+            × (shell.next_hops.lanes.held ≡ self.next_hops.lanes.held)) }
+        ensures config { IfOk result (λ shell. KeepsConfig (config_for why self.relay.node.config)
+            shell.relay.node.config) }
+    {
         let Shell {
             relay,
-            door,
+            acceptor,
             clients,
             next_hops,
             leaving,
@@ -346,6 +347,7 @@ impl<S: Stream + Drop> Shell<S, FileDisk, RoomFile> {
             room,
             known,
             steering,
+            form,
         } = self;
         let mut pauses = pauses;
         let mut room = room;
@@ -361,7 +363,7 @@ impl<S: Stream + Drop> Shell<S, FileDisk, RoomFile> {
         Ok(Shell {
             known: Known::of(&relay),
             relay,
-            door,
+            acceptor,
             clients,
             next_hops: next_hops.renewed(),
             leaving,
@@ -369,6 +371,7 @@ impl<S: Stream + Drop> Shell<S, FileDisk, RoomFile> {
             pauses,
             room,
             steering,
+            form,
         })
     }
 }

@@ -5,13 +5,16 @@ use crate::known::Known;
 use crate::listen::listener_at;
 use crate::reopening::open_bounded;
 use crate::room::Room;
+use crate::source::Source;
 use crate::status_page::StatusPage;
 use crate::steering::Steering;
 use mio::Registry;
 use mio::net::TcpListener;
 use relay_disk::FileDisk;
 use relay_files::{Fault, configuration_text, locked_node};
-use relay_limits::{AllowedClients, Balancers, Limit, Limits, LogForm, control_path};
+use relay_limits::{
+    AllowedClients, Balancers, Limit, Limits, LogForm, control_group, control_path,
+};
 use relay_log::{Counters, Form, Log};
 use relay_loop::Relay;
 use relay_routes::{Config, ConfigFault};
@@ -28,6 +31,7 @@ use std::time::Duration;
 const ADDRESS_SECONDS: u64 = 60;
 
 /// What the configuration's file says.
+#[derive(Drop)]
 pub(crate) struct Settings {
     pub(crate) config: Config,
     pub(crate) limits: Limits,
@@ -36,10 +40,12 @@ pub(crate) struct Settings {
     pub(crate) allowed: AllowedClients,
     /// The path of the control socket, if there is one.
     pub(crate) control: Option<String>,
+    /// The number of the group that may use the control socket, if any.
+    pub(crate) control_group: Option<u32>,
 }
 
 /// Returns what the file at this path says. Faults are checked in this order: the file, the configuration, the limits,
-/// the balancers, the clients that may connect, the control socket.
+/// the balancers, the clients that may connect, the control socket, its group.
 pub(crate) fn read_settings<F: Files<File = File>>(
     alloc: Global,
     files: &F,
@@ -58,12 +64,16 @@ pub(crate) fn read_settings<F: Files<File = File>>(
     let Some(control) = control_path(alloc, &document)? else {
         return Err(Fault::Limit(Limit::Control));
     };
+    let Some(control_group) = control_group(&document) else {
+        return Err(Fault::Limit(Limit::ControlGroup));
+    };
     Ok(Settings {
         config,
         limits,
         balancers,
         allowed,
         control,
+        control_group,
     })
 }
 
@@ -165,16 +175,16 @@ pub(crate) fn open_steering<R: Files<File = File> + Net>(
     alloc: Global,
     rt: &R,
     registry: &Registry,
-    control: Option<String>,
+    source: Source,
     relay: &Relay<FileDisk>,
 ) -> Result<Steering, Fault> {
     let held_mail = HeldMail::beside(alloc, relay.node().config().spool.as_str())?;
-    let path = match &control {
+    let path = match &source.control {
         Some(path) => Some(path.as_str()),
         None => None,
     };
-    match ControlSocket::open(alloc, rt, registry, path) {
-        Ok(socket) => Ok(Steering::new(alloc, socket, held_mail)),
+    match ControlSocket::open(alloc, rt, registry, path, source.control_group) {
+        Ok(socket) => Ok(Steering::new(alloc, socket, held_mail, source)),
         Err(error) if error.kind() == ErrorKind::OutOfMemory => Err(Fault::NoMemory),
         Err(_) => Err(Fault::Socket),
     }

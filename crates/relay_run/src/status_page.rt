@@ -1,7 +1,7 @@
 //! The page that shows a relay's state, and its metrics: the listener, the visitors, and the counts that it shows.
 ghost use Rattle.std.specs.Prelude.{◌≤◌};
 
-use crate::door::Door;
+use crate::acceptor::Acceptor;
 use crate::status_texts::{Busy, State, text_of};
 use mio::net::{TcpListener, TcpStream};
 use mio::{Interest, Registry, Token};
@@ -55,7 +55,7 @@ impl Drop for StatusPage {
 
 impl StatusPage {
     /// The token of the listener; those of the visitors follow.
-    pub(crate) const TOKEN: usize = Door::TOKEN + 1;
+    pub(crate) const TOKEN: usize = Acceptor::TOKEN + 1;
 
     /// How many tokens the page uses.
     pub(crate) const TOKENS: usize = 1 + MOST_VISITORS;

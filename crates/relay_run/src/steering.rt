@@ -1,5 +1,6 @@
 //! What a postmaster asks of a running relay, and how far it has come with it.
 ghost use Rattle.std.specs.Prelude.{◌≡◌, ◌≤◌, ◌↔◌, IfErr, IsTrue, List, OnErr, OnOk};
+ghost use Rattle.relay_run.specs.Reloading.{ReloadsBy};
 ghost use Rattle.relay_run.specs.Steering.{DrainsBy, FailsToObey, IsDraining, Obeys, TurnsAway};
 ghost use Rattle.relay_run.specs.Withdrawing.{FailsAmong, HaveOutcomes};
 ghost use Rattle.relay_run.specs.declared.withdrawing.Outcome.{Outcome};
@@ -8,7 +9,10 @@ use crate::answers::{Answer, done, done_with_count, refused, withdrawn};
 use crate::control::ControlSocket;
 use crate::draining::Drain;
 use crate::held_mail::HeldMail;
+use crate::holding::held_line;
+use crate::reload::Reload;
 use crate::shell::Shell;
+use crate::source::Source;
 use crate::withdrawing::withdraw_each;
 use mio::Registry;
 use relay_book::Withdrawal;
@@ -21,9 +25,6 @@ use std::alloc::{AllocError, Global};
 use std::fs::File;
 use std::rt::Files;
 
-/// Why the configuration isn't read again.
-const NO_RELOAD: &[u8] = b"reload: not supported; restart the relay after relayd drain";
-
 /// The control socket, and what was asked for by it.
 pub(crate) struct Steering {
     pub(crate) alloc: Global,
@@ -31,6 +32,10 @@ pub(crate) struct Steering {
     pub(crate) held_mail: HeldMail,
     /// The drain that was asked for, if one was.
     pub(crate) drain: Option<Drain>,
+    /// Where the configuration is read again.
+    pub(crate) source: Source,
+    /// The reload that waits, if one does.
+    pub(crate) reload: Option<Reload>,
 }
 
 // Written out, so that what drops it calls this, and doesn't look into its parts.
@@ -41,13 +46,20 @@ impl Drop for Steering {
             socket: _socket,
             held_mail: _held_mail,
             drain: _,
+            source: _source,
+            reload: _reload,
         } = self;
     }
 }
 
 impl Steering {
     /// Makes a steering by this socket. Nothing was asked for yet.
-    pub(crate) fn new(alloc: Global, socket: ControlSocket, held_mail: HeldMail) -> Self
+    pub(crate) fn new(
+        alloc: Global,
+        socket: ControlSocket,
+        held_mail: HeldMail,
+        source: Source,
+    ) -> Self
         ensures { ¬ IsDraining result }
     {
         Steering {
@@ -55,6 +67,8 @@ impl Steering {
             socket,
             held_mail,
             drain: None,
+            source,
+            reload: None,
         }
     }
 
@@ -70,9 +84,20 @@ impl Steering {
         ensures { result ≤ otherwise }
     {
         let next = self.socket.next_deadline(otherwise);
+        let next = self.next_effect(next);
         match self.drain {
             Some(drain) => next.min(drain.until),
             None => next,
+        }
+    }
+
+    /// Returns the tick at which the reload that waits takes effect at the latest, or `otherwise` if that is earlier.
+    fn next_effect(&self, otherwise: u64) -> u64
+        ensures { result ≤ otherwise }
+    {
+        match &self.reload {
+            Some(reload) => otherwise.min(reload.until),
+            None => otherwise,
         }
     }
 }
@@ -104,8 +129,8 @@ impl<S: Stream + Drop, D: Disk + Drop, F: Disk + Drop> Shell<S, D, F> {
         Ok(())
     }
 
-    /// Does what a caller asks for, and returns its answer; `None` for a drain, which is answered when the relay has
-    /// drained. Fails only if the device has failed.
+    /// Does what a caller asks for, and returns its answer; `None` for a drain and for a reload, which are answered
+    /// when they are done. Fails only if the device has failed.
     fn obey<O: Files<File = File>>(
         &mut self,
         files: &O,
@@ -120,7 +145,9 @@ impl<S: Stream + Drop, D: Disk + Drop, F: Disk + Drop> Shell<S, D, F> {
         ensures fault { IfErr result (λ fault. fault ≡ Fault.Device) }
         ensures drains { DrainsBy now.now.tick caller request self.old.steering.drain self.new.steering.drain
             self.old.clients self.new.clients }
-        ensures rest { (self.new.leaving ≡ self.old.leaving) × (self.new.door ≡ self.old.door)
+        ensures reloads { ReloadsBy self.old.relay.node.config now.now.tick caller request self.old.steering
+            self.new.steering self.old.clients self.new.clients }
+        ensures rest { (self.new.leaving ≡ self.old.leaving) × (self.new.acceptor ≡ self.old.acceptor)
             × (self.new.room ≡ self.old.room) }
     {
         match request {
@@ -138,7 +165,7 @@ impl<S: Stream + Drop, D: Disk + Drop, F: Disk + Drop> Shell<S, D, F> {
                 let answer = self.withdraw(names.as_slice(), Withdrawal::Discard, now, log)?;
                 Ok(Some(answer))
             }
-            Request::Reload => Ok(Some(refused(self.steering.alloc, NO_RELOAD))),
+            Request::Reload => Ok(self.begin_reload(files, caller, now)),
             Request::Drain { seconds } => {
                 self.begin_drain(caller, seconds, now);
                 Ok(None)
@@ -150,9 +177,10 @@ impl<S: Stream + Drop, D: Disk + Drop, F: Disk + Drop> Shell<S, D, F> {
     fn flush(&mut self, scope: &Scope, now: &Now) -> Result<Answer, Fault>
         ensures fault { IfErr result (λ fault. fault ≡ Fault.Device) }
         ensures relay { self.new.relay ≡ self.old.relay }
-        ensures drain { self.new.steering.drain ≡ self.old.steering.drain }
+        ensures drain { (self.new.steering.drain ≡ self.old.steering.drain)
+            × (self.new.steering.reload ≡ self.old.steering.reload) }
         ensures rest { (self.new.clients ≡ self.old.clients) × (self.new.leaving ≡ self.old.leaving)
-            × (self.new.door ≡ self.old.door) × (self.new.room ≡ self.old.room) }
+            × (self.new.acceptor ≡ self.old.acceptor) × (self.new.room ≡ self.old.room) }
     {
         if let Some(answer) = self.refusal(scope) {
             return Ok(answer);
@@ -165,9 +193,10 @@ impl<S: Stream + Drop, D: Disk + Drop, F: Disk + Drop> Shell<S, D, F> {
     fn flush_all(&mut self, scope: Option<&Scope>, now: &Now) -> Result<Answer, Fault>
         ensures fault { IfErr result (λ fault. fault ≡ Fault.Device) }
         ensures relay { self.new.relay ≡ self.old.relay }
-        ensures drain { self.new.steering.drain ≡ self.old.steering.drain }
+        ensures drain { (self.new.steering.drain ≡ self.old.steering.drain)
+            × (self.new.steering.reload ≡ self.old.steering.reload) }
         ensures rest { (self.new.clients ≡ self.old.clients) × (self.new.leaving ≡ self.old.leaving)
-            × (self.new.door ≡ self.old.door) × (self.new.room ≡ self.old.room) }
+            × (self.new.acceptor ≡ self.old.acceptor) × (self.new.room ≡ self.old.room) }
     {
         let alloc = self.steering.alloc;
         match self.next_hops.flush(&self.relay, scope, now) {
@@ -181,9 +210,10 @@ impl<S: Stream + Drop, D: Disk + Drop, F: Disk + Drop> Shell<S, D, F> {
     /// held stays so.
     fn hold<O: Files<File = File>>(&mut self, files: &O, scope: Scope) -> Answer
         ensures relay { self.new.relay ≡ self.old.relay }
-        ensures drain { self.new.steering.drain ≡ self.old.steering.drain }
+        ensures drain { (self.new.steering.drain ≡ self.old.steering.drain)
+            × (self.new.steering.reload ≡ self.old.steering.reload) }
         ensures rest { (self.new.clients ≡ self.old.clients) × (self.new.leaving ≡ self.old.leaving)
-            × (self.new.door ≡ self.old.door) × (self.new.room ≡ self.old.room) }
+            × (self.new.acceptor ≡ self.old.acceptor) × (self.new.room ≡ self.old.room) }
     {
         if let Some(answer) = self.refusal(&scope) {
             return answer;
@@ -195,7 +225,8 @@ impl<S: Stream + Drop, D: Disk + Drop, F: Disk + Drop> Shell<S, D, F> {
         };
         let is_new = self.next_hops.hold(scope)?;
         if self.steering.held_mail.write(files, self.next_hops.held()) {
-            return done(alloc, held_line(is_new));
+            let line = held_line(alloc, &self.relay, &undo, is_new)?;
+            return done(alloc, line.as_slice());
         }
         if is_new {
             self.next_hops.release(&undo);
@@ -207,9 +238,10 @@ impl<S: Stream + Drop, D: Disk + Drop, F: Disk + Drop> Shell<S, D, F> {
     /// held again when the relay is started again, and the answer says so.
     fn release<O: Files<File = File>>(&mut self, files: &O, scope: &Scope) -> Answer
         ensures relay { self.new.relay ≡ self.old.relay }
-        ensures drain { self.new.steering.drain ≡ self.old.steering.drain }
+        ensures drain { (self.new.steering.drain ≡ self.old.steering.drain)
+            × (self.new.steering.reload ≡ self.old.steering.reload) }
         ensures rest { (self.new.clients ≡ self.old.clients) × (self.new.leaving ≡ self.old.leaving)
-            × (self.new.door ≡ self.old.door) × (self.new.room ≡ self.old.room) }
+            × (self.new.acceptor ≡ self.old.acceptor) × (self.new.room ≡ self.old.room) }
     {
         let alloc = self.steering.alloc;
         // Mail that has left the queue since can be released too.
@@ -238,9 +270,10 @@ impl<S: Stream + Drop, D: Disk + Drop, F: Disk + Drop> Shell<S, D, F> {
         ensures failed { OnErr result (FailsAmong D.honest D.words now.now.moment withdrawal names.now self.old.relay
             self.new.relay) }
         ensures fault { IfErr result (λ fault. fault ≡ Fault.Device) }
-        ensures drain { self.new.steering.drain ≡ self.old.steering.drain }
+        ensures drain { (self.new.steering.drain ≡ self.old.steering.drain)
+            × (self.new.steering.reload ≡ self.old.steering.reload) }
         ensures rest { (self.new.clients ≡ self.old.clients) × (self.new.leaving ≡ self.old.leaving)
-            × (self.new.door ≡ self.old.door) × (self.new.room ≡ self.old.room) }
+            × (self.new.acceptor ≡ self.old.acceptor) × (self.new.room ≡ self.old.room) }
     {
         let alloc = self.steering.alloc;
         let Ok(outcomes) = Vec::with_capacity(alloc, names.len()) else {
@@ -267,15 +300,6 @@ impl<S: Stream + Drop, D: Disk + Drop, F: Disk + Drop> Shell<S, D, F> {
                 None => Some(not_queued(alloc, *number)),
             },
         }
-    }
-}
-
-/// Returns the line of the answer to a request that has held mail.
-fn held_line(is_new: bool) -> &'static [u8] {
-    if is_new {
-        b"held; a held message still expires"
-    } else {
-        b"held before"
     }
 }
 

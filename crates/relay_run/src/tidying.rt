@@ -1,11 +1,12 @@
 //! Compacts the spool when much of it is free: when the relay is idle, or at once if the spool is more than half full,
 //! or was full.
-ghost use Rattle.std.specs.Prelude.{◌≡◌, ◌≤◌, ◌⊎◌, IfErr, List, MatchResult, None, Ok, OnOk, false, true};
+ghost use Rattle.std.specs.Prelude.{◌≡◌, ◌≤◌, ◌⊎◌, IfErr, List, MatchResult, None, Ok, OnOk, Some, false, true};
 ghost use Rattle.relay_book.specs.declared.change.Change.{Change};
 ghost use Rattle.relay_records.specs.Records.{Compacts, Halted, Keeps};
 ghost use Rattle.relay_run.specs.Tidying.{FailsToCompact, IsCompacted, KeepsRest, MayBeTrimmed, compacted_size_of};
 
-use relay_connections::Now;
+use crate::shell::Shell;
+use relay_connections::{Now, Stream};
 use relay_disk::Disk;
 use relay_files::Fault;
 use relay_limits::is_worth_compacting;
@@ -28,7 +29,7 @@ const MOST_TRIMMED: usize = 4 * 1024 * 1024;
 const TELLING_SECONDS: u64 = 60;
 
 /// What has happened to the spool since it was last considered for compaction.
-#[derive(Clone, Copy, Debug)]
+#[derive(Clone, Copy)]
 pub(crate) struct Tidying {
     /// Whether something was removed from the queue.
     has_shrunk: bool,
@@ -64,7 +65,7 @@ impl Tidying {
         self.was_full = true;
         if self.next_telling <= now.tick {
             log.spool_full();
-            self.next_telling = now.behind(TELLING_SECONDS);
+            self.next_telling = now.after(TELLING_SECONDS);
         }
     }
 
@@ -161,6 +162,58 @@ impl Tidying {
     }
 }
 
+impl<S: Stream + Drop, D: Disk + Drop, F: Disk + Drop> Shell<S, D, F> {
+    /// Compacts the spool after a turn, if that is due and worth it, and there is room for it. A fault means that a
+    /// compaction has failed; its size is known then.
+    pub(crate) fn tidy(&mut self, now: &Now, log: &mut Log<'_, Vec<u8>>) -> Result<(), Fault>
+        ensures tidies { OnOk result ((self.new.relay ≡ self.old.relay)
+            ⊎ IsCompacted D.honest D.words self.old.tidying.was_full self.old.relay self.new.relay) }
+        ensures failed { IfErr result (λ fault. (fault ≡ Fault.Device)
+            × FailsToCompact self.old.tidying.was_full self.old.relay self.new.relay
+            × (self.new.known.compacted ≡ Some (compacted_size_of self.old.relay))) }
+        ensures known { (self.new.known.next_number ≡ self.old.known.next_number)
+            × (self.new.known.size ≡ self.old.known.size) }
+        ensures rest { (self.new.clients ≡ self.old.clients) × (self.new.next_hops ≡ self.old.next_hops)
+            × (self.new.leaving ≡ self.old.leaving) × (self.new.acceptor ≡ self.old.acceptor)
+            × (self.new.steering ≡ self.old.steering) }
+    {
+        if !self.tidying.may_be_due(now) {
+            return Ok(());
+        }
+        let is_quiet = !self.is_ready(now);
+        if !self.tidying.is_due(&self.relay, is_quiet, now) {
+            return Ok(());
+        }
+        // To compute this takes a walk over the whole queue.
+        let node = self.relay.node();
+        let left = node.compacted_size();
+        if !self.room.has_room_for(left, node.size()) {
+            self.tidying.pause(now);
+            return Ok(());
+        }
+        self.known = self.known.compacting(left);
+        if self
+            .tidying
+            .tidy(&mut self.relay, left, is_quiet, now, log)?
+        {
+            self.room.note_compacted();
+        }
+        Ok(())
+    }
+
+    /// Drops some octets of the spool's other file after a turn, if it may have any.
+    pub(crate) fn trim(&mut self) -> Result<(), Fault>
+        ensures trimmed { OnOk result ((self.new.relay ≡ self.old.relay)
+            ⊎ MayBeTrimmed D.honest D.words self.old.relay self.new.relay) }
+        ensures failed { IfErr result (λ fault. (fault ≡ Fault.Device) × KeepsRest self.old.relay self.new.relay) }
+        ensures rest { (self.new.clients ≡ self.old.clients) × (self.new.next_hops ≡ self.old.next_hops)
+            × (self.new.leaving ≡ self.old.leaving) × (self.new.acceptor ≡ self.old.acceptor)
+            × (self.new.known ≡ self.old.known) × (self.new.steering ≡ self.old.steering) }
+    {
+        self.tidying.trim(&mut self.relay)
+    }
+}
+
 /// Compacts the spool of a relay, logs that, and returns whether it did.
 fn compact<D: Disk>(relay: &mut Relay<D>, log: &mut Log<'_, Vec<u8>>) -> Result<bool, Fault>
     ensures unchanged { result ≡ Ok false → relay.new ≡ relay.old }
@@ -172,8 +225,8 @@ fn compact<D: Disk>(relay: &mut Relay<D>, log: &mut Log<'_, Vec<u8>>) -> Result<
         (λ _. Halted D.honest D.words relay.new.node.records changes None) }
 {
     match relay.compact() {
-        Ok((before, behind)) => {
-            log.compacted(before, behind);
+        Ok((before, after)) => {
+            log.compacted(before, after);
             Ok(true)
         }
         Err(NodeFault::Stopped) => Err(Fault::Device),

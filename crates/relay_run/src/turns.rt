@@ -3,6 +3,7 @@ ghost use Rattle.std.specs.Prelude.{◌≡◌, ◌≤◌, ◌-◌, ℕ, IfOk};
 ghost use Rattle.relay_connections.specs.Readiness.{IsLeftClient, clients_of};
 ghost use Rattle.relay_next_hops.specs.Lanes.{next_due_of};
 ghost use Rattle.relay_next_hops.specs.Readiness.{IsLeftHop, hops_of};
+ghost use Rattle.relay_run.specs.Reloading.{MayReload};
 ghost use Rattle.relay_run.specs.Room.{next_look};
 ghost use Rattle.relay_run.specs.Steering.{HasDrained, MayBegin};
 ghost use Rattle.relay_run.specs.declared.waiting.TheConstants.{LONGEST_WAIT};
@@ -57,7 +58,6 @@ pub(crate) fn serve<R: Files<File = File> + Clock + Net, E: Write>(
     alloc: Global,
     system: System<'_, R>,
     shell: SystemShell,
-    form: Option<Form>,
     errors: &mut E,
 ) -> Result<SystemShell, Fault>
     ensures { IfOk result (λ shell. (tick : ℕ) × HasDrained shell.steering shell.next_hops tick) }
@@ -67,6 +67,7 @@ pub(crate) fn serve<R: Files<File = File> + Clock + Net, E: Write>(
     let mut lines = Vec::new(alloc);
     let mut counters = Counters::new();
     for _ in 0..u64::MAX {
+        let form = shell.form;
         wait(&mut system, &mut shell);
         let end = take_turn(
             alloc,
@@ -134,7 +135,10 @@ fn after_turn<R: Clock, E: Write>(
     form: Option<Form>,
     counters: &mut Counters,
     errors: &mut E,
-) -> Result<SystemShell, Fault> {
+) -> Result<SystemShell, Fault>
+    ensures { IfOk result (λ after. MayReload shell.relay.node.config shell.steering shell.clients shell.next_hops
+        after.relay.node.config) }
+{
     let after = kept_or_reopened(alloc, system, shell, end, form, counters, errors);
     if let Err(fault) = &after {
         let mut log = Log::stamped(alloc, errors, form, clock_moment(system.clock), counters);
@@ -143,7 +147,8 @@ fn after_turn<R: Clock, E: Write>(
     after
 }
 
-/// Returns the relay after a turn with this result. Opens its spool again if the device has failed, or has room again.
+/// Returns the relay after a turn with this result. Opens its spool again if the device has failed, or has room again,
+/// or if a reload takes effect.
 fn kept_or_reopened<R: Clock, E: Write>(
     alloc: Global,
     system: &mut System<'_, R>,
@@ -152,13 +157,11 @@ fn kept_or_reopened<R: Clock, E: Write>(
     form: Option<Form>,
     counters: &mut Counters,
     errors: &mut E,
-) -> Result<SystemShell, Fault> {
-    let why = match end {
-        Ok(()) if shell.is_renewed(&Now::of(system.clock)) => Why::Renewed,
-        Ok(()) => return Ok(shell),
-        Err(Fault::Device) => Why::Failed,
-        Err(fault) => return Err(fault),
-    };
+) -> Result<SystemShell, Fault>
+    ensures { IfOk result (λ after. MayReload shell.relay.node.config shell.steering shell.clients shell.next_hops
+        after.relay.node.config) }
+{
+    let now = Now::of(system.clock);
     let mut reporter = Reporter {
         alloc,
         clock: system.clock,
@@ -166,7 +169,17 @@ fn kept_or_reopened<R: Clock, E: Write>(
         counters,
         errors,
     };
-    shell.reopened(&mut reporter, &mut system.listener, why)
+    match end {
+        Ok(()) if shell.is_renewed(&now) => {
+            shell.reopened(&mut reporter, &mut system.listener, Why::Renewed)
+        }
+        Ok(()) if shell.may_reload(&now) => {
+            shell.reloaded(&mut reporter, &mut system.listener, &now)
+        }
+        Ok(()) => Ok(shell),
+        Err(Fault::Device) => shell.reopened(&mut reporter, &mut system.listener, Why::Failed),
+        Err(fault) => Err(fault),
+    }
 }
 
 /// Takes a turn, and writes its log lines. Then keeps the spool small, which may take a while, and so comes after those
@@ -182,16 +195,16 @@ fn take_turn<R: Files<File = File> + Clock + Net, E: Write>(
 ) -> Result<(), Fault> {
     let now = Now::of(system.clock);
     let end = serve_all(alloc, system, shell, &now, form, counters, lines);
-    hand_out(lines, errors);
+    write_lines(lines, errors);
     end?;
     shell.note_known();
     let end = tidy(alloc, shell, &now, form, counters, lines);
-    hand_out(lines, errors);
+    write_lines(lines, errors);
     end?;
     shell.note_known();
     show(system, shell, counters, &now);
     let end = steer(alloc, system, shell, &now, form, counters, lines);
-    hand_out(lines, errors);
+    write_lines(lines, errors);
     end?;
     shell.note_known();
     shell.trim()
@@ -257,7 +270,7 @@ fn tidy(
 }
 
 /// Writes the log lines of a turn by one write, if there are any.
-fn hand_out<E: Write>(lines: &mut Vec<u8>, errors: &mut E) {
+fn write_lines<E: Write>(lines: &mut Vec<u8>, errors: &mut E) {
     if lines.is_empty() {
         return;
     }

@@ -7,7 +7,7 @@ ghost use Rattle.relay_run.specs.Room.{next_look};
 ghost use Rattle.relay_run.specs.Steering.{MayBegin};
 ghost use Rattle.relay_run.specs.declared.waiting.TheConstants.{LONGEST_WAIT};
 
-use crate::door::Door;
+use crate::acceptor::Acceptor;
 use crate::shell::Shell;
 use relay_connections::{Arrivals, Leaving, Now, Readiness, Stream};
 use relay_disk::Disk;
@@ -25,11 +25,11 @@ impl<S: Stream + Drop, D: Disk + Drop, F: Disk + Drop> Shell<S, D, F> {
             self.next_hops.note(token - NextHops::FIRST_TOKEN, ready);
         } else if token < Arrivals::FIRST_TOKEN {
             self.leaving.note(token - Leaving::FIRST_TOKEN, ready);
-        } else if token < Door::TOKEN {
+        } else if token < Acceptor::TOKEN {
             let number = token - Arrivals::FIRST_TOKEN;
-            self.door.note_arrival(number, ready);
+            self.acceptor.note_arrival(number, ready);
         } else {
-            self.door.note();
+            self.acceptor.note();
         }
     }
 
@@ -46,12 +46,27 @@ impl<S: Stream + Drop, D: Disk + Drop, F: Disk + Drop> Shell<S, D, F> {
         if self.next_hops.is_ready(&self.relay, self.may_start()) {
             return true;
         }
-        self.door.is_ready(now) || self.leaving.is_ready() || self.steering.socket.is_ready(now)
+        if self.leaving.is_ready() || self.steering.socket.is_ready(now) {
+            return true;
+        }
+        self.acceptor.is_ready(now) && !self.steering.is_reloading()
+    }
+
+    /// Returns the tick at which the acceptor has something to do, or `otherwise` if that is earlier. It has nothing to
+    /// do while a reload waits.
+    fn next_arrival(&self, otherwise: u64) -> u64
+        ensures { result ≤ otherwise }
+    {
+        if self.steering.is_reloading() {
+            otherwise
+        } else {
+            self.acceptor.next_deadline(otherwise)
+        }
     }
 
     /// Returns how many milliseconds to wait for readiness, at most a minute: 0 while a connection has octets that
     /// weren't read to the end; and no longer than until the node's next work is due, if attempts may begin, and until
-    /// the room is looked at again or a drain is over.
+    /// the room is looked at again, or a drain or a reload has no time left.
     pub(crate) fn wait(&self, now: &Now) -> u64
         ensures client { (number : ℕ) → IsLeftClient (clients_of self.now.clients) self.now.relay number
             → result ≡ 0 }
@@ -66,7 +81,7 @@ impl<S: Stream + Drop, D: Disk + Drop, F: Disk + Drop> Shell<S, D, F> {
             return 0;
         }
         let mut next = now.tick.saturating_add(LONGEST_WAIT);
-        next = self.door.next_deadline(next);
+        next = self.next_arrival(next);
         next = self.clients.next_deadline(next);
         next = self.leaving.next_deadline(next);
         next = self.tidying.next_deadline(next);

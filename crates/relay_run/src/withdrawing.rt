@@ -1,6 +1,7 @@
 //! Mail that the postmaster withdraws: it is returned to its senders, or discarded.
-ghost use Rattle.std.specs.Prelude.{◌≡◌, ◌≤◌, [], IfErr, IfOk, MatchOption, OnErr, OnOk, length, vec_capacity};
-ghost use Rattle.relay_run.specs.Withdrawing.{FailsAmong, FailsToWithdraw, HasOutcome, HaveOutcomes};
+ghost use Rattle.std.specs.Prelude.{◌≡◌, ◌+◌, ◌≤◌, ◌++◌, [], IfErr, IfOk, OnErr, OnOk, length, map, vec_capacity};
+ghost use Rattle.relay_loop.specs.Withdrawing.{choice_of};
+ghost use Rattle.relay_run.specs.Withdrawing.{FailsAmong, HaveOutcomes, outcome_of, places_of};
 
 use relay_book::Withdrawal;
 use relay_connections::Now;
@@ -8,11 +9,12 @@ use relay_control::Named;
 use relay_disk::Disk;
 use relay_files::Fault;
 use relay_log::{Attempt, Log, Talk};
-use relay_loop::Relay;
+use relay_loop::{Chosen, Relay, Withdrawn};
 use relay_node::{NodeFault, Noted};
+use std::alloc::{AllocError, Global};
 
 /// The outcome of withdrawing places of a message.
-#[derive(Clone, Copy, Debug)]
+#[derive(Clone, Copy)]
 pub(crate) enum Outcome {
     /// They have ended.
     Withdrawn,
@@ -24,8 +26,18 @@ pub(crate) enum Outcome {
     Full,
 }
 
-/// Withdraws the named places of one message after the other, each in a change of its own, and logs that. Adds the
-/// outcome of each. Ends early if memory runs out. Fails only if the device has failed.
+/// What the log says of a message whose places are withdrawn.
+#[derive(Drop)]
+struct Entry {
+    message: u64,
+    /// How many seconds ago it was accepted, if it is queued.
+    age: Option<u64>,
+    talk: Talk,
+}
+
+/// Withdraws the named places of messages, one message after the other, and logs that; the changes of a group of
+/// messages share one pair of syncs. Adds the outcome of each message. Ends early if memory runs out. Fails only if the
+/// device has failed.
 pub(crate) fn withdraw_each<D: Disk>(
     relay: &mut Relay<D>,
     names: &[Named],
@@ -42,50 +54,70 @@ pub(crate) fn withdraw_each<D: Disk>(
         relay.new) }
     ensures fault { IfErr result (λ fault. fault ≡ Fault.Device) }
 {
-    for named in names {
-        match withdraw(relay, named, withdrawal, now, log)? {
-            Some(outcome) => outcomes.push_reserved(outcome),
-            None => return Ok(()),
+    let alloc = *outcomes.allocator();
+    let Ok(chosen) = chosen_of(alloc, names) else {
+        return Ok(());
+    };
+    let Ok(entries) = entries_of(alloc, relay, names, now, log) else {
+        return Ok(());
+    };
+    while outcomes.len() < names.len() {
+        let done = outcomes.len();
+        match relay.withdraw_all(&chosen.as_slice()[done..], withdrawal, now.moment) {
+            Ok(
+                Withdrawn {
+                    results,
+                    notes,
+                    is_short,
+                },
+            ) => {
+                push_outcomes(outcomes, results.as_slice());
+                tell_each(&entries.as_slice()[done..], results.as_slice(), notes, log);
+                if is_short {
+                    return Ok(());
+                }
+            }
+            Err(NodeFault::Stopped) => return Err(Fault::Device),
+            // Memory ran out: there is no other fault.
+            Err(_) => return Ok(()),
         }
     }
     Ok(())
 }
 
-/// Withdraws the named places of a message, and logs that. Returns `None` if memory runs out; nothing has changed then.
-/// Fails only if the device has failed.
-fn withdraw<D: Disk>(
-    relay: &mut Relay<D>,
-    named: &Named,
-    withdrawal: Withdrawal,
-    now: &Now,
-    log: &mut Log<'_, Vec<u8>>,
-) -> Result<Option<Outcome>, Fault>
-    ensures has { IfOk result (λ found. MatchOption found (relay.new ≡ relay.old)
-        (λ outcome. HasOutcome D.honest D.words now.now.moment withdrawal outcome named.now relay.old relay.new)) }
-    ensures failed { OnErr result (FailsToWithdraw D.honest D.words now.now.moment withdrawal named.now
-        relay.old relay.new) }
-    ensures fault { IfErr result (λ fault. fault ≡ Fault.Device) }
+/// Returns the named places for the relay. Fails if memory runs out.
+fn chosen_of(alloc: Global, names: &[Named]) -> Result<Vec<Chosen<'_>>, AllocError>
+    ensures { IfOk result (λ chosen. map choice_of chosen.items ≡ map places_of names.now) }
 {
-    let talk = log.talk_of(relay.node().message(named.message));
-    let age = age_of(relay, named.message, now);
-    match relay.withdraw(
-        named.message,
-        named.places.as_slice(),
-        withdrawal,
-        now.moment,
-    ) {
-        Ok(_) => {
-            let noted = relay.take_noted();
-            tell(named.message, age, &talk, noted, log);
-            Ok(Some(Outcome::Withdrawn))
-        }
-        Err(NodeFault::Unknown) => Ok(Some(Outcome::Unknown)),
-        Err(NodeFault::Busy) => Ok(Some(Outcome::Busy)),
-        Err(NodeFault::Full) => Ok(Some(Outcome::Full)),
-        Err(NodeFault::Stopped) => Err(Fault::Device),
-        // Memory ran out: there is no other fault.
-        Err(_) => Ok(None),
+    let mut chosen = Vec::with_capacity(alloc, names.len())?;
+    for named in names {
+        chosen.push(Chosen {
+            message: named.message,
+            places: named.places.as_slice(),
+        })?;
     }
+    Ok(chosen)
+}
+
+/// Returns what the log says of each of these messages, while they are queued. Fails if memory runs out.
+fn entries_of<D: Disk>(
+    alloc: Global,
+    relay: &Relay<D>,
+    names: &[Named],
+    now: &Now,
+    log: &Log<'_, Vec<u8>>,
+) -> Result<Vec<Entry>, AllocError>
+    ensures { IfOk result (λ entries. length entries.items ≡ length names.now) }
+{
+    let mut entries = Vec::with_capacity(alloc, names.len())?;
+    for named in names {
+        entries.push(Entry {
+            message: named.message,
+            age: age_of(relay, named.message, now),
+            talk: log.talk_of(relay.node().message(named.message)),
+        })?;
+    }
+    Ok(entries)
 }
 
 /// Returns how many seconds ago a message was accepted, if it is queued.
@@ -99,21 +131,54 @@ fn age_of<D: Disk>(relay: &Relay<D>, message: u64, now: &Now) -> Option<u64> {
     }
 }
 
-/// Logs that places of a message of this age were withdrawn.
-fn tell(
-    message: u64,
-    age: Option<u64>,
-    talk: &Talk,
-    noted: Option<Noted>,
+/// Adds the outcome of each result. There is room for them.
+fn push_outcomes(outcomes: &mut Vec<Outcome>, results: &[Result<u64, NodeFault>])
+    requires { length outcomes.old.items + length results.now ≤ vec_capacity outcomes.old }
+    ensures items { outcomes.new.items ≡ outcomes.old.items ++ map outcome_of results.now }
+    ensures capacity { vec_capacity outcomes.new ≡ vec_capacity outcomes.old }
+{
+    for each in results {
+        outcomes.push_reserved(outcome_of(each));
+    }
+}
+
+/// Returns the outcome of a message with this result.
+fn outcome_of(answer: &Result<u64, NodeFault>) -> Outcome
+    ensures { result ≡ outcome_of answer.now }
+{
+    match answer {
+        Ok(_) => Outcome::Withdrawn,
+        Err(NodeFault::Busy) => Outcome::Busy,
+        Err(NodeFault::Full) => Outcome::Full,
+        // There is no other fault.
+        Err(_) => Outcome::Unknown,
+    }
+}
+
+/// Logs each withdrawal that was recorded, with the note of its change.
+fn tell_each(
+    entries: &[Entry],
+    results: &[Result<u64, NodeFault>],
+    notes: Vec<Noted>,
     log: &mut Log<'_, Vec<u8>>,
 ) {
+    let mut notes = notes.into_iter();
+    for (entry, answer) in entries.iter().zip(results) {
+        if answer.is_ok() {
+            tell(entry, notes.next(), log);
+        }
+    }
+}
+
+/// Logs that places of a message were withdrawn.
+fn tell(entry: &Entry, noted: Option<Noted>, log: &mut Log<'_, Vec<u8>>) {
     let attempt = Attempt {
-        number: message,
+        number: entry.message,
         hop: None,
         at: None,
-        age,
+        age: entry.age,
         loss: None,
         noted,
     };
-    log.attempt(&attempt, talk);
+    log.attempt(&attempt, &entry.talk);
 }

@@ -12,7 +12,7 @@ use Rattle.relay_script.specs.declared.event.ScriptLine.TheVariants.{Skipped, No
 use Rattle.relay_script.proofs.TextLemmas.{text_tells_octets}
 use Rattle.relay_script.proofs.WordLemmas.{one_cut}
 use Rattle.relay_script.proofs.OperandLemmas.{is_word_kind, cut_of, first_and_more, word_of_one}
-use Rattle.relay_script.proofs.LineLemmas.{behind_keyword}
+use Rattle.relay_script.proofs.LineLemmas.{after_keyword}
 
 -- a line's keyword
 abbrev keyword_of : ScriptLine → List ℕ
@@ -96,15 +96,15 @@ octets_in (Count count ∷ operands) = []
 octets_in (Time seconds ∷ operands) = []
 octets_in (Text octets ∷ operands) = octets
 
-abbrev behind_first : List Operand → List Operand
-behind_first [] = []
-behind_first (operand ∷ operands) = operands
+abbrev after_first : List Operand → List Operand
+after_first [] = []
+after_first (operand ∷ operands) = operands
 
 -- the line of a keyword's first octets and operands
 line_of : ℕ → List Operand → ScriptLine
 line_of front operands =
-    let next = behind_first operands in
-    let last = behind_first next in
+    let next = after_first operands in
+    let last = after_first next in
     if front == front_of (codes "nodes") then Nodes (number_in operands)
     else if front == front_of (codes "connect") then Happens (Connect (number_in operands))
     else if front == front_of (codes "send") then Happens (Send (number_in operands) (octets_in next))
@@ -293,12 +293,12 @@ same_words text keyword [] [] kinds words one two = refl
 same_words text keyword [] (other ∷ others) kinds words one two = cc
 same_words text keyword (operand ∷ operands) [] kinds words one two = cc
 same_words text keyword (operand ∷ operands) (other ∷ others) kinds words one two =
-    let behind = behind_keyword keyword text operand operands one in
-    let also = behind_keyword keyword text other others two in
-    let rests = append_cancel_left keyword (32 ∷ behind.rest) (32 ∷ also.rest) (sym behind.text_is ∙ also.text_is) in
-    let rest : behind.rest ≡ also.rest = cc in
+    let after = after_keyword keyword text operand operands one in
+    let also = after_keyword keyword text other others two in
+    let rests = append_cancel_left keyword (32 ∷ after.rest) (32 ∷ also.rest) (sym after.text_is ∙ also.text_is) in
+    let rest : after.rest ≡ also.rest = cc in
     let IsRest : List ℕ → Type 0 = λ r. SpellsOperands r (other ∷ others) in
-    same_operands behind.rest (operand ∷ operands) (other ∷ others) kinds words behind.spells
+    same_operands after.rest (operand ∷ operands) (other ∷ others) kinds words after.spells
     (subst IsRest (sym rest) also.spells)
 
 -- a line of words begins with its keyword

@@ -6,7 +6,7 @@ use Rattle.std.proofs.lemmas.Slice.Eq.{slice_eq-Decides}
 use Rattle.std.proofs.lemmas.List.{append_cancel_left, take-append-drop, take_at}
 use Rattle.std.specs.Cmp.Lexicographic.{pointwise}
 use Rattle.std.specs.List.{list_all}
-use Rattle.relay_script.specs.Reading.{StandsBehind, IsNotBehind, CutsWord, HasNoSpace, is_no_space}
+use Rattle.relay_script.specs.Reading.{StandsAfter, IsNotAfter, CutsWord, HasNoSpace, is_no_space}
 
 -- a text that begins with another is it and the rest
 front_is : (text front : List ℕ) → pointwise nat_eq (take (length front) text) front ≡ true
@@ -23,28 +23,28 @@ front_is_other text front rest test is =
     false≢true (sym test ∙ (slice_eq-Decides {E = nat_eq} Decides-eqb (take (length front) text) front _ refl).1 same)
 
 -- a keyword, then a space
-pub keyword_behind : (keyword text more rest : List ℕ) → pointwise nat_eq (take (length keyword) text) keyword ≡ true
+pub keyword_after : (keyword text more rest : List ℕ) → pointwise nat_eq (take (length keyword) text) keyword ≡ true
     → more ≡ drop (length keyword) text → pointwise nat_eq (take 1 more) (32 ∷ []) ≡ true → rest ≡ drop 1 more
-    → StandsBehind keyword text rest
-keyword_behind keyword text more rest front more_is space rest_is = record {
+    → StandsAfter keyword text rest
+keyword_after keyword text more rest front more_is space rest_is = record {
   text_is =
       front_is text keyword front
       ∙ ap (λ l. keyword ++ l) (sym more_is ∙ front_is more (32 ∷ []) space ∙ ap (λ l. 32 ∷ l) (sym rest_is));
 }
 
 pub no_keyword : (keyword text : List ℕ) → pointwise nat_eq (take (length keyword) text) keyword ≡ false
-    → IsNotBehind keyword text
+    → IsNotAfter keyword text
 no_keyword keyword text test = record { absent = λ rest is. front_is_other text keyword (32 ∷ rest) test is }
 
-pub no_space_behind : (keyword text more : List ℕ) → pointwise nat_eq (take (length keyword) text) keyword ≡ true
-    → more ≡ drop (length keyword) text → pointwise nat_eq (take 1 more) (32 ∷ []) ≡ false → IsNotBehind keyword text
-no_space_behind keyword text more front more_is space = record {
+pub no_space_after : (keyword text more : List ℕ) → pointwise nat_eq (take (length keyword) text) keyword ≡ true
+    → more ≡ drop (length keyword) text → pointwise nat_eq (take 1 more) (32 ∷ []) ≡ false → IsNotAfter keyword text
+no_space_after keyword text more front more_is space = record {
   absent = λ rest is. front_is_other more (32 ∷ []) rest space
       (append_cancel_left keyword more (32 ∷ rest) (ap (λ l. keyword ++ l) more_is ∙ sym (front_is text keyword front) ∙ is));
 }
 
 -- a keyword that is there, or isn't
-pub ruleset keyword = (keyword_behind, no_keyword, no_space_behind)
+pub ruleset keyword = (keyword_after, no_keyword, no_space_after)
 
 -- the word before the first space is one
 pub one_cut : (text word other rest more : List ℕ) → CutsWord text word rest → CutsWord text other more

@@ -43,11 +43,11 @@ pub record LacksWords (keyword : List ℕ) (kinds : List Kind) (text : List ℕ)
   pub absent : (operands : List Operand) → map kind_of operands ≡ kinds → ¬ SpellsWords text keyword operands
 
 -- the text is the keyword, a space and the rest
-pub record StandsBehind (keyword text rest : List ℕ) : Type 0 where
+pub record StandsAfter (keyword text rest : List ℕ) : Type 0 where
   pub text_is : text ≡ keyword ++ 32 ∷ rest
 
 -- the text doesn't begin with the keyword and a space
-pub record IsNotBehind (keyword text : List ℕ) : Type 0 where
+pub record IsNotAfter (keyword text : List ℕ) : Type 0 where
   pub absent : (rest : List ℕ) → text ≢ keyword ++ 32 ∷ rest
 
 -- not a space

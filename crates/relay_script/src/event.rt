@@ -4,7 +4,7 @@ use relay_octets::Octets;
 use relay_trace::Moment;
 
 /// What happens in a play. Links are named by their number.
-#[derive(Debug, Drop)]
+#[derive(Drop)]
 pub enum Event {
     /// The outside opens a link to a node.
     Connect {
@@ -59,7 +59,7 @@ pub enum Event {
 }
 
 /// A line of a script.
-#[derive(Debug, Drop)]
+#[derive(Drop)]
 pub enum ScriptLine {
     /// The line says nothing: it is empty, or a remark that `#` begins.
     Skipped,

@@ -8,11 +8,11 @@ ghost use Rattle.relay_script.specs.Reading.Kind.{NumberKind, TextKind};
 
 use crate::event::{Event, ScriptLine};
 use crate::operands::{
-    count_behind, moment_behind, node_and_numbers_behind, node_behind, node_within_numbers_behind,
-    number_behind,
+    count_after, moment_after, node_after, node_and_numbers_after, node_within_numbers_after,
+    number_after,
 };
 use crate::text::read_text;
-use crate::word::{behind, cut_word, read_number};
+use crate::word::{after, cut_word, read_number};
 use relay_octets::Octets;
 use std::alloc::{AllocError, Global};
 
@@ -24,7 +24,7 @@ pub fn script_line(alloc: Global, line: &[u8]) -> Result<Option<ScriptLine>, All
     if is_skipped(line) {
         return Ok(Some(ScriptLine::Skipped));
     }
-    if let Some(count) = count_behind(b"nodes", line) {
+    if let Some(count) = count_after(b"nodes", line) {
         return Ok(Some(ScriptLine::Nodes { count }));
     }
     if let Some(question) = read_question(line) {
@@ -59,14 +59,14 @@ fn read_question(line: &[u8]) -> Option<ScriptLine>
     if is_keyword(line, b"marks") {
         return Some(ScriptLine::Marks);
     }
-    if let Some((node, number, place)) = node_and_numbers_behind(b"copies", line) {
+    if let Some((node, number, place)) = node_and_numbers_after(b"copies", line) {
         return Some(ScriptLine::Copies {
             node,
             number,
             place,
         });
     }
-    let (node, number, place) = node_and_numbers_behind(b"lost", line)?;
+    let (node, number, place) = node_and_numbers_after(b"lost", line)?;
     Some(ScriptLine::Lost {
         node,
         number,
@@ -85,25 +85,25 @@ fn is_keyword(line: &[u8], keyword: &[u8]) -> bool
 fn read_event(line: &[u8]) -> Option<Event>
     ensures { MatchOption result (SpellsNoEvent line.now) (λ event. SpellsEvent line.now event) }
 {
-    if let Some(node) = node_behind(b"connect", line) {
+    if let Some(node) = node_after(b"connect", line) {
         return Some(Event::Connect { node });
     }
-    if let Some((link, node, count)) = node_within_numbers_behind(b"carry", line) {
+    if let Some((link, node, count)) = node_within_numbers_after(b"carry", line) {
         return Some(Event::Carry { link, node, count });
     }
-    if let Some(link) = number_behind(b"break", line) {
+    if let Some(link) = number_after(b"break", line) {
         return Some(Event::Break { link });
     }
-    if let Some(moment) = moment_behind(b"tick", line) {
+    if let Some(moment) = moment_after(b"tick", line) {
         return Some(Event::Tick { moment });
     }
-    if let Some(node) = node_behind(b"give", line) {
+    if let Some(node) = node_after(b"give", line) {
         return Some(Event::Give { node });
     }
-    if let Some(node) = node_behind(b"compact", line) {
+    if let Some(node) = node_after(b"compact", line) {
         return Some(Event::Compact { node });
     }
-    if let Some((node, calls, pick)) = node_and_numbers_behind(b"stop", line) {
+    if let Some((node, calls, pick)) = node_and_numbers_after(b"stop", line) {
         return Some(Event::Stop { node, calls, pick });
     }
     read_withdrawal(line)
@@ -113,14 +113,14 @@ fn read_event(line: &[u8]) -> Option<Event>
 fn read_withdrawal(line: &[u8]) -> Option<Event>
     ensures { MatchOption result (SpellsNoWithdrawal line.now) (λ event. SpellsEvent line.now event) }
 {
-    if let Some((node, number, place)) = node_and_numbers_behind(b"return", line) {
+    if let Some((node, number, place)) = node_and_numbers_after(b"return", line) {
         return Some(Event::Return {
             node,
             number,
             place,
         });
     }
-    let (node, number, place) = node_and_numbers_behind(b"discard", line)?;
+    let (node, number, place) = node_and_numbers_after(b"discard", line)?;
     Some(Event::Discard {
         node,
         number,
@@ -129,12 +129,12 @@ fn read_withdrawal(line: &[u8]) -> Option<Event>
 }
 
 /// Returns the link of a `send`, and the octets that are written on it.
-#[tactic(auto, using(crate::proofs::LineLemmas::several_behind))]
+#[tactic(auto, using(crate::proofs::LineLemmas::several_after))]
 fn read_send(alloc: Global, line: &[u8]) -> Result<Option<(u64, Octets)>, AllocError>
     ensures { IfOk result (λ read. MatchOption read (LacksWords (codes "send") (NumberKind ∷ TextKind ∷ []) line.now)
         (λ send. SpellsWords line.now (codes "send") (Number send.0 ∷ Text send.1 ∷ []))) }
 {
-    match behind(b"send", line) {
+    match after(b"send", line) {
         Some(operands) => number_and_text(alloc, operands),
         None => Ok(None),
     }

@@ -1,7 +1,7 @@
 use std::marker::Model;
 
 /// How many nodes play: 2 to 16.
-#[derive(Clone, Copy, Debug, PartialEq, Eq)]
+#[derive(Clone, Copy, PartialEq, Eq)]
 pub struct NodeCount {
     count: usize,
 }

@@ -4,7 +4,7 @@ use std::marker::Model;
 pub const MOST_NODES: usize = 16;
 
 /// A node of a play, by its number: 0 for the node `a`, 1 for the node `b`, and so on to 15 for `p`.
-#[derive(Clone, Copy, Debug, PartialEq, Eq)]
+#[derive(Clone, Copy, PartialEq, Eq)]
 pub struct NodeIndex {
     index: usize,
 }

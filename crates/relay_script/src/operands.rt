@@ -7,69 +7,69 @@ ghost use Rattle.relay_script.specs.Reading.Kind.{CountKind, NodeKind, NumberKin
 
 use crate::node_count::NodeCount;
 use crate::node_index::NodeIndex;
-use crate::word::{behind, cut_word, read_count, read_moment, read_node, read_number};
+use crate::word::{after, cut_word, read_count, read_moment, read_node, read_number};
 use relay_trace::Moment;
 
 /// Returns a node after the keyword.
-#[tactic(auto, using(crate::proofs::LineLemmas::no_words_behind))]
-pub(crate) fn node_behind(keyword: &[u8], line: &[u8]) -> Option<NodeIndex>
+#[tactic(auto, using(crate::proofs::LineLemmas::no_words_after))]
+pub(crate) fn node_after(keyword: &[u8], line: &[u8]) -> Option<NodeIndex>
     ensures { MatchOption result (LacksWords keyword.now (NodeKind ∷ []) line.now)
         (λ node. SpellsWords line.now keyword.now (Node node ∷ [])) }
 {
-    let word = behind(keyword, line)?;
+    let word = after(keyword, line)?;
     read_node(word)
 }
 
 /// Returns a number after the keyword.
-#[tactic(auto, using(crate::proofs::LineLemmas::no_words_behind))]
-pub(crate) fn number_behind(keyword: &[u8], line: &[u8]) -> Option<u64>
+#[tactic(auto, using(crate::proofs::LineLemmas::no_words_after))]
+pub(crate) fn number_after(keyword: &[u8], line: &[u8]) -> Option<u64>
     ensures { MatchOption result (LacksWords keyword.now (NumberKind ∷ []) line.now)
         (λ number. SpellsWords line.now keyword.now (Number number ∷ [])) }
 {
-    let word = behind(keyword, line)?;
+    let word = after(keyword, line)?;
     read_number(word)
 }
 
 /// Returns a count of nodes after the keyword.
-#[tactic(auto, using(crate::proofs::LineLemmas::no_words_behind))]
-pub(crate) fn count_behind(keyword: &[u8], line: &[u8]) -> Option<NodeCount>
+#[tactic(auto, using(crate::proofs::LineLemmas::no_words_after))]
+pub(crate) fn count_after(keyword: &[u8], line: &[u8]) -> Option<NodeCount>
     ensures { MatchOption result (LacksWords keyword.now (CountKind ∷ []) line.now)
         (λ count. SpellsWords line.now keyword.now (Count count ∷ [])) }
 {
-    let word = behind(keyword, line)?;
+    let word = after(keyword, line)?;
     read_count(word)
 }
 
 /// Returns a time after the keyword.
-#[tactic(auto, using(crate::proofs::LineLemmas::no_words_behind))]
-pub(crate) fn moment_behind(keyword: &[u8], line: &[u8]) -> Option<Moment>
+#[tactic(auto, using(crate::proofs::LineLemmas::no_words_after))]
+pub(crate) fn moment_after(keyword: &[u8], line: &[u8]) -> Option<Moment>
     ensures { MatchOption result (LacksWords keyword.now (TimeKind ∷ []) line.now)
         (λ moment. SpellsWords line.now keyword.now (Time moment ∷ [])) }
 {
-    let word = behind(keyword, line)?;
+    let word = after(keyword, line)?;
     read_moment(word)
 }
 
 /// Returns a node and two numbers after the keyword.
-#[tactic(auto, using(crate::proofs::LineLemmas::several_behind))]
-pub(crate) fn node_and_numbers_behind(keyword: &[u8], line: &[u8]) -> Option<(NodeIndex, u64, u64)>
+#[tactic(auto, using(crate::proofs::LineLemmas::several_after))]
+pub(crate) fn node_and_numbers_after(keyword: &[u8], line: &[u8]) -> Option<(NodeIndex, u64, u64)>
     ensures { MatchOption result (LacksWords keyword.now (NodeKind ∷ NumberKind ∷ NumberKind ∷ []) line.now)
         (λ read. SpellsWords line.now keyword.now (Node read.0 ∷ Number read.1 ∷ Number read.2 ∷ [])) }
 {
-    let text = behind(keyword, line)?;
+    let text = after(keyword, line)?;
     node_and_numbers(text)
 }
 
 /// Returns a number, a node and a number after the keyword.
-#[tactic(auto, using(crate::proofs::LineLemmas::several_behind))]
-pub(crate) fn node_within_numbers_behind(
+#[tactic(auto, using(crate::proofs::LineLemmas::several_after))]
+pub(crate) fn node_within_numbers_after(
     keyword: &[u8],
     line: &[u8],
 ) -> Option<(u64, NodeIndex, u64)>
     ensures { MatchOption result (LacksWords keyword.now (NumberKind ∷ NodeKind ∷ NumberKind ∷ []) line.now)
         (λ read. SpellsWords line.now keyword.now (Number read.0 ∷ Node read.1 ∷ Number read.2 ∷ [])) }
 {
-    let text = behind(keyword, line)?;
+    let text = after(keyword, line)?;
     node_within_numbers(text)
 }
 

@@ -28,9 +28,9 @@ pub(crate) fn read_text(alloc: Global, text: &[u8]) -> Result<Option<Octets>, Al
 {
     let mut octets = Vec::new(alloc);
     let mut rest = text;
-    while let Some((octet, behind)) = first_octet(rest) {
+    while let Some((octet, after)) = first_octet(rest) {
         octets.push(octet)?;
-        rest = behind;
+        rest = after;
     }
     if rest.is_empty() {
         Ok(Some(Octets::new(octets)))

@@ -4,8 +4,8 @@ ghost use Rattle.std.specs.Char.{is_ascii_digit};
 ghost use Rattle.std.specs.List.{list_all};
 ghost use Rattle.relay_script.specs.Line.{IsOperand};
 ghost use Rattle.relay_script.specs.Line.Operand.{Count, Node, Number, Time};
-ghost use Rattle.relay_script.specs.Reading.{are_number_digits, CutsWord, HasNoSpace, IsNotBehind, LacksOperand};
-ghost use Rattle.relay_script.specs.Reading.{StandsBehind};
+ghost use Rattle.relay_script.specs.Reading.{are_number_digits, CutsWord, HasNoSpace, IsNotAfter, LacksOperand};
+ghost use Rattle.relay_script.specs.Reading.{StandsAfter};
 ghost use Rattle.relay_script.specs.Reading.Kind.{CountKind, NodeKind, NumberKind, TimeKind};
 
 use crate::node_count::NodeCount;
@@ -19,9 +19,9 @@ const DIGIT_LIMIT: usize = 18;
 
 /// Returns what is after the keyword and a space that a text begins with.
 #[tactic(auto, using(crate::proofs::WordLemmas::keyword))]
-pub(crate) fn behind<'a>(keyword: &[u8], text: &'a [u8]) -> Option<&'a [u8]>
-    ensures { MatchOption result (IsNotBehind keyword.now text.now)
-        (λ rest. StandsBehind keyword.now text.now rest.now) }
+pub(crate) fn after<'a>(keyword: &[u8], text: &'a [u8]) -> Option<&'a [u8]>
+    ensures { MatchOption result (IsNotAfter keyword.now text.now)
+        (λ rest. StandsAfter keyword.now text.now rest.now) }
 {
     let more = text.strip_prefix(keyword)?;
     more.strip_prefix(b" ")

@@ -22,8 +22,8 @@ begins_none : {A : Type 0} (front whole : List A) → front ≡ [] → Begins fr
 begins_none front whole e = (whole, ap (λ l. l ++ whole) (sym e))
 
 -- after equal parts
-begins_behind : {A : Type 0} (front same rest whole : List A) → front ≡ same → Begins rest whole → Begins (front ++ rest) (same ++ whole)
-begins_behind front same rest whole e begins = (
+begins_after : {A : Type 0} (front same rest whole : List A) → front ≡ same → Begins rest whole → Begins (front ++ rest) (same ++ whole)
+begins_after front same rest whole e begins = (
   begins.0,
   ap (λ l. same ++ l) begins.1 ∙ ap (λ l. l ++ (rest ++ begins.0)) (sym e) ∙ sym (append_assoc front rest begins.0),
 )
@@ -31,9 +31,9 @@ begins_behind front same rest whole e begins = (
 -- and before more
 begins_around : {A : Type 0} (front same mid more rest whole : List A) → front ≡ same → Begins (mid ++ rest) (more ++ whole) → Begins ((front ++ mid) ++ rest) ((same ++ more) ++ whole)
 begins_around front same mid more rest whole e begins =
-    let behind = begins_behind front same (mid ++ rest) (more ++ whole) e begins in (
-      behind.0,
-      append_assoc same more whole ∙ behind.1 ∙ ap (λ l. l ++ behind.0) (sym (append_assoc front mid rest)),
+    let after = begins_after front same (mid ++ rest) (more ++ whole) e begins in (
+      after.0,
+      append_assoc same more whole ∙ after.1 ∙ ap (λ l. l ++ after.0) (sym (append_assoc front mid rest)),
     )
 
 -- four lists, from the first on
@@ -49,25 +49,25 @@ numbered_parts (answer ∷ front) back h =
     ((h.0, later.0), later.1)
 
 -- the reply tells the answer
-taken_tells : (host : List ℕ) (course : Course) (new next : State) (turn other : Turn) (behind more : List ℕ) → Takes host course turn new → Takes host course other next → AreNumbered (answers_in other.offer) → reply_text turn.reply ++ behind ≡ reply_text other.reply ++ more → answers_in turn.offer ≡ answers_in other.offer
-taken_tells host (Replies row mid) new next turn other behind more one two h e = ap answers_in (one.1 ∙ sym two.1)
-taken_tells host (Offers client envelope content) new next turn other behind more one two h e =
+taken_tells : (host : List ℕ) (course : Course) (new next : State) (turn other : Turn) (after more : List ℕ) → Takes host course turn new → Takes host course other next → AreNumbered (answers_in other.offer) → reply_text turn.reply ++ after ≡ reply_text other.reply ++ more → answers_in turn.offer ≡ answers_in other.offer
+taken_tells host (Replies row mid) new next turn other after more one two h e = ap answers_in (one.1 ∙ sym two.1)
+taken_tells host (Offers client envelope content) new next turn other after more one two h e =
     let number = subst (λ o. AreNumbered (answers_in o)) two.2 h in
-    let same = answer_is_one host one.0 two.0 behind more number.0 (ap (λ r. reply_text r ++ behind) (sym one.1) ∙ e ∙ ap (λ r. reply_text r ++ more) two.1) in
+    let same = answer_is_one host one.0 two.0 after more number.0 (ap (λ r. reply_text r ++ after) (sym one.1) ∙ e ∙ ap (λ r. reply_text r ++ more) two.1) in
     ap answers_in one.2 ∙ ap (λ given. given ∷ []) same ∙ sym (ap answers_in two.2)
 
 -- the reply to a unit tells the answer
-reply_tells : (setup : Setup) (old new next : State) (turn other : Turn) (behind more : List ℕ) → Answers setup old turn new → Answers setup old other next → turn.asked ≡ other.asked → AreNumbered (answers_in other.offer) → reply_text turn.reply ++ behind ≡ reply_text other.reply ++ more → answers_in turn.offer ≡ answers_in other.offer
-reply_tells setup old new next turn other behind more one two same h e =
-    taken_tells setup.host two.course new next turn other behind more (courses_meet setup old new next turn other one two same) two.takes h e
+reply_tells : (setup : Setup) (old new next : State) (turn other : Turn) (after more : List ℕ) → Answers setup old turn new → Answers setup old other next → turn.asked ≡ other.asked → AreNumbered (answers_in other.offer) → reply_text turn.reply ++ after ≡ reply_text other.reply ++ more → answers_in turn.offer ≡ answers_in other.offer
+reply_tells setup old new next turn other after more one two same h e =
+    taken_tells setup.host two.course new next turn other after more (courses_meet setup old new next turn other one two same) two.takes h e
 
 -- octets read and written begin with one turn
-turn_is_one : (setup : Setup) (old new next : State) (turn other : Turn) (unread left behind more : List ℕ) → Answers setup old turn new → Answers setup old other next → AreNumbered (answers_in other.offer) → turn.asked ++ unread ≡ other.asked ++ left → reply_text turn.reply ++ behind ≡ reply_text other.reply ++ more → (turn ≡ other) × (new ≡ next) × (unread ≡ left) × (behind ≡ more)
-turn_is_one setup old new next turn other unread left behind more one two h e w =
+turn_is_one : (setup : Setup) (old new next : State) (turn other : Turn) (unread left after more : List ℕ) → Answers setup old turn new → Answers setup old other next → AreNumbered (answers_in other.offer) → turn.asked ++ unread ≡ other.asked ++ left → reply_text turn.reply ++ after ≡ reply_text other.reply ++ more → (turn ≡ other) × (new ≡ next) × (unread ≡ left) × (after ≡ more)
+turn_is_one setup old new next turn other unread left after more one two h e w =
     let read = no_unit_begins_another old turn.asked other.asked unread left (asked_is_unit setup old turn new one) (asked_is_unit setup old other next two) e in
-    let given = reply_tells setup old new next turn other behind more one two read.0 h w in
+    let given = reply_tells setup old new next turn other after more one two read.0 h w in
     let row = row_is_fixed setup old new next turn other one two read.0 given in
-    let written = append_cancel_left (reply_text other.reply) behind more (ap (λ (t : Turn). reply_text t.reply ++ behind) (sym row.0) ∙ w) in
+    let written = append_cancel_left (reply_text other.reply) after more (ap (λ (t : Turn). reply_text t.reply ++ after) (sym row.0) ∙ w) in
     (row.0, row.1, read.1, written)
 
 -- the offer that is unanswered after some input is that of any longer input
@@ -98,11 +98,11 @@ run_begins setup old new next [] [] rest left unread unwritten unanswered other 
 run_begins setup old new next [] (turn ∷ others) rest left unread unwritten unanswered other one two a b h e w =
     let here = subst (λ (s : State). IsLeft setup s rest unanswered) (sym one) a in
     let front = turn_begins setup old two.0 turn rest unread (read_by others ++ left) unanswered here two.1 (sym e ∙ append_assoc turn.asked (read_by others) left) in
-    let behind = offered_by others ++ other in (
+    let after = offered_by others ++ other in (
       (answered_by (turn ∷ others), refl),
       (
-        front.0 ++ behind,
-        append_assoc (offers_in turn.offer) (offered_by others) other ∙ ap (λ l. l ++ behind) front.1 ∙ append_assoc unanswered front.0 behind,
+        front.0 ++ after,
+        append_assoc (offers_in turn.offer) (offered_by others) other ∙ ap (λ l. l ++ after) front.1 ∙ append_assoc unanswered front.0 after,
       ),
     )
 run_begins setup old new next (turn ∷ turns) [] rest left unread unwritten unanswered other one two a b h e w =
@@ -117,7 +117,7 @@ run_begins setup old new next (turn ∷ turns) (same ∷ others) rest left unrea
     let met = turn_is_one setup old one.0 two.0 turn same ((read_by turns ++ rest) ++ unread) (read_by others ++ left) (written_by turns ++ unwritten) (written_by others) one.1 two.1 numbers.0 (sym (from_first turn.asked (read_by turns) rest unread) ∙ sym e ∙ append_assoc same.asked (read_by others) left) (sym (append_assoc (reply_text turn.reply) (written_by turns) unwritten) ∙ sym w) in
     let run = subst (λ (s : State). Turns setup s others next) (sym met.1) two.2 in
     let later = run_begins setup one.0 new next turns others rest left unread unwritten unanswered other one.2 run a b numbers.1 (sym met.2) (sym met.3) in (
-      begins_behind (answers_in turn.offer) (answers_in same.offer) (answered_by turns) (answered_by others) (ap (λ (t : Turn). answers_in t.offer) met.0) later.0,
+      begins_after (answers_in turn.offer) (answers_in same.offer) (answered_by turns) (answered_by others) (ap (λ (t : Turn). answers_in t.offer) met.0) later.0,
       begins_around (offers_in turn.offer) (offers_in same.offer) (offered_by turns) (offered_by others) unanswered other (ap (λ (t : Turn). offers_in t.offer) met.0) later.1,
     )
 

@@ -117,8 +117,8 @@ chunk_goes_on limit transaction reader new is_last state octets more kept chunk_
 }
 
 -- further octets of a chunk that is refused
-pub refused_goes_on : (limit : ℕ) (row : Row) (behind : Held) (missing left : ℕ) (state : State) (octets more : List ℕ) → RefusesChunk limit row behind missing state octets → missing ≡ length more + left → RefusesChunk limit row behind left state (octets ++ more)
-refused_goes_on limit row behind missing left state octets more kept e = record {
+pub refused_goes_on : (limit : ℕ) (row : Row) (after : Held) (missing left : ℕ) (state : State) (octets more : List ℕ) → RefusesChunk limit row after missing state octets → missing ≡ length more + left → RefusesChunk limit row after left state (octets ++ more)
+refused_goes_on limit row after missing left state octets more kept e = record {
   old = kept.old;
   state_is = kept.state_is;
   argument = kept.argument;
@@ -129,10 +129,10 @@ refused_goes_on limit row behind missing left state octets more kept e = record 
 }
 
 -- a chunk that is refused ends where nothing is missing
-pub refused_comes : (setup : Setup) (row : Row) (behind : Held) (state : State) (octets : List ℕ) → RefusesChunk setup.max_content row behind 0 state octets → Comes setup state octets (Replies row (Command (command_state_of behind)))
-refused_comes setup row behind state octets kept =
+pub refused_comes : (setup : Setup) (row : Row) (after : Held) (state : State) (octets : List ℕ) → RefusesChunk setup.max_content row after 0 state octets → Comes setup state octets (Replies row (Command (command_state_of after)))
+refused_comes setup row after state octets kept =
     let size = kept.size_is in
-    chunk_comes setup state kept.old octets kept.part kept.argument (Replies row (Command (command_state_of behind))) kept.state_is kept.begins (omega (arith, size)) (kept.course_is kept.part)
+    chunk_comes setup state kept.old octets kept.part kept.argument (Replies row (Command (command_state_of after))) kept.state_is kept.begins (omega (arith, size)) (kept.course_is kept.part)
 
 -- the last chunk ends the content as mail data ends, where it is within the limit
 pub last_chunk : (limit : ℕ) (client : Client) (envelope : Envelope) (content : List ℕ) (large last : Bool) → last ≡ true → large ≡ false → large ≡ nat_lt limit (length content) → course_of_text limit client envelope content ≡ course_of_chunks limit client envelope content last
@@ -151,8 +151,8 @@ next_chunk limit client envelope reader content large last goes_on small large_i
     ∙ ap (λ (c : List ℕ). Replies ChunkOk (Command (Gathering client envelope c))) (sym kept)
 
 -- where nothing is missing after the octets of a chunk that is refused, it has ended
-pub refused_ends : (setup : Setup) (row : Row) (behind : Held) (missing used : ℕ) (state : State) (octets rest : List ℕ) → RefusesChunk setup.max_content row behind missing state octets → used ≡ min (length rest) missing → missing - used ≡ 0 → Comes setup state (octets ++ take used rest) (Replies row (Command (command_state_of behind)))
-refused_ends setup row behind missing used state octets rest kept used_is none =
+pub refused_ends : (setup : Setup) (row : Row) (after : Held) (missing used : ℕ) (state : State) (octets rest : List ℕ) → RefusesChunk setup.max_content row after missing state octets → used ≡ min (length rest) missing → missing - used ≡ 0 → Comes setup state (octets ++ take used rest) (Replies row (Command (command_state_of after)))
+refused_ends setup row after missing used state octets rest kept used_is none =
     let many = length-take used rest in
     let all : missing ≡ length (take used rest) + 0 = omega (arith, many, used_is, none) in
-    refused_comes setup row behind state (octets ++ take used rest) (refused_goes_on setup.max_content row behind missing 0 state octets (take used rest) kept all)
+    refused_comes setup row after state (octets ++ take used rest) (refused_goes_on setup.max_content row after missing 0 state octets (take used rest) kept all)

@@ -108,10 +108,10 @@ line_is_one Full (Queued other) h e =
 line_is_one Full Full h e = refl
 
 -- octets begin with the reply to one answer
-pub answer_is_one : (host : List ℕ) (given other : Answer) (behind more : List ℕ) → IsNumbered other → reply_text (reply_of host (row_of_answer given)) ++ behind ≡ reply_text (reply_of host (row_of_answer other)) ++ more → given ≡ other
-answer_is_one host given other behind more h e =
-    let same = first_line_is_one (reply_text (reply_of host (row_of_answer given)) ++ behind) (answer_line given) behind (answer_line other) more (record {
-      text = ap (λ l. l ++ behind) (answer_text host given);
+pub answer_is_one : (host : List ℕ) (given other : Answer) (afterwards more : List ℕ) → IsNumbered other → reply_text (reply_of host (row_of_answer given)) ++ afterwards ≡ reply_text (reply_of host (row_of_answer other)) ++ more → given ≡ other
+answer_is_one host given other afterwards more h e =
+    let same = first_line_is_one (reply_text (reply_of host (row_of_answer given)) ++ afterwards) (answer_line given) afterwards (answer_line other) more (record {
+      text = ap (λ l. l ++ afterwards) (answer_text host given);
       first = answer_has_no_crlf given;
     }) (record {
       text = e ∙ ap (λ l. l ++ more) (answer_text host other);

@@ -184,8 +184,8 @@ more_is_more said mid later octets further all before between after one two join
 }
 
 -- octets and those after them are more octets
-taken_behind : (piece : List ℕ) (used further : ℕ) → used ≤ further → take further piece ≡ take used piece ++ slice_range piece used further
-taken_behind piece used further within =
+taken_after : (piece : List ℕ) (used further : ℕ) → used ≤ further → take further piece ≡ take used piece ++ slice_range piece used further
+taken_after piece used further within =
     let sum : further ≡ used + (further - used) = omega (arith, within) in
     ap (λ n. take n piece) sum ∙ take-add used (further - used) piece
 
@@ -193,4 +193,4 @@ taken_behind piece used further within =
 pub piece_goes_on : PieceGoesOn
 piece_goes_on said mid later piece used further before between after within one two =
     more_is_more said mid later (take used piece) (slice_range piece used further) (take further piece) before between after one two
-    (taken_behind piece used further within)
+    (taken_after piece used further within)

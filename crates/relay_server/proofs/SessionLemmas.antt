@@ -95,9 +95,9 @@ gathers_line setup state text transaction reader is_last is_line short (inr is) 
       course_is = λ rest. is.2.3 rest ∙ ap (λ b. course_of_chunks limit transaction.client transaction.envelope (b ++ rest) argument.last) (sym begun.before_is);
     }
 
-pub refuses_line : (setup : Setup) (state : CommandState) (text : List ℕ) (row : Row) (behind : Held) (size : ℕ) → HasNoCrlf text → length text ≤ 2046 → IsJudged setup (reading_of text) state (judged.Refuses row behind size) → RefusesChunk setup.max_content row behind size (Command state) (text ++ crlf)
-refuses_line setup state text row behind size is_line short (inl is) = absurd is.replied
-refuses_line setup state text row behind size is_line short (inr is) = record {
+pub refuses_line : (setup : Setup) (state : CommandState) (text : List ℕ) (row : Row) (afterwards : Held) (size : ℕ) → HasNoCrlf text → length text ≤ 2046 → IsJudged setup (reading_of text) state (judged.Refuses row afterwards size) → RefusesChunk setup.max_content row afterwards size (Command state) (text ++ crlf)
+refuses_line setup state text row afterwards size is_line short (inl is) = absurd is.replied
+refuses_line setup state text row afterwards size is_line short (inr is) = record {
   old = state;
   state_is = refl;
   argument = is.0;
@@ -108,8 +108,8 @@ refuses_line setup state text row behind size is_line short (inr is) = record {
 }
 
 -- nothing is after the line yet
-pub nothing_behind : (setup : Setup) (old : State) (new : Stage) (unit before after : List ℕ) (used : ℕ) → Moves setup old new (unit ++ take used []) before after → Moves setup old new unit before after
-nothing_behind setup old new unit before after used moves =
+pub nothing_after : (setup : Setup) (old : State) (new : Stage) (unit before after : List ℕ) (used : ℕ) → Moves setup old new (unit ++ take used []) before after → Moves setup old new unit before after
+nothing_after setup old new unit before after used moves =
     subst (λ (o : List ℕ). Moves setup old new o before after) (ap (λ l. unit ++ l) (take-nil used) ∙ append-nil unit) moves
 
 -- whether a line is of BDAT is seen from its first octets
@@ -128,9 +128,9 @@ gathers_limit setup state text transaction reader is_last (inl is) = absurd is.r
 gathers_limit setup state text transaction reader is_last (inr is) = is.2.1.chunk_is.gathers.limit_is
 
 -- so is what stands after a chunk that is refused
-pub refuses_held : (setup : Setup) (state : CommandState) (text : List ℕ) (row : Row) (behind : Held) (size : ℕ) → IsJudged setup (reading_of text) state (judged.Refuses row behind size) → IsHeld setup.max_content behind
-refuses_held setup state text row behind size (inl is) = absurd is.replied
-refuses_held setup state text row behind size (inr is) = is.2.1
+pub refuses_held : (setup : Setup) (state : CommandState) (text : List ℕ) (row : Row) (afterwards : Held) (size : ℕ) → IsJudged setup (reading_of text) state (judged.Refuses row afterwards size) → IsHeld setup.max_content afterwards
+refuses_held setup state text row afterwards size (inl is) = absurd is.replied
+refuses_held setup state text row afterwards size (inr is) = is.2.1
 
 -- what is true of the value is true of what follows from it
 pub if_ok : {T E : Type 0} (P Q : T → Type 0) (result : Result T E) → ((value : T) → P value → Q value) → IfOk result P → IfOk result Q

@@ -233,8 +233,8 @@ hears_further setup first old new routes said piece used count start_out before 
     }
 
 -- what was heard of the octets after those used
-pub heard_behind : (setup : Setup) (said : Said) (old new : Session) (piece : List ℕ) (used count : ℕ) (before after : List ℕ) → Hears setup said old new (take count (drop used piece)) before after → Hears setup said old new (slice_range piece used (used + count)) before after
-heard_behind setup said old new piece used count before after h =
+pub heard_after : (setup : Setup) (said : Said) (old new : Session) (piece : List ℕ) (used count : ℕ) (before after : List ℕ) → Hears setup said old new (take count (drop used piece)) before after → Hears setup said old new (slice_range piece used (used + count)) before after
+heard_after setup said old new piece used count before after h =
     let same : count ≡ (used + count) - used = omega arith in
     subst (λ n. Hears setup said old new (take n (drop used piece)) before after) same h
 

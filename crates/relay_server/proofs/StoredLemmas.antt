@@ -21,7 +21,7 @@ use Rattle.relay_server.specs.declared.reply_table.Row.{Row}
 use Rattle.relay_server.specs.declared.reply_table.Row.TheVariants.{ChunkOk}
 use Rattle.relay_server.specs.Dialogue.{Offered, Turn, Answers, Comes, Takes, Turns, IsLeft, offered_by, offered_of, offers_in}
 use Rattle.relay_server.specs.DialogueLaws.{MayBeStored, OffersMayBeStored}
-use Rattle.relay_server.specs.ReplyTable.{Course, Replies, Offers, course_of, course_of_bdat, course_of_chunks, course_of_content, course_of_data, course_of_mail, course_of_rcpt, course_of_text, offer_unless, refusal_by, state_behind_fault, unless_refused}
+use Rattle.relay_server.specs.ReplyTable.{Course, Replies, Offers, course_of, course_of_bdat, course_of_chunks, course_of_content, course_of_data, course_of_mail, course_of_rcpt, course_of_text, offer_unless, refusal_by, state_after_fault, unless_refused}
 use Rattle.relay_routes.specs.RoutedPath.{refuses_path}
 use Rattle.relay_routes.specs.Routes.{hop_of}
 use Rattle.relay_server.specs.Setup.{Setup}
@@ -174,7 +174,7 @@ reset_good setup (Open client envelope) sound = sound.0
 reset_good setup (Gathering client envelope content) sound = sound.0
 reset_good setup (Spent client) sound = sound
 
-fault_good : (which : LineFault) (old : CommandState) → IsSound (Command old) → IsSound (state_behind_fault which old)
+fault_good : (which : LineFault) (old : CommandState) → IsSound (Command old) → IsSound (state_after_fault which old)
 fault_good fault.Unknown old sound = sound
 fault_good fault.BadByte old sound = sound
 fault_good fault.BadArgument old sound = sound
@@ -196,10 +196,10 @@ asked_good setup text octets (Ok (line.Helo word)) asked old e asks sound =
     subst (λ (a : Asked). IsGood setup (course_of setup a old)) (sym asks) (helo_word text word e)
 asked_good setup text octets (Ok (line.Ehlo word)) asked old e asks sound =
     subst (λ (a : Asked). IsGood setup (course_of setup a old)) (sym asks) (ehlo_word text word e)
-asked_good setup text octets (Ok (line.Mail behind)) asked old e asks sound =
-    subst (λ (a : Asked). IsGood setup (course_of setup a old)) (sym asks.2) (mail_good setup behind asks.0 old asks.1 sound)
-asked_good setup text octets (Ok (line.Rcpt behind)) asked old e asks sound =
-    subst (λ (a : Asked). IsGood setup (course_of setup a old)) (sym asks.2) (rcpt_good setup behind asks.0 old asks.1 sound)
+asked_good setup text octets (Ok (line.Mail after)) asked old e asks sound =
+    subst (λ (a : Asked). IsGood setup (course_of setup a old)) (sym asks.2) (mail_good setup after asks.0 old asks.1 sound)
+asked_good setup text octets (Ok (line.Rcpt after)) asked old e asks sound =
+    subst (λ (a : Asked). IsGood setup (course_of setup a old)) (sym asks.2) (rcpt_good setup after asks.0 old asks.1 sound)
 asked_good setup text octets (Ok line.Data) asked old e asks sound =
     subst (λ (a : Asked). IsGood setup (course_of setup a old)) (sym asks) (data_good setup old sound)
 asked_good setup text octets (Ok (line.Bdat argument)) asked old e asks sound =

@@ -19,7 +19,7 @@ use Rattle.relay_server.specs.declared.client.Client.{Client}
 use Rattle.relay_server.specs.declared.reply_table.Row.{Row}
 use Rattle.relay_server.specs.Dialogue.{Offered, Turn, Comes, Takes, Turns, IsLeft, offered_by, offers_in}
 use Rattle.relay_server.specs.DialogueLaws.{IsTaken, RecipientsAreTaken}
-use Rattle.relay_server.specs.ReplyTable.{Course, Replies, Offers, course_of, course_of_bdat, course_of_chunks, course_of_content, course_of_data, course_of_mail, course_of_rcpt, course_of_text, offer_unless, refusal_by, state_behind_fault, unless_refused}
+use Rattle.relay_server.specs.ReplyTable.{Course, Replies, Offers, course_of, course_of_bdat, course_of_chunks, course_of_content, course_of_data, course_of_mail, course_of_rcpt, course_of_text, offer_unless, refusal_by, state_after_fault, unless_refused}
 use Rattle.relay_server.specs.Setup.{Setup}
 use Rattle.relay_server.specs.State.{CommandState, Fresh, Greeted, Open, Gathering, Spent, State, Command, Receiving, Closed, start}
 use Rattle.relay_server.specs.Unit.{Asked, LongLine, Faulty, Rset, Asks, AsksBy}
@@ -63,8 +63,8 @@ path_is path (Err fault) rcpt e = absurd (let no : ⊥ = cc in no)
 
 valid_path : (text : List ℕ) (rcpt : RcptSaid) → ReadsRcpt text (Ok rcpt) → IsPath rcpt.path
 valid_path text rcpt (inl bad) = let e = bad.result_is in absurd (let no : ⊥ = cc in no)
-valid_path text rcpt (inr behind) =
-    subst IsPath (sym (path_is behind.path behind.parameters rcpt behind.result_is)) behind.begins.valid
+valid_path text rcpt (inr after) =
+    subst IsPath (sym (path_is after.path after.parameters rcpt after.result_is)) after.begins.valid
 
 -- one more that is taken
 grown : (setup : Setup) (envelope : Envelope) (text : List ℕ) (rcpt : RcptSaid) → AreTaken setup envelope → ReadsRcpt text (Ok rcpt) → refuses_path setup.routed_paths rcpt.path ≡ false → is_some (hop_of setup.routes rcpt.path) ≡ true → AreTaken setup (record envelope { recipients = envelope.recipients ++ recipient_from rcpt ∷ [] })
@@ -137,7 +137,7 @@ reset_good setup (Open client envelope) = tt
 reset_good setup (Gathering client envelope content) = tt
 reset_good setup (Spent client) = tt
 
-fault_good : (setup : Setup) (which : LineFault) (old : CommandState) → IsSound setup (Command old) → IsSound setup (state_behind_fault which old)
+fault_good : (setup : Setup) (which : LineFault) (old : CommandState) → IsSound setup (Command old) → IsSound setup (state_after_fault which old)
 fault_good setup fault.Unknown old sound = sound
 fault_good setup fault.BadByte old sound = sound
 fault_good setup fault.BadArgument old sound = sound
@@ -152,10 +152,10 @@ asked_good setup octets (Ok (line.Helo word)) asked old asks sound =
     subst (λ (a : Asked). IsGood setup (course_of setup a old)) (sym asks) tt
 asked_good setup octets (Ok (line.Ehlo word)) asked old asks sound =
     subst (λ (a : Asked). IsGood setup (course_of setup a old)) (sym asks) tt
-asked_good setup octets (Ok (line.Mail behind)) asked old asks sound =
+asked_good setup octets (Ok (line.Mail after)) asked old asks sound =
     subst (λ (a : Asked). IsGood setup (course_of setup a old)) (sym asks.2) (mail_good setup asks.0 old sound)
-asked_good setup octets (Ok (line.Rcpt behind)) asked old asks sound =
-    subst (λ (a : Asked). IsGood setup (course_of setup a old)) (sym asks.2) (rcpt_good setup behind asks.0 old asks.1 sound)
+asked_good setup octets (Ok (line.Rcpt after)) asked old asks sound =
+    subst (λ (a : Asked). IsGood setup (course_of setup a old)) (sym asks.2) (rcpt_good setup after asks.0 old asks.1 sound)
 asked_good setup octets (Ok line.Data) asked old asks sound =
     subst (λ (a : Asked). IsGood setup (course_of setup a old)) (sym asks) (data_good setup old sound)
 asked_good setup octets (Ok (line.Bdat argument)) asked old asks sound =

@@ -36,7 +36,7 @@ turn_is_of_its_unit setup old new unit rest more course turn comes is begins =
     record {
       asked = same.0;
       takes = subst (λ (c : Course). Takes setup.host c turn new) one is.takes;
-      behind = same.1;
+      after = same.1;
     }
 
 -- a line that isn't too long announces what its reading does

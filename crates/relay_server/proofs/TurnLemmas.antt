@@ -87,7 +87,7 @@ turn_by_parts turn other asked reply offer =
 
 -- of a course the answer fixes the turn
 taken_is_fixed : (host : List ℕ) (course : Course) (new next : State) (turn other : Turn) → Takes host course turn new → Takes host course other next → turn.asked ≡ other.asked → answers_in turn.offer ≡ answers_in other.offer → (turn ≡ other) × (new ≡ next)
-taken_is_fixed host (Replies row behind) new next turn other one two e given =
+taken_is_fixed host (Replies row after) new next turn other one two e given =
     (turn_by_parts turn other e (one.0 ∙ sym two.0) (one.1 ∙ sym two.1), one.2 ∙ sym two.2)
 taken_is_fixed host (Offers client envelope content) new next turn other one two e given =
     let message = offered_of client envelope content in
@@ -108,7 +108,7 @@ row_is_fixed setup old new next turn other one two e given =
 
 -- a course has an answer or none, whatever it is
 taken_as_many : (host : List ℕ) (course : Course) (new next : State) (turn other : Turn) → Takes host course turn new → Takes host course other next → length (answers_in turn.offer) ≡ length (answers_in other.offer)
-taken_as_many host (Replies row behind) new next turn other one two =
+taken_as_many host (Replies row after) new next turn other one two =
     ap (λ o. length (answers_in o)) (one.1 ∙ sym two.1)
 taken_as_many host (Offers client envelope content) new next turn other one two =
     ap (λ o. length (answers_in o)) one.2 ∙ sym (ap (λ o. length (answers_in o)) two.2)

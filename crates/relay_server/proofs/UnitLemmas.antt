@@ -16,21 +16,21 @@ same_parts front other rest more n e = (
 )
 
 -- a line, CR LF, the octets of its chunk, and what stands after these
-behind_line : (text octets behind : List ℕ) → ((text ++ crlf) ++ octets) ++ behind ≡ (text ++ crlf) ++ (octets ++ behind)
-behind_line text octets behind = append_assoc (text ++ crlf) octets behind
+after_line : (text octets after : List ℕ) → ((text ++ crlf) ++ octets) ++ after ≡ (text ++ crlf) ++ (octets ++ after)
+after_line text octets after = append_assoc (text ++ crlf) octets after
 
 -- no command unit begins another
-pub one_command_unit : (unit other behind rest text octets line more : List ℕ) → IsCommandUnit unit text octets → IsCommandUnit other line more → unit ++ behind ≡ other ++ rest → (text ≡ line) × (octets ≡ more) × (behind ≡ rest)
-one_command_unit unit other behind rest text octets line more one two e =
-    let same = first_line_is_one (unit ++ behind) text (octets ++ behind) line (more ++ rest) (record {
-      text = ap (λ u. u ++ behind) one.unit_is ∙ behind_line text octets behind;
+pub one_command_unit : (unit other after rest text octets line more : List ℕ) → IsCommandUnit unit text octets → IsCommandUnit other line more → unit ++ after ≡ other ++ rest → (text ≡ line) × (octets ≡ more) × (after ≡ rest)
+one_command_unit unit other after rest text octets line more one two e =
+    let same = first_line_is_one (unit ++ after) text (octets ++ after) line (more ++ rest) (record {
+      text = ap (λ u. u ++ after) one.unit_is ∙ after_line text octets after;
       first = one.line;
     }) (record {
-      text = e ∙ ap (λ u. u ++ rest) two.unit_is ∙ behind_line line more rest;
+      text = e ∙ ap (λ u. u ++ rest) two.unit_is ∙ after_line line more rest;
       first = two.line;
     }) in
     let sizes = one.counted ∙ ap announced_of same.0 ∙ sym two.counted in
-    let parts = same_parts octets more behind rest sizes same.1 in
+    let parts = same_parts octets more after rest sizes same.1 in
     (same.0, parts.0, parts.1)
 
 -- no unit is empty
@@ -46,9 +46,9 @@ no_unit_is_empty Closed unit is e = is
 
 -- of the units of a state none begins another
 pub no_unit_begins_another : NoUnitBeginsAnother
-no_unit_begins_another (Command state) unit other behind rest one two e =
-    let same = one_command_unit unit other behind rest one.0 one.1 two.0 two.1 one.2 two.2 e in
+no_unit_begins_another (Command state) unit other after rest one two e =
+    let same = one_command_unit unit other after rest one.0 one.1 two.0 two.1 one.2 two.2 e in
     (one.2.unit_is ∙ ap (λ t. t ++ crlf ++ one.1) same.0 ∙ ap (λ o. two.0 ++ crlf ++ o) same.1 ∙ sym two.2.unit_is, same.2)
-no_unit_begins_another (Receiving client envelope) unit other behind rest one two e =
-    no_text_begins_another unit one.0 other two.0 behind rest one.1 two.1 e
-no_unit_begins_another Closed unit other behind rest one two e = absurd one
+no_unit_begins_another (Receiving client envelope) unit other after rest one two e =
+    no_text_begins_another unit one.0 other two.0 after rest one.1 two.1 e
+no_unit_begins_another Closed unit other after rest one two e = absurd one

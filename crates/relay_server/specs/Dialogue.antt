@@ -124,8 +124,8 @@ more_said said input answers output offers = record {
 }
 
 -- what was said, and octets after it that nobody reads
-abbrev pub unread_behind : Said → List ℕ → Said
-unread_behind said octets = record said { input = said.input ++ octets }
+abbrev pub unread_after : Said → List ℕ → Said
+unread_after said octets = record said { input = said.input ++ octets }
 
 -- what is left of the input is a unit whose offer is unanswered, and is after the others
 pub record IsUnanswered (setup : Setup) (state : State) (rest : List ℕ)

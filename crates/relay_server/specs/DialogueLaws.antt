@@ -40,8 +40,8 @@ NoUnitIsEmpty = (state : State) (unit : List ℕ) → IsUnit state unit → unit
 -- of the units of a state none begins another, and what is after one is fixed
 abbrev pub NoUnitBeginsAnother : Type 0
 NoUnitBeginsAnother =
-    (state : State) (unit other behind rest : List ℕ) → IsUnit state unit → IsUnit state other
-    → unit ++ behind ≡ other ++ rest → (unit ≡ other) × (behind ≡ rest)
+    (state : State) (unit other after rest : List ℕ) → IsUnit state unit → IsUnit state other
+    → unit ++ after ≡ other ++ rest → (unit ≡ other) × (after ≡ rest)
 
 -- turns that lead to a state, and turns that lead on from it, are one run
 abbrev pub RunsCompose : Type 0

@@ -82,7 +82,7 @@ pub record GathersChunk (limit : ℕ) (transaction : Transaction) (reader : Chun
       (content_of_chunks chunks ++ rest) argument.last
 
 -- in this state a chunk has come so far but for as many octets as are missing, and is refused by this row
-pub record RefusesChunk (limit : ℕ) (row : Row) (behind : Held) (missing : ℕ) (state : State)
+pub record RefusesChunk (limit : ℕ) (row : Row) (afterwards : Held) (missing : ℕ) (state : State)
     (octets : List ℕ) : Type 0 where
   pub old : CommandState
   pub state_is : state ≡ Command old
@@ -91,7 +91,7 @@ pub record RefusesChunk (limit : ℕ) (row : Row) (behind : Held) (missing : ℕ
   pub begins : AnnouncesChunk octets argument part
   pub size_is : argument.size ≡ length part + missing
   pub course_is : (rest : List ℕ) → course_of_bdat limit rest argument.last old
-      ≡ Replies row (Command (command_state_of behind))
+      ≡ Replies row (Command (command_state_of afterwards))
 
 -- the stage is in this state, and has used these octets since the last unit, but those of a command line, which stand
 -- elsewhere

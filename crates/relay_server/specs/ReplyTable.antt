@@ -40,9 +40,9 @@ row_of_fault line.NotOffered = row.NotOffered
 row_of_fault line.BadChunkSize = row.BadChunkSize
 
 -- a fault of a line changes no state, but that nobody knows what follows a bad chunk size
-abbrev pub state_behind_fault : LineFault → CommandState → State
-state_behind_fault line.BadChunkSize state = Closed
-state_behind_fault _ state = Command state
+abbrev pub state_after_fault : LineFault → CommandState → State
+state_after_fault line.BadChunkSize state = Closed
+state_after_fault _ state = Command state
 
 abbrev pub row_of_envelope_fault : EnvelopeFault → Row
 row_of_envelope_fault envelope.BadPath = row.BadPath
@@ -163,7 +163,7 @@ without_transaction (Spent client) = Greeted client
 -- the table for command lines
 abbrev pub course_of : Setup → Asked → CommandState → Course
 course_of setup LongLine state = Replies row.LineTooLong (Command state)
-course_of setup (Faulty fault) state = Replies (row_of_fault fault) (state_behind_fault fault state)
+course_of setup (Faulty fault) state = Replies (row_of_fault fault) (state_after_fault fault state)
 course_of setup (Hello client) state = Replies (row_of_hello client.protocol) (Command (Greeted client))
 course_of setup (Mail mail) state = course_of_mail mail state
 course_of setup (Rcpt rcpt) state = course_of_rcpt setup rcpt state

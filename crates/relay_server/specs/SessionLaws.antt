@@ -3,7 +3,7 @@ use Rattle.std.specs.Prelude.{◌≡◌, ◌≢◌, ◌↔◌, ℕ, ◌+◌, ◌
 use Rattle.relay_server.specs.declared.session.Next.TheVariants as next
 use Rattle.relay_server.specs.declared.session.Session.{Session}
 use Rattle.relay_server.specs.Bounds.{content_held_at}
-use Rattle.relay_server.specs.Dialogue.{Offered, Said, IsDialogue, unread_behind}
+use Rattle.relay_server.specs.Dialogue.{Offered, Said, IsDialogue, unread_after}
 use Rattle.relay_server.specs.DialogueLaws.{MayBeStored}
 use Rattle.relay_server.specs.Session.{IsClosed, SaysMore, Stands, next_of, offers_since, open_offers}
 use Rattle.relay_server.specs.Setup.{Setup}
@@ -46,7 +46,7 @@ abbrev pub ClosedIsADialogue : Type 0
 ClosedIsADialogue =
     (setup : Setup) (session : Session) (said : Said) (octets : List ℕ)
     → Stands setup session said → IsClosed session
-    → (dialogue : IsDialogue setup (unread_behind said octets)) × (dialogue.state ≡ Closed)
+    → (dialogue : IsDialogue setup (unread_after said octets)) × (dialogue.state ≡ Closed)
 
 -- the open offer of a session may be stored
 abbrev pub OpenMayBeStored : Type 0

@@ -42,7 +42,7 @@ pub record IsTurnOf (host unit : List ℕ) (course : Course) (turn : Turn) (new 
     (rest more : List ℕ) : Type 0 where
   pub asked : turn.asked ≡ unit
   pub takes : Takes host course turn new
-  pub behind : rest ≡ more
+  pub after : rest ≡ more
 
 -- a turn that begins where a unit of this course begins is of just this unit
 abbrev pub TurnIsOfItsUnit : Type 0

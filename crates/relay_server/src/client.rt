@@ -6,7 +6,6 @@ use relay_trace::Protocol;
 use std::alloc::{AllocError, Global};
 
 /// The client of a session, by its HELO or EHLO.
-#[derive(Debug)]
 pub struct Client {
     /// Its argument: 1 to 255 octets.
     pub word: Octets,

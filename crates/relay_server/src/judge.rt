@@ -5,7 +5,7 @@ ghost use Rattle.relay_lines.specs.Command.{reading_of};
 ghost use Rattle.relay_envelope.specs.Mail.{mail_reading, rcpt_reading, rcpt_value};
 ghost use Rattle.relay_server.specs.Bounds.{IsHeld};
 ghost use Rattle.relay_server.specs.ReplyTable.{Replies, course_of_data, course_of_mail, course_of_rcpt};
-ghost use Rattle.relay_server.specs.ReplyTable.{row_of_envelope_fault, row_of_fault, row_of_hello, state_behind_fault};
+ghost use Rattle.relay_server.specs.ReplyTable.{row_of_envelope_fault, row_of_fault, row_of_hello, state_after_fault};
 ghost use Rattle.relay_server.specs.ReplyTable.{without_transaction};
 ghost use Rattle.relay_server.specs.Setup.{setup_of};
 ghost use Rattle.relay_server.specs.State as standing;
@@ -81,7 +81,7 @@ fn judge_command(
 
 /// Answers a fault of a line. After a bad chunk size nobody knows what follows, so the connection closes.
 fn judge_fault(fault: LineFault, state: CommandState) -> Judged
-    ensures course { IsReplied (Replies (row_of_fault fault) (state_behind_fault fault
+    ensures course { IsReplied (Replies (row_of_fault fault) (state_after_fault fault
         (command_state_of state))) result }
     ensures held { (limit : ℕ) → IsHeld limit state → IsReplyHeld limit result }
 {

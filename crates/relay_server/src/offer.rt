@@ -3,7 +3,7 @@ use relay_envelope::Envelope;
 
 /// A message that the session offers, with its whole mail data. Whoever answers that it is queued is responsible for
 /// it.
-#[derive(Clone, Copy, Debug)]
+#[derive(Clone, Copy)]
 pub struct Offer<'a> {
     /// The client that offers it.
     pub client: &'a Client,
@@ -14,7 +14,7 @@ pub struct Offer<'a> {
 }
 
 /// The answer to an offer.
-#[derive(Clone, Copy, Debug, Drop, PartialEq, Eq)]
+#[derive(Clone, Copy, Drop, PartialEq, Eq)]
 pub enum Answer {
     /// The message is queued, under this number.
     Queued(u64),

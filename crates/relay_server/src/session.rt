@@ -14,7 +14,7 @@ use std::alloc::{AllocError, Global};
 use std::mem;
 
 /// What the caller does next.
-#[derive(Clone, Copy, Debug, Drop, PartialEq, Eq)]
+#[derive(Clone, Copy, Drop, PartialEq, Eq)]
 pub enum Next {
     /// Feeds the next octets, once they have come.
     More,
@@ -25,7 +25,7 @@ pub enum Next {
 }
 
 /// What a feed has done.
-#[derive(Debug, Drop)]
+#[derive(Drop)]
 pub struct Fed {
     /// How many octets of the piece it has used.
     pub used: usize,

@@ -14,7 +14,7 @@ use std::io::Write;
 
 /// Compacts the spool if that is worth it, as `is_worth_compacting` says. Leaves the spool unchanged if it has no
 /// second file or holds too much, or if memory runs out.
-pub(crate) fn compact_behind<E: Write>(
+pub(crate) fn compact_after<E: Write>(
     node: &mut Node<FileDisk>,
     was_full: bool,
     log: &mut Log<'_, E>,
@@ -29,8 +29,8 @@ pub(crate) fn compact_behind<E: Write>(
         return Ok(());
     }
     match node.compact() {
-        Ok((before, behind)) => {
-            log.compacted(before, behind);
+        Ok((before, after)) => {
+            log.compacted(before, after);
             Ok(())
         }
         Err(NodeFault::Stopped) => Err(Fault::Device),

@@ -4,7 +4,7 @@ ghost use Rattle.relay_book.specs.declared.change.Change.{Change};
 ghost use Rattle.relay_links.specs.Link.{LinkHasEnded, start_at};
 ghost use Rattle.relay_records.specs.Records.{Keeps};
 
-use crate::compacting::compact_behind;
+use crate::compacting::compact_after;
 use crate::pushing::push_due;
 use crate::sockets::{listener, next_client};
 use crate::workers::{MOST_WORKERS, OCTET_LIMIT, Service};
@@ -23,7 +23,7 @@ use std::sync::Wait;
 use std::thread::Threads;
 
 /// How clients are served.
-#[derive(Clone, Copy, Debug)]
+#[derive(Clone, Copy)]
 pub struct ServeOptions {
     /// How many rounds, 1 to 1,000,000. After each round the due work is done.
     pub rounds: u32,
@@ -79,8 +79,8 @@ pub fn serve<
             service.serve_next(node, &listener, options.workers.min(MOST_WORKERS), &mut log)?
         };
         node = served;
-        push_behind(alloc, rt, &mut node, &mut lines, &mut log)?;
-        compact_behind(&mut node, was_full, &mut log)?;
+        push_after(alloc, rt, &mut node, &mut lines, &mut log)?;
+        compact_after(&mut node, was_full, &mut log)?;
     }
     Ok(())
 }
@@ -98,7 +98,7 @@ fn serve_next<C: Clock, E: Write>(
 }
 
 /// Does the due work. If memory or file descriptors run out, only the push ends.
-fn push_behind<R: Clock + Net<Stream = TcpStream>, W: Write, E: Write>(
+fn push_after<R: Clock + Net<Stream = TcpStream>, W: Write, E: Write>(
     alloc: Global,
     rt: &R,
     node: &mut Node<FileDisk>,

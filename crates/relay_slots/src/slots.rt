@@ -10,7 +10,6 @@ pub const SLOT_COUNT: usize = 64;
 
 /// Slots numbered from 0 to 63, each free or with a value. All are allocated at the start, so that filling one needs
 /// no memory.
-#[derive(Debug)]
 pub struct Slots<T> {
     slots: Vec<Option<T>>,
 }

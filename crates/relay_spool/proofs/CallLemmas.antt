@@ -146,11 +146,11 @@ module _ {D : Type 0} {honest : Type 0} (words : DiskWords D) (old mid new : Dis
   -- where it only reads, both disks are only read
   reads_turned : honest → (from there back to : D) → OnlyFuseChanges honest words from there → OnlyReads words there back
       → OnlyFuseChanges honest words back to → OnlyReads words from to
-  reads_turned h from there back to before reads behind = record {
-    reads = behind.seen h ∙ reads.reads ∙ before.seen h;
+  reads_turned h from there back to before reads after = record {
+    reads = after.seen h ∙ reads.reads ∙ before.seen h;
     stop = run_on honest words h from there back to (words.may_leave from) before
         (weakened words there back (words.may_leave there) (words.may_leave from)
-        (λ image left. (before.images h image).0 left) reads.stop) behind;
+        (λ image left. (before.images h image).0 left) reads.stop) after;
   }
 
   pub each_reads_turned : honest → ((disk : D) → OnlyNow words disk) → OnlyReads words mid.first left

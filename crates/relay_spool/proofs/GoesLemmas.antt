@@ -80,10 +80,10 @@ module _ {D : Type 0} (honest : Type 0) (words : DiskWords D) where
   failures_on : {T : Type 0} (result : Result T ReadFault) (disk mid now : D) → FailsNot words disk mid
       → MatchResult result (λ _. FailsNot words mid now) (λ fault. FailsBy words mid now (fault_of fault))
       → MatchResult result (λ _. FailsNot words disk now) (λ fault. FailsBy words disk now (fault_of fault))
-  failures_on (Ok value) disk mid now before behind = behind ∙ before
-  failures_on (Err Device) disk mid now before behind = subst (λ (n : ℕ). Rises n (words.failed now)) before behind
-  failures_on (Err NoMemory) disk mid now before behind = behind ∙ before
-  failures_on (Err (Damaged gate)) disk mid now before behind = behind ∙ before
+  failures_on (Ok value) disk mid now before after = after ∙ before
+  failures_on (Err Device) disk mid now before after = subst (λ (n : ℕ). Rises n (words.failed now)) before after
+  failures_on (Err NoMemory) disk mid now before after = after ∙ before
+  failures_on (Err (Damaged gate)) disk mid now before after = after ∙ before
 
   -- one call after another
   pub goes_then : {T U : Type 0} (call : Result T ReadFault) (value : T) (result : Result U ReadFault) (disk mid now : D)

@@ -9,7 +9,7 @@ use Rattle.relay_spool.specs.Spool.{IsBeforeOrWithAll}
 use Rattle.relay_spool.specs.Head.{KeepsHead}
 use Rattle.relay_spool.proofs.HeadLemmas.{writes_keep_head}
 use Rattle.relay_spool.proofs.RunLemmas.{joined, weakened}
-use Rattle.relay_spool.proofs.ImageLemmas.{AreBehind, length-front, with_front, with_links}
+use Rattle.relay_spool.proofs.ImageLemmas.{AreAfter, length-front, with_front, with_links}
 
 -- where the last gate of an image stands
 pub record Gate (image : List ℕ) (bodies : List (List ℕ)) (place : ℕ) : Type 0 where
@@ -23,13 +23,13 @@ pub gate_of : (image : List ℕ) (bodies : List (List ℕ)) (place : ℕ) → pl
 gate_of image bodies place at is =
     let size = length-front is.front bodies is.is_front in
     let here : length is.front ≡ place = omega (arith, size, at) in
-    let all : length image ≡ length is.front + suc (length is.behind) = ap length is.text ∙ length-append is.front (is.gate ∷ is.behind) in
+    let all : length image ≡ length is.front + suc (length is.after) = ap length is.text ∙ length-append is.front (is.gate ∷ is.after) in
     record {
       front = is.front;
       is_front = is.is_front;
       within = omega (arith, here, all);
-      same = ap (λ (xs : List ℕ). take place xs) is.text ∙ take_at is.front (is.gate ∷ is.behind) place here;
-      closed = λ e. is.closed (sym (get_or_at is.front is.gate is.behind 0 place here) ∙ sym (ap (λ (xs : List ℕ). slice_index xs place) is.text) ∙ e);
+      same = ap (λ (xs : List ℕ). take place xs) is.text ∙ take_at is.front (is.gate ∷ is.after) place here;
+      closed = λ e. is.closed (sym (get_or_at is.front is.gate is.after 0 place here) ∙ sym (ap (λ (xs : List ℕ). slice_index xs place) is.text) ∙ e);
     }
 
 -- what an image keeps up to a place, it keeps before
@@ -49,9 +49,9 @@ same_gate image other bodies place gate within same =
     (λ e. gate.closed (sym (index_less place other image same) ∙ e))
 
 -- Written after the closed gate: whatever a stop leaves of it, the bodies are the same.
-pub behind_the_gate : WritesLeaveTheRest → (image other : List ℕ) (bodies : List (List ℕ)) (place count : ℕ) → Gate image bodies place
+pub after_the_gate : WritesLeaveTheRest → (image other : List ℕ) (bodies : List (List ℕ)) (place count : ℕ) → Gate image bodies place
     → Writes (place + 1) count image other → IsImageOf other bodies
-behind_the_gate law image other bodies place count gate writes =
+after_the_gate law image other bodies place count gate writes =
     let within = gate.within in
     let longer = writes.no_shorter in
     let front = (law (place + 1) count image other writes).0 in
@@ -62,7 +62,7 @@ behind_the_gate law image other bodies place count gate writes =
 pub record Ready (image : List ℕ) (bodies : List (List ℕ)) (place : ℕ) (tail : List ℕ) : Type 0 where
   pub gate : Gate image bodies place
   pub rest : List ℕ
-  pub behind : drop (place + 1) image ≡ tail ++ rest
+  pub after : drop (place + 1) image ≡ tail ++ rest
 
 pub length-written : (image : List ℕ) (place : ℕ) (octets : List ℕ) → place ≤ length image → place + length octets ≤ length (written image place octets)
 length-written image place octets within =
@@ -98,11 +98,11 @@ ready_of image bodies place tail gate =
         closed = λ e. gate.closed (sym (index_less place (written image (place + 1) tail) image same) ∙ e);
       };
       rest = drop (place + 1 + length tail) image;
-      behind = drop-written image (place + 1) tail low;
+      after = drop-written image (place + 1) tail low;
     }
 
 -- The gate written: whatever a stop leaves there, the bodies are the same, or with all of these.
-pub at_the_gate : WritesLeaveTheRest → (image other : List ℕ) (bodies more : List (List ℕ)) (place : ℕ) (tail : List ℕ) → Ready image bodies place tail → AreBehind tail more
+pub at_the_gate : WritesLeaveTheRest → (image other : List ℕ) (bodies more : List (List ℕ)) (place : ℕ) (tail : List ℕ) → Ready image bodies place tail → AreAfter tail more
     → Writes place 1 image other → HasBodies (IsBeforeOrWithAll bodies more) other
 at_the_gate law image other bodies more place tail ready are writes =
     let gate = ready.gate in
@@ -113,7 +113,7 @@ at_the_gate law image other bodies more place tail ready are writes =
     let least : min place (length image) ≡ place = omega (arith, within) in
     let front : take place other ≡ gate.front = ap (λ (n : ℕ). take n other) (sym least) ∙ rests.0 ∙ gate.same in
     ⊎_elim
-    (λ opens. (bodies ++ more, with_links gate.front tail ready.rest bodies more other place gate.is_front are here front opens (rests.1 ∙ ready.behind), inr refl))
+    (λ opens. (bodies ++ more, with_links gate.front tail ready.rest bodies more other place gate.is_front are here front opens (rests.1 ∙ ready.after), inr refl))
     (λ closed. (bodies, with_front gate.front bodies other place gate.is_front here front closed, inl refl))
     (cases_eq (slice_index other place) 1)
 
@@ -123,14 +123,14 @@ opens_at image place low =
     ap (λ (xs : List ℕ). slice_index xs place) (append_assoc (take place image) (1 ∷ []) (drop (place + 1) image))
     ∙ get_or_at (take place image) 1 (drop (place + 1) image) 0 place (omega (arith, begin, low))
 
-behind_at : (image : List ℕ) (place : ℕ) → place ≤ length image → drop (place + 1) (written image place (1 ∷ [])) ≡ drop (place + 1) image
-behind_at image place low =
+after_at : (image : List ℕ) (place : ℕ) → place ≤ length image → drop (place + 1) (written image place (1 ∷ [])) ≡ drop (place + 1) image
+after_at image place low =
     let begin = length-take place image in
     let front = length-append (take place image) (1 ∷ []) in
     drop_at (take place image ++ 1 ∷ []) (drop (place + 1) image) (place + 1) (omega (arith, begin, front, low))
 
 -- the gate open
-pub opened : (image : List ℕ) (bodies more : List (List ℕ)) (place : ℕ) (tail : List ℕ) → Ready image bodies place tail → AreBehind tail more
+pub opened : (image : List ℕ) (bodies more : List (List ℕ)) (place : ℕ) (tail : List ℕ) → Ready image bodies place tail → AreAfter tail more
     → IsImageOf (written image place (1 ∷ [])) (bodies ++ more)
 opened image bodies more place tail ready are =
     let gate = ready.gate in
@@ -141,7 +141,7 @@ opened image bodies more place tail ready are =
     with_links gate.front tail ready.rest bodies more other place gate.is_front are (omega (arith, long))
     (take-written image place (1 ∷ []) low ∙ gate.same)
     (opens_at image place low)
-    (behind_at image place low ∙ ready.behind)
+    (after_at image place low ∙ ready.after)
 
 module _ {D : Type 0} (words : DiskWords D) where
   -- while the tail is written
@@ -150,10 +150,10 @@ module _ {D : Type 0} (words : DiskWords D) where
       → AtEachMoment words old new (HasBodies (IsBeforeOrWithAll bodies more))
   tail_run law old new image bodies more place count gate =
       weakened words old new (Writes (place + 1) count image) (HasBodies (IsBeforeOrWithAll bodies more))
-      (λ other writes. (bodies, behind_the_gate law image other bodies place count gate writes, inl refl))
+      (λ other writes. (bodies, after_the_gate law image other bodies place count gate writes, inl refl))
 
   -- while the gate is written
-  pub gate_run : WritesLeaveTheRest → (old new : D) (image : List ℕ) (bodies more : List (List ℕ)) (place : ℕ) (tail : List ℕ) → Ready image bodies place tail → AreBehind tail more
+  pub gate_run : WritesLeaveTheRest → (old new : D) (image : List ℕ) (bodies more : List (List ℕ)) (place : ℕ) (tail : List ℕ) → Ready image bodies place tail → AreAfter tail more
       → AtEachMoment words old new (Writes place 1 image)
       → AtEachMoment words old new (HasBodies (IsBeforeOrWithAll bodies more))
   gate_run law old new image bodies more place tail ready are =

@@ -47,10 +47,10 @@ not_open image has = λ is. has.closed is.gate
 
 -- a cut after it opens none
 pub cutting : (size : ℕ) → 9 ≤ size → (image other : List ℕ) → HasClosedGate image → Cuts size image other → HasClosedGate other
-cutting size behind image other has cuts =
+cutting size after image other has cuts =
     let long = has.long in
     let least = cuts.no_shorter in
-    record { long = omega (arith, behind, long, least); closed = λ e. has.closed (sym (cuts.stays 8 (omega (arith, behind, long, least))) ∙ e) }
+    record { long = omega (arith, after, long, least); closed = λ e. has.closed (sym (cuts.stays 8 (omega (arith, after, long, least))) ∙ e) }
 
 -- nor does a write after it
 pub filling : (image other : List ℕ) (count : ℕ) → HasClosedGate image → Writes 9 count image other → HasClosedGate other
@@ -77,7 +77,7 @@ filled_cut image octets has closed =
       long = omega (arith, more);
       signed = take_less 8 9 (written (take 9 image) 9 octets) image (omega arith) nine ∙ has.signed;
       closed = λ e. closed (sym (index_less 8 9 (written (take 9 image) 9 octets) image (omega arith) nine) ∙ e);
-      behind = drop-written (take 9 image) 9 octets low
+      after = drop-written (take 9 image) 9 octets low
           ∙ ap (λ (xs : List ℕ). octets ++ xs) (drop_of_length-le (take 9 image) (omega (arith, cut_long)))
           ∙ append-nil octets;
     }
@@ -91,7 +91,7 @@ opening : WritesLeaveTheRest → (image other octets : List ℕ) → IsFilled im
 opening law image other octets is writes opens =
     opened_head law image other is.long writes opens
     ∙ ap (λ (xs : List ℕ). xs ++ 1 ∷ drop 9 image) is.signed
-    ∙ ap (λ (xs : List ℕ). signature ++ 1 ∷ xs) is.behind
+    ∙ ap (λ (xs : List ℕ). signature ++ 1 ∷ xs) is.after
 
 pub closed_or_new : WritesLeaveTheRest → (image other octets : List ℕ) → IsFilled image octets → Writes 8 1 image other → IsClosedOr (renewed octets) other
 closed_or_new law image other octets is writes =
@@ -113,7 +113,7 @@ renewed_has octets body generation is =
     record {
       front = (signature ++ 1 ∷ is.number) ++ (1 ∷ (link.size ++ body));
       gate = 0;
-      behind = [];
+      after = [];
       is_front = record {
         head = signature ++ 1 ∷ is.number;
         chain = 1 ∷ (link.size ++ body);

@@ -70,7 +70,7 @@ pub record IsFilled (image octets : List ℕ) : Type 0 where
   pub long : 9 ≤ length image
   pub signed : take 8 image ≡ signature
   pub closed : slice_index image 8 ≢ 1
-  pub behind : drop 9 image ≡ octets
+  pub after : drop 9 image ≡ octets
 
 -- what a stop may leave while an open head is closed: the image isn't open, or is as it was
 abbrev pub IsClosedOr : List ℕ → List ℕ → Type 0

@@ -27,13 +27,13 @@ all_filled [] each none = tt
 all_filled ([] ∷ lines) each none = absurd (none.at_start (lines_text lines) refl)
 all_filled ((octet ∷ line) ∷ lines) each none =
     let first = octet ∷ line in
-    let behind : (rest : List ℕ) → lines_text lines ≡ rest → lines_text (first ∷ lines) ≡ first ++ (crlf ++ rest) =
+    let afterwards : (rest : List ℕ) → lines_text lines ≡ rest → lines_text (first ∷ lines) ≡ first ++ (crlf ++ rest) =
     λ rest e. append_assoc first crlf (lines_text lines) ∙ ap (λ l. first ++ (crlf ++ l)) e in (
       record { no_crlf = each.0; not_empty = λ e. cc },
       all_filled lines each.1 (record {
-        at_start = λ after e. none.later first after (behind (crlf ++ after) e);
+        at_start = λ after e. none.later first after (afterwards (crlf ++ after) e);
         later =
-            λ before after e. none.later (first ++ (crlf ++ before)) after (behind (before ++ (blank ++ after)) e ∙ simp append_assoc);
+            λ before after e. none.later (first ++ (crlf ++ before)) after (afterwards (before ++ (blank ++ after)) e ∙ simp append_assoc);
       }),
     )
 
@@ -48,21 +48,21 @@ joined_length (octet ∷ line) [] each none =
 joined_length [] (next ∷ lines) each none = absurd (none.at_start (joined next lines) refl)
 joined_length (octet ∷ line) (next ∷ lines) each none =
     let first = octet ∷ line in
-    let behind : (rest : List ℕ) → joined next lines ≡ rest → joined first (next ∷ lines) ≡ first ++ (crlf ++ rest) =
+    let afterwards : (rest : List ℕ) → joined next lines ≡ rest → joined first (next ∷ lines) ≡ first ++ (crlf ++ rest) =
     λ rest e. ap (λ l. first ++ (crlf ++ l)) e in
     let later = joined_length next lines each.1 (record {
-      at_start = λ after e. none.later first after (behind (crlf ++ after) e);
+      at_start = λ after e. none.later first after (afterwards (crlf ++ after) e);
       later =
-          λ before after e. none.later (first ++ (crlf ++ before)) after (behind (before ++ (blank ++ after)) e ∙ simp append_assoc);
+          λ before after e. none.later (first ++ (crlf ++ before)) after (afterwards (before ++ (blank ++ after)) e ∙ simp append_assoc);
     }) in
     let whole = lines_length-line first (next ∷ lines) (omega arith) in
     let size = length-append first (crlf ++ joined next lines) in
     omega arith
 
 -- an empty line after some octets stands at their number
-occurs_behind : (text before after : List ℕ) → text ≡ before ++ (blank ++ after)
+occurs_after : (text before after : List ℕ) → text ≡ before ++ (blank ++ after)
     → OccursAt text blank (length before) × (length text ≡ length before + 4 + length after)
-occurs_behind text before after e =
+occurs_after text before after e =
     let here : drop (length before) text ≡ blank ++ after =
     ap (drop (length before)) e ∙ drop_at before (blank ++ after) (length before) refl in
     let fits : length text ≡ length before + 4 + length after =
@@ -76,7 +76,7 @@ no_end_found text start nowhere =
     let none : NoBlank text = record {
       at_start = start;
       later =
-          λ before after e. let found = occurs_behind text before after e in nowhere (length before) (omega arith) (omega (arith, found.1)) found.0;
+          λ before after e. let found = occurs_after text before after e in nowhere (length before) (omega arith) (omega (arith, found.1)) found.0;
     } in
     let split = split_lines text (lines_of text) (has_lines text) in
     let long = joined_length split.0 split.1 split.2 (subst NoBlank split.3 none) in
@@ -92,9 +92,9 @@ pub end_found : (text : List ℕ) (place : ℕ) → ((after : List ℕ) → text
 end_found text place start first here =
     let front = take place text in
     let rest = drop (place + 4) text in
-    let behind : drop place text ≡ blank ++ rest = OccursAt-split text blank place here in
+    let afterwards : drop place text ≡ blank ++ rest = OccursAt-split text blank place here in
     let whole : text ≡ (front ++ crlf) ++ (crlf ++ rest) =
-    sym (take-append-drop place text) ∙ ap (λ l. front ++ l) behind
+    sym (take-append-drop place text) ∙ ap (λ l. front ++ l) afterwards
     ∙ sym (append_assoc front crlf (crlf ++ rest)) in
     let size =
     ap length whole ∙ length-append (front ++ crlf) (crlf ++ rest)
@@ -106,7 +106,7 @@ end_found text place start first here =
       at_start = λ after e. start (after ++ (crlf ++ rest)) (whole ∙ ap (λ l. l ++ (crlf ++ rest)) e);
       later = λ before after e.
           let found =
-          occurs_behind text before (after ++ (crlf ++ rest))
+          occurs_after text before (after ++ (crlf ++ rest))
           (whole ∙ ap (λ l. l ++ (crlf ++ rest)) e ∙ simp append_assoc) in
           let inner = ap length e ∙ length-append before (blank ++ after) in
           let outer = length-append front crlf in

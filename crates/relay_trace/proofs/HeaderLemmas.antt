@@ -127,7 +127,7 @@ header_end_of-line text line rest some reads =
     let lines : lines_length (lines_of text) ≡ length line + 2 + lines_length (lines_of rest) =
     ap lines_length (lines_of-read text line rest reads) ∙ lines_length-line line (lines_of rest) some in
     let here = header_end_of-parts text in
-    let behind = header_end_of-parts rest in
+    let after = header_end_of-parts rest in
     omega arith
 
 lines_length-empty : (lines : List (List ℕ)) → lines_length ([] ∷ lines) ≡ 0

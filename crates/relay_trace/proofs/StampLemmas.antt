@@ -238,10 +238,10 @@ unfolding stamp_lines
 line_is stamp line is = is.line_is
 
 -- a text after a time stamp line
-behind : (stamp : Stamp) (line content : List ℕ) → IsStamp stamp → IsTimeStamp stamp line
+after : (stamp : Stamp) (line content : List ℕ) → IsStamp stamp → IsTimeStamp stamp line
     → (received_count_of (line ++ content) ≡ 1 + received_count_of content) ×
     (header_end_of (line ++ content) ≡ length line + header_end_of content)
-behind stamp line content valid is =
+after stamp line content valid is =
     let text = line_is stamp line is in
     let goes = header_goes_on (stamp_lines stamp is.date) content (stamp_lines_filled stamp line valid is) in (
       ap (λ l. received_count_of (l ++ content)) text ∙ goes.0
@@ -261,19 +261,19 @@ time_stamp_is_one_field stamp line valid is = (
     text_is = line_is stamp line is;
     each = stamp_lines_filled stamp line valid is;
   },
-  ap received_count_of (sym (append-nil line)) ∙ (behind stamp line [] valid is).0
+  ap received_count_of (sym (append-nil line)) ∙ (after stamp line [] valid is).0
       ∙ ap (λ n. 1 + n) ((header_ends_with_text [] no_crlf_nil).0 ∙ ap (λ b. cond b 1 0) is_received-nil),
 )
 
 pub passing_adds_one : PassingAddsOne
 passing_adds_one stamp content text valid passed =
-    let count = (behind stamp passed.line content valid passed.line_is).0 in
+    let count = (after stamp passed.line content valid passed.line_is).0 in
     let same = ap received_count_of passed.text_is in
     omega arith
 
 pub passing_keeps_header : PassingKeepsHeader
 passing_keeps_header stamp content text valid passed =
-    let end = ap header_end_of passed.text_is ∙ (behind stamp passed.line content valid passed.line_is).1 in
+    let end = ap header_end_of passed.text_is ∙ (after stamp passed.line content valid passed.line_is).1 in
     ap (λ n. take n text) end ∙ ap (take (length passed.line + header_end_of content)) passed.text_is
     ∙ take-append-add passed.line content (header_end_of content)
 

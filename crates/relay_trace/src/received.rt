@@ -12,7 +12,7 @@ use std::alloc::{AllocError, Global};
 const USUAL_LEN: usize = 160;
 
 /// The command that opened a session.
-#[derive(Clone, Copy, Debug, PartialEq, Eq)]
+#[derive(Clone, Copy, PartialEq, Eq)]
 pub enum Protocol {
     /// HELO.
     Smtp,
@@ -21,7 +21,7 @@ pub enum Protocol {
 }
 
 /// The values of a time stamp line (RFC 5321, section 4.4).
-#[derive(Clone, Copy, Debug)]
+#[derive(Clone, Copy)]
 pub struct TimeStamp<'a> {
     /// The client's word with HELO or EHLO.
     pub client: &'a [u8],

@@ -99,8 +99,8 @@ least_ruled places least (r ∷ rulings) zero ruling rise is =
     let first = rise.0 in let same = ap (λ (r : Ruling). r.place) (same_Some r ruling is) in omega (arith, first, same)
 least_ruled places least (r ∷ rulings) (suc k) ruling rise is =
     let first = rise.0 in
-    let behind = least_ruled places (r.place + 1) rulings k ruling rise.2 is in
-    omega (arith, first, behind)
+    let after = least_ruled places (r.place + 1) rulings k ruling rise.2 is in
+    omega (arith, first, after)
 
 pub one_ruling : (places : List Place) (least : ℕ) (rulings : List Ruling) (k n : ℕ) (one other : Ruling)
     → AreRulings places least rulings → slice_get rulings k ≡ Some one → slice_get rulings n ≡ Some other
@@ -110,12 +110,12 @@ one_ruling places least (r ∷ rulings) zero zero one other rise first second sa
     sym (same_Some r one first) ∙ same_Some r other second
 one_ruling places least (r ∷ rulings) zero (suc n) one other rise first second same =
     let here = ap (λ (r : Ruling). r.place) (same_Some r one first) in
-    let behind = least_ruled places (r.place + 1) rulings n other rise.2 second in
-    absurd (omega (arith, here, behind, same))
+    let after = least_ruled places (r.place + 1) rulings n other rise.2 second in
+    absurd (omega (arith, here, after, same))
 one_ruling places least (r ∷ rulings) (suc k) zero one other rise first second same =
     let here = ap (λ (r : Ruling). r.place) (same_Some r other second) in
-    let behind = least_ruled places (r.place + 1) rulings k one rise.2 first in
-    absurd (omega (arith, here, behind, same))
+    let after = least_ruled places (r.place + 1) rulings k one rise.2 first in
+    absurd (omega (arith, here, after, same))
 one_ruling places least (r ∷ rulings) (suc k) (suc n) one other rise first second same =
     one_ruling places (r.place + 1) rulings k n one other rise.2 first second same
 

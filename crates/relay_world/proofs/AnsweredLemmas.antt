@@ -28,7 +28,7 @@ rcpt_more true first reply answered place test more has = by (in_cons first plac
     by : (first ≡ place) ⊎ Contains (accepted_places answered) place
         → WasAccepted (answer_of (Rcpt first) reply ∷ answered) place
     by (inl same) = (0, reply, ap (λ p. Some (answer_of (Rcpt p) reply)) same, test)
-    by (inr behind) = let was = more behind in (suc was.0, was.1, was.2, was.3)
+    by (inr after) = let was = more after in (suc was.0, was.1, was.2, was.3)
 rcpt_more false first reply answered place test more has = let was = more has in (suc was.0, was.1, was.2, was.3)
 
 answer_more : (waited : Awaited) (reply : Reply) (answered : List Answered) (place : ℕ)
@@ -49,7 +49,7 @@ pub was_accepted : (answered : List Answered) (place : ℕ) → Contains (accept
     → WasAccepted answered place
 was_accepted [] place has = absurd (in_none place has)
 was_accepted (one ∷ answered) place has =
-    answer_more one.waited one.reply answered place (λ behind. was_accepted answered place behind) has
+    answer_more one.waited one.reply answered place (λ after. was_accepted answered place after) has
 
 -- the place of a RCPT
 abbrev place_of : Awaited → ℕ
@@ -60,10 +60,10 @@ accept_first : (is : Bool) (place : ℕ) (places : List ℕ) → is ≡ true →
 accept_first true place places test = in_first place places
 accept_first false place places test = absurd (false≢true test)
 
-accept_behind : (is : Bool) (first place : ℕ) (places : List ℕ) → Contains places place
+accept_after : (is : Bool) (first place : ℕ) (places : List ℕ) → Contains places place
     → Contains (cond is (first ∷ []) [] ++ places) place
-accept_behind true first place places has = in_rest first place places has
-accept_behind false first place places has = has
+accept_after true first place places has = in_rest first place places has
+accept_after false first place places has = has
 
 -- what an answered RCPT says of its place
 abbrev pub IsRcptThere : List Answered → ℕ → ℕ → Reply → Type 0
@@ -104,7 +104,7 @@ rcpt_there (Rcpt first) reply answered place rcpt more zero is =
 rcpt_there (Rcpt first) reply answered place rcpt more (suc k) is = (
   in_rest (answer_of (Rcpt first) reply) (answer_of (Rcpt place) rcpt) answered (more k is).0,
   (more k is).1,
-  λ test. accept_behind (is_accepted reply) first place (accepted_places answered) ((more k is).2 test),
+  λ test. accept_after (is_accepted reply) first place (accepted_places answered) ((more k is).2 test),
 )
 rcpt_there Data reply answered place rcpt more k is =
     (other_there Data reply answered place rcpt more k is, (more k is).1, (more k is).2)

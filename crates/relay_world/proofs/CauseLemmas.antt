@@ -17,7 +17,7 @@ use Rattle.relay_book.specs.declared.fate.Fate.TheVariants.{Waits, Late, Failed}
 use Rattle.relay_book.specs.DueReport.{fate_of, lateness, patience, way_of}
 use Rattle.relay_book.specs.Marks.{LeavesAt, change_at}
 use Rattle.relay_report.specs.Report.{Reported, Reporter}
-use Rattle.relay_world.specs.Bound.{ReportsBehind}
+use Rattle.relay_world.specs.Bound.{ReportsAfter}
 use Rattle.relay_world.specs.Custody.{HasCause, LeftFor, changes_before}
 
 abbrev way_tag : Way → ℕ
@@ -72,7 +72,7 @@ has_cause accepted at (ByWithdrawal other) (Withdrawn withdrawal) leaves =
     ap (λ o. option_map_or withdrawal_in o Return) leaves
 
 -- each change of a list has the report that is due after those before it
-reported_at : (reporter : Reporter) (front changes : List Change) (n : ℕ) (change : Change) → ReportsBehind reporter front changes
+reported_at : (reporter : Reporter) (front changes : List Change) (n : ℕ) (change : Change) → ReportsAfter reporter front changes
     → slice_get changes n ≡ Some change → Reported reporter (front ++ take n changes) change
 reported_at reporter front [] n change all found = absurd (false≢true (ap is_some found))
 reported_at reporter front (first ∷ changes) zero change all found =
@@ -82,12 +82,12 @@ reported_at reporter front (first ∷ changes) (suc n) change all found =
     subst (λ l. Reported reporter l change) (append_assoc front (first ∷ []) (take n changes))
     (reported_at reporter (front ++ first ∷ []) changes n change all.1 found)
 
-reported_by : (reporter : Reporter) (changes : List Change) (at : ℕ) (change : Change) → ReportsBehind reporter [] changes
+reported_by : (reporter : Reporter) (changes : List Change) (at : ℕ) (change : Change) → ReportsAfter reporter [] changes
     → change_at changes at ≡ Some change → Reported reporter (changes_before at changes) change
 reported_by reporter changes zero change all found = absurd (false≢true (ap is_some found))
 reported_by reporter changes (suc n) change all found = reported_at reporter [] changes n change all found
 
-pub left_for : (reporter : Reporter) (changes : List Change) (at number place : ℕ) (way : Way) → ReportsBehind reporter [] changes
+pub left_for : (reporter : Reporter) (changes : List Change) (at number place : ℕ) (way : Way) → ReportsAfter reporter [] changes
     → LeavesAt changes at number place way → LeftFor reporter changes at number place way
 left_for reporter changes at number place way all leaves = record {
   leaves = leaves;

@@ -17,7 +17,7 @@ use Rattle.relay_lines.specs.Reply.{Reply}
 use Rattle.relay_book.specs.declared.change.Accept.{Accept}
 use Rattle.relay_book.specs.declared.change.Change.{Change}
 use Rattle.relay_book.specs.Marks.{made_by, message_at}
-use Rattle.relay_course.specs.Progress.{Errand}
+use Rattle.relay_course.specs.Progress.{Delivery}
 use Rattle.relay_meeting.specs.Joined.{child_by}
 use Rattle.relay_meeting.proofs.Theorems.{child_holds_its_places}
 use Rattle.relay_node.specs.Acceptance.{acceptance_by, stamp_at}
@@ -30,7 +30,7 @@ use Rattle.relay_world.specs.Bound.{HasLink, IsBound, IsServed, IsStored, IsStor
 use Rattle.relay_world.specs.Chain.{ChainsAreShort, HasFields, IsAccepted, IsChain, IsChild, KeepsChainsShort}
 use Rattle.relay_world.specs.Ledger.{accepts_on}
 use Rattle.relay_world.specs.World.{Host, World, link_at}
-use Rattle.relay_world.proofs.ContentLemmas.{errand_by, errand_is, joined_by}
+use Rattle.relay_world.proofs.ContentLemmas.{delivery_by, delivery_is, joined_by}
 use Rattle.relay_world.proofs.ReceivedLemmas.{passed_has_one_more}
 
 -- an accept, as the ledger tells of it
@@ -125,16 +125,16 @@ module _ {D : Type 0} (honest : Type 0) (words : DiskWords D) (world : World D) 
       let served : IsServed world lists on link end = bound.servers on link end there server in
       let serves = served.serves in
       let passes = tried.passes in
-      let errand : Errand = errand_by tried.host tried.changes link tried.attempt passes in
+      let delivery : Delivery = delivery_by tried.host tried.changes link tried.attempt passes in
       let replies : List Reply = passes.course.runs.replies in
-      let only : 0 < length serves.said.offers → serves.said.offers ≡ child_by errand replies ∷ [] =
-      child_holds_its_places (setup_for served.host.config end.peer) errand serves.said serves.closing (take link.down_read link.down)
-      passes.output replies passes.course.runs.rest (errand_is tried.host tried.changes link tried.attempt passes)
+      let only : 0 < length serves.said.offers → serves.said.offers ≡ child_by delivery replies ∷ [] =
+      child_holds_its_places (setup_for served.host.config end.peer) delivery serves.said serves.closing (take link.down_read link.down)
+      passes.output replies passes.course.runs.rest (delivery_is tried.host tried.changes link tried.attempt passes)
       (joined_by tried.host served.host tried.changes served.changes world.ledger on link tried.attempt end passes serves) in
       let Its : Offered → Type 0 = λ offer. MayBeStored (setup_for served.host.config end.peer) offer
-      × (offer ≡ child_by errand replies) in
+      × (offer ≡ child_by delivery replies) in
       let one = accepted_offer served.host served.changes world.ledger on link end Its serves number places
-      (each_is (MayBeStored (setup_for served.host.config end.peer)) serves.said.offers (child_by errand replies) only
+      (each_is (MayBeStored (setup_for served.host.config end.peer)) serves.said.offers (child_by delivery replies) only
       (offers_may_be_stored (setup_for served.host.config end.peer) serves.said serves.dialogue)) has in
       let content : one.0.content ≡ passes.accept.stored_text = ap (λ (o : Offered). o.content) one.1.1 in
       let few = one.1.0.received in

@@ -19,10 +19,10 @@ use Rattle.relay_server.specs.Setup.{setup_for}
 use Rattle.relay_book.specs.declared.change.Accept.{Accept}
 use Rattle.relay_book.specs.declared.change.Change.{Change}
 use Rattle.relay_book.specs.declared.change.Verdict.{Verdict}
-use Rattle.relay_course.specs.Course.{Concludes, IsSentAs, errand_of}
+use Rattle.relay_course.specs.Course.{Concludes, IsSentAs, delivery_of}
 use Rattle.relay_course.specs.declared.awaited.Awaited.TheVariants.{Rcpt}
 use Rattle.relay_course.specs.Laws.{accepted_places, rcpts_in}
-use Rattle.relay_course.specs.Progress.{Answered, Errand, answer_of, progress}
+use Rattle.relay_course.specs.Progress.{Answered, Delivery, answer_of, progress}
 use Rattle.relay_course.proofs.Theorems.{rcpts_are_in_order}
 use Rattle.relay_meeting.specs.Joined.{HaveTalked, child_by}
 use Rattle.relay_meeting.proofs.Theorems.{what_relays_say}
@@ -36,11 +36,11 @@ use Rattle.relay_world.specs.Passing.{AtMostOneChild}
 use Rattle.relay_world.specs.World.{Host, World}
 use Rattle.relay_world.proofs.AmongLemmas.{all_by, all_of, found_in, in_found, recipients_there}
 use Rattle.relay_world.proofs.AnsweredLemmas.{WasAccepted, place_tried, was_accepted}
-use Rattle.relay_world.proofs.ContentLemmas.{errand_by, errand_is, joined_by}
+use Rattle.relay_world.proofs.ContentLemmas.{delivery_by, delivery_is, joined_by}
 
 no_crlf : HasNoCrlf []
 no_crlf = record {
-  nowhere = λ front behind e. absurd (omega (arith, ap length e, length-append (front ++ crlf) behind, length-append front crlf));
+  nowhere = λ front after e. absurd (omega (arith, ap length e, length-append (front ++ crlf) after, length-append front crlf));
 }
 
 -- no octets are a rest that isn't whole
@@ -75,17 +75,17 @@ full_only (offer ∷ offers) = refl
 
 module _ {D : Type 0} (host : Host D) (changes : List Change) (link : Link) (attempt : Attempt)
     (passes : PassesOn host changes link attempt) where
-  abbrev its_errand : Errand
-  its_errand = errand_by host changes link attempt passes
+  abbrev its_delivery : Delivery
+  its_delivery = delivery_by host changes link attempt passes
 
   abbrev pub its_answers : List Answered
-  its_answers = (progress its_errand passes.course.runs.replies).answered
+  its_answers = (progress its_delivery passes.course.runs.replies).answered
 
   pub all_cut : CutsAllReplies (take link.down_read link.down) passes.course.runs.replies passes.course.runs.rest
   all_cut = record {
     cut = passes.course.runs.cut;
     ends = all_read attempt.places.items passes.told passes.course.runs.rest
-        (progress its_errand passes.course.runs.replies).verdicts passes.verdicts passes.course.runs.concludes;
+        (progress its_delivery passes.course.runs.replies).verdicts passes.verdicts passes.course.runs.concludes;
   }
 
   -- what the replies answered, and the child places
@@ -113,11 +113,11 @@ module _ {D : Type 0} (host : Host D) (changes : List Change) (link : Link) (att
       (cut_is_one (take link.down_read link.down) has.rest passes.course.runs.rest has.replies passes.course.runs.replies has.read
       all_cut).0 in
       has.answered_are
-      ∙ ap (λ (a : Accept). (progress (errand_of host.config.host a.envelope a.stored_text has.dot_text attempt.places.items)
+      ∙ ap (λ (a : Accept). (progress (delivery_of host.config.host a.envelope a.stored_text has.dot_text attempt.places.items)
       has.replies).answered) same
-      ∙ ap (λ t. (progress (errand_of host.config.host passes.accept.envelope passes.accept.stored_text t attempt.places.items)
+      ∙ ap (λ t. (progress (delivery_of host.config.host passes.accept.envelope passes.accept.stored_text t attempt.places.items)
       has.replies).answered) text
-      ∙ ap (λ l. (progress its_errand l).answered) replies
+      ∙ ap (λ l. (progress its_delivery l).answered) replies
 
   pub child_places : AreChildPlaces host changes link attempt (accepted_places its_answers)
   child_places = record { answered = its_answers; reads = has_answers; places_are = refl }
@@ -129,7 +129,7 @@ module _ {D : Type 0} (host : Host D) (changes : List Change) (link : Link) (att
   pub place_at : (k place : ℕ) (rcpt : Reply) → slice_get (rcpts_in its_answers) k ≡ Some (answer_of (Rcpt place) rcpt)
       → slice_get attempt.places.items k ≡ Some place
   place_at k place rcpt is =
-      place_tried its_answers attempt.places.items k place rcpt (rcpts_are_in_order its_errand passes.course.runs.replies) is
+      place_tried its_answers attempt.places.items k place rcpt (rcpts_are_in_order its_delivery passes.course.runs.replies) is
 
   pub child_place_tried : (place : ℕ) → Contains (accepted_places its_answers) place → Contains attempt.places.items place
   child_place_tried place has =
@@ -144,14 +144,14 @@ module _ {D : Type 0} (host : Host D) (changes : List Change) (link : Link) (att
   module _ (other : Host D) (others : List Change) (world : World D) (end : ServerEnd)
       (serves : ServesLink other others world.ledger attempt.link link end) where
     abbrev pub child_now : Offered
-    child_now = child_by its_errand passes.course.runs.replies
+    child_now = child_by its_delivery passes.course.runs.replies
 
     -- all that both ends have said
-    pub talked : HaveTalked (setup_for other.config end.peer) its_errand serves.said serves.closing
+    pub talked : HaveTalked (setup_for other.config end.peer) its_delivery serves.said serves.closing
         passes.course.runs.replies passes.course.runs.rest
-    talked = what_relays_say (setup_for other.config end.peer) its_errand serves.said serves.closing
+    talked = what_relays_say (setup_for other.config end.peer) its_delivery serves.said serves.closing
         (take link.down_read link.down) passes.output
-        passes.course.runs.replies passes.course.runs.rest (errand_is host changes link attempt passes)
+        passes.course.runs.replies passes.course.runs.rest (delivery_is host changes link attempt passes)
         (joined_by host other changes others world.ledger attempt.link link attempt end passes serves)
 
     -- where the offer was queued, that is the one child

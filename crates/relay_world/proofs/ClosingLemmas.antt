@@ -60,10 +60,10 @@ pub turns_answered : (turns : List Turn) → length (answered_by turns) ≡ leng
 turns_answered [] = refl
 turns_answered (turn ∷ turns) =
     let first = one_answered turn.offer in
-    let behind = turns_answered turns in
+    let after = turns_answered turns in
     let answers = length-append (answers_in turn.offer) (answered_by turns) in
     let offers = length-append (offers_in turn.offer) (offered_by turns) in
-    omega (arith, first, behind, answers, offers)
+    omega (arith, first, after, answers, offers)
 
 -- a dialogue whose offers are all answered leaves no whole unit
 no_unit_left : (setup : Setup) (said : Said) (d : IsDialogue setup said) → length said.answers ≡ length said.offers
@@ -93,13 +93,13 @@ answer_plain (Queued number) = no_crlf (both (literal_free (codes "250 queued as
 answer_plain Full = no_crlf (literal_free (codes "452 spool full") refl)
 
 -- octets begin with the text of one answer
-answer_is_one : (host : List ℕ) (given other : Answer) (behind more : List ℕ)
-    → reply_text (reply_of host (row_of_answer given)) ++ behind ≡ reply_text (reply_of host (row_of_answer other)) ++ more
+answer_is_one : (host : List ℕ) (given other : Answer) (after more : List ℕ)
+    → reply_text (reply_of host (row_of_answer given)) ++ after ≡ reply_text (reply_of host (row_of_answer other)) ++ more
     → reply_text (reply_of host (row_of_answer given)) ≡ reply_text (reply_of host (row_of_answer other))
-answer_is_one host given other behind more e =
-    let same = first_line_is_one (reply_text (reply_of host (row_of_answer given)) ++ behind) (answer_line given) behind
+answer_is_one host given other after more e =
+    let same = first_line_is_one (reply_text (reply_of host (row_of_answer given)) ++ after) (answer_line given) after
     (answer_line other) more (record {
-      text = ap (λ l. l ++ behind) (answer_text host given);
+      text = ap (λ l. l ++ after) (answer_text host given);
       first = answer_plain given;
     }) (record {
       text = e ∙ ap (λ l. l ++ more) (answer_text host other);
@@ -108,39 +108,39 @@ answer_is_one host given other behind more e =
     answer_text host given ∙ ap (λ l. l ++ crlf) same.0 ∙ sym (answer_text host other)
 
 -- turns of one course have one text, where octets begin with both, and one state after them
-text_is_one : (host : List ℕ) (course : Course) (turn other : Turn) (new next : State) (behind more : List ℕ)
+text_is_one : (host : List ℕ) (course : Course) (turn other : Turn) (new next : State) (after more : List ℕ)
     → Takes host course turn new → Takes host course other next
-    → reply_text turn.reply ++ behind ≡ reply_text other.reply ++ more
+    → reply_text turn.reply ++ after ≡ reply_text other.reply ++ more
     → (reply_text turn.reply ≡ reply_text other.reply) × (new ≡ next)
-text_is_one host (Replies row mid) turn other new next behind more one two e =
+text_is_one host (Replies row mid) turn other new next after more one two e =
     (ap reply_text (one.0 ∙ sym two.0), one.2 ∙ sym two.2)
-text_is_one host (Offers client envelope content) turn other new next behind more one two e =
-    let same = answer_is_one host one.0 two.0 behind more
-    (ap (λ r. reply_text r ++ behind) (sym one.1) ∙ e ∙ ap (λ r. reply_text r ++ more) two.1) in
+text_is_one host (Offers client envelope content) turn other new next after more one two e =
+    let same = answer_is_one host one.0 two.0 after more
+    (ap (λ r. reply_text r ++ after) (sym one.1) ∙ e ∙ ap (λ r. reply_text r ++ more) two.1) in
     (ap reply_text one.1 ∙ same ∙ sym (ap reply_text two.1), one.3 ∙ sym two.3)
 
 -- turns that read no more than others do, after which there is no unit, write no more than those, where both write a
 -- beginning of the same octets
-writes_no_more : (setup : Setup) (old new next : State) (turns others : List Turn) (rest unread behind more : List ℕ)
+writes_no_more : (setup : Setup) (old new next : State) (turns others : List Turn) (rest unread after more : List ℕ)
     → Turns setup old turns new → Turns setup old others next → HasNoUnit next rest
-    → read_by others ++ rest ≡ read_by turns ++ unread → written_by turns ++ behind ≡ written_by others ++ more
+    → read_by others ++ rest ≡ read_by turns ++ unread → written_by turns ++ after ≡ written_by others ++ more
     → Begins (written_by turns) (written_by others)
-writes_no_more setup old new next [] others rest unread behind more one two none e w = (written_by others, refl)
-writes_no_more setup old new next (turn ∷ turns) [] rest unread behind more one two none e w =
+writes_no_more setup old new next [] others rest unread after more one two none e w = (written_by others, refl)
+writes_no_more setup old new next (turn ∷ turns) [] rest unread after more one two none e w =
     absurd (subst (λ (s : State). HasNoUnit s rest) (sym two) none turn.asked (read_by turns ++ unread)
     (asked_is_a_unit setup old one.0 turn one.1) (e ∙ append_assoc turn.asked (read_by turns) unread))
-writes_no_more setup old new next (turn ∷ turns) (other ∷ others) rest unread behind more one two none e w =
+writes_no_more setup old new next (turn ∷ turns) (other ∷ others) rest unread after more one two none e w =
     let read = turn_is_of_its_unit setup old one.0 other.asked (read_by turns ++ unread) (read_by others ++ rest)
     two.1.course turn two.1.comes one.1
     (sym (append_assoc turn.asked (read_by turns) unread) ∙ sym e ∙ append_assoc other.asked (read_by others) rest) in
-    let line = sym (append_assoc (reply_text turn.reply) (written_by turns) behind) ∙ w
+    let line = sym (append_assoc (reply_text turn.reply) (written_by turns) after) ∙ w
     ∙ append_assoc (reply_text other.reply) (written_by others) more in
-    let same = text_is_one setup.host two.1.course turn other one.0 two.0 (written_by turns ++ behind)
+    let same = text_is_one setup.host two.1.course turn other one.0 two.0 (written_by turns ++ after)
     (written_by others ++ more) read.takes two.1.takes line in
-    let written = append_cancel_left (reply_text other.reply) (written_by turns ++ behind) (written_by others ++ more)
-    (ap (λ l. l ++ (written_by turns ++ behind)) (sym same.0) ∙ line) in
-    let later = writes_no_more setup one.0 new next turns others rest unread behind more one.2
-    (subst (λ (s : State). Turns setup s others next) (sym same.1) two.2) none (sym read.behind) written in (
+    let written = append_cancel_left (reply_text other.reply) (written_by turns ++ after) (written_by others ++ more)
+    (ap (λ l. l ++ (written_by turns ++ after)) (sym same.0) ∙ line) in
+    let later = writes_no_more setup one.0 new next turns others rest unread after more one.2
+    (subst (λ (s : State). Turns setup s others next) (sym same.1) two.2) none (sym read.after) written in (
       later.0,
       ap (λ l. l ++ written_by others) (sym same.0) ∙ ap (λ l. reply_text turn.reply ++ l) later.1
           ∙ sym (append_assoc (reply_text turn.reply) (written_by turns) later.0),

@@ -17,9 +17,9 @@ use Rattle.relay_book.specs.declared.change.Accept.{Accept}
 use Rattle.relay_book.specs.declared.change.Change.{Change}
 use Rattle.relay_book.specs.Marks.{message_at}
 use Rattle.relay_book.specs.Record.{IsAccept, is_null}
-use Rattle.relay_course.specs.Course.{errand_of}
-use Rattle.relay_course.specs.Laws.{IsErrand}
-use Rattle.relay_course.specs.Progress.{Errand, progress}
+use Rattle.relay_course.specs.Course.{delivery_of}
+use Rattle.relay_course.specs.Laws.{IsDelivery}
+use Rattle.relay_course.specs.Progress.{Delivery, progress}
 use Rattle.relay_course.proofs.Theorems.{each_command_is_read}
 use Rattle.relay_meeting.specs.Joined.{AreJoined, child_by, output_with}
 use Rattle.relay_meeting.proofs.Theorems.{child_holds_its_places}
@@ -89,15 +89,15 @@ child_stored P answers (first ∷ offers) offer number places one all has =
     (subst (λ l. Contains {X = ℕ × ℕ} (map accept_told (queued_by answers l)) (number, places)) is has)
 
 module _ {D : Type 0} where
-  -- the errand of an attempt
-  abbrev pub errand_by : (host : Host D) (changes : List Change) (link : Link) (attempt : Attempt)
-      → PassesOn host changes link attempt → Errand
-  errand_by host changes link attempt passes =
-      errand_of host.config.host passes.accept.envelope passes.accept.stored_text passes.course.dot_text attempt.places.items
+  -- the delivery of an attempt
+  abbrev pub delivery_by : (host : Host D) (changes : List Change) (link : Link) (attempt : Attempt)
+      → PassesOn host changes link attempt → Delivery
+  delivery_by host changes link attempt passes =
+      delivery_of host.config.host passes.accept.envelope passes.accept.stored_text passes.course.dot_text attempt.places.items
 
-  pub errand_is : (host : Host D) (changes : List Change) (link : Link) (attempt : Attempt)
-      (passes : PassesOn host changes link attempt) → IsErrand (errand_by host changes link attempt passes)
-  errand_is host changes link attempt passes = record {
+  pub delivery_is : (host : Host D) (changes : List Change) (link : Link) (attempt : Attempt)
+      (passes : PassesOn host changes link attempt) → IsDelivery (delivery_by host changes link attempt passes)
+  delivery_is host changes link attempt passes = record {
     host = (named host.config).is_word;
     envelope = passes.valid.envelope;
     short = text_is_short passes.accept passes.valid;
@@ -111,7 +111,7 @@ module _ {D : Type 0} where
   pub joined_by : (host other : Host D) (changes others : List Change) (ledger : List Line) (number : ℕ) (link : Link)
       (attempt : Attempt) (end : ServerEnd) (passes : PassesOn host changes link attempt)
       (serves : ServesLink other others ledger number link end)
-      → AreJoined (setup_for other.config end.peer) (errand_by host changes link attempt passes) serves.said serves.closing
+      → AreJoined (setup_for other.config end.peer) (delivery_by host changes link attempt passes) serves.said serves.closing
       (take link.down_read link.down) passes.output passes.course.runs.replies passes.course.runs.rest
   joined_by host other changes others ledger number link attempt end passes serves = record {
     dialogue = serves.dialogue;
@@ -129,14 +129,14 @@ module _ {D : Type 0} where
   sends_only : (host : Host D) (changes : List Change) (link : Link) (attempt : Attempt)
       (passes : PassesOn host changes link attempt) → SendsOnly host.config.host passes.accept attempt link.up
   sends_only host changes link attempt passes =
-      let errand : Errand = errand_by host changes link attempt passes in
+      let delivery : Delivery = delivery_by host changes link attempt passes in
       let replies : List Reply = passes.course.runs.replies in
       record {
         dot_text = passes.course.dot_text;
         sent = passes.course.sent;
-        commands = (progress errand replies).commands;
+        commands = (progress delivery replies).commands;
         begins = subst (λ l. Begins link.up l) passes.course.runs.written passes.wrote;
-        each = each_command_is_read errand replies (errand_is host changes link attempt passes);
+        each = each_command_is_read delivery replies (delivery_is host changes link attempt passes);
       }
 
   passed_on : (host other : Host D) (changes others : List Change) (ledger : List Line) (number : ℕ) (link : Link)
@@ -145,21 +145,21 @@ module _ {D : Type 0} where
       → (child places : ℕ) → Contains {X = ℕ × ℕ} (accepts_on number ledger) (child, places)
       → IsPassedOn passes.accept others child
   passed_on host other changes others ledger number link attempt end passes serves child places has =
-      let errand : Errand = errand_by host changes link attempt passes in
+      let delivery : Delivery = delivery_by host changes link attempt passes in
       let replies : List Reply = passes.course.runs.replies in
-      let one : 0 < length serves.said.offers → serves.said.offers ≡ child_by errand replies ∷ [] =
-      child_holds_its_places (setup_for other.config end.peer) errand serves.said serves.closing (take link.down_read link.down)
-      passes.output replies passes.course.runs.rest (errand_is host changes link attempt passes)
+      let one : 0 < length serves.said.offers → serves.said.offers ≡ child_by delivery replies ∷ [] =
+      child_holds_its_places (setup_for other.config end.peer) delivery serves.said serves.closing (take link.down_read link.down)
+      passes.output replies passes.course.runs.rest (delivery_is host changes link attempt passes)
       (joined_by host other changes others ledger number link attempt end passes serves) in
       let told : Contains {X = ℕ × ℕ} (map accept_told (queued_in serves.said)) (child, places) =
       subst (λ (l : List (ℕ × ℕ)). Contains {X = ℕ × ℕ} l (child, places)) serves.accepts has in
-      let stored : IsStoredAs other.config end.peer others child (child_by errand replies) =
-      child_stored (IsStored other.config end.peer others) serves.said.answers serves.said.offers (child_by errand replies)
+      let stored : IsStoredAs other.config end.peer others child (child_by delivery replies) =
+      child_stored (IsStored other.config end.peer others) serves.said.answers serves.said.offers (child_by delivery replies)
       child places one serves.stored told in
       record {
         child = stored.accept;
         found = stored.found;
-        behind = record { stamp = _; passed = stored.is.passed };
+        after = record { stamp = _; passed = stored.is.passed };
       }
 
 module _ {D : Type 0} (honest : Type 0) (words : DiskWords D) where

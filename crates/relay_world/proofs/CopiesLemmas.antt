@@ -29,7 +29,7 @@ use Rattle.relay_world.specs.Passing.{RepliesGave, Rules}
 use Rattle.relay_world.specs.World.{Host, World}
 use Rattle.relay_world.proofs.AmongLemmas.{found_in, in_cons, in_found, in_none, in_rest, ruled_at}
 use Rattle.relay_world.proofs.ChildrenLemmas.{all_cut, at_most_one_child, child_place_tried, child_places, its_answers, one_row, passes_of}
-use Rattle.relay_world.proofs.ContentLemmas.{errand_by}
+use Rattle.relay_world.proofs.ContentLemmas.{delivery_by}
 use Rattle.relay_world.proofs.ClaimLemmas.{claims_running, known_at, known_attempt, there_too}
 use Rattle.relay_world.proofs.PassingLemmas.{others_are_not_held}
 
@@ -40,7 +40,7 @@ among (y ∷ xs) x = elim (cases_eq y x) [
   | inl same ↦ inl (in_found (y ∷ xs) x 0 (ap (λ z. Some z) same))
   | inr off ↦ elim (among xs x) [
     | inl has ↦ inl (in_rest y x xs has)
-    | inr none ↦ inr (λ has. elim (in_cons y x xs has) [ inl same ↦ off same | inr behind ↦ none behind ])
+    | inr none ↦ inr (λ has. elim (in_cons y x xs has) [ inl same ↦ off same | inr after ↦ none after ])
   ]
 ]
 
@@ -128,7 +128,7 @@ module _ {D : Type 0} (honest : Type 0) (words : DiskWords D) (world : World D) 
         (cut_is_one (take link.down_read link.down) runs.rest rest runs.replies replies
         (all_cut host changes link attempt passes) cut).0 in
         subst (λ (l : List Reply). IsDecidedBy world lists node message place attempt l) same (record {
-          errand = errand_by host changes link attempt passes;
+          delivery = delivery_by host changes link attempt passes;
           places_are = refl;
           each = runs.each;
           passes = (

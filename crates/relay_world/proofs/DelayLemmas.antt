@@ -29,17 +29,17 @@ apart (suc a) (suc b) off = elim (apart a b (λ same. off (ap suc same))) [
 ]
 
 -- a part of a list that comes before another part comes in what stands before that
-before_that : {A : Type 0} (xs ys behind rest : List A) (x y : A) → xs ++ x ∷ behind ≡ ys ++ y ∷ rest
+before_that : {A : Type 0} (xs ys after rest : List A) (x y : A) → xs ++ x ∷ after ≡ ys ++ y ∷ rest
     → length xs < length ys → (more : List A) × (ys ≡ xs ++ x ∷ more)
-before_that [] [] behind rest x y same less = absurd (omega (arith, less))
-before_that [] (z ∷ ys) behind rest x y same less =
+before_that [] [] after rest x y same less = absurd (omega (arith, less))
+before_that [] (z ∷ ys) after rest x y same less =
     let first : x ≡ z = cc in (ys, ap (λ w. w ∷ ys) (sym first))
-before_that (z ∷ xs) [] behind rest x y same less = absurd (omega (arith, less))
-before_that (z ∷ xs) (w ∷ ys) behind rest x y same less =
+before_that (z ∷ xs) [] after rest x y same less = absurd (omega (arith, less))
+before_that (z ∷ xs) (w ∷ ys) after rest x y same less =
     let first : z ≡ w = cc in
-    let others : xs ++ x ∷ behind ≡ ys ++ y ∷ rest = cc in
+    let others : xs ++ x ∷ after ≡ ys ++ y ∷ rest = cc in
     let shorter : length xs < length ys = omega (arith, less) in
-    let found = before_that xs ys behind rest x y others shorter in
+    let found = before_that xs ys after rest x y others shorter in
     (found.0, ap (λ v. v ∷ ys) (sym first) ∙ ap (λ l. z ∷ l) found.1)
 
 or_true : (b : Bool) → (b || true) ≡ true
@@ -52,11 +52,11 @@ any_passes test [] more x is = ap (λ b. b || list_any test more) is
 any_passes test (y ∷ xs) more x is = ap (λ b. test y || b) (any_passes test xs more x is) ∙ or_true (test y)
 
 -- changes that fit do so up to each of them
-fits_up_to : (queue : Queue) (front : List Change) (one : Change) (behind : List Change) → FitsFrom queue (front ++ one ∷ behind)
+fits_up_to : (queue : Queue) (front : List Change) (one : Change) (after : List Change) → FitsFrom queue (front ++ one ∷ after)
     → FitsFrom queue front × FitsQueue (fold step queue front) one
-fits_up_to queue [] one behind fits = (tt, fits.0)
-fits_up_to queue (first ∷ front) one behind fits =
-    let rest = fits_up_to (step queue first) front one behind fits.1 in ((fits.0, rest.0), rest.1)
+fits_up_to queue [] one after fits = (tt, fits.0)
+fits_up_to queue (first ∷ front) one after fits =
+    let rest = fits_up_to (step queue first) front one after fits.1 in ((fits.0, rest.0), rest.1)
 
 -- an outcome that reports a delay is of a message of the queue
 told_message : (queue : Queue) (outcome : Outcome) (place : ℕ) → tells_of place (place_steps queue (change.Outcome outcome)) ≡ true
@@ -79,11 +79,11 @@ record KnowsDelay (front : List Change) (outcome : Outcome) (place : ℕ) : Type
   pub delays : delays_with message.accept outcome.message place (change.Outcome outcome) ≡ true
   pub first : not (list_any (delays_with message.accept outcome.message place) front) ≡ true
 
-known_delay : (changes front behind : List Change) (outcome : Outcome) (place : ℕ) → Fitting changes
-    → changes ≡ front ++ change.Outcome outcome ∷ behind
+known_delay : (changes front after : List Change) (outcome : Outcome) (place : ℕ) → Fitting changes
+    → changes ≡ front ++ change.Outcome outcome ∷ after
     → tells_of place (place_steps (queue_of front) (change.Outcome outcome)) ≡ true → KnowsDelay front outcome place
-known_delay changes front behind outcome place fitting list tells =
-    let fits = fits_up_to empty_queue front (change.Outcome outcome) behind (subst (λ l. FitsFrom empty_queue l) list fitting) in
+known_delay changes front after outcome place fitting list tells =
+    let fits = fits_up_to empty_queue front (change.Outcome outcome) after (subst (λ l. FitsFrom empty_queue l) list fitting) in
     let its = told_message (queue_of front) outcome place tells in
     let message : Message = its.0 in
     let waits : Bool = waits_in place outcome.rulings in
@@ -110,10 +110,10 @@ none_again : (changes : List Change) → Fitting changes → (one other number p
     → length first.front < length second.front → ⊥
 none_again changes fitting one other number place first second less =
     let mine : KnowsDelay first.front first.outcome place =
-    known_delay changes first.front first.behind first.outcome place fitting first.list first.tells in
+    known_delay changes first.front first.after first.outcome place fitting first.list first.tells in
     let yours : KnowsDelay second.front second.outcome place =
-    known_delay changes second.front second.behind second.outcome place fitting second.list second.tells in
-    let came = before_that first.front second.front first.behind second.behind (change.Outcome first.outcome)
+    known_delay changes second.front second.after second.outcome place fitting second.list second.tells in
+    let came = before_that first.front second.front first.after second.after (change.Outcome first.outcome)
     (change.Outcome second.outcome) (sym first.list ∙ second.list) less in
     let same : first.outcome.message ≡ second.outcome.message = first.its_message ∙ sym second.its_message in
     let accept : mine.message.accept ≡ yours.message.accept =

@@ -26,7 +26,7 @@ use Rattle.relay_world.specs.declared.line.Line.{Line}
 use Rattle.relay_world.specs.declared.link.Link.{Link}
 use Rattle.relay_world.specs.declared.link.ServerEnd.{ServerEnd}
 use Rattle.relay_world.specs.Bound.{HasFate, IsItsOutcome, IsStored, PassesOn, SaysThere, ServesLink, told_by}
-use Rattle.relay_world.specs.Ledger.{accepts_on, if_accepted_on, if_of_node, steps_behind, steps_by, steps_in, steps_of}
+use Rattle.relay_world.specs.Ledger.{accepts_on, if_accepted_on, if_of_node, steps_after, steps_by, steps_in, steps_of}
 use Rattle.relay_world.specs.World.{Host, Up}
 
 -- changes of the one list are those of the other
@@ -134,18 +134,18 @@ module _ {D : Type 0} where
   }
 
 -- the steps of one change more
-steps_behind_more : (front changes : List Change) (change : Change)
-    → steps_behind front (changes ++ change ∷ []) ≡ steps_behind front changes ++ steps_by (front ++ changes) change
-steps_behind_more front [] change =
+steps_after_more : (front changes : List Change) (change : Change)
+    → steps_after front (changes ++ change ∷ []) ≡ steps_after front changes ++ steps_by (front ++ changes) change
+steps_after_more front [] change =
     append-nil (steps_by front change) ∙ ap (λ l. steps_by l change) (sym (append-nil front))
-steps_behind_more front (first ∷ changes) change =
-    ap (λ l. steps_by front first ++ l) (steps_behind_more (front ++ first ∷ []) changes change
-    ∙ ap (λ l. steps_behind (front ++ first ∷ []) changes ++ steps_by l change) (append_assoc front (first ∷ []) changes))
-    ∙ sym (append_assoc (steps_by front first) (steps_behind (front ++ first ∷ []) changes) (steps_by (front ++ first ∷ changes) change))
+steps_after_more front (first ∷ changes) change =
+    ap (λ l. steps_by front first ++ l) (steps_after_more (front ++ first ∷ []) changes change
+    ∙ ap (λ l. steps_after (front ++ first ∷ []) changes ++ steps_by l change) (append_assoc front (first ∷ []) changes))
+    ∙ sym (append_assoc (steps_by front first) (steps_after (front ++ first ∷ []) changes) (steps_by (front ++ first ∷ changes) change))
 
 pub steps_more : (changes : List Change) (change : Change)
     → steps_of (changes ++ change ∷ []) ≡ steps_of changes ++ steps_by changes change
-steps_more changes change = steps_behind_more [] changes change
+steps_more changes change = steps_after_more [] changes change
 
 pub steps_in_more : (node : ℕ) (ledger more : List Line) → steps_in node (ledger ++ more) ≡ steps_in node ledger ++ steps_in node more
 steps_in_more node ledger more = flat_map-append (if_of_node node) ledger more

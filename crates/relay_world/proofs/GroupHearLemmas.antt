@@ -14,10 +14,10 @@ use Rattle.relay_records.specs.Note.{NotesNext}
 use Rattle.relay_records.specs.Records.{Keeps}
 use Rattle.relay_records.specs.Staged.{AreNotes, Awaits, Row}
 use Rattle.relay_node.specs.Acceptance.{IsAcceptOf, acceptance_by}
-use Rattle.relay_node.specs.Staging.{MakesInto, QueuesInto, ReceivesBehind, ReceivesInto}
+use Rattle.relay_node.specs.Staging.{MakesInto, QueuesInto, ReceivesAfter, ReceivesInto}
 use Rattle.relay_world.specs.declared.line.Line.TheVariants.{Accepted}
 use Rattle.relay_world.specs.Bound.{IsBound}
-use Rattle.relay_world.specs.Groups.{AcceptsInto, HasHeardInto, IsNotedBehind, Piece}
+use Rattle.relay_world.specs.Groups.{AcceptsInto, HasHeardInto, IsNotedAfter, Piece}
 use Rattle.relay_world.specs.Steps.{EndsSession, IsPut, SessionOf, waiting_up}
 use Rattle.relay_world.specs.World.{Up, World}
 use Rattle.relay_world.proofs.EndLemmas.{ending_keeps}
@@ -57,13 +57,13 @@ module _ {D : Type 0} (honest : Type 0) (words : DiskWords D) (old : World D) (l
     awaits_before = awaits_there honest words old lists node changes world next row left unsettled of.end.node of.host
         of.host_at of.before of.up heard.its_node
 
-    behind : ReceivesBehind honest words of.before.config changes unsettled.pending at of.session
+    afterwards : ReceivesAfter honest words of.before.config changes unsettled.pending at of.session
         (waiting_up piece.count of.link) of.before row heard.after left heard.received
-    behind = heard.receives changes unsettled.pending awaits_before
+    afterwards = heard.receives changes unsettled.pending awaits_before
 
     received : ReceivesInto of.before.config changes unsettled.pending of.end.peer at of.session said
-        (waiting_up piece.count of.link) of.before row heard.after left behind.more heard.received
-    received = behind.receives of.end.peer said
+        (waiting_up piece.count of.link) of.before row heard.after left afterwards.more heard.received
+    received = afterwards.receives of.end.peer said
         (says_before ⊥ words world unsettled.later piece.number unsettled.bound of)
 
     abbrev talk : Talk ⊥ words world unsettled.later piece.number unsettled.bound of next piece.count heard.after
@@ -84,8 +84,8 @@ module _ {D : Type 0} (honest : Type 0) (words : DiskWords D) (old : World D) (l
     -- mail was accepted
     module _ (number : ℕ)
         (queues : QueuesInto of.before.config changes unsettled.pending of.end.peer at said received.later
-        received.talks.refused heard.received.used of.before.records row left behind.more number)
-        (noted : Noted) (is_noted : IsNotedBehind honest words of.before.records row left noted) where
+        received.talks.refused heard.received.used of.before.records row left afterwards.more number)
+        (noted : Noted) (is_noted : IsNotedAfter honest words of.before.records row left noted) where
       abbrev accept : Accept
       accept = queues.accept
 
@@ -95,7 +95,7 @@ module _ {D : Type 0} (honest : Type 0) (words : DiskWords D) (old : World D) (l
       awaits_more : Awaits honest words heard.after.records changes more left
       awaits_more = subst
           (λ l. Awaits honest words heard.after.records changes (unsettled.pending ++ l) left) queues.more_is
-          behind.awaits
+          afterwards.awaits
 
       next_note : NotesNext (fold step (queue_of changes) unsettled.pending) (change.Accept accept)
           (encode (change.Accept accept)) noted.used noted
@@ -146,7 +146,7 @@ module _ {D : Type 0} (honest : Type 0) (words : DiskWords D) (old : World D) (l
     -- by what was accepted
     unsettled_by : (made : Option ℕ)
         → MakesInto of.before.config changes unsettled.pending of.end.peer at said received.later
-        received.talks.refused heard.received.used of.before.records row heard.after.records left behind.more made
+        received.talks.refused heard.received.used of.before.records row heard.after.records left afterwards.more made
         → AcceptsInto honest words world next piece.number of heard.after row left made
         → Unsettled honest words old lists node changes next left
     unsettled_by None makes accepts =

@@ -9,7 +9,7 @@ use Rattle.relay_world.specs.GivingUp.{Withdrawing}
 use Rattle.relay_world.specs.declared.attempt.Fate.TheVariants.{Replied}
 use Rattle.relay_world.specs.Bound.{IsBound}
 use Rattle.relay_world.specs.Crashes.{let_go as lets_go}
-use Rattle.relay_world.specs.Groups.{AcceptsInto, AttemptDropped, HasHeardAll, HasHeardEach, HasHeardInto, HasReadInto, HasReopenedBehindGroup, HasTurnedTo, Heard, IsOpenedAgain, IsUp, OutcomeInto, Piece, Read, SessionEnded}
+use Rattle.relay_world.specs.Groups.{AcceptsInto, AttemptDropped, HasHeardAll, HasHeardEach, HasHeardInto, HasReadInto, HasReopenedAfterGroup, HasTurnedTo, Heard, IsOpenedAgain, IsUp, OutcomeInto, Piece, Read, SessionEnded}
 use Rattle.relay_world.specs.Once.{IsTriedOnce}
 use Rattle.relay_world.specs.Steps.{heard_link, read_link}
 use Rattle.relay_world.specs.World.{Up, World}
@@ -150,11 +150,11 @@ module _ {D : Type 0} (honest : Type 0) (words : DiskWords D) where
       is.host.records
       again.put))
 
-pub reopened_behind : {D : Type 0} {asked : List Withdrawing} (honest : Type 0) (words : DiskWords D) (old new : World D)
+pub reopened_after : {D : Type 0} {asked : List Withdrawing} (honest : Type 0) (words : DiskWords D) (old new : World D)
     (lists later : List (List Change))
     → IsBound honest words old lists → IsTriedOnce old lists asked → IsBound honest words new later → (node : ℕ)
-    (pieces : List Piece) → HasReopenedBehindGroup honest words old new node pieces → IsTriedOnce new later asked
-reopened_behind honest words old new lists later bound once now node pieces reopens = elim reopens.decides [
+    (pieces : List Piece) → HasReopenedAfterGroup honest words old new node pieces → IsTriedOnce new later asked
+reopened_after honest words old new lists later bound once now node pieces reopens = elim reopens.decides [
   | inl none ↦
       opened_again honest words old new lists later bound once now node reopens.before reopens.after none.1
   | inr all ↦

@@ -17,7 +17,7 @@ use Rattle.relay_attempts.specs.AddedOutcome.{reported_as}
 use Rattle.relay_attempts.specs.Reply.{Told, outcome_at}
 use Rattle.relay_world.specs.declared.attempt.Fate.TheVariants.{Replied as RepliedBy}
 use Rattle.relay_world.specs.Groups.{EndsInto, HasReadInto, OutcomeInto, Piece}
-use Rattle.relay_attempts.specs.Staging.{HasEndedBehind, StagesOutcome}
+use Rattle.relay_attempts.specs.Staging.{HasEndedAfter, StagesOutcome}
 use Rattle.relay_node.specs.StagedReplies.{RepliesInto}
 use Rattle.relay_world.specs.Steps.{AttemptOf, DropsAttempt, waiting_down}
 use Rattle.relay_world.specs.World.{Up, World}
@@ -105,7 +105,7 @@ module _ {D : Type 0} (honest : Type 0) (words : DiskWords D) (old : World D) (l
 
     -- they have ended the attempt
     module _ (change_now : ℕ)
-        (ended : HasEndedBehind honest words (reporter_of of.before.config) changes unsettled.pending row at of.slot told
+        (ended : HasEndedAfter honest words (reporter_of of.before.config) changes unsettled.pending row at of.slot told
         (waiting_down piece.count of.link) reads.after.records left reads.after.attempts reads.replied change_now)
         (ends : EndsInto honest words world next piece.number of reads.after row left change_now) where
       abbrev pub outcome : Outcome

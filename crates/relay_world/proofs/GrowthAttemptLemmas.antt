@@ -12,10 +12,10 @@ use Rattle.relay_world.specs.declared.attempt.Fate.{Fate}
 use Rattle.relay_world.specs.declared.attempt.Fate.TheVariants.{Running, Replied, Lost, Dropped}
 use Rattle.relay_world.specs.Bound.{IsBound, MayBeIn, MayHaveCome, MayHaveEnded}
 use Rattle.relay_world.specs.Crashes.{let_go as lets_go}
-use Rattle.relay_world.specs.Groups.{AttemptDropped, HasHeardAll, HasHeardEach, HasReadInto, HasReopenedBehindGroup, HasTurnedTo, Heard, IsOpenedAgain, OutcomeInto, Piece, Read, SessionEnded}
+use Rattle.relay_world.specs.Groups.{AttemptDropped, HasHeardAll, HasHeardEach, HasReadInto, HasReopenedAfterGroup, HasTurnedTo, Heard, IsOpenedAgain, OutcomeInto, Piece, Read, SessionEnded}
 use Rattle.relay_world.specs.Growth.{AttemptGrows, AttemptsGrow, FateGrows, HasCeased}
 use Rattle.relay_world.specs.HangUp.{HangsUp}
-use Rattle.relay_world.specs.Once.{BreaksOff, Drops, Ends, GivesUp, GoesOn, Happens, Hears, IsNotOpened, LetsGo, Loses, Opens, Reads, Reopens, Starts, Stops, StopsInGivingUp, StopsInHearing, StopsInLosing, StopsInReading, Ticks, Writes, Closes, HearsAll, ReopensBehindGroup}
+use Rattle.relay_world.specs.Once.{BreaksOff, Drops, Ends, GivesUp, GoesOn, Happens, Hears, IsNotOpened, LetsGo, Loses, Opens, Reads, Reopens, Starts, Stops, StopsInGivingUp, StopsInHearing, StopsInLosing, StopsInReading, Ticks, Writes, Closes, HearsAll, ReopensAfterGroup}
 use Rattle.relay_world.specs.Steps.{AttemptOf, IsPut, RecordsRead}
 use Rattle.relay_world.specs.Stops.{Decides, Finds, FindsOutcome, HasReopened}
 use Rattle.relay_world.specs.World.{Down, FromClient, FromLoss, FromGivingUp, FromReplies, Host, Origin, Undecided, World}
@@ -156,9 +156,9 @@ module _ {D : Type 0} (honest : Type 0) (words : DiskWords D) where
       attempts_on world (lets_go node world) new (let_go world (lets_go node world) node (hangs node world))
       (attempts_same (lets_go node world) new (ap (λ (w : World D). w.attempts) again.new_is))
 
-  reopened_behind : (old new : World D) (node : ℕ) (pieces : List Piece)
-      → HasReopenedBehindGroup honest words old new node pieces → AttemptsGrow old new
-  reopened_behind old new node pieces is = elim is.decides [
+  reopened_after : (old new : World D) (node : ℕ) (pieces : List Piece)
+      → HasReopenedAfterGroup honest words old new node pieces → AttemptsGrow old new
+  reopened_after old new node pieces is = elim is.decides [
     | inl none ↦ opened_again old new node is.before.host is.after none.1
     | inr all ↦
         attempts_on old is.heard new (heard_each is.at old is.heard node pieces no_row is.row is.each)
@@ -222,7 +222,7 @@ module _ {D : Type 0} (honest : Type 0) (words : DiskWords D) where
     event_attempts (StopsInGivingUp reason node message is) = attempts_same old new is.rest.1
     event_attempts (IsNotOpened node is) = attempts_same old new is.rest.1
     event_attempts (Reopens node is) = reopened node is
-    event_attempts (ReopensBehindGroup node pieces is) = reopened_behind old new node pieces is
+    event_attempts (ReopensAfterGroup node pieces is) = reopened_after old new node pieces is
     event_attempts (Ticks clock is) = attempts_same old new (ap (λ (w : World D). w.attempts) is.new_is)
     event_attempts (LetsGo node is) = let_go old new node is
     event_attempts (GoesOn node is) = attempts_same old new is.rest.1

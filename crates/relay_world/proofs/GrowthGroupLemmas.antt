@@ -6,7 +6,7 @@ use Rattle.relay_records.specs.Staged.{Row, no_row}
 use Rattle.relay_world.specs.declared.attempt.Fate.TheVariants.{Replied}
 use Rattle.relay_world.specs.Growth.{HasGrown}
 use Rattle.relay_world.specs.Crashes.{let_go as lets_go}
-use Rattle.relay_world.specs.Groups.{AcceptsInto, AttemptDropped, HasHeardAll, HasHeardEach, HasHeardInto, HasReadInto, HasReopenedBehindGroup, HasTurnedTo, Heard, IsOpenedAgain, IsUp, OutcomeInto, Piece, Read, SessionEnded}
+use Rattle.relay_world.specs.Groups.{AcceptsInto, AttemptDropped, HasHeardAll, HasHeardEach, HasHeardInto, HasReadInto, HasReopenedAfterGroup, HasTurnedTo, Heard, IsOpenedAgain, IsUp, OutcomeInto, Piece, Read, SessionEnded}
 use Rattle.relay_world.specs.Steps.{heard_link}
 use Rattle.relay_world.specs.World.{Up, World}
 use Rattle.relay_world.proofs.CrashRestLemmas.{hangs}
@@ -92,9 +92,9 @@ module _ {D : Type 0} (honest : Type 0) (words : DiskWords D) where
       (same_ledger (lets_go node world) (record (lets_go node world) { hosts = again.hosts }) refl)
       (octets_same (lets_go node world) (record (lets_go node world) { hosts = again.hosts }) refl)))
 
-  pub reopened_behind : (old new : World D) (node : ℕ) (pieces : List Piece)
-      → HasReopenedBehindGroup honest words old new node pieces → HasGrown old new
-  reopened_behind old new node pieces is = elim is.decides [
+  pub reopened_after : (old new : World D) (node : ℕ) (pieces : List Piece)
+      → HasReopenedAfterGroup honest words old new node pieces → HasGrown old new
+  reopened_after old new node pieces is = elim is.decides [
     | inl none ↦ opened_again old new node is.before is.after none.1
     | inr all ↦
         grown_on old is.heard new (heard_each is.at old is.heard node pieces no_row is.row is.each)

@@ -5,13 +5,13 @@ use Rattle.relay_disk.specs.Device.{DiskWords}
 use Rattle.relay_world.specs.declared.attempt.Fate.TheVariants.{Lost}
 use Rattle.relay_world.specs.declared.link.Link.{Link}
 use Rattle.relay_world.specs.Growth.{GrownListsBegin, HasGrown, LinkGrows, RunsGrow}
-use Rattle.relay_world.specs.Once.{BreaksOff, Drops, Ends, GivesUp, GoesOn, Happens, Hears, IsNotOpened, LetsGo, Loses, Opens, Reads, Reopens, Starts, Stops, StopsInGivingUp, StopsInHearing, StopsInLosing, StopsInReading, Ticks, Writes, Closes, HearsAll, ReopensBehindGroup}
+use Rattle.relay_world.specs.Once.{BreaksOff, Drops, Ends, GivesUp, GoesOn, Happens, Hears, IsNotOpened, LetsGo, Loses, Opens, Reads, Reopens, Starts, Stops, StopsInGivingUp, StopsInHearing, StopsInLosing, StopsInReading, Ticks, Writes, Closes, HearsAll, ReopensAfterGroup}
 use Rattle.relay_world.specs.Steps.{heard_link, opened_link, without_note}
 use Rattle.relay_world.specs.Stops.{cut_off_link}
 use Rattle.relay_world.specs.World.{Down, FromClient, FromGivingUp, Up, World, link_at}
 use Rattle.relay_world.proofs.ClaimLemmas.{there_too}
 use Rattle.relay_world.proofs.GrowLemmas.{list_grown}
-use Rattle.relay_world.proofs.GrowthGroupLemmas.{heard_all, reopened_behind}
+use Rattle.relay_world.proofs.GrowthGroupLemmas.{heard_all, reopened_after}
 use Rattle.relay_world.proofs.GrowthStepLemmas.{begun_grows, broken_grows, cut_off_grows, decided, dropped, dropped_at, ended, grown, grown_on, heard, heard_grows, let_go, octets_of, octets_put, octets_same, one_link, read_by, read_octets, recorded, records_put, records_same, same_begins, same_ledger, stays, written_grows}
 use Rattle.relay_world.proofs.OpenLemmas.{number_within}
 use Rattle.relay_world.proofs.RecordLemmas.{outcome_taken}
@@ -93,7 +93,7 @@ event_grows honest words old new (IsNotOpened node is) =
     (same_ledger old new is.rest.2) (octets_same old new is.rest.0)
 event_grows honest words old new (Reopens node is) =
     decided old new node is.host is.after is.undecided is.host_at is.decides
-event_grows honest words old new (ReopensBehindGroup node pieces is) = reopened_behind honest words old new node pieces is
+event_grows honest words old new (ReopensAfterGroup node pieces is) = reopened_after honest words old new node pieces is
 event_grows honest words old new (Ticks clock is) =
     grown old new (records_same old new (ap (λ (w : World _). w.hosts) is.new_is))
     (same_ledger old new (ap (λ (w : World _). w.ledger) is.new_is))

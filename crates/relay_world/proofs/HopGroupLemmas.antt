@@ -6,7 +6,7 @@ use Rattle.relay_node.specs.Node.{NodeState}
 use Rattle.relay_records.specs.Staged.{Row, no_row}
 use Rattle.relay_world.specs.declared.attempt.Fate.TheVariants.{Replied}
 use Rattle.relay_world.specs.Crashes.{let_go as lets_go}
-use Rattle.relay_world.specs.Groups.{AcceptsInto, AttemptDropped, HasHeardAll, HasHeardEach, HasHeardInto, HasReadInto, HasReopenedBehindGroup, HasTurnedTo, Heard, IsOpenedAgain, IsUp, OutcomeInto, Piece, Read, SessionEnded}
+use Rattle.relay_world.specs.Groups.{AcceptsInto, AttemptDropped, HasHeardAll, HasHeardEach, HasHeardInto, HasReadInto, HasReopenedAfterGroup, HasTurnedTo, Heard, IsOpenedAgain, IsUp, OutcomeInto, Piece, Read, SessionEnded}
 use Rattle.relay_world.specs.HopLinks.{AreLinkedToHops}
 use Rattle.relay_world.specs.Steps.{heard_link, read_link, session_after}
 use Rattle.relay_world.specs.World.{Up, World}
@@ -79,9 +79,9 @@ module _ {D : Type 0} (honest : Type 0) (words : DiskWords D) where
       (let_go world (lets_go node world) linked node (hangs node world)) node is.host (record is.host { state = Up after })
       is.host_at again.put refl again.as_many refl refl)
 
-  pub reopened_behind : (old new : World D) → AreLinkedToHops old → (node : ℕ) (pieces : List Piece)
-      → HasReopenedBehindGroup honest words old new node pieces → AreLinkedToHops new
-  reopened_behind old new linked node pieces reopens = elim reopens.decides [
+  pub reopened_after : (old new : World D) → AreLinkedToHops old → (node : ℕ) (pieces : List Piece)
+      → HasReopenedAfterGroup honest words old new node pieces → AreLinkedToHops new
+  reopened_after old new linked node pieces reopens = elim reopens.decides [
     | inl none ↦ opened_again old new linked node reopens.before reopens.after none.1
     | inr all ↦
         opened_again reopens.heard new

@@ -5,11 +5,11 @@ use Rattle.std.proofs.lemmas.Option.{none-some}
 use Rattle.relay_disk.specs.Device.{DiskWords}
 use Rattle.relay_world.specs.declared.attempt.Fate.TheVariants.{Lost}
 use Rattle.relay_world.specs.HopLinks.{HopLinksAtFirst}
-use Rattle.relay_world.specs.Once.{BreaksOff, Drops, Ends, GivesUp, GoesOn, Hears, IsNotOpened, LetsGo, Loses, HopLinksAreKept, Opens, Reads, Reopens, Starts, Stops, StopsInGivingUp, StopsInHearing, StopsInLosing, StopsInReading, Ticks, Writes, Closes, HearsAll, ReopensBehindGroup}
+use Rattle.relay_world.specs.Once.{BreaksOff, Drops, Ends, GivesUp, GoesOn, Hears, IsNotOpened, LetsGo, Loses, HopLinksAreKept, Opens, Reads, Reopens, Starts, Stops, StopsInGivingUp, StopsInHearing, StopsInLosing, StopsInReading, Ticks, Writes, Closes, HearsAll, ReopensAfterGroup}
 use Rattle.relay_world.specs.Steps.{heard_link, opened_link, read_link, session_after, without_note}
 use Rattle.relay_world.specs.Stops.{cut_off_link}
 use Rattle.relay_world.specs.World.{Down, FromClient, FromGivingUp, Up, World}
-use Rattle.relay_world.proofs.HopGroupLemmas.{heard_all, reopened_behind}
+use Rattle.relay_world.proofs.HopGroupLemmas.{heard_all, reopened_after}
 use Rattle.relay_world.proofs.HopWayLemmas.{all_linked, decided, dropped, dropped_at, ended, heard_names, hops_same, let_go, names_put, names_same, one_link, one_node, read_by, recorded, started, ways_ended, ways_like, ways_put, ways_same, written_server}
 use Rattle.relay_world.proofs.OpenLemmas.{number_within}
 use Rattle.relay_world.proofs.RecordLemmas.{outcome_taken}
@@ -78,8 +78,8 @@ hop_links_are_kept honest words old new linked (IsNotOpened node stays) =
     stays.hosts refl stays.rest.4 stays.rest.0 stays.rest.1
 hop_links_are_kept honest words old new linked (Reopens node reopens) =
     decided old new linked node reopens.host reopens.after reopens.undecided reopens.host_at reopens.rest.1 reopens.decides
-hop_links_are_kept honest words old new linked (ReopensBehindGroup node pieces reopens) =
-    reopened_behind honest words old new linked node pieces reopens
+hop_links_are_kept honest words old new linked (ReopensAfterGroup node pieces reopens) =
+    reopened_after honest words old new linked node pieces reopens
 hop_links_are_kept honest words old new linked (Ticks clock ticks) =
     all_linked old new (ap (λ (w : World _). length w.hosts) ticks.new_is)
     (names_same old new (ap (λ (w : World _). w.hosts) ticks.new_is))

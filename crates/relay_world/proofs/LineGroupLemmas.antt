@@ -7,11 +7,11 @@ use Rattle.relay_node.specs.Node.{NodeState}
 use Rattle.relay_records.specs.Staged.{Row, no_row}
 use Rattle.relay_world.specs.declared.attempt.Fate.TheVariants.{Replied}
 use Rattle.relay_world.specs.Bound.{IsBound}
-use Rattle.relay_world.specs.Groups.{AcceptsInto, AttemptDropped, HasHeardAll, HasHeardEach, HasHeardInto, HasReadInto, HasReopenedBehindGroup, HasTurnedTo, Heard, IsOpenedAgain, IsUp, OutcomeInto, Piece, Read, SessionEnded}
+use Rattle.relay_world.specs.Groups.{AcceptsInto, AttemptDropped, HasHeardAll, HasHeardEach, HasHeardInto, HasReadInto, HasReopenedAfterGroup, HasTurnedTo, Heard, IsOpenedAgain, IsUp, OutcomeInto, Piece, Read, SessionEnded}
 use Rattle.relay_world.specs.Growth.{AttemptsGrow, HasGrown}
 use Rattle.relay_world.specs.Ledger.{report_told}
 use Rattle.relay_world.specs.Lines.{HasSources}
-use Rattle.relay_world.specs.Once.{BreaksOff, Drops, Ends, GivesUp, GoesOn, Happens, Hears, IsNotOpened, LetsGo, Loses, Opens, Reads, Reopens, Starts, Stops, StopsInGivingUp, StopsInHearing, StopsInLosing, StopsInReading, Ticks, Writes, Closes, HearsAll, ReopensBehindGroup, SourcesAreKept}
+use Rattle.relay_world.specs.Once.{BreaksOff, Drops, Ends, GivesUp, GoesOn, Happens, Hears, IsNotOpened, LetsGo, Loses, Opens, Reads, Reopens, Starts, Stops, StopsInGivingUp, StopsInHearing, StopsInLosing, StopsInReading, Ticks, Writes, Closes, HearsAll, ReopensAfterGroup, SourcesAreKept}
 use Rattle.relay_world.specs.Steps.{heard_link, session_after}
 use Rattle.relay_world.specs.World.{Up, World}
 use Rattle.relay_world.proofs.GrowthAttemptLemmas.{attempts_same, event_attempts, opened_again, turned_to as attempts_turned}
@@ -129,10 +129,10 @@ module _ {D : Type 0} (honest : Type 0) (words : DiskWords D) where
       same ⊥ words world new lists later bound now (grown_again honest words world new node is after again)
       (opened_again honest words world new node is.host after again) was (ap (λ (w : World D). w.ledger) again.new_is)
 
-  reopened_behind : (old new : World D) (lists later : List (List Change)) → IsBound honest words old lists
+  reopened_after : (old new : World D) (lists later : List (List Change)) → IsBound honest words old lists
       → HasSources old lists → IsBound honest words new later → (node : ℕ) (pieces : List Piece)
-      → HasReopenedBehindGroup honest words old new node pieces → HasSources new later
-  reopened_behind old new lists later bound was now node pieces is = elim is.decides [
+      → HasReopenedAfterGroup honest words old new node pieces → HasSources new later
+  reopened_after old new lists later bound was now node pieces is = elim is.decides [
     | inl none ↦
         sources_again old new lists later (bound_unsaid honest words old lists bound) was
         (bound_unsaid honest words new later now) node is.before is.after none.1
@@ -179,8 +179,8 @@ sources_are_kept {D} honest words old new lists later asked bound once was happe
     by (StopsInGivingUp reason node message is) = still is.rest.2
     by (IsNotOpened node is) = still is.rest.2
     by (Reopens node is) = reopened honest words old new lists later bound now grows goes was once node is
-    by (ReopensBehindGroup node pieces is) =
-        reopened_behind honest words old new lists later bound was now node pieces is
+    by (ReopensAfterGroup node pieces is) =
+        reopened_after honest words old new lists later bound was now node pieces is
     by (Ticks clock is) = still (ap (λ (w : World D). w.ledger) is.new_is)
     by (LetsGo node is) = still (ap (λ (w : World D). w.ledger) is.new_is)
     by (GoesOn node is) = still is.rest.2

@@ -62,8 +62,8 @@ abbrev pub made_on : (changes after : List Change) (number : ℕ) (step : PlaceS
 made_on changes after number step message place report begins made = record {
   front = made.front;
   one = made.one;
-  behind = made.behind ++ begins.0;
-  list = begins.1 ∙ ap (λ l. l ++ begins.0) made.list ∙ append_assoc made.front (made.one ∷ made.behind) begins.0;
+  after = made.after ++ begins.0;
+  list = begins.1 ∙ ap (λ l. l ++ begins.0) made.list ∙ append_assoc made.front (made.one ∷ made.after) begins.0;
   number_is = made.number_is;
   makes = made.makes;
 }
@@ -206,7 +206,7 @@ module _ {D : Type 0} (honest : Type 0) (words : DiskWords D) (old new : World D
             made = record {
               front = before;
               one = one;
-              behind = [];
+              after = [];
               list = refl;
               number_is = refl;
               makes = makes;

@@ -12,7 +12,7 @@ use Rattle.relay_book.specs.StandsFor.{StandsFor}
 use Rattle.relay_book.proofs.Theorems.{bodies_leave_one}
 use Rattle.relay_attempts.specs.AddedOutcome.{reported_as}
 use Rattle.relay_attempts.specs.Reply.{outcome_at}
-use Rattle.relay_node.specs.Staging.{IsStaged, ReceivesBehind}
+use Rattle.relay_node.specs.Staging.{IsStaged, ReceivesAfter}
 use Rattle.relay_records.proofs.Theorems.{next_is_one_more}
 use Rattle.relay_world.specs.Bound.{IsBound, StandsAt}
 use Rattle.relay_world.specs.Forbidden.{LosingOutcomeBreaks, LosingRecordBreaks, LosingRowBreaks}
@@ -44,11 +44,11 @@ none_staged next (Some number) pending more staged same =
 
 pub losing_record_breaks : {D : Type 0} (honest : Type 0) (words : DiskWords D) → LosingRecordBreaks honest words
 losing_record_breaks honest words at old new node piece row left changes pending hears awaits same =
-    let behind : ReceivesBehind honest words hears.of.before.config changes pending at hears.of.session
+    let afterwards : ReceivesAfter honest words hears.of.before.config changes pending at hears.of.session
     (waiting_up piece.count hears.of.link) hears.of.before row hears.after left hears.received =
     hears.receives changes pending awaits in
-    none_staged (length changes + length pending + 1) hears.received.change pending behind.more behind.staged
-    (sym behind.awaits.row_is ∙ same ∙ awaits.row_is)
+    none_staged (length changes + length pending + 1) hears.received.change pending afterwards.more afterwards.staged
+    (sym afterwards.awaits.row_is ∙ same ∙ awaits.row_is)
 
 pub losing_outcome_breaks : {D : Type 0} (honest : Type 0) (words : DiskWords D) → LosingOutcomeBreaks honest words
 losing_outcome_breaks {D} honest words at old new node piece row left changes pending told reads awaits tells same =

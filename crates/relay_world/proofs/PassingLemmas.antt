@@ -27,11 +27,11 @@ use Rattle.relay_book.specs.Queue.{AreRulings, Fitting}
 use Rattle.relay_attempts.specs.Outcomes.{outcome_of, rulings_of}
 use Rattle.relay_course.specs.Course.{Concludes, IsFaulty}
 use Rattle.relay_course.specs.Laws.{WasTaken, accepted_places}
-use Rattle.relay_course.specs.Progress.{Errand, Progress, progress}
+use Rattle.relay_course.specs.Progress.{Delivery, Progress, progress}
 use Rattle.relay_course.specs.VerdictTable.{all_later, refusal}
 use Rattle.relay_course.proofs.Theorems.{taken_where_answered}
 use Rattle.relay_meeting.specs.Joined.{HaveEnded, HaveTalked, IsCutShort, Tells, child_envelope, verdict_at}
-use Rattle.relay_meeting.specs.Script.{AreTried, Tried, client_in, envelope_behind, opened_of, refusal_row, with_tried}
+use Rattle.relay_meeting.specs.Script.{AreTried, Tried, client_in, envelope_after, opened_of, refusal_row, with_tried}
 use Rattle.relay_world.specs.declared.attempt.Attempt.{Attempt}
 use Rattle.relay_world.specs.declared.attempt.Fate.TheVariants.{Replied}
 use Rattle.relay_world.specs.declared.link.Link.{Link}
@@ -43,7 +43,7 @@ use Rattle.relay_world.specs.World.{Host, World}
 use Rattle.relay_world.proofs.AmongLemmas.{all_of, found_in, in_map, of_map, one_ruling, outcome_rises, ruled_at, ruled_by}
 use Rattle.relay_world.proofs.AnsweredLemmas.{WasAccepted, accepted_is, is_completion, rcpt_is_there, was_accepted}
 use Rattle.relay_world.proofs.ChildrenLemmas.{child_now, child_or_none, has_answers, its_answers, one_child, one_row, passes_of, place_at, serves_of, talked}
-use Rattle.relay_world.proofs.ContentLemmas.{errand_by}
+use Rattle.relay_world.proofs.ContentLemmas.{delivery_by}
 
 -- an attempt that its replies ended has their verdicts; or what it read was no reply, and each place may be tried again
 concluded : (places : List ℕ) (told : Bool) (rest : List ℕ) (ended verdicts : Option (List Verdict)) (all : List Verdict)
@@ -77,19 +77,19 @@ abbrev OneGoes : List Tried → Type 0
 OneGoes tried = (k : ℕ) × (one : Tried) × (slice_get tried k ≡ Some one) × (one.goes ≡ true)
 
 goes_first : (envelope : Envelope) (first : Tried) (tried : List Tried) (goes : Bool) → first.goes ≡ goes
-    → (1 ≤ length (envelope_behind envelope tried).recipients → OneGoes tried)
-    → 1 ≤ length (envelope_behind (with_tried envelope first) tried).recipients → OneGoes (first ∷ tried)
+    → (1 ≤ length (envelope_after envelope tried).recipients → OneGoes tried)
+    → 1 ≤ length (envelope_after (with_tried envelope first) tried).recipients → OneGoes (first ∷ tried)
 goes_first envelope first tried true is more some = (0, first, refl, is)
 goes_first envelope first tried false is more some =
     let same : with_tried envelope first ≡ envelope = recipients_by first.routed first.goes envelope first.recipient is in
-    let behind = more (subst (λ (e : Envelope). 1 ≤ length (envelope_behind e tried).recipients) same some) in
-    (suc behind.0, behind.1, behind.2, behind.3)
+    let after = more (subst (λ (e : Envelope). 1 ≤ length (envelope_after e tried).recipients) same some) in
+    (suc after.0, after.1, after.2, after.3)
 
 one_goes : (envelope : Envelope) (tried : List Tried) → length envelope.recipients ≡ 0
-    → 1 ≤ length (envelope_behind envelope tried).recipients → OneGoes tried
+    → 1 ≤ length (envelope_after envelope tried).recipients → OneGoes tried
 one_goes envelope [] none some = absurd (omega (arith, none, some))
 one_goes envelope (first ∷ tried) none some =
-    goes_first envelope first tried first.goes refl (λ behind. one_goes envelope tried none behind) some
+    goes_first envelope first tried first.goes refl (λ after. one_goes envelope tried none after) some
 
 some_there : (some : Bool) (offers : List Offered) (child : Offered) (most : List Offered)
     → Begins offers (cond some most []) → offers ≡ child ∷ [] → some ≡ true
@@ -125,11 +125,11 @@ tells_queued last answers dsn is (inr other) = absurd (other.0 dsn is)
 
 module _ {D : Type 0} (host : Host D) (changes : List Change) (link : Link) (attempt : Attempt)
     (passes : PassesOn host changes link attempt) where
-  abbrev errand : Errand
-  errand = errand_by host changes link attempt passes
+  abbrev delivery : Delivery
+  delivery = delivery_by host changes link attempt passes
 
   abbrev its_progress : Progress
-  its_progress = progress errand passes.course.runs.replies
+  its_progress = progress delivery passes.course.runs.replies
 
   -- an attempt that its replies ended has this outcome, and the verdicts of its course
   pub record Outcomes (place : ℕ) (verdict : Verdict) (gave : RepliesGave changes attempt place verdict) : Type 0 where
@@ -198,7 +198,7 @@ module _ {D : Type 0} (host : Host D) (changes : List Change) (link : Link) (att
     abbrev setup : Setup
     setup = setup_for other.config end.peer
 
-    says : HaveTalked setup errand serves.said serves.closing passes.course.runs.replies passes.course.runs.rest
+    says : HaveTalked setup delivery serves.said serves.closing passes.course.runs.replies passes.course.runs.rest
     says = talked host changes link attempt passes other others world end serves
 
     -- what comes of a node of ours is whole replies
@@ -210,7 +210,7 @@ module _ {D : Type 0} (host : Host D) (changes : List Change) (link : Link) (att
 
     -- where a place is Taken or something was offered, it wasn't the node's closing that ended the attempt
     ends : (all : List Verdict) → its_progress.verdicts ≡ Some all → (IsCutShort serves.said serves.closing all → ⊥)
-        → HaveEnded setup errand says.tried serves.said all
+        → HaveEnded setup delivery says.tried serves.said all
     ends all is whole = elim (says.ended all passes.course.runs.each is) [
       | inl have ↦ have
       | inr short ↦ absurd (whole short)
@@ -222,7 +222,7 @@ module _ {D : Type 0} (host : Host D) (changes : List Change) (link : Link) (att
         let out : Outcomes place (Taken dsn) gave = outcomes place (Taken dsn) gave in
         let ended : its_progress.verdicts ≡ Some out.all =
         ended_taken out.all out.k dsn out.verdict_is (ended_by out.all out.not_told out.verdicts_are) in
-        let have : HaveEnded setup errand says.tried serves.said out.all =
+        let have : HaveEnded setup delivery says.tried serves.said out.all =
         ends out.all ended (λ short. all_of (λ verdict. (dsn : Bool) → verdict ≢ Taken dsn) out.all out.k (Taken dsn)
         short.untaken out.verdict_is dsn refl) in
         let one = of_map (verdict_at setup.host have.last) says.tried out.k (Taken dsn)
@@ -232,7 +232,7 @@ module _ {D : Type 0} (host : Host D) (changes : List Change) (link : Link) (att
         let offered : 0 < length serves.said.offers =
         (let even = serves.answered in let count = ap length queued.1 in omega (arith, even, count)) in
         let taken : WasTaken its_progress out.k place dsn =
-        (taken_where_answered errand passes.course.runs.replies out.all ended out.k place dsn out.place_is).0 out.verdict_is in
+        (taken_where_answered delivery passes.course.runs.replies out.all ended out.k place dsn out.place_is).0 out.verdict_is in
         let child : HasOneChild world host changes link attempt others =
         one_child host changes link attempt passes other others world end serves queued.0 (says.child offered) queued.1 in (
           child,
@@ -247,20 +247,20 @@ module _ {D : Type 0} (host : Host D) (changes : List Change) (link : Link) (att
         → serves.said.answers ≡ Queued number ∷ []
         → (k : ℕ) × (place : ℕ) × WasTaken its_progress k place true
     content_taken all ended number offers answers =
-        let have : HaveEnded setup errand says.tried serves.said all =
+        let have : HaveEnded setup delivery says.tried serves.said all =
         ends all ended (λ short. let none = ap length (sym short.none ∙ offers) in absurd (omega (arith, none))) in
         let last : have.last ≡ Taken true = tells_taken have.last serves.said.answers number answers have.tells in
-        let envelope : Envelope = child_envelope errand says.tried in
+        let envelope : Envelope = child_envelope delivery says.tried in
         let child : List Offered =
-        cond (nat_le (length errand.text) setup.max_content)
-        (cond (nat_le 100 (received_count_of errand.text)) []
-        (cond (is_refused_by setup.bare_newlines errand.text) []
-        (offered_of (client_in errand) envelope errand.text ∷ []))) [] in
+        cond (nat_le (length delivery.text) setup.max_content)
+        (cond (nat_le 100 (received_count_of delivery.text)) []
+        (cond (is_refused_by setup.bare_newlines delivery.text) []
+        (offered_of (client_in delivery) envelope delivery.text ∷ []))) [] in
         let some : nat_le 1 (length envelope.recipients) ≡ true =
         some_there (nat_le 1 (length envelope.recipients)) serves.said.offers
         (child_now host changes link attempt passes other others world end serves) child says.met.children offers in
-        let goes = one_goes (opened_of errand.envelope) says.tried refl (leb-true 1 (length envelope.recipients) some) in
-        let place = place_of_tried setup errand.envelope.recipients attempt.places.items says.tried goes.0 goes.1
+        let goes = one_goes (opened_of delivery.envelope) says.tried refl (leb-true 1 (length envelope.recipients) some) in
+        let place = place_of_tried setup delivery.envelope.recipients attempt.places.items says.tried goes.0 goes.1
         says.are_tried goes.2 in
         let verdict : slice_get all goes.0 ≡ Some (Taken true) =
         ap (λ l. slice_get l goes.0) have.verdicts_are
@@ -269,7 +269,7 @@ module _ {D : Type 0} (host : Host D) (changes : List Change) (link : Link) (att
         ∙ ap (λ v. Some v) last in (
           goes.0,
           place.0,
-          (taken_where_answered errand passes.course.runs.replies all ended goes.0 place.0 true place.1).0 verdict,
+          (taken_where_answered delivery passes.course.runs.replies all ended goes.0 place.0 true place.1).0 verdict,
         )
 
     -- then each place whose RCPT was accepted is Taken
@@ -293,7 +293,7 @@ module _ {D : Type 0} (host : Host D) (changes : List Change) (link : Link) (att
           taken = content.2.taken;
           offered = content.2.offered;
         } in
-        (was.0, tried, (taken_where_answered errand passes.course.runs.replies all ended was.0 place true tried).1 taken)
+        (was.0, tried, (taken_where_answered delivery passes.course.runs.replies all ended was.0 place true tried).1 taken)
 
     not_held : Fitting changes → (place : ℕ) (verdict : Verdict) → RepliesGave changes attempt place verdict
         → ((dsn : Bool) → verdict ≢ Taken dsn) → NoChildHolds world host changes link attempt place
@@ -324,7 +324,7 @@ taken_is_accepted honest words world lists bound host changes link attempt is pl
     let ended = ended_taken host changes link attempt passes out.all out.k dsn out.verdict_is
     (ended_by host changes link attempt passes out.all out.not_told out.verdicts_are) in
     let taken : WasTaken (its_progress host changes link attempt passes) out.k place dsn =
-    (taken_where_answered (errand host changes link attempt passes) passes.course.runs.replies out.all ended out.k place dsn
+    (taken_where_answered (delivery host changes link attempt passes) passes.course.runs.replies out.all ended out.k place dsn
     out.place_is).0 out.verdict_is in
     record {
       answered = its_answers host changes link attempt passes;

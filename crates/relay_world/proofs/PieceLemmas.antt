@@ -23,7 +23,7 @@ use Rattle.relay_world.specs.declared.attempt.Attempt.{Attempt}
 use Rattle.relay_world.specs.declared.attempt.Fate.{Fate}
 use Rattle.relay_world.specs.declared.attempt.Fate.TheVariants.{Running, Replied, Lost, Dropped}
 use Rattle.relay_world.specs.declared.link.Link.{Link}
-use Rattle.relay_world.specs.Bound.{HasFate, told_by, PassesOn, ReportsBehind}
+use Rattle.relay_world.specs.Bound.{HasFate, told_by, PassesOn, ReportsAfter}
 use Rattle.relay_world.specs.Steps.{IsPut, unless_broken}
 use Rattle.relay_world.specs.World.{Host}
 
@@ -68,8 +68,8 @@ still_numbered said later refused last given more numbered also =
     (all_append _ said.answers (refusals refused ++ given) numbered
     (all_append _ (refusals refused) given (refusals_numbered refused) also))
 
-pub reports_more : (reporter : Reporter) (front changes : List Change) (change : Change) → ReportsBehind reporter front changes
-    → Reported reporter (front ++ changes) change → ReportsBehind reporter front (changes ++ change ∷ [])
+pub reports_more : (reporter : Reporter) (front changes : List Change) (change : Change) → ReportsAfter reporter front changes
+    → Reported reporter (front ++ changes) change → ReportsAfter reporter front (changes ++ change ∷ [])
 reports_more reporter front [] change reports also = (subst (λ l. Reported reporter l change) (append-nil front) also, tt)
 reports_more reporter front (first ∷ changes) change reports also = (
   reports.0,

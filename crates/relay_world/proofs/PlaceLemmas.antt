@@ -18,8 +18,8 @@ there_first true test n place places rest number passes more has = by (in_cons n
   where
     by : (n ≡ number) ⊎ Contains rest number → IsThere test n (place ∷ places) number
     by (inl same) = (0, place, omega (arith, same), refl, subst (λ m. test m place ≡ true) same passes)
-    by (inr behind) =
-        let there = more behind in
+    by (inr after) =
+        let there = more after in
         let at = there.2 in
         (suc there.0, there.1, omega (arith, at), there.3, there.4)
 there_first false test n place places rest number passes more has =
@@ -32,4 +32,4 @@ pub passing_there : (test : ℕ → Place → Bool) (n : ℕ) (places : List Pla
 passing_there test n [] number has = absurd (in_none number has)
 passing_there test n (place ∷ places) number has =
     there_first (test n place) test n place places (places_where test (suc n) places) number refl
-    (λ behind. passing_there test (suc n) places number behind) has
+    (λ after. passing_there test (suc n) places number after) has

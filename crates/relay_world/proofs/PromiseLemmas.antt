@@ -17,7 +17,7 @@ use Rattle.relay_world.specs.Children.{IsAttempt}
 use Rattle.relay_world.specs.HopLinks.{AreLinkedToHops, IsLinkedToHop, LeadsTo}
 use Rattle.relay_world.specs.Lines.{HasSources}
 use Rattle.relay_world.specs.Once.{IsTriedOnce}
-use Rattle.relay_world.specs.Promise.{EndedFor, HasCome, HasComeUnasked, HasEnded, IsHeld, IsPassedOn, IsWithdrawn, KeepsPromise, PromiseIsKept, StillHeld, UnaskedIsKept, WasPassedOn}
+use Rattle.relay_world.specs.Promise.{EndedFor, HasArrived, HasArrivedUnasked, HasEnded, IsHeld, IsPassedOn, IsWithdrawn, KeepsPromise, PromiseIsKept, StillHeld, UnaskedIsKept, WasPassedOn}
 use Rattle.relay_world.specs.World.{Host, World}
 use Rattle.relay_world.proofs.AmongLemmas.{in_none}
 use Rattle.relay_world.proofs.ChainLemmas.{short_chains}
@@ -43,7 +43,7 @@ module _ {D : Type 0} (honest : Type 0) (words : DiskWords D) (world : World D) 
   come : (node : ℕ) (host : Host D) (changes : List Change) → StandsAt world lists node host changes → (number place : ℕ)
       → IsOneOf (Held changes number place) (Transferred changes number place) (Ended changes number place)
       (Withdrawn changes number place)
-      → HasCome world lists asked node host changes number place
+      → HasArrived world lists asked node host changes number place
   come node host changes stands number place (First held not_taken not_ended not_withdrawn) = IsHeld held
   come node host changes stands number place (Second not_held taken not_ended not_withdrawn) =
       IsPassedOn (transferred_is_accepted honest words world lists asked bound once linked node host changes stands number place taken)

@@ -182,6 +182,6 @@ passed_has_one_more stamp content text client host passed =
     let lines : List (List ℕ) = stamp_lines stamp passed.line_is.date in
     let goes = header_goes_on lines content (filled stamp passed.line client host passed.line_is) in
     let whole = ap received_count_of passed.text_is in
-    let behind = ap (λ l. received_count_of (l ++ content)) (line_is stamp passed.line passed.line_is) in
+    let after = ap (λ l. received_count_of (l ++ content)) (line_is stamp passed.line passed.line_is) in
     let one = stamp_lines_count stamp passed.line_is.date in
-    omega (arith, whole, behind, goes.0, one)
+    omega (arith, whole, after, goes.0, one)

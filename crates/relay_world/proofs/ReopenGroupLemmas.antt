@@ -12,7 +12,7 @@ use Rattle.relay_records.specs.Staged.{CutsAll}
 use Rattle.relay_records.proofs.Theorems.{halted_all_is_opened, next_is_one_more}
 use Rattle.relay_world.specs.Bound.{IsBound}
 use Rattle.relay_world.specs.Crashes.{let_go}
-use Rattle.relay_world.specs.Groups.{HasReopenedBehindGroup, IsOpenedAgain, IsUp, Piece, ReopeningBehindGroupKeeps}
+use Rattle.relay_world.specs.Groups.{HasReopenedAfterGroup, IsOpenedAgain, IsUp, Piece, ReopeningAfterGroupKeeps}
 use Rattle.relay_world.specs.World.{Up, World}
 use Rattle.relay_world.proofs.CrashRestLemmas.{hangs, none_heard, none_runs}
 use Rattle.relay_world.proofs.GroupLemmas.{first, first_kept, last, last_awaits}
@@ -47,7 +47,7 @@ module _ {D : Type 0} (honest : Type 0) (words : DiskWords D) where
 module _ {D : Type 0} (honest : Type 0) (words : DiskWords D)
     (sees_now : (disk : D) → words.may_leave disk (words.seen disk)) (h : honest) (old new : World D)
     (lists : List (List Change)) (node : ℕ) (pieces : List Piece) (bound : IsBound honest words old lists)
-    (opens : HasReopenedBehindGroup honest words old new node pieces) where
+    (opens : HasReopenedAfterGroup honest words old new node pieces) where
   abbrev changes : List Change
   changes = (first honest words old lists node bound opens.before opens.at pieces opens.heard opens.row opens.each
       opens.staged).0
@@ -93,8 +93,8 @@ module _ {D : Type 0} (honest : Type 0) (words : DiskWords D)
   opens_with_all same = elim either [
     | inl keeps ↦
         let next = next_of honest words opens.after.records changes keeps in
-        let behind = cuts.halted.next in
-        let none : pending ≡ [] = none_of pending (omega (arith, next, behind, same)) in
+        let afterwards = cuts.halted.next in
+        let none : pending ≡ [] = none_of pending (omega (arith, next, afterwards, same)) in
         subst (λ l. Keeps honest words opens.after.records l)
         (sym (ap (λ l. changes ++ l) none ∙ append-nil changes)) keeps
     | inr keeps ↦ keeps
@@ -122,7 +122,7 @@ module _ {D : Type 0} (honest : Type 0) (words : DiskWords D)
     )
   ]
 
-pub reopening_behind_group_keeps : {D : Type 0} (honest : Type 0) (words : DiskWords D)
-    → ((disk : D) → words.may_leave disk (words.seen disk)) → honest → ReopeningBehindGroupKeeps honest words
-reopening_behind_group_keeps honest words sees_now h old new lists node pieces bound opens =
+pub reopening_after_group_keeps : {D : Type 0} (honest : Type 0) (words : DiskWords D)
+    → ((disk : D) → words.may_leave disk (words.seen disk)) → honest → ReopeningAfterGroupKeeps honest words
+reopening_after_group_keeps honest words sees_now h old new lists node pieces bound opens =
     reopened honest words sees_now h old new lists node pieces bound opens

@@ -13,7 +13,7 @@ use Rattle.relay_world.specs.Growth.{AttemptsGrow, RunsKeepAttempts}
 use Rattle.relay_world.specs.HopLinks.{AreLinkedToHops}
 use Rattle.relay_world.specs.Lines.{HasSources}
 use Rattle.relay_world.specs.Ledger.{accepts_on}
-use Rattle.relay_world.specs.Once.{BreaksOff, Drops, Ends, GivesUp, GoesOn, Happens, Hears, IsNotOpened, IsTriedOnce, LetsGo, Loses, OnceAtFirst, OnceIsKept, Opens, Reads, Reopens, RunsKeepAll, Starts, Stops, StopsInGivingUp, StopsInHearing, StopsInLosing, StopsInReading, Ticks, Writes, Closes, HearsAll, ReopensBehindGroup, asked_at}
+use Rattle.relay_world.specs.Once.{BreaksOff, Drops, Ends, GivesUp, GoesOn, Happens, Hears, IsNotOpened, IsTriedOnce, LetsGo, Loses, OnceAtFirst, OnceIsKept, Opens, Reads, Reopens, RunsKeepAll, Starts, Stops, StopsInGivingUp, StopsInHearing, StopsInLosing, StopsInReading, Ticks, Writes, Closes, HearsAll, ReopensAfterGroup, asked_at}
 use Rattle.relay_world.specs.World.{World}
 use Rattle.relay_world.proofs.BreakLemmas.{breaking_keeps}
 use Rattle.relay_world.proofs.EndLemmas.{ending_keeps, cutting_off_keeps}
@@ -22,7 +22,7 @@ use Rattle.relay_world.proofs.AddedLemmas.{asks_itself, read_adds}
 use Rattle.relay_world.proofs.GiveUpLemmas.{giving_up_keeps}
 use Rattle.relay_world.proofs.HangUpLemmas.{hanging_up_keeps}
 use Rattle.relay_world.proofs.GroupLemmas.{hearing_all_keeps}
-use Rattle.relay_world.proofs.GroupOnceLemmas.{heard_all, reopened_behind}
+use Rattle.relay_world.proofs.GroupOnceLemmas.{heard_all, reopened_after}
 use Rattle.relay_world.proofs.HearLemmas.{hearing_keeps}
 use Rattle.relay_world.proofs.LoseLemmas.{dropping_keeps, losing_keeps}
 use Rattle.relay_world.proofs.GrowthAttemptLemmas.{attempts_on, attempts_same, event_attempts}
@@ -31,7 +31,7 @@ use Rattle.relay_world.proofs.LineGroupLemmas.{sources_are_kept}
 use Rattle.relay_world.proofs.OpenLemmas.{opening_keeps}
 use Rattle.relay_world.proofs.OnceLemmas.{once_started}
 use Rattle.relay_world.proofs.OnceMoreLemmas.{asks_all, let_go, ticked}
-use Rattle.relay_world.proofs.ReopenGroupLemmas.{reopening_behind_group_keeps}
+use Rattle.relay_world.proofs.ReopenGroupLemmas.{reopening_after_group_keeps}
 use Rattle.relay_world.proofs.ReopenLemmas.{reopening_keeps}
 use Rattle.relay_world.proofs.ReopenOnceLemmas.{reopened}
 use Rattle.relay_world.proofs.StopHearLemmas.{stopping_hearing_keeps}
@@ -107,8 +107,8 @@ once_is_kept honest words old new lists later asked bound once (IsNotOpened node
     stayed_down honest words old new lists later bound once now node stays
 once_is_kept honest words old new lists later asked bound once (Reopens node reopens) now =
     reopened honest words old new lists later bound once now node reopens
-once_is_kept honest words old new lists later asked bound once (ReopensBehindGroup node pieces reopens) now =
-    reopened_behind honest words old new lists later bound once now node pieces reopens
+once_is_kept honest words old new lists later asked bound once (ReopensAfterGroup node pieces reopens) now =
+    reopened_after honest words old new lists later bound once now node pieces reopens
 once_is_kept honest words old new lists later asked bound once (Ticks clock ticks) now =
     ticked honest words old new lists later bound once now clock ticks
 once_is_kept honest words old new lists later asked bound once (LetsGo node hangs) now =
@@ -158,8 +158,8 @@ event_keeps honest words old new lists sees is bound (IsNotOpened node stays) =
     (lists, staying_down_keeps honest words old new lists node bound stays)
 event_keeps honest words old new lists sees is bound (Reopens node reopens) =
     reopening_keeps honest words sees is old new lists node bound reopens
-event_keeps honest words old new lists sees is bound (ReopensBehindGroup node pieces reopens) =
-    reopening_behind_group_keeps honest words sees is old new lists node pieces bound reopens
+event_keeps honest words old new lists sees is bound (ReopensAfterGroup node pieces reopens) =
+    reopening_after_group_keeps honest words sees is old new lists node pieces bound reopens
 event_keeps honest words old new lists sees is bound (Ticks clock ticks) =
     (lists, ticking_keeps honest words old new lists clock bound ticks)
 event_keeps honest words old new lists sees is bound (LetsGo node hangs) =

@@ -23,11 +23,11 @@ use Rattle.relay_world.proofs.OpenLemmas.{node_kept, same_Up}
 use Rattle.relay_world.proofs.PieceLemmas.{with_at, with_at-put}
 
 -- changes that fit after others that do
-fits_behind : (queue : Queue) (changes pending : List Change) → FitsFrom queue changes
+fits_after : (queue : Queue) (changes pending : List Change) → FitsFrom queue changes
     → FitsFrom (fold step queue changes) pending → FitsFrom queue (changes ++ pending)
-fits_behind queue [] pending first second = second
-fits_behind queue (one ∷ changes) pending first second =
-    (first.0, fits_behind (step queue one) changes pending first.1 second)
+fits_after queue [] pending first second = second
+fits_after queue (one ∷ changes) pending first second =
+    (first.0, fits_after (step queue one) changes pending first.1 second)
 
 -- the note of the last of changes
 pub last_note : (queue : Queue) (pending : List Change) (one : Change) (notes : List Noted) (note : Noted)
@@ -108,7 +108,7 @@ module _ {D : Type 0} (honest : Type 0) (words : DiskWords D) where
       → Keeps ⊥ words records (changes ++ pending)
   awaited_kept records changes pending row awaits = record {
     live = awaits.live;
-    fitting = fits_behind empty_queue changes pending awaits.fitting awaits.fits;
+    fitting = fits_after empty_queue changes pending awaits.fitting awaits.fits;
     queue = awaits.queue;
     bodies = λ none. absurd none;
     images = λ none. absurd none;

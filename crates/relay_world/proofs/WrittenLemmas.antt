@@ -32,15 +32,15 @@ use Rattle.relay_world.proofs.ClosingLemmas.{turns_answered}
 record TurnOf (turns : List Turn) (one : ℕ × Offered) : Type 0 where
   pub front : List Turn
   pub turn : Turn
-  pub behind : List Turn
-  pub turns_are : turns ≡ front ++ turn ∷ behind
+  pub after : List Turn
+  pub turns_are : turns ≡ front ++ turn ∷ after
   pub offer : turn.offer ≡ Some (one.1, Queued one.0)
 
-behind_one : (first : Turn) (turns : List Turn) (one : ℕ × Offered) → TurnOf turns one → TurnOf (first ∷ turns) one
-behind_one first turns one its = record {
+after_one : (first : Turn) (turns : List Turn) (one : ℕ × Offered) → TurnOf turns one → TurnOf (first ∷ turns) one
+after_one first turns one its = record {
   front = first ∷ its.front;
   turn = its.turn;
-  behind = its.behind;
+  after = its.after;
   turns_are = ap (λ l. first ∷ l) its.turns_are;
   offer = its.offer;
 }
@@ -55,23 +55,23 @@ turn_of (turn ∷ turns) unanswered k one is = by turn.offer refl (λ n. turn_of
         → (n : ℕ)
         → slice_get (queued_by (answers_in offer ++ answered_by turns) ((offers_in offer ++ offered_by turns) ++ unanswered)) n
         ≡ Some one → TurnOf (turn ∷ turns) one
-    by None same rest n found = behind_one turn turns one (rest n found)
-    by (Some (offer, Full)) same rest n found = behind_one turn turns one (rest n found)
+    by None same rest n found = after_one turn turns one (rest n found)
+    by (Some (offer, Full)) same rest n found = after_one turn turns one (rest n found)
     by (Some (offer, Queued number)) same rest zero found = record {
       front = [];
       turn = turn;
-      behind = turns;
+      after = turns;
       turns_are = refl;
       offer = same ∙ ap (λ (o : ℕ × Offered). Some (o.1, Queued o.0)) (same_Some (number, offer) one found);
     }
-    by (Some (offer, Queued number)) same rest (suc n) found = behind_one turn turns one (rest n found)
+    by (Some (offer, Queued number)) same rest (suc n) found = after_one turn turns one (rest n found)
 
 -- turns lead up to each of them
-up_to : (setup : Setup) (old new : State) (front : List Turn) (turn : Turn) (behind : List Turn)
-    → Turns setup old (front ++ turn ∷ behind) new → (mid : State) × Turns setup old (front ++ turn ∷ []) mid
-up_to setup old new [] turn behind runs = (runs.0, (runs.0, runs.1, refl))
-up_to setup old new (first ∷ front) turn behind runs =
-    let rest = up_to setup runs.0 new front turn behind runs.2 in (rest.0, (runs.0, runs.1, rest.1))
+up_to : (setup : Setup) (old new : State) (front : List Turn) (turn : Turn) (after : List Turn)
+    → Turns setup old (front ++ turn ∷ after) new → (mid : State) × Turns setup old (front ++ turn ∷ []) mid
+up_to setup old new [] turn after runs = (runs.0, (runs.0, runs.1, refl))
+up_to setup old new (first ∷ front) turn after runs =
+    let rest = up_to setup runs.0 new front turn after runs.2 in (rest.0, (runs.0, runs.1, rest.1))
 
 empty_front : {A : Type 0} (xs ys : List A) → [] ≡ xs ++ ys → xs ≡ []
 empty_front [] ys same = refl
@@ -81,9 +81,9 @@ empty_front (x ∷ xs) ys same = absurd (cc)
 none_left : (state : State) → HasNoUnit state []
 none_left state unit rest is same = no_unit_is_empty state unit is (empty_front unit rest same)
 
-closing_behind : (output : List ℕ) (closing : Option Reply) → (more : List ℕ) × (output_with output closing ≡ output ++ more)
-closing_behind output None = ([], sym (append-nil output))
-closing_behind output (Some reply) = (reply_text reply, refl)
+closing_after : (output : List ℕ) (closing : Option Reply) → (more : List ℕ) × (output_with output closing ≡ output ++ more)
+closing_after output None = ([], sym (append-nil output))
+closing_after output (Some reply) = (reply_text reply, refl)
 
 module _ {D : Type 0} (honest : Type 0) (words : DiskWords D) (world : World D) (lists : List (List Change))
     (bound : IsBound honest words world lists) (on : ℕ) (link : Link) (end : ServerEnd)
@@ -105,8 +105,8 @@ module _ {D : Type 0} (honest : Type 0) (words : DiskWords D) (world : World D) 
     abbrev turns_there : List Turn
     turns_there = turn.front ++ turn.turn ∷ []
 
-    both : dialogue.turns ≡ turns_there ++ turn.behind
-    both = turn.turns_are ∙ sym (append_assoc turn.front (turn.turn ∷ []) turn.behind)
+    both : dialogue.turns ≡ turns_there ++ turn.after
+    both = turn.turns_are ∙ sym (append_assoc turn.front (turn.turn ∷ []) turn.after)
 
     abbrev said_there : Said
     said_there = record {
@@ -118,7 +118,7 @@ module _ {D : Type 0} (honest : Type 0) (words : DiskWords D) (world : World D) 
 
     dialogue_there : IsDialogue setup said_there
     dialogue_there =
-        let runs = up_to setup start dialogue.state turn.front turn.turn turn.behind
+        let runs = up_to setup start dialogue.state turn.front turn.turn turn.after
         (subst (λ l. Turns setup start l dialogue.state) turn.turns_are dialogue.runs) in
         record {
           turns = turns_there;
@@ -146,22 +146,22 @@ module _ {D : Type 0} (honest : Type 0) (words : DiskWords D) (world : World D) 
       said = said_there;
       dialogue = dialogue_there;
       was_read = (
-        read_by turn.behind ++ dialogue.rest,
+        read_by turn.after ++ dialogue.rest,
         sym its.input ∙ dialogue.input
             ∙ ap (λ l. read_by l ++ dialogue.rest) both
-            ∙ ap (λ l. l ++ dialogue.rest) (flat_map-append (λ (t : Turn). t.asked) turns_there turn.behind)
-            ∙ append_assoc (read_by turns_there) (read_by turn.behind) dialogue.rest,
+            ∙ ap (λ l. l ++ dialogue.rest) (flat_map-append (λ (t : Turn). t.asked) turns_there turn.after)
+            ∙ append_assoc (read_by turns_there) (read_by turn.after) dialogue.rest,
       );
       written =
-          let closing = closing_behind its.said.output its.closing in (
-            written_by turn.behind ++ closing.0,
+          let closing = closing_after its.said.output its.closing in (
+            written_by turn.after ++ closing.0,
             its.whole whole ∙ closing.1
                 ∙ ap (λ l. l ++ closing.0) (dialogue.output
                 ∙ ap (λ l. reply_text (reply_of setup.host Greeting) ++ written_by l) both
                 ∙ ap (λ l. reply_text (reply_of setup.host Greeting) ++ l)
-                (flat_map-append (λ (t : Turn). reply_text t.reply) turns_there turn.behind)
-                ∙ sym (append_assoc (reply_text (reply_of setup.host Greeting)) (written_by turns_there) (written_by turn.behind)))
-                ∙ append_assoc (reply_text (reply_of setup.host Greeting) ++ written_by turns_there) (written_by turn.behind)
+                (flat_map-append (λ (t : Turn). reply_text t.reply) turns_there turn.after)
+                ∙ sym (append_assoc (reply_text (reply_of setup.host Greeting)) (written_by turns_there) (written_by turn.after)))
+                ∙ append_assoc (reply_text (reply_of setup.host Greeting) ++ written_by turns_there) (written_by turn.after)
                 closing.0,
           );
       answers = answered_by turn.front;

@@ -50,10 +50,10 @@ pub record IsListOf (records : List (List ℕ)) (changes : List Change) : Type 0
   pub records_are : records ≡ map encode changes
 
 -- each outcome among the changes after these has the report that is owed, or none if none is owed
-abbrev pub ReportsBehind : Reporter → List Change → List Change → Type 0
-ReportsBehind reporter front [] = Unit {0}
-ReportsBehind reporter front (change ∷ changes) =
-    Reported reporter front change × ReportsBehind reporter (front ++ change ∷ []) changes
+abbrev pub ReportsAfter : Reporter → List Change → List Change → Type 0
+ReportsAfter reporter front [] = Unit {0}
+ReportsAfter reporter front (change ∷ changes) =
+    Reported reporter front change × ReportsAfter reporter (front ++ change ∷ []) changes
 
 -- the change that the next opening decides has this record
 abbrev pub IsUndecided : Option Undecided → Change → Type 0
@@ -83,7 +83,7 @@ module _ {D : Type 0} (honest : Type 0) (words : DiskWords D) where
   pub record HostKeeps (host : Host D) (changes : List Change) : Type 0 where
     pub list : IsListOf host.records changes
     pub holds : StateKeeps host.config host.state changes
-    pub reports : ReportsBehind (reporter_of host.config) [] changes
+    pub reports : ReportsAfter (reporter_of host.config) [] changes
 
 -- a node that is up has this session, after this exchange
 abbrev pub SaysThere : {D : Type 0} → Host D → Option ℕ → List ℕ → Said → Type 0

@@ -7,7 +7,7 @@ use Rattle.relay_book.specs.declared.change.Accept.{Accept}
 use Rattle.relay_book.specs.declared.change.Change.{Change}
 use Rattle.relay_book.specs.declared.change.Change.TheVariants as change
 use Rattle.relay_book.specs.Marks.{change_at, message_at}
-use Rattle.relay_course.specs.Course.{IsSentAs, errand_of}
+use Rattle.relay_course.specs.Course.{IsSentAs, delivery_of}
 use Rattle.relay_course.specs.Laws.{accepted_places}
 use Rattle.relay_course.specs.Progress.{Answered, progress}
 use Rattle.relay_meeting.specs.Joined.{recipients_at}
@@ -36,7 +36,7 @@ pub record HasAnswers {D : Type 0} (host : Host D) (changes : List Change) (link
   pub rest : List ℕ
   pub read : CutsAllReplies (take link.down_read link.down) replies rest
   pub answered_are : answered
-      ≡ (progress (errand_of host.config.host accept.envelope accept.stored_text dot_text attempt.places.items)
+      ≡ (progress (delivery_of host.config.host accept.envelope accept.stored_text dot_text attempt.places.items)
       replies).answered
 
 -- The child places of an attempt: those whose RCPT got a 2yz reply that the attempt has read, in order.

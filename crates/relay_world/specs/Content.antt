@@ -8,7 +8,7 @@ use Rattle.relay_book.specs.declared.change.Accept.{Accept}
 use Rattle.relay_book.specs.declared.change.Change.{Change}
 use Rattle.relay_book.specs.declared.change.Change.TheVariants as change
 use Rattle.relay_book.specs.Marks.{change_at, message_at}
-use Rattle.relay_course.specs.Course.{IsSentAs, errand_of, joined}
+use Rattle.relay_course.specs.Course.{IsSentAs, delivery_of, joined}
 use Rattle.relay_course.specs.Laws.{IsWritten}
 use Rattle.relay_octets.specs.Beginning.{Begins}
 use Rattle.relay_world.specs.declared.attempt.Attempt.{Attempt}
@@ -26,10 +26,10 @@ pub record SendsOnly (host : List ℕ) (accept : Accept) (attempt : Attempt) (wr
   pub commands : List (List ℕ)
   pub begins : Begins written (joined commands)
   pub each : AllByRecursion
-      (IsWritten (errand_of host accept.envelope accept.stored_text dot_text attempt.places.items)) commands
+      (IsWritten (delivery_of host accept.envelope accept.stored_text dot_text attempt.places.items)) commands
 
 -- the child's stored text is its parent's after one new time stamp line
-pub record IsBehindOneLine (parent child : Accept) : Type 0 where
+pub record IsAfterOneLine (parent child : Accept) : Type 0 where
   pub stamp : Stamp
   pub passed : IsPassed stamp parent.stored_text child.stored_text
 
@@ -38,7 +38,7 @@ pub record IsBehindOneLine (parent child : Accept) : Type 0 where
 pub record IsPassedOn (parent : Accept) (changes : List Change) (number : ℕ) : Type 0 where
   pub child : Accept
   pub found : change_at changes number ≡ Some (change.Accept child)
-  pub behind : IsBehindOneLine parent child
+  pub after : IsAfterOneLine parent child
 
 -- an attempt relays no more of a message than this
 pub record PassesOnly {D : Type 0} (world : World D) (lists : List (List Change)) (number : ℕ) (link : Link)

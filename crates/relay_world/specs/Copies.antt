@@ -6,7 +6,7 @@ use Rattle.relay_disk.specs.Device.{DiskWords}
 use Rattle.relay_lines.specs.Reply.{Reply}
 use Rattle.relay_book.specs.declared.change.Change.{Change}
 use Rattle.relay_course.specs.Laws.{accepted_places}
-use Rattle.relay_course.specs.Progress.{Errand, progress}
+use Rattle.relay_course.specs.Progress.{Delivery, progress}
 use Rattle.relay_world.specs.declared.attempt.Attempt.{Attempt}
 use Rattle.relay_world.specs.declared.attempt.Fate.{Fate}
 use Rattle.relay_world.specs.declared.attempt.Fate.TheVariants.{Running, Replied, Lost, Dropped}
@@ -35,11 +35,11 @@ pub record PassesPlace {D : Type 0} (world : World D) (lists : List (List Change
 -- exactly if its RCPT got a 2yz reply.
 pub record IsDecidedBy {D : Type 0} (world : World D) (lists : List (List Change)) (node message place : ℕ)
     (attempt : Attempt) (replies : List Reply) : Type 0 where
-  pub errand : Errand
-  pub places_are : errand.places ≡ attempt.places.items
-  pub each : length (progress errand replies).answered ≡ length replies
+  pub delivery : Delivery
+  pub places_are : delivery.places ≡ attempt.places.items
+  pub each : length (progress delivery replies).answered ≡ length replies
   pub passes : PassesPlace world lists node message place attempt
-      ↔ Contains (accepted_places (progress errand replies).answered) place
+      ↔ Contains (accepted_places (progress delivery replies).answered) place
 
 -- the copies by one attempt: the number of its children if the place is a child place, else 0
 abbrev pub CopiesBy : {D : Type 0} → World D → List (List Change) → ℕ → ℕ → ℕ → Attempt → ℕ → Type 0

@@ -11,8 +11,8 @@ use Rattle.relay_book.specs.Queue.{Fitting, queue_of}
 pub record TellsDelay (changes : List Change) (at number place : ℕ) : Type 0 where
   pub front : List Change
   pub outcome : Outcome
-  pub behind : List Change
-  pub list : changes ≡ front ++ change.Outcome outcome ∷ behind
+  pub after : List Change
+  pub list : changes ≡ front ++ change.Outcome outcome ∷ after
   pub at_is : at ≡ suc (length front)
   pub its_message : outcome.message ≡ number
   pub tells : tells_of place (place_steps (queue_of front) (change.Outcome outcome)) ≡ true

@@ -10,7 +10,7 @@ use Rattle.relay_attempts.specs.Reply.{Told}
 use Rattle.relay_node.specs.declared.receive.Received.{Received}
 use Rattle.relay_node.specs.Attempts.{Tells}
 use Rattle.relay_node.specs.Node.{IsIdle, NodeState}
-use Rattle.relay_node.specs.Staging.{ReceivesBehind}
+use Rattle.relay_node.specs.Staging.{ReceivesAfter}
 use Rattle.relay_records.specs.declared.noted.Noted.{Noted}
 use Rattle.relay_records.specs.Open.{Opens}
 use Rattle.relay_records.specs.Records.{Kept}
@@ -56,8 +56,8 @@ IsOnBroken links piece = (link : Link) → link_at links piece.number ≡ Some l
 
 module _ {D : Type 0} (honest : Type 0) (words : DiskWords D) where
   -- the note comes after those of the row
-  abbrev pub IsNotedBehind : Kept D → Row → Row → Noted → Type 0
-  IsNotedBehind old row left note =
+  abbrev pub IsNotedAfter : Kept D → Row → Row → Noted → Type 0
+  IsNotedAfter old row left note =
       (changes pending : List Change) → Awaits honest words old changes pending row
       → left.notes ≡ row.notes ++ note ∷ []
 
@@ -68,7 +68,7 @@ module _ {D : Type 0} (honest : Type 0) (words : DiskWords D) where
   AcceptsInto old new number of after row left None =
       IsPut old.hosts new.hosts of.end.node (record of.host { state = Up after }) × (new.ledger ≡ old.ledger)
   AcceptsInto old new number of after row left (Some change) =
-      (noted : Noted) × IsNotedBehind of.before.records row left noted
+      (noted : Noted) × IsNotedAfter of.before.records row left noted
       × IsPut old.hosts new.hosts of.end.node
       (record of.host { state = Up after; records = of.host.records ++ noted.octets ∷ [] })
       × (new.ledger ≡ old.ledger ++ Accepted of.end.node change noted.accepted number ∷ [])
@@ -81,7 +81,7 @@ module _ {D : Type 0} (honest : Type 0) (words : DiskWords D) where
     pub after : NodeState D
     pub received : Received
     pub receives : (changes pending : List Change) → Awaits honest words of.before.records changes pending row
-        → ReceivesBehind honest words of.before.config changes pending at of.session (waiting_up piece.count of.link)
+        → ReceivesAfter honest words of.before.config changes pending at of.session (waiting_up piece.count of.link)
         of.before row after left received
     pub used : received.used ≤ length (waiting_up piece.count of.link)
     pub others : OthersStay of.before.seats after.seats of.session
@@ -96,7 +96,7 @@ module _ {D : Type 0} (honest : Type 0) (words : DiskWords D) where
   pub record EndsInto (old new : World D) (number : ℕ) (of : AttemptOf old number) (after : NodeState D)
       (row left : Row) (change : ℕ) : Type 0 where
     pub noted : Noted
-    pub is_noted : IsNotedBehind of.before.records row left noted
+    pub is_noted : IsNotedAfter of.before.records row left noted
     pub hosts : IsPut old.hosts new.hosts of.attempt.node
         (record of.host { state = Up after; records = of.host.records ++ noted.octets ∷ [] })
     pub ledger : new.ledger
@@ -171,7 +171,7 @@ module _ {D : Type 0} (honest : Type 0) (words : DiskWords D) where
   -- because the node did nothing in between. Its links broke in the call, so nothing that it would have written was
   -- sent. If its next number is as before the group, none of the records is there, and it is as if nothing had been
   -- heard or read; else all of them are there.
-  pub record HasReopenedBehindGroup (old new : World D) (node : ℕ) (pieces : List Piece) : Type 0 where
+  pub record HasReopenedAfterGroup (old new : World D) (node : ℕ) (pieces : List Piece) : Type 0 where
     pub before : IsUp old node
     pub broken : AllByRecursion (IsOnBroken old.links) pieces
     pub at : ℕ
@@ -196,7 +196,7 @@ module _ {D : Type 0} (honest : Type 0) (words : DiskWords D) where
       (old new : World D) (lists : List (List Change)) (node : ℕ) (pieces : List Piece) → IsBound honest words old lists
       → HasHeardAll old new node pieces → (later : List (List Change)) × IsBound honest words new later
 
-  abbrev pub ReopeningBehindGroupKeeps : Type 0
-  ReopeningBehindGroupKeeps =
+  abbrev pub ReopeningAfterGroupKeeps : Type 0
+  ReopeningAfterGroupKeeps =
       (old new : World D) (lists : List (List Change)) (node : ℕ) (pieces : List Piece) → IsBound honest words old lists
-      → HasReopenedBehindGroup old new node pieces → (later : List (List Change)) × IsBound honest words new later
+      → HasReopenedAfterGroup old new node pieces → (later : List (List Change)) × IsBound honest words new later

@@ -30,13 +30,13 @@ steps_by changes (Outcome outcome) =
     (place_steps (queue_of changes) (Outcome outcome))
 
 -- the steps of changes that follow these
-abbrev pub steps_behind : List Change → List Change → List Step
-steps_behind front [] = []
-steps_behind front (change ∷ changes) = steps_by front change ++ steps_behind (front ++ change ∷ []) changes
+abbrev pub steps_after : List Change → List Change → List Step
+steps_after front [] = []
+steps_after front (change ∷ changes) = steps_by front change ++ steps_after (front ++ change ∷ []) changes
 
 -- the steps of a list of changes, in order
 abbrev pub steps_of : List Change → List Step
-steps_of changes = steps_behind [] changes
+steps_of changes = steps_after [] changes
 
 -- the step that a line records for a node, if any
 abbrev pub if_of_node : ℕ → Line → List Step

@@ -23,8 +23,8 @@ use Rattle.relay_world.specs.World.{World, link_at}
 pub record IsMadeBy (changes : List Change) (number : ℕ) (step : PlaceStep) (message place report : ℕ) : Type 0 where
   pub front : List Change
   pub one : Change
-  pub behind : List Change
-  pub list : changes ≡ front ++ one ∷ behind
+  pub after : List Change
+  pub list : changes ≡ front ++ one ∷ after
   pub number_is : number ≡ suc (length front)
   pub makes : Contains (steps_by front one) (Becomes step message place report)
 

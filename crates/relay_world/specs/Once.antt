@@ -22,7 +22,7 @@ use Rattle.relay_world.specs.declared.attempt.Fate.TheVariants.{Running, Replied
 use Rattle.relay_world.specs.declared.link.Link.{Link}
 use Rattle.relay_world.specs.Bound.{IsBound, StandsAt}
 use Rattle.relay_world.specs.GivingUp.{IsAsked, Reason, Withdrawing, asked_by}
-use Rattle.relay_world.specs.Groups.{HasHeardAll, HasReopenedBehindGroup, Piece}
+use Rattle.relay_world.specs.Groups.{HasHeardAll, HasReopenedAfterGroup, Piece}
 use Rattle.relay_world.specs.HangUp.{HangsUp}
 use Rattle.relay_world.specs.Ledger.{accepts_on}
 use Rattle.relay_world.specs.HopLinks.{AreLinkedToHops}
@@ -143,7 +143,7 @@ pub data Happens {D : Type 0} (honest : Type 0) (words : DiskWords D) (old new :
       → Happens honest words old new
   IsNotOpened : (node : ℕ) → StaysDown honest words old new node → Happens honest words old new
   Reopens : (node : ℕ) → HasReopened honest words old new node → Happens honest words old new
-  ReopensBehindGroup : (node : ℕ) (pieces : List Piece) → HasReopenedBehindGroup honest words old new node pieces
+  ReopensAfterGroup : (node : ℕ) (pieces : List Piece) → HasReopenedAfterGroup honest words old new node pieces
       → Happens honest words old new
   Ticks : (now : ℕ) → HasTicked old new now → Happens honest words old new
   LetsGo : (node : ℕ) → HangsUp old new node → Happens honest words old new

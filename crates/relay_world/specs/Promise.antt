@@ -31,38 +31,38 @@ use Rattle.relay_report.specs.Report.{reporter_of}
 -- What has become of a recipient: its node holds it; its next hop has accepted it; it has ended for a cause, with the
 -- report that is owed, by a verdict from what an attempt for its message has read, or because it has no hop; or the
 -- postmaster, who asked for just that, has withdrawn it, with the report that is owed.
-pub data HasCome {D : Type 0} (world : World D) (lists : List (List Change)) (asked : List Withdrawing) (node : ℕ)
+pub data HasArrived {D : Type 0} (world : World D) (lists : List (List Change)) (asked : List Withdrawing) (node : ℕ)
     (host : Host D) (changes : List Change)
     (number place : ℕ) : Type 0 where
-  IsHeld : Held changes number place → HasCome world lists asked node host changes number place
+  IsHeld : Held changes number place → HasArrived world lists asked node host changes number place
   IsPassedOn : HasPassedOn world lists node host changes number place
-      → HasCome world lists asked node host changes number place
+      → HasArrived world lists asked node host changes number place
   HasEnded : (at : ℕ) (left : LeftFor (reporter_of host.config) changes at number place ByEnd)
       → GaveVerdict world lists node host changes at number place left.leaves.verdict
       ⊎ HadNoHop host changes number place left.leaves.verdict
-      → HasCome world lists asked node host changes number place
+      → HasArrived world lists asked node host changes number place
   IsWithdrawn : (at : ℕ) (withdrawal : Withdrawal)
       → LeftFor (reporter_of host.config) changes at number place (ByWithdrawal withdrawal)
-      → IsAsked asked node number place withdrawal → HasCome world lists asked node host changes number place
+      → IsAsked asked node number place withdrawal → HasArrived world lists asked node host changes number place
 
 -- What has become of a recipient if the postmaster has asked for nothing: one of the first three.
-pub data HasComeUnasked {D : Type 0} (world : World D) (lists : List (List Change)) (node : ℕ) (host : Host D)
+pub data HasArrivedUnasked {D : Type 0} (world : World D) (lists : List (List Change)) (node : ℕ) (host : Host D)
     (changes : List Change)
     (number place : ℕ) : Type 0 where
-  StillHeld : Held changes number place → HasComeUnasked world lists node host changes number place
+  StillHeld : Held changes number place → HasArrivedUnasked world lists node host changes number place
   WasPassedOn : HasPassedOn world lists node host changes number place
-      → HasComeUnasked world lists node host changes number place
+      → HasArrivedUnasked world lists node host changes number place
   EndedFor : (at : ℕ) (left : LeftFor (reporter_of host.config) changes at number place ByEnd)
       → GaveVerdict world lists node host changes at number place left.leaves.verdict
       ⊎ HadNoHop host changes number place left.leaves.verdict
-      → HasComeUnasked world lists node host changes number place
+      → HasArrivedUnasked world lists node host changes number place
 
 -- If the postmaster has asked for nothing, the promise is the one without withdrawals.
 abbrev pub UnaskedIsKept : Type 0 → Type 0
 UnaskedIsKept D =
     (world : World D) (lists : List (List Change)) (node : ℕ) (host : Host D) (changes : List Change)
-    (number place : ℕ) → HasCome world lists [] node host changes number place
-    → HasComeUnasked world lists node host changes number place
+    (number place : ℕ) → HasArrived world lists [] node host changes number place
+    → HasArrivedUnasked world lists node host changes number place
 
 -- The promise, in a given world.
 pub record KeepsPromise {D : Type 0} (honest : Type 0) (words : DiskWords D) (world : World D)
@@ -71,10 +71,10 @@ pub record KeepsPromise {D : Type 0} (honest : Type 0) (words : DiskWords D) (wo
   -- each recipient that a node acknowledged is held, accepted by its next hop, has ended, or was withdrawn
   pub recipients : (node : ℕ) (host : Host D) (changes : List Change) → StandsAt world lists node host changes
       → (number places place : ℕ) → Acknowledged world node number places → place < places
-      → HasCome world lists asked node host changes number place
+      → HasArrived world lists asked node host changes number place
   -- so is each place of each message that a node has added itself, as a report
   pub added : (node : ℕ) (host : Host D) (changes : List Change) → StandsAt world lists node host changes
-      → (number place : ℕ) → Added changes number place → HasCome world lists asked node host changes number place
+      → (number place : ℕ) → Added changes number place → HasArrived world lists asked node host changes number place
   -- each transferred place was accepted by its next hop: a node of ours holds the place by one message with the values
   -- of the original
   pub transferred : (node : ℕ) (host : Host D) (changes : List Change) → StandsAt world lists node host changes

@@ -2,7 +2,7 @@
 use relay_octets::Octets;
 
 /// The state of an attempt.
-#[derive(Clone, Copy, Debug)]
+#[derive(Clone, Copy)]
 pub enum Fate {
     /// It runs, under this number at its node.
     Running(usize),
@@ -15,7 +15,6 @@ pub enum Fate {
 }
 
 /// An attempt of a node to relay a message.
-#[derive(Debug)]
 pub struct Attempt {
     /// The index of the node.
     pub node: usize,

@@ -9,7 +9,7 @@ ghost use Rattle.relay_world.specs.Steps.{BreakingKeeps, CuttingOffKeeps, Droppi
 ghost use Rattle.relay_world.specs.Steps.{HearingKeeps, LosingKeeps, OpeningKeeps, ReadingKeeps, StartingKeeps};
 ghost use Rattle.relay_world.specs.Steps.{TickingKeeps, WritingKeeps};
 ghost use Rattle.relay_world.specs.Crashes.{CrashingInHearingKeeps, CrashingInLosingKeeps, CrashingInReadingKeeps};
-ghost use Rattle.relay_world.specs.Groups.{HearingAllKeeps, ReopeningBehindGroupKeeps};
+ghost use Rattle.relay_world.specs.Groups.{HearingAllKeeps, ReopeningAfterGroupKeeps};
 
 use relay_disk::Disk;
 
@@ -144,8 +144,8 @@ pub fn reopening_keeps<D: Disk>()
 
 /// Opening a node on honest disks after a stop that came while several records went to its spool together preserves the
 /// invariant, with all of them or none.
-pub fn reopening_behind_group_keeps<D: Disk>()
-    ensures { D.honest → ReopeningBehindGroupKeeps D.honest D.words }
+pub fn reopening_after_group_keeps<D: Disk>()
+    ensures { D.honest → ReopeningAfterGroupKeeps D.honest D.words }
 {}
 
 /// A node that is down is never refused because of the octets of its disks, if they are honest.

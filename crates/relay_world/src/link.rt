@@ -2,7 +2,7 @@
 use relay_octets::Octets;
 
 /// The server end of a link, if a node serves it.
-#[derive(Debug, Drop)]
+#[derive(Drop)]
 pub struct ServerEnd {
     /// The index of the node.
     pub node: usize,
@@ -14,7 +14,6 @@ pub struct ServerEnd {
 
 /// A link: everything that each end wrote, and how much of it the other end has read. Nothing is written to or read
 /// from a broken link.
-#[derive(Debug)]
 pub struct Link {
     /// The index of the attempt at the client end; none if the client is outside.
     pub client: Option<usize>,

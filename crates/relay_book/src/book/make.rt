@@ -88,7 +88,7 @@ pub(super) fn made_of(
 }
 
 /// Returns the places of a message after an outcome.
-pub(super) fn places_behind(
+pub(super) fn places_after(
     alloc: Global,
     message: &Message,
     outcome: &Outcome,

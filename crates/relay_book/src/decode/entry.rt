@@ -132,7 +132,7 @@ fn read_entry_in(
 }
 
 /// Returns the same at the front of what is held of a text, if it is let go.
-#[tactic(auto, using(crate::proofs::PieceLemmas::behind_first, crate::proofs::PieceLemmas::first_behind))]
+#[tactic(auto, using(crate::proofs::PieceLemmas::after_first, crate::proofs::PieceLemmas::first_after))]
 fn read_front(
     alloc: Global,
     version: SnapshotVersion,

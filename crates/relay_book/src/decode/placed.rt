@@ -94,10 +94,10 @@ fn split_place(version: SnapshotVersion, text: &[u8]) -> Option<(u8, u8, u8, u64
     ensures { MatchOption result (HasNoPlaceFields version text.now)
         (λ parts. SpellsPlace version text.now parts.0 parts.1 parts.2 parts.3 parts.4.now) }
 {
-    let (held, behind) = text.split_first()?;
-    let (laters, behind) = behind.split_first()?;
-    let (delayed, behind) = split_delay(version, behind)?;
-    match read_8(behind) {
+    let (held, after) = text.split_first()?;
+    let (laters, after) = after.split_first()?;
+    let (delayed, after) = split_delay(version, after)?;
+    match read_8(after) {
         None => None,
         Some((due, rest)) => Some((*held, *laters, delayed, due, rest)),
     }
@@ -121,8 +121,8 @@ fn read_one(version: SnapshotVersion, text: &[u8]) -> Option<(Rcpt<'_>, Place, &
         (λ parts. IsPlacedBy version (recipient_from (rcpt_value parts.0), parts.1)
         × (text.now ≡ placed_octets version (recipient_from (rcpt_value parts.0), parts.1) ++ parts.2.now)) }
 {
-    let (rcpt, behind) = read_recipient(text)?;
-    match read_place(version, behind) {
+    let (rcpt, after) = read_recipient(text)?;
+    match read_place(version, after) {
         None => None,
         Some((place, rest)) => Some((rcpt, place, rest)),
     }
@@ -153,10 +153,10 @@ fn read_row(
     for index in 0..count {
         match read_one(version, rest) {
             None => return Err(BookFault::BadRecord),
-            Some((rcpt, place, behind)) => {
+            Some((rcpt, place, after)) => {
                 recipients.push(Recipient::new(alloc, rcpt)?)?;
                 push_place(&mut places, place)?;
-                rest = behind;
+                rest = after;
             }
         }
     }
@@ -174,12 +174,12 @@ pub(super) fn read_placed(
     ensures bad { IsErrOf result BookFault.BadRecord
         → HasNoCounted (IsPlacedBy version) (placed_octets version) text.now }
 {
-    let Some((count, behind)) = text.split_first() else {
+    let Some((count, after)) = text.split_first() else {
         return Err(BookFault::BadRecord);
     };
     if *count < 1 || *count > 100 {
         return Err(BookFault::BadRecord);
     }
-    let (recipients, places, rest) = read_row(alloc, version, *count, behind)?;
+    let (recipients, places, rest) = read_row(alloc, version, *count, after)?;
     Ok((recipients, Places::new(places), rest))
 }

@@ -9,7 +9,7 @@ ghost use Rattle.relay_envelope.specs.Envelope.{recipient_from};
 ghost use Rattle.relay_envelope.specs.Path.{is_forward, path_text, value_of};
 ghost use Rattle.relay_envelope.specs.Mail.{rcpt_value};
 ghost use Rattle.relay_book.specs.Record.{counted, notify_number, recipient_octets, written};
-ghost use Rattle.relay_book.specs.Fields.{SpellsFields, HasFields, HasNoFields, AreSoMany, AreSome, HasCount};
+ghost use Rattle.relay_book.specs.Fields.{SpellsFields, HasFields, HasNoFields, HaveCount, AreSome, HasCount};
 ghost use Rattle.relay_book.specs.Fields.{HasNoCounted, HasNoRow, HasNone, IsNoRecipient};
 
 use crate::fault::BookFault;
@@ -84,10 +84,10 @@ pub(crate) fn read_fields(text: &[u8]) -> Option<(&[u8], u8, &[u8], &[u8])>
         (HasNoFields text.now)
         (λ parts. SpellsFields text.now parts.0.now parts.1 parts.2.now parts.3.now) }
 {
-    let (path, behind) = read_sized_2(text)?;
-    let (number, behind) = behind.split_first()?;
-    let (orcpt, behind) = read_sized_2(behind)?;
-    Some((path, *number, orcpt, behind))
+    let (path, after) = read_sized_2(text)?;
+    let (number, after) = after.split_first()?;
+    let (orcpt, after) = read_sized_2(after)?;
+    Some((path, *number, orcpt, after))
 }
 
 /// Returns the recipient of these fields.
@@ -116,14 +116,14 @@ pub(super) fn read_recipient(text: &[u8]) -> Option<(Rcpt<'_>, &[u8])>
         (λ parts. IsRecipient (recipient_from (rcpt_value parts.0))
         × (text.now ≡ recipient_octets (recipient_from (rcpt_value parts.0)) ++ parts.1.now)) }
 {
-    let (path, number, orcpt, behind) = read_fields(text)?;
+    let (path, number, orcpt, after) = read_fields(text)?;
     let rcpt = recipient_of(path, number, orcpt)?;
-    Some((rcpt, behind))
+    Some((rcpt, after))
 }
 
 /// Returns this many recipients, and what follows them.
 fn read_row(alloc: Global, count: u8, text: &[u8]) -> Result<(Recipients, &[u8]), BookFault>
-    ensures row { IfOk result (λ parts. AreSoMany IsRecipient count parts.0
+    ensures row { IfOk result (λ parts. HaveCount IsRecipient count parts.0
         × (text.now ≡ flat_map recipient_octets parts.0 ++ parts.1.now)) }
     ensures bad { IsErrOf result BookFault.BadRecord → HasNoRow IsRecipient recipient_octets count text.now }
 {
@@ -132,9 +132,9 @@ fn read_row(alloc: Global, count: u8, text: &[u8]) -> Result<(Recipients, &[u8])
     for index in 0..count {
         match read_recipient(rest) {
             None => return Err(BookFault::BadRecord),
-            Some((rcpt, behind)) => {
+            Some((rcpt, after)) => {
                 recipients.push(Recipient::new(alloc, rcpt)?)?;
-                rest = behind;
+                rest = after;
             }
         }
     }

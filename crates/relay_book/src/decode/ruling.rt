@@ -3,7 +3,7 @@ ghost use Rattle.std.specs.Prelude.{◌≡◌, ◌++◌, ◌∷◌, MatchOption,
 ghost use Rattle.std.specs.List.{flat_map, AllPass};
 ghost use Rattle.std.specs.Int.{is_in_range};
 ghost use Rattle.relay_book.specs.Record.{IsRefusal, IsRuling, IsVerdict, counted, ruling_octets, verdict_octets};
-ghost use Rattle.relay_book.specs.Fields.{AreSoMany, AreSome, HasCount, HasNoCounted, HasNoRefusal, HasNoRow, HasNone};
+ghost use Rattle.relay_book.specs.Fields.{HaveCount, AreSome, HasCount, HasNoCounted, HasNoRefusal, HasNoRow, HasNone};
 ghost use Rattle.relay_book.specs.Fields.{refusal_octets};
 
 use crate::change::{Ruling, Rulings, Verdict, Withdrawal};
@@ -20,16 +20,16 @@ fn read_refusal(text: &[u8]) -> Option<(u16, &[u8], &[u8])>
         (λ parts. IsRefusal parts.0 parts.1.now
         × (text.now ≡ refusal_octets parts.0 parts.1.now ++ parts.2.now)) }
 {
-    let (code, behind) = read_2(text)?;
+    let (code, after) = read_2(text)?;
     if !is_reply_code(code) {
         return None;
     }
-    let (len, behind) = behind.split_first()?;
+    let (len, after) = after.split_first()?;
     let len = *len as usize;
-    if len > behind.len() {
+    if len > after.len() {
         return None;
     }
-    let (field, rest) = behind.split_at(len);
+    let (field, rest) = after.split_at(len);
     if len > REFUSAL_LIMIT || !is_printable(field) {
         return None;
     }
@@ -79,10 +79,10 @@ fn read_ruling(alloc: Global, text: &[u8]) -> Result<(Ruling, &[u8]), BookFault>
         IsRuling parts.0 × (text.now ≡ ruling_octets parts.0 ++ parts.1.now)) }
     ensures bad { IsErrOf result BookFault.BadRecord → HasNone IsRuling ruling_octets text.now }
 {
-    let Some((place, behind)) = text.split_first() else {
+    let Some((place, after)) = text.split_first() else {
         return Err(BookFault::BadRecord);
     };
-    let (verdict, rest) = read_verdict(alloc, behind)?;
+    let (verdict, rest) = read_verdict(alloc, after)?;
     Ok((
         Ruling {
             place: *place,
@@ -94,7 +94,7 @@ fn read_ruling(alloc: Global, text: &[u8]) -> Result<(Ruling, &[u8]), BookFault>
 
 /// Returns this many verdicts, and what follows them.
 fn read_row(alloc: Global, count: u8, text: &[u8]) -> Result<(Rulings, &[u8]), BookFault>
-    ensures row { IfOk result (λ parts. AreSoMany IsRuling count parts.0
+    ensures row { IfOk result (λ parts. HaveCount IsRuling count parts.0
         × (text.now ≡ flat_map ruling_octets parts.0 ++ parts.1.now)) }
     ensures bad { IsErrOf result BookFault.BadRecord → HasNoRow IsRuling ruling_octets count text.now }
 {
@@ -103,9 +103,9 @@ fn read_row(alloc: Global, count: u8, text: &[u8]) -> Result<(Rulings, &[u8]), B
     for index in 0..count {
         match read_ruling(alloc, rest) {
             Err(fault) => return Err(fault),
-            Ok((ruling, behind)) => {
+            Ok((ruling, after)) => {
                 rulings.push(ruling)?;
-                rest = behind;
+                rest = after;
             }
         }
     }

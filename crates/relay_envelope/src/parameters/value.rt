@@ -67,11 +67,11 @@ fn is_readable_xtext(text: &[u8]) -> bool
     ensures { result ≡ is_readable_xtext text.now }
 {
     let mut rest = text;
-    while let Some((octet, behind)) = first_octet(rest) {
+    while let Some((octet, after)) = first_octet(rest) {
         if !is_printable(octet) {
             return false;
         }
-        rest = behind;
+        rest = after;
     }
     rest.is_empty()
 }

@@ -70,8 +70,8 @@ fn split_route(body: &[u8]) -> Option<(&[u8], &[u8])>
         (λ parts. SplitsRoute body.now parts.0.now parts.1.now) }
 {
     match body.split_first() {
-        Some((first, behind)) if *first == b'@' => {
-            let len = row_before(b':', behind)?;
+        Some((first, after)) if *first == b'@' => {
+            let len = row_before(b':', after)?;
             Some(body.split_at(len + 2))
         }
         _ => Some(body.split_at(0)),
@@ -89,14 +89,14 @@ fn split_at_last_at(body: &[u8]) -> Option<(&[u8], &[u8])>
 }
 
 /// Returns what is after the last `@`.
-pub(super) fn behind_last_at(text: &[u8]) -> Option<&[u8]>
+pub(super) fn after_last_at(text: &[u8]) -> Option<&[u8]>
     ensures { MatchOption result
         (list_any is_at text.now ≡ false)
-        (λ behind. (list_any is_at text.now ≡ true) × (behind.now ≡ after_last is_at text.now)
-        × (length behind.now ≤ length text.now)) }
+        (λ after. (list_any is_at text.now ≡ true) × (after.now ≡ after_last is_at text.now)
+        × (length after.now ≤ length text.now)) }
 {
-    let (_, behind) = split_at_last_at(text)?;
-    Some(behind)
+    let (_, after) = split_at_last_at(text)?;
+    Some(after)
 }
 
 /// Returns whether a local part is not empty, and a row of plain octets and quoted strings.

@@ -70,9 +70,9 @@ pub fn open_node(rt: &HostRuntime, told: &mut Answer, path: &str) -> Result<(), 
 /// Opens the node in these files, and compacts its spool.
 pub fn compact_node(rt: &HostRuntime, told: &mut Answer, path: &str) -> Result<(), Fail> {
     let mut node = node_at(rt, path, false)?;
-    let (before, behind) = compact(&mut node)?;
+    let (before, after) = compact(&mut node)?;
     told.count("", before as u64);
-    told.count(" octets, ", behind as u64);
+    told.count(" octets, ", after as u64);
     told.say(" octets");
     Ok(())
 }

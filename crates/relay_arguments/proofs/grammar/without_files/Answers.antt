@@ -8,8 +8,8 @@ use Rattle.relay_arguments.proofs.grammar.without_files.Goals as goal
 
 pub returns : goal.returns
 returns c =
-    let session_is = c.session-session.ensures in
-    let play_is = c.play-play.ensures in
+    let session_is = c.session.ensures in
+    let play_is = c.play.ensures in
     let first_is : app_of c.in_ok-with_session.with_session ≡ with_subcommand without_subcommands (new_app (codes "session")).top =
     c.in_ok-with_session.ensures.shape (third_is_not _ _ _ _ (ap (λ (app : App). app.top.is_plain) session_is))
     ∙ ap₂ with_subcommand c.without_subcommands.ensures (ap (λ (app : App). app.top) session_is) in

@@ -6,7 +6,7 @@ use Rattle.relay_body.proofs.plain.write_dots.Given as goal
 abbrev pub invariant-loop-place : goal.invariant-loop-place
 invariant-loop-place l = record {
   within : l.place ≤ length l.content;
-  writes : WritesFront (take l.place l.content) l.text.items l.begins_line l.behind_cr;
+  writes : WritesFront (take l.place l.content) l.text.items l.begins_line l.after_cr;
 }
 
 abbrev pub decreases-loop-place : goal.decreases-loop-place

@@ -21,10 +21,10 @@ loop-index-preserved c =
     let texts = c.loop-index.texts.now in
     let whole = verdicts_from places (settled_of said c.args.texts.now) last in
     ap (λ (verdicts : List Verdict). verdicts
-    ++ verdicts_from (drop (index + 1) places) (settled_of (drop (index + 1) said) c.behind_text-texts.result.now) last)
+    ++ verdicts_from (drop (index + 1) places) (settled_of (drop (index + 1) said) c.after_text-texts.result.now) last)
     c.in_ok-push.ensures
     ∙ ap (λ (more : List ℕ). (c.loop-index.verdicts ++ c.in_ok-verdict_by.field-0 ∷ [])
-    ++ verdicts_from (drop (index + 1) places) (settled_of (drop (index + 1) said) more) last) c.behind_text-texts.ensures
+    ++ verdicts_from (drop (index + 1) places) (settled_of (drop (index + 1) said) more) last) c.after_text-texts.ensures
     ∙ verdicts_step c.loop-index.verdicts c.in_ok-verdict_by.field-0 places said texts c.said_at-one.result last whole index
     c.loop-index-test.true c.said_at-one.ensures c.in_ok-verdict_by.ensures c.loop-index.invariant
 

@@ -1,9 +1,9 @@
 -- Where no path begins the text, or it begins with one that may not stand there, which is its only one, none that may does.
 use Rattle.std.proofs.Common.{inl, inr, refl, sym, subst, ◌∙◌}
 use Rattle.relay_envelope.specs.Path.{is_reverse, value_of}
-use Rattle.relay_envelope.specs.Mail.{IsBehindPath, mail_of}
+use Rattle.relay_envelope.specs.Mail.{IsAfterPath, mail_of}
 use Rattle.relay_envelope.specs.ParameterRow.{SaysMail}
-use Rattle.relay_envelope.proofs.BehindPathLemmas.{behind_mail}
+use Rattle.relay_envelope.proofs.AfterPathLemmas.{after_mail}
 use Rattle.relay_envelope.proofs.MailLemmas.{none_allowed}
 use Rattle.relay_envelope.proofs.mail.read_mail.Goals as goal
 
@@ -19,5 +19,5 @@ returns-then-not-is_reverse c =
 pub returns : goal.returns
 returns c =
     let allowed = sym c.is_reverse.ensures ∙ c.if-not-is_reverse.false in
-    let behind = behind_mail c.args.text.now (value_of c.in-Some.path) c.in-Some.rest.now c.in-Some.ensures allowed in
-    inr (subst (IsBehindPath is_reverse SaysMail mail_of c.args.text.now) (sym c.behind_path.ensures) behind)
+    let after = after_mail c.args.text.now (value_of c.in-Some.path) c.in-Some.rest.now c.in-Some.ensures allowed in
+    inr (subst (IsAfterPath is_reverse SaysMail mail_of c.args.text.now) (sym c.after_path.ensures) after)

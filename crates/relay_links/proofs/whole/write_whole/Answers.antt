@@ -16,9 +16,9 @@ loop-written-preserved-in-Ok g c =
     let written = c.loop-written.written in
     let bound = rw take_rest at c.in-Ok.ensures.bound in
     let bytes = rw take_rest at c.in-Ok.ensures.bytes in
-    let behind = length-drop written octets in
+    let after = length-drop written octets in
     record {
-      within = omega (arith, bound, behind, c.loop-written.invariant.within);
+      within = omega (arith, bound, after, c.loop-written.invariant.within);
       appended = wrote_more _ _ _ octets written c.in-Ok.count c.loop-written.invariant.appended bytes;
     }
 

@@ -1,6 +1,6 @@
 -- One task more was tried.
 use Rattle.std.proofs.Common.{sym, subst, ◌∙◌, arith}
-use Rattle.relay_next_hops.specs.Errands.{AreAimed, IsOpenedTo}
+use Rattle.relay_next_hops.specs.Deliveries.{AreAimed, IsOpenedTo}
 use Rattle.relay_next_hops.proofs.StartLemmas.{step_ends, step_goes_on, unheld_then}
 use Rattle.relay_next_hops.proofs.TurnLemmas.{only_then}
 use Rattle.relay_next_hops.proofs.starting.start_lane.Goals as goal

@@ -2,7 +2,7 @@
 -- it as were tried, but for those that were put back for want of a descriptor.
 use Rattle.std.proofs.Common.{◌≡◌, ◌+◌, ◌≤◌, length}
 use Rattle.relay_next_hops.specs.Counts.{CountsMatch, unanswered_of}
-use Rattle.relay_next_hops.specs.Errands.{AreAimed}
+use Rattle.relay_next_hops.specs.Deliveries.{AreAimed}
 use Rattle.relay_next_hops.specs.Lanes.{OnlyLane, tasks_at}
 use Rattle.relay_next_hops.specs.Starting.{OpensUnheld}
 use Rattle.relay_next_hops.proofs.starting.start_lane.Given as goal

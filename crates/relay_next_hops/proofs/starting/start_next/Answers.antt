@@ -3,7 +3,7 @@ use Rattle.std.proofs.Common.{◌≡◌, ◌+◌, ◌≤◌, inr, true, false, L
 use Rattle.relay_control.specs.Held.{holds}
 use Rattle.relay_limits.specs.declared.pace.Pace.{Pace}
 use Rattle.relay_next_hops.specs.Counts.{CountsMatch, unanswered_of}
-use Rattle.relay_next_hops.specs.Errands.{IsOpenedTo}
+use Rattle.relay_next_hops.specs.Deliveries.{IsOpenedTo}
 use Rattle.relay_next_hops.specs.Lanes.{tasks_at}
 use Rattle.relay_next_hops.specs.Paces.{HasLane}
 use Rattle.relay_next_hops.specs.Starting.{IsStep}

@@ -1,7 +1,7 @@
 -- One lane more has had its turn.
 use Rattle.std.proofs.Common.{◌+◌, ◌<◌, ◌≤◌, ◌^◌, inl, inr, length, min, sym, ap, subst, ◌∙◌, arith}
 use Rattle.relay_next_hops.specs.Counts.{unanswered_of}
-use Rattle.relay_next_hops.specs.Errands.{AreAimed}
+use Rattle.relay_next_hops.specs.Deliveries.{AreAimed}
 use Rattle.relay_next_hops.specs.Lanes.{tasks_at}
 use Rattle.relay_next_hops.specs.Starting.{IsDone, IsStoppedBy}
 use Rattle.relay_next_hops.specs.Turns.{IsGoneOver}

@@ -2,7 +2,7 @@
 -- they do.
 use Rattle.std.proofs.Common.{◌≡◌, ◌+◌, ◌<◌, ◌≤◌, ℕ, false, length, min}
 use Rattle.relay_next_hops.specs.Counts.{CountsMatch}
-use Rattle.relay_next_hops.specs.Errands.{AreAimed}
+use Rattle.relay_next_hops.specs.Deliveries.{AreAimed}
 use Rattle.relay_next_hops.specs.Lanes.{IsNth, tasks_at}
 use Rattle.relay_next_hops.specs.Starting.{IsDone, OpensUnheld}
 use Rattle.relay_next_hops.specs.Turns.{IsGoneOver}

@@ -5,12 +5,12 @@ use Rattle.relay_book.specs.Queue.{step}
 use Rattle.relay_server.specs.Setup.{setup_for}
 use Rattle.relay_node.specs.Node.{SessionHasSaid}
 use Rattle.relay_node.proofs.ReceiveLemmas.{some_none, uses_all, uses_some}
-use Rattle.relay_node.proofs.HeardBehindLemmas.{hears_quietly_behind, hears_staged_behind}
+use Rattle.relay_node.proofs.HeardAfterLemmas.{hears_quietly_after, hears_staged_after}
 use Rattle.relay_node.proofs.receive_into.hear_into.Goals as goal
 
 pub returns-in-None-clause-hears : goal.returns-in-None-clause-hears
 returns-in-None-clause-hears g c = λ changes pending awaits.
-    hears_quietly_behind g.D.Disk.honest g.D.Disk.words _ changes pending c.args.piece.now c.args.records.now c.args.row.now (c.next_number.ensures.number ∙ c.awaited_are_numbered.ensures _ changes pending _ awaits)
+    hears_quietly_after g.D.Disk.honest g.D.Disk.words _ changes pending c.args.piece.now c.args.records.now c.args.row.now (c.next_number.ensures.number ∙ c.awaited_are_numbered.ensures _ changes pending _ awaits)
     (omega (arith, c.size.ensures.size, c.room.ensures.room)) c.args.seat.now.session.value c.speak.new.session c.in_ok-used.field-0 c.in_ok-used.ensures.spoken (λ said says. c.in_ok-used.ensures.speaks said (subst (λ session. SessionHasSaid (setup_for c.args.config.now c.args.seat.now.peer) session said) (sym c.deref_mut.ensures.value) says)) c.in-None.is awaits
 
 pub returns-in-None-clause-heard : goal.returns-in-None-clause-heard
@@ -27,7 +27,7 @@ pub returns-in-Ok-clause-hears : goal.returns-in-Ok-clause-hears
 returns-in-Ok-clause-hears g c = λ changes pending awaits.
     let stages = c.in-Ok.ensures.stages in
     let next = c.awaited_are_numbered.ensures _ changes pending _ awaits in
-    hears_staged_behind g.D.Disk.honest g.D.Disk.words _ changes pending c.args.piece.now c.args.records.now c.args.row.now (c.next_number.ensures.number ∙ next)
+    hears_staged_after g.D.Disk.honest g.D.Disk.words _ changes pending c.args.piece.now c.args.records.now c.args.row.now (c.next_number.ensures.number ∙ next)
     (omega (arith, c.size.ensures.size, c.room.ensures.room)) c.args.seat.now.session.value c.speak.new.session c.in_ok-used.field-0 c.in_ok-used.ensures.spoken (λ said says. c.in_ok-used.ensures.speaks said (subst (λ session. SessionHasSaid (setup_for c.args.config.now c.args.seat.now.peer) session said) (sym c.deref_mut.ensures.value) says)) c.in-Some.taken c.in-Some.is
     c.stage.new.self c.stage.new.row c.in-Ok.number (stages.number_is ∙ next) (c.in-Ok.ensures.awaits changes pending awaits) stages.note stages.notes stages.notes_next.used_is
 

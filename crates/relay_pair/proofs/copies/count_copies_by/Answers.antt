@@ -7,7 +7,7 @@ use Rattle.relay_world.specs.declared.link.Link.{Link}
 use Rattle.relay_world.specs.Copies.{CopiesBy}
 use Rattle.relay_world.specs.Ledger.{accepts_on}
 use Rattle.relay_world.specs.World.{link_at}
-use Rattle.relay_pair.specs.Copied.{AreReplies, accepts_place, behind_mail}
+use Rattle.relay_pair.specs.Copied.{AreReplies, accepts_place, after_mail}
 use Rattle.relay_events.specs.Relays.{world_of}
 use Rattle.relay_pair.proofs.CopyLemmas.{copied, link_read, not_copied}
 use Rattle.relay_pair.proofs.copies.count_copies_by.Goals as goal
@@ -46,10 +46,10 @@ returns-then-accepts_place g c = λ lists asked bound once.
     let read : AreReplies (take has.link.down_read has.link.down) replies =
     subst (λ (l : Link). AreReplies (take l.down_read l.down) replies) same
     (subst (λ l. AreReplies (take value.down_read l) replies) c.as_slice-2.ensures c.in_ok-replies.ensures) in
-    let tested : c.accepts_place.result ≡ accepts_place c.args.place attempt.places.items (behind_mail replies) =
+    let tested : c.accepts_place.result ≡ accepts_place c.args.place attempt.places.items (after_mail replies) =
     c.accepts_place.ensures ∙ ap (λ l. accepts_place c.args.place l c.rcpt_replies.result.now) c.as_slice-3.ensures.value
     ∙ ap (λ l. accepts_place c.args.place attempt.places.items l)
-    (c.rcpt_replies.ensures ∙ ap behind_mail c.as_slice-4.ensures.value) in
+    (c.rcpt_replies.ensures ∙ ap after_mail c.as_slice-4.ensures.value) in
     subst (λ n. CopiesBy old lists c.args.node c.args.message c.args.place attempt n)
     (sym (c.accepts_on.ensures ∙ ap (λ l. length (accepts_on attempt.link l)) c.as_slice-then-accepts_place.ensures.value))
     (copied g.D.Disk.honest g.D.Disk.words old lists bound once c.args.node c.args.message c.args.place c.args.at attempt
@@ -69,9 +69,9 @@ returns g c = λ lists asked bound once.
     let read : AreReplies (take has.link.down_read has.link.down) replies =
     subst (λ (l : Link). AreReplies (take l.down_read l.down) replies) same
     (subst (λ l. AreReplies (take value.down_read l) replies) c.as_slice-2.ensures c.in_ok-replies.ensures) in
-    let tested : c.accepts_place.result ≡ accepts_place c.args.place attempt.places.items (behind_mail replies) =
+    let tested : c.accepts_place.result ≡ accepts_place c.args.place attempt.places.items (after_mail replies) =
     c.accepts_place.ensures ∙ ap (λ l. accepts_place c.args.place l c.rcpt_replies.result.now) c.as_slice-3.ensures.value
     ∙ ap (λ l. accepts_place c.args.place attempt.places.items l)
-    (c.rcpt_replies.ensures ∙ ap behind_mail c.as_slice-4.ensures.value) in
+    (c.rcpt_replies.ensures ∙ ap after_mail c.as_slice-4.ensures.value) in
     not_copied g.D.Disk.honest g.D.Disk.words old lists bound once c.args.node c.args.message c.args.place c.args.at attempt
     c.requires.is_there has.link has.is_there its_node its_message replies read (sym tested ∙ c.if-accepts_place.false)

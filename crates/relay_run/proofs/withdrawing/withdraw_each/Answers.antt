@@ -1,56 +1,66 @@
--- The next message has its outcome; the device failed at it; or memory ran out at it.
-use Rattle.std.proofs.Common.{rules, ◌≡◌, ◌<◌, List, [], ◌∷◌, ◌++◌, length, length-append, refl, sym, ◌∙◌, ap, subst, arith, vec_len}
-use Rattle.std.specs.Prelude.{Some, slice_get}
-use Rattle.relay_run.specs.Withdrawing.{HaveOutcomes}
+-- The next group has its outcomes; the device failed in it; or memory ran out.
+use Rattle.std.proofs.Common.{rules, ◌≡◌, ◌-◌, ◌++◌, ℕ, List, length, map, take, drop, Result, refl, sym, ◌∙◌, ap, arith, vec_len}
+use Rattle.relay_loop.specs.declared.withdrawing.Chosen.{Chosen}
+use Rattle.relay_records.specs.declared.fault.NodeFault.{NodeFault}
+use Rattle.relay_run.specs.Withdrawing.{outcome_of}
 use Rattle.relay_run.specs.declared.withdrawing.Outcome.{Outcome}
-use Rattle.relay_run.proofs.WithdrawalLemmas.{ends_there, goes_on, item_there, on_err}
+use Rattle.relay_run.proofs.WithdrawalLemmas.{fails_next, goes_on, have_none, rest_of, within_still}
 use Rattle.relay_run.proofs.withdrawing.withdraw_each.Goals as goal
 
-pub loop-named-init : goal.loop-named-init
-loop-named-init g c = record {
-  have =
-      subst (λ (outcomes : List Outcome). HaveOutcomes g.D.Disk.honest g.D.Disk.words c.args.now.now.moment c.args.withdrawal c.args.names.now outcomes c.args.relay.now c.args.relay.now)
-      (sym c.requires.empty) refl;
-  count = ap (λ (outcomes : List Outcome). length outcomes) c.requires.empty;
+pub returns-in_default-clause-have : goal.returns-in_default-clause-have
+returns-in_default-clause-have g c =
+    have_none g.D.Disk.honest g.D.Disk.words c.args.now.now.moment c.args.withdrawal c.args.names.now c.args.outcomes.now.items c.args.relay.now c.requires.empty
+
+pub returns-in_default-entries_of-clause-have : goal.returns-in_default-entries_of-clause-have
+returns-in_default-entries_of-clause-have g c =
+    have_none g.D.Disk.honest g.D.Disk.words c.args.now.now.moment c.args.withdrawal c.args.names.now c.args.outcomes.now.items c.args.relay.now c.requires.empty
+
+pub loop-withdrawal-init : goal.loop-withdrawal-init
+loop-withdrawal-init g c = record {
+  have = have_none g.D.Disk.honest g.D.Disk.words c.args.now.now.moment c.args.withdrawal c.args.names.now c.args.outcomes.now.items c.args.relay.now c.requires.empty;
+  within = let none = ap (λ (outcomes : List Outcome). length outcomes) c.requires.empty in omega (arith, none);
   room = refl;
 }
 
-pub loop-named-preserved : goal.loop-named-preserved
-loop-named-preserved g c =
-    let i = c.loop-named.invariant in
-    let next : slice_get c.args.names.now (length c.loop-named.outcomes.items) ≡ Some c.named-item.result =
-    ap (λ place. slice_get c.args.names.now place) i.count ∙ item_there c.args.names.now c.loop-named.named-index c.named-item.result c.loop-named-test.true c.named-item.is in
-    let more : length c.push_reserved.new.self.items ≡ length (c.loop-named.outcomes.items ++ c.in-Some.outcome ∷ []) =
-    ap (λ (outcomes : List Outcome). length outcomes) c.push_reserved.ensures.items in
+pub loop-withdrawal-preserved : goal.loop-withdrawal-preserved
+loop-withdrawal-preserved g c =
+    let i = c.loop-withdrawal.invariant in
+    let count : length c.loop-withdrawal.outcomes.items ≡ vec_len c.loop-withdrawal.outcomes = search rules in
+    let rest : List Chosen = take (length c.as_slice.result.now - c.len-done.result) (drop c.len-done.result c.as_slice.result.now) in
+    let is : rest ≡ drop (length c.loop-withdrawal.outcomes.items) c.in-Ok.chosen.items =
+    rest_of c.as_slice.result.now c.in-Ok.chosen.items c.len-done.result (length c.loop-withdrawal.outcomes.items) c.as_slice.ensures.value (c.len-done.ensures ∙ sym count) in
+    let later : c.push_outcomes.new.outcomes.items ≡ c.loop-withdrawal.outcomes.items ++ map outcome_of c.in-Ok-withdraw_all.field-0.results.items =
+    c.push_outcomes.ensures.items ∙ ap (λ (results : List (Result ℕ NodeFault)). c.loop-withdrawal.outcomes.items ++ map outcome_of results) c.as_slice-in-Ok-withdraw_all.ensures.value in
     record {
       have =
-          subst (λ (outcomes : List Outcome). HaveOutcomes g.D.Disk.honest g.D.Disk.words c.args.now.now.moment c.args.withdrawal c.args.names.now outcomes c.args.relay.now c.withdraw.new.relay)
-          (sym c.push_reserved.ensures.items)
-          (goes_on g.D.Disk.honest g.D.Disk.words c.args.now.now.moment c.args.withdrawal c.args.names.now c.loop-named.outcomes.items c.named-item.result c.in-Some.outcome
-          c.in_ok-outcome.field-0 c.args.relay.now c.loop-named.relay c.withdraw.new.relay i.have next c.in-Some.is c.in_ok-outcome.ensures.has);
-      count = omega (arith, more, length-append c.loop-named.outcomes.items (c.in-Some.outcome ∷ []), i.count);
-      room = c.push_reserved.ensures.capacity ∙ i.room;
+          goes_on g.D.Disk.honest g.D.Disk.words c.args.now.now.moment c.args.withdrawal c.in-Ok.chosen.items rest c.args.names.now c.loop-withdrawal.outcomes.items
+          c.push_outcomes.new.outcomes.items c.in-Ok-withdraw_all.field-0 c.args.relay.now c.loop-withdrawal.relay c.withdraw_all.new.self c.in-Ok.ensures is i.have
+          c.in-Ok-withdraw_all.ensures.withdraws later;
+      within =
+          within_still c.in-Ok.chosen.items rest c.args.names.now c.loop-withdrawal.outcomes.items c.push_outcomes.new.outcomes.items c.in-Ok-withdraw_all.field-0.results.items
+          c.in-Ok.ensures is c.in-Ok-withdraw_all.ensures.within i.within later;
+      room = c.push_outcomes.ensures.capacity ∙ i.room;
     }
 
-pub push_reserved-requires : goal.push_reserved-requires
-push_reserved-requires g c =
-    let i = c.loop-named.invariant in
-    let within : length c.loop-named.outcomes.items ≡ vec_len c.loop-named.outcomes = search rules in
-    omega (arith, within, i.count, i.room, c.requires.room, c.loop-named-test.true)
+pub returns-then-is_short-clause-have : goal.returns-then-is_short-clause-have
+returns-then-is_short-clause-have g c =
+    let i = c.loop-withdrawal.invariant in
+    let count : length c.loop-withdrawal.outcomes.items ≡ vec_len c.loop-withdrawal.outcomes = search rules in
+    let rest : List Chosen = take (length c.as_slice.result.now - c.len-done.result) (drop c.len-done.result c.as_slice.result.now) in
+    let is : rest ≡ drop (length c.loop-withdrawal.outcomes.items) c.in-Ok.chosen.items =
+    rest_of c.as_slice.result.now c.in-Ok.chosen.items c.len-done.result (length c.loop-withdrawal.outcomes.items) c.as_slice.ensures.value (c.len-done.ensures ∙ sym count) in
+    let later : c.push_outcomes.new.outcomes.items ≡ c.loop-withdrawal.outcomes.items ++ map outcome_of c.in-Ok-withdraw_all.field-0.results.items =
+    c.push_outcomes.ensures.items ∙ ap (λ (results : List (Result ℕ NodeFault)). c.loop-withdrawal.outcomes.items ++ map outcome_of results) c.as_slice-in-Ok-withdraw_all.ensures.value in
+    goes_on g.D.Disk.honest g.D.Disk.words c.args.now.now.moment c.args.withdrawal c.in-Ok.chosen.items rest c.args.names.now c.loop-withdrawal.outcomes.items
+    c.push_outcomes.new.outcomes.items c.in-Ok-withdraw_all.field-0 c.args.relay.now c.loop-withdrawal.relay c.withdraw_all.new.self c.in-Ok.ensures is i.have
+    c.in-Ok-withdraw_all.ensures.withdraws later
 
-pub returns-in_err-outcome-clause-failed : goal.returns-in_err-outcome-clause-failed
-returns-in_err-outcome-clause-failed g c =
-    let i = c.loop-named.invariant in
-    on_err c.from_residual.result (record {
-      outcomes = c.loop-named.outcomes.items;
-      between = c.loop-named.relay;
-      have = i.have;
-      named = c.named-item.result;
-      next = ap (λ place. slice_get c.args.names.now place) i.count ∙ item_there c.args.names.now c.loop-named.named-index c.named-item.result c.loop-named-test.true c.named-item.is;
-      fails = c.in_err-outcome.ensures.failed;
-    })
-
-pub returns-in-None-clause-have : goal.returns-in-None-clause-have
-returns-in-None-clause-have g c =
-    ends_there g.D.Disk.honest g.D.Disk.words c.args.now.now.moment c.args.withdrawal c.args.names.now c.loop-named.outcomes.items c.named-item.result
-    c.in_ok-outcome.field-0 c.args.relay.now c.loop-named.relay c.withdraw.new.relay c.loop-named.invariant.have c.in-None.is c.in_ok-outcome.ensures.has
+pub returns-in-Err-Stopped-clause-failed : goal.returns-in-Err-Stopped-clause-failed
+returns-in-Err-Stopped-clause-failed g c =
+    let i = c.loop-withdrawal.invariant in
+    let count : length c.loop-withdrawal.outcomes.items ≡ vec_len c.loop-withdrawal.outcomes = search rules in
+    let rest : List Chosen = take (length c.as_slice.result.now - c.len-done.result) (drop c.len-done.result c.as_slice.result.now) in
+    let is : rest ≡ drop (length c.loop-withdrawal.outcomes.items) c.in-Ok.chosen.items =
+    rest_of c.as_slice.result.now c.in-Ok.chosen.items c.len-done.result (length c.loop-withdrawal.outcomes.items) c.as_slice.ensures.value (c.len-done.ensures ∙ sym count) in
+    fails_next g.D.Disk.honest g.D.Disk.words c.args.now.now.moment c.args.withdrawal c.in-Ok.chosen.items rest c.args.names.now c.loop-withdrawal.outcomes.items
+    c.in-Err-Stopped.field-0 c.args.relay.now c.loop-withdrawal.relay c.withdraw_all.new.self c.in-Ok.ensures is i.have c.in-Err-Stopped.field-0-is c.in-Err-Stopped.ensures.refused

@@ -22,7 +22,7 @@ returns g c = λ changes keeps.
     let rest = c.in-Ok.ensures.rest in
     let begins = c.in-Ok.ensures.begins changes keeps in
     let told = begun_with c.args.number hop started.places.items begins.message in
-    let behind = c.hand_on-handed.ensures in
-    let pushed = behind.pushed changes told (keeps_here ⊥ file_words changes old mid keeps rest.0) (tells_here changes old mid started.attempt told rest.1 begins.tells) in
-    handed_over ⊥ file_words c.args.now c.args.number hop changes old mid new started begins rest.1 rest.2 behind.gone behind.rest.0 behind.rest.1 behind.rest.2
+    let after = c.hand_on-handed.ensures in
+    let pushed = after.pushed changes told (keeps_here ⊥ file_words changes old mid keeps rest.0) (tells_here changes old mid started.attempt told rest.1 begins.tells) in
+    handed_over ⊥ file_words c.args.now c.args.number hop changes old mid new started begins rest.1 rest.2 after.gone after.rest.0 after.rest.1 after.rest.2
     c.hand_on-handed.result.pushed c.conclude.new.node c.conclude.result pushed c.conclude.ensures.rest c.conclude.ensures.device

@@ -3,7 +3,7 @@ use Rattle.relay_disk.specs.Device.{DiskWords, IsSettled, written, WritesLeaveTh
 use Rattle.relay_spool.specs.Image.{IsImageOf, HasBodies, size_of}
 use Rattle.relay_spool.specs.Run.{AtEachMoment, Rests}
 use Rattle.relay_spool.specs.Spool.{IsBeforeOrWithAll}
-use Rattle.relay_spool.proofs.ImageLemmas.{AreBehind, are_behind}
+use Rattle.relay_spool.proofs.ImageLemmas.{AreAfter, are_after}
 use Rattle.relay_spool.proofs.RunLemmas.{joined, calls_on, passes_on}
 use Rattle.relay_spool.proofs.LinkLemmas.{gate_of, Ready, ready_of, opened, tail_run, gate_run, head_run, head_runs}
 use Rattle.relay_spool.proofs.link.write_links.Goals as goal
@@ -15,7 +15,7 @@ ready image mid bodies place tail at is reads =
     subst (λ (xs : List ℕ). Ready xs bodies place tail) (sym reads) (ready_of image bodies place tail (gate_of image bodies place at is))
 
 both_runs : {D : Type 0} (words : DiskWords D) → WritesLeaveTheRest
-    → (old mid new : D) (bodies more : List (List ℕ)) (tail : List ℕ) (place : ℕ) → place + 1 ≡ size_of bodies → AreBehind tail more → Rests words old bodies
+    → (old mid new : D) (bodies more : List (List ℕ)) (tail : List ℕ) (place : ℕ) → place + 1 ≡ size_of bodies → AreAfter tail more → Rests words old bodies
     → words.seen mid ≡ written (words.seen old) (place + 1) tail → IsSettled words mid
     → AtEachMoment words old mid (Writes (place + 1) (length tail) (words.seen old))
     → (IsSettled words mid → AtEachMoment words mid new (Writes place 1 (words.seen mid)))
@@ -27,34 +27,34 @@ both_runs words law old mid new bodies more tail place at are rests reads only o
 
 pub returns-in_err-write_through-clause-stop : goal.returns-in_err-write_through-clause-stop
 returns-in_err-write_through-clause-stop g c = λ honest before bodies at are rests.
-    let behind = subst (λ (xs : List ℕ). AreBehind xs bodies) (sym c.split_at.ensures.back) (are_behind c.args.links.now bodies c.requires.links are) in
+    let after = subst (λ (xs : List ℕ). AreAfter xs bodies) (sym c.split_at.ensures.back) (are_after c.args.links.now bodies c.requires.links are) in
     tail_run g.D.Disk.words c.writes_leave_the_rest.ensures c.args.disk.now c.write_through.new.disk
     (g.D.Disk.words.seen c.args.disk.now) before bodies c.args.gate (length c.split_at.result.1.now)
     (gate_of (g.D.Disk.words.seen c.args.disk.now) before c.args.gate at rests.image) (c.write_through.ensures.stop honest rests.only)
 
 pub returns-in_err-open_gate-clause-stop : goal.returns-in_err-open_gate-clause-stop
 returns-in_err-open_gate-clause-stop g c = λ honest before bodies at are rests.
-    let behind = subst (λ (xs : List ℕ). AreBehind xs bodies) (sym c.split_at.ensures.back) (are_behind c.args.links.now bodies c.requires.links are) in
+    let after = subst (λ (xs : List ℕ). AreAfter xs bodies) (sym c.split_at.ensures.back) (are_after c.args.links.now bodies c.requires.links are) in
     both_runs g.D.Disk.words c.writes_leave_the_rest.ensures c.args.disk.now c.write_through.new.disk c.open_gate.new.disk
-    before bodies c.split_at.result.1.now c.args.gate at behind rests (c.in_ok-write_through.ensures.written honest) (c.in_ok-write_through.ensures.settled honest)
+    before bodies c.split_at.result.1.now c.args.gate at after rests (c.in_ok-write_through.ensures.written honest) (c.in_ok-write_through.ensures.settled honest)
     (c.write_through.ensures.stop honest rests.only) (c.open_gate.ensures.stop honest)
 
 pub returns-clause-added : goal.returns-clause-added
 returns-clause-added g c = λ honest before bodies at are rests.
-    let behind = subst (λ (xs : List ℕ). AreBehind xs bodies) (sym c.split_at.ensures.back) (are_behind c.args.links.now bodies c.requires.links are) in
+    let after = subst (λ (xs : List ℕ). AreAfter xs bodies) (sym c.split_at.ensures.back) (are_after c.args.links.now bodies c.requires.links are) in
     record {
       image = subst (λ (xs : List ℕ). IsImageOf xs (before ++ bodies)) (sym (c.in_ok-open_gate.ensures.written honest))
           (opened (g.D.Disk.words.seen c.write_through.new.disk) before bodies c.args.gate c.split_at.result.1.now
           (ready (g.D.Disk.words.seen c.args.disk.now) (g.D.Disk.words.seen c.write_through.new.disk) before c.args.gate c.split_at.result.1.now at rests.image
-          (c.in_ok-write_through.ensures.written honest)) behind);
+          (c.in_ok-write_through.ensures.written honest)) after);
       only = c.in_ok-open_gate.ensures.settled honest;
     }
 
 pub returns-clause-stop : goal.returns-clause-stop
 returns-clause-stop g c = λ honest before bodies at are rests.
-    let behind = subst (λ (xs : List ℕ). AreBehind xs bodies) (sym c.split_at.ensures.back) (are_behind c.args.links.now bodies c.requires.links are) in
+    let after = subst (λ (xs : List ℕ). AreAfter xs bodies) (sym c.split_at.ensures.back) (are_after c.args.links.now bodies c.requires.links are) in
     both_runs g.D.Disk.words c.writes_leave_the_rest.ensures c.args.disk.now c.write_through.new.disk c.open_gate.new.disk
-    before bodies c.split_at.result.1.now c.args.gate at behind rests (c.in_ok-write_through.ensures.written honest) (c.in_ok-write_through.ensures.settled honest)
+    before bodies c.split_at.result.1.now c.args.gate at after rests (c.in_ok-write_through.ensures.written honest) (c.in_ok-write_through.ensures.settled honest)
     (c.write_through.ensures.stop honest rests.only) (c.open_gate.ensures.stop honest)
 
 pub returns-in_err-open_gate-clause-calls : goal.returns-in_err-open_gate-clause-calls

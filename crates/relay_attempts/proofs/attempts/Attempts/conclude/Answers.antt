@@ -1,7 +1,7 @@
 use Rattle.std.proofs.Common.{List, ℕ, subst, rules}
 use Rattle.relay_report.specs.Report.{reporter}
 use Rattle.relay_attempts.specs.AddedOutcome.{RefusesOutcome}
-use Rattle.relay_attempts.proofs.StrandedLemmas.{known_behind, ruled_message}
+use Rattle.relay_attempts.proofs.StrandedLemmas.{known_after, ruled_message}
 use Rattle.relay_attempts.proofs.attempts.Attempts.conclude.Goals as goal
 
 pub returns-in-Ok-add_outcome-clause-known : goal.returns-in-Ok-add_outcome-clause-known
@@ -9,7 +9,7 @@ returns-in-Ok-add_outcome-clause-known g c = λ known.
     let grows = c.in-Ok-add_outcome.ensures.grows in
     let queue = c.args.records.now.queue in
     let there = ruled_message queue c.args.outcome c.requires.comes.message in
-    known_behind c.args.config.now.routes (record c.args.outcome { report = grows.report }) queue c.numbers_rise.ensures there.0 there.1 there.2
+    known_after c.args.config.now.routes (record c.args.outcome { report = grows.report }) queue c.numbers_rise.ensures there.0 there.1 there.2
     c.add_outcome.new.records.queue c.in-Ok-add_outcome.number c.args.self.now.stranded c.forget.new.self.stranded c.note.new.self.stranded
     grows.grows.queue grows.grows.number_is known (search rules) (search rules)
 

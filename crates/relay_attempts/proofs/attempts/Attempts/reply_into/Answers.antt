@@ -3,11 +3,11 @@ use Rattle.std.proofs.Common.{◌∙◌, refl, subst, arith}
 use Rattle.relay_book.specs.declared.change.Outcome.{Outcome}
 use Rattle.relay_records.specs.declared.fault.NodeFault.TheVariants.{Full}
 use Rattle.relay_report.specs.Report.{reporter_of}
-use Rattle.relay_attempts.specs.Staging.{GrowsRowBy, HasNoRoomBehind, StagesOutcome}
+use Rattle.relay_attempts.specs.Staging.{GrowsRowBy, HasNoRoomAfter, StagesOutcome}
 use Rattle.relay_attempts.proofs.AmongLemmas.{ended_serves, refused_serves}
 use Rattle.relay_attempts.proofs.HearLemmas.{had_ended, is_gone, went_on}
 use Rattle.relay_attempts.proofs.RefusalLemmas.{fault_is, some_there}
-use Rattle.relay_attempts.proofs.StagedLemmas.{full_for_staged, queue_unstaged, refused_behind}
+use Rattle.relay_attempts.proofs.StagedLemmas.{full_for_staged, queue_unstaged, refused_after}
 use Rattle.relay_attempts.proofs.attempts.Attempts.reply_into.Goals as goal
 
 pub returns-in_default-clause-replies : goal.returns-in_default-clause-replies
@@ -98,7 +98,7 @@ returns-in-Err-clause-full g c = λ told tells is.
         course = ended.course told tells;
       };
       room =
-          subst (λ (o : Outcome). HasNoRoomBehind (reporter_of c.args.config.now) o c.args.records.now c.args.row.now) (ended.of_told told tells)
+          subst (λ (o : Outcome). HasNoRoomAfter (reporter_of c.args.config.now) o c.args.records.now c.args.row.now) (ended.of_told told tells)
           (full_for_staged (reporter_of c.args.config.now) c.in-Some.outcome c.args.records.now c.conclude_into.new.records
           c.args.row.now c.conclude_into.new.row c.in-Err.fault (fault_is _ c.in-Err.fault Full is) c.in-Err.ensures.refused);
     }
@@ -108,7 +108,7 @@ returns-in-Err-clause-refused g c =
     let ended = had_ended c.args.config.now.host c.args.records.now.queue c.args.now c.args.attempt c.args.piece.now
     c.args.self.now c.hear.new.self c.in_ok-used.field-0 c.in_ok-used.field-0.outcome c.in-Some.outcome c.in-Some.is
     (c.in_ok-used.ensures.hears c.args.config.now.host c.args.config.now.routes c.requires.serves) in
-    refused_behind (reporter_of c.args.config.now) c.in-Some.outcome c.args.records.now c.conclude_into.new.records c.args.row.now
+    refused_after (reporter_of c.args.config.now) c.in-Some.outcome c.args.records.now c.conclude_into.new.records c.args.row.now
     c.conclude_into.new.row c.args.attempt c.args.self.now c.conclude_into.new.self c.in-Err.fault
     (some_there _ ended.run ended.was)
     (is_gone c.args.self.now.runs c.conclude_into.new.self.runs c.args.attempt (c.conclude_into.ensures.runs ∙ ended.gone))

@@ -14,8 +14,8 @@ returns-clause-ready c =
     let next_is : c.reserve.new.self.queue.next ≡ c.self.inside.next = ap (λ (q : Queue). q.next) queue_is ∙ sym (ap (λ (s : Shown). s.queue.next) c.self.view_is) in
     let fits : FitsQueue c.args.self.now.queue (Outcome c.args.outcome) = c.fits.ensures.0 c.if-not-fits.false in
     let found : message_of c.args.self.now.queue.messages c.args.outcome.message ≡ Some c.in-Some.message.now = sym c.in-Some.ensures in
-    let behind_is : c.as_slice.result.now ≡ (message_after c.args.outcome c.in-Some.message.now).places = c.as_slice.ensures.value ∙ c.in_ok-places.ensures in
-    let behind = are_told_more c.tell_all.new.self.told c.tell_made.new.self.told c.args.outcome.message c.as_slice.result.now c.tell_made.ensures.kept c.in_ok-tell_all.ensures.told in
+    let after_is : c.as_slice.result.now ≡ (message_after c.args.outcome c.in-Some.message.now).places = c.as_slice.ensures.value ∙ c.in_ok-places.ensures in
+    let after = are_told_more c.tell_all.new.self.told c.tell_made.new.self.told c.args.outcome.message c.as_slice.result.now c.tell_made.ensures.kept c.in_ok-tell_all.ensures.told in
     is_ready_outcome c.reserve.new.self c.args.outcome c.in-Some.message.now (change_of c.in_ok-made.made) (message_in c.in_ok-made.made)
     (subst (λ (q : Queue). FitsQueue q (Outcome c.args.outcome)) (sym queue_is) fits)
     (ap (λ (q : Queue). message_of q.messages c.args.outcome.message) queue_is ∙ found)
@@ -24,7 +24,7 @@ returns-clause-ready c =
     c.in_ok-reserve.ensures.room
     c.reserve.ensures.all_told
     (subst (λ (keys : List (ℕ × ℕ)). AreTold keys c.args.outcome.message (message_after c.args.outcome c.in-Some.message.now).places) (sym c.reserve.ensures.told)
-    (subst (AreTold c.tell_made.new.self.told c.args.outcome.message) behind_is behind))
+    (subst (AreTold c.tell_made.new.self.told c.args.outcome.message) after_is after))
     (subst (λ (keys : List (ℕ × ℕ)). AllTold keys (entry_of c.reserve.new.self.queue.next (message_in c.in_ok-made.made))) (sym c.reserve.ensures.told)
     (subst (λ (q : Queue). AllTold c.tell_made.new.self.told (entry_of q.next (message_in c.in_ok-made.made))) (sym c.reserve.ensures.queue) c.in_ok-tell_made.ensures.told))
 

@@ -5,7 +5,7 @@ use Rattle.relay_book.specs.Fields.{HasNone}
 use Rattle.relay_book.specs.Snapshot.{entry_octets}
 use Rattle.relay_book.specs.SnapshotFields.{IsQueuedIn, ReadsEntries, numbered}
 use Rattle.relay_book.proofs.FaultLemmas.{fault_as, no_memory}
-use Rattle.relay_book.proofs.SnapshotReadLemmas.{all_read, no_next_entry, octets_behind, one_read}
+use Rattle.relay_book.proofs.SnapshotReadLemmas.{all_read, no_next_entry, octets_after, one_read}
 use Rattle.relay_book.proofs.book.Book.read_entries.Goals as goal
 
 pub returns-in-Err-clause-bad : goal.returns-in-Err-clause-bad
@@ -27,7 +27,7 @@ returns-then-len-gt0-clause-bad c =
     let within = c.loop-index.auto.index-end in
     let whole : c.loop-index.index ≡ c.args.count = omega (arith, past, within) in
     let some : length (text_of c.loop-index.text) ≢ 0 = search rules in
-    λ _. octets_behind c.args.version c.args.count c.args.next (text_of c.args.text) c.loop-index.self.queue (text_of c.loop-index.text)
+    λ _. octets_after c.args.version c.args.count c.args.next (text_of c.args.text) c.loop-index.self.queue (text_of c.loop-index.text)
     (subst (λ (n : ℕ). ReadsEntries c.args.version n c.args.next (text_of c.args.text) c.loop-index.self.queue (text_of c.loop-index.text)) whole c.loop-index.invariant) some
 
 pub returns-clause-entries : goal.returns-clause-entries

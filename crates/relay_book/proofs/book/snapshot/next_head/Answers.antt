@@ -10,7 +10,7 @@ returns-clause-head c =
     let held = c.hold_first.new.self in
     let rest = c.in-Some.rest.now in
     let left : c.advance.new.self.front ≡ drop (length held.front - length rest) held.front = search rules in
-    let stays : c.advance.new.self.behind ≡ held.behind = search rules in
+    let stays : c.advance.new.self.after ≡ held.after = search rules in
     let same : c.front-front.result.now ≡ held.front = search rules in
     head_in_all c.in-Some.version _ held c.advance.new.self c.in-Some.next c.in-Some.count rest
     (subst (λ (front : List ℕ). SpellsSnapshot c.in-Some.version front c.in-Some.next c.in-Some.count rest) same c.in-Some.ensures)

@@ -5,7 +5,7 @@ use Rattle.relay_book.proofs.decode.placed.read_row.Goals as goal
 pub loop-index-preserved : goal.loop-index-preserved
 loop-index-preserved c =
     row_read c.args.version c.loop-index.index c.args.text.now c.loop-index.recipients c.loop-index.places.items c.loop-index.rest.now c.in_ok-new-in-Some.field-0 _ c.in-Some.place
-    c.in-Some.behind.now c.push.new.self c.push_place.new.places.items c.loop-index.invariant c.in-Some.ensures.0 c.in-Some.ensures.1 c.in_ok-new-in-Some.ensures
+    c.in-Some.after.now c.push.new.self c.push_place.new.places.items c.loop-index.invariant c.in-Some.ensures.0 c.in-Some.ensures.1 c.in_ok-new-in-Some.ensures
     c.in_ok-push-in-Some.ensures.ok c.in_ok-push_place-in-Some.ensures
 
 pub returns-in-None-clause-bad : goal.returns-in-None-clause-bad

@@ -7,4 +7,4 @@ returns-in_err-path c = rw c.from_residual.ensures (none_without_fields c.args.t
 pub returns-in_err-rcpt : goal.returns-in_err-rcpt
 returns-in_err-rcpt c =
     rw c.from_residual-in_err-rcpt.ensures
-    (none_of_fields c.args.text.now c.in_ok-path.path.now c.in_ok-path.number c.in_ok-path.orcpt.now c.in_ok-path.behind.now c.in_ok-path.ensures c.in_err-rcpt.ensures)
+    (none_of_fields c.args.text.now c.in_ok-path.path.now c.in_ok-path.number c.in_ok-path.orcpt.now c.in_ok-path.after.now c.in_ok-path.ensures c.in_err-rcpt.ensures)

@@ -20,5 +20,5 @@ returns-in_err-push-in-Some-clause-bad c = no_memory c.from_residual-in_err-push
 
 pub loop-index-preserved : goal.loop-index-preserved
 loop-index-preserved c =
-    one_more_row IsRecipient recipient_octets c.loop-index.index c.args.text.now c.loop-index.recipients c.loop-index.rest.now c.in_ok-new-in-Some.field-0 _ c.in-Some.behind.now
+    one_more_row IsRecipient recipient_octets c.loop-index.index c.args.text.now c.loop-index.recipients c.loop-index.rest.now c.in_ok-new-in-Some.field-0 _ c.in-Some.after.now
     c.push.new.self c.loop-index.invariant c.in-Some.ensures.0 c.in-Some.ensures.1 c.in_ok-new-in-Some.ensures c.in_ok-push-in-Some.ensures.ok

@@ -9,11 +9,11 @@ returns-in_err-code c = rw c.from_residual.ensures (none_short c.args.text.now c
 pub returns-in_err-len : goal.returns-in_err-len
 returns-in_err-len c =
     let fits : c.in_ok-code.code < 2 ^ 16 = search rules in
-    rw c.from_residual-in_err-len.ensures (none_without_length c.args.text.now c.in_ok-code.code c.in_ok-code.behind.now c.in_ok-code.ensures fits c.in_err-len.ensures.cases)
+    rw c.from_residual-in_err-len.ensures (none_without_length c.args.text.now c.in_ok-code.code c.in_ok-code.after.now c.in_ok-code.ensures fits c.in_err-len.ensures.cases)
 
-pub returns-then-len-behind : goal.returns-then-len-behind
-returns-then-len-behind c =
+pub returns-then-len-after : goal.returns-then-len-after
+returns-then-len-after c =
     let fits : c.in_ok-code.code < 2 ^ 16 = search rules in
-    let less : length c.in_ok-len.behind.now < c.in_ok-len.len.now = omega arith in
-    none_cut c.args.text.now c.in_ok-code.code c.in_ok-len.len.now c.in_ok-len.behind.now
+    let less : length c.in_ok-len.after.now < c.in_ok-len.len.now = omega arith in
+    none_cut c.args.text.now c.in_ok-code.code c.in_ok-len.len.now c.in_ok-len.after.now
     (c.in_ok-code.ensures ∙ ap (λ (l : List ℕ). octets_2 c.in_ok-code.code ++ l) c.in_ok-len.ensures.cases.0) fits less

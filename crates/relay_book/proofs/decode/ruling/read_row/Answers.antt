@@ -14,5 +14,5 @@ returns-in_err-push-in-Ok-clause-bad c = no_memory c.from_residual.result c.from
 
 pub loop-index-preserved : goal.loop-index-preserved
 loop-index-preserved c =
-    one_more_row IsRuling ruling_octets c.loop-index.index c.args.text.now c.loop-index.rulings c.loop-index.rest.now c.in-Ok.ruling c.in-Ok.ruling c.in-Ok.behind.now
+    one_more_row IsRuling ruling_octets c.loop-index.index c.args.text.now c.loop-index.rulings c.loop-index.rest.now c.in-Ok.ruling c.in-Ok.ruling c.in-Ok.after.now
     c.push.new.self c.loop-index.invariant c.in-Ok.ensures.ruling.0 c.in-Ok.ensures.ruling.1 refl c.in_ok-push-in-Ok.ensures.ok

@@ -1,5 +1,5 @@
 use Rattle.std.proofs.Common.{◌++◌, take, refl}
-use Rattle.relay_course.specs.Course.{errand_of}
+use Rattle.relay_course.specs.Course.{delivery_of}
 use Rattle.relay_client.proofs.FollowLemmas.{feed_follows}
 use Rattle.relay_client.proofs.attempt.Attempt.feed.Goals as goal
 
@@ -9,6 +9,6 @@ returns-in_ok-driven-in-Running-clause-follows c = λ host places input output f
     let text = c.args.mail.now.stored_text.now in
     let driven = c.in_ok-driven-in-Running.driven in
     feed_follows _ host envelope text places f.dot_text (input ++ take driven.used c.args.piece.now)
-    (output ++ driven.out.items) driven.verdicts f.sent c.stage_behind-self.ensures
-    (c.in_ok-driven-in-Running.ensures.keeps (errand_of host envelope text f.dot_text places) input output
+    (output ++ driven.out.items) driven.verdicts f.sent c.stage_after-self.ensures
+    (c.in_ok-driven-in-Running.ensures.keeps (delivery_of host envelope text f.dot_text places) input output
     (record { envelope_is = refl; text_is = refl; sent = f.sent }) f.keeps)

@@ -5,10 +5,10 @@ use Rattle.relay_client.proofs.conversation.Conversation.answer.Goals as goal
 pub returns : goal.returns
 returns c =
     let s = c.in_ok-settle.ensures in
-    IfOk-weaker c.behind_answer.result _ _
-    (λ ended does errand old h is.
-    does_answer errand old c.args.self.now c.settle.new.self c.behind_answer.new.self c.in-Some.waited
-    c.take_first.new.self c.args.reply ended c.args.out.now.items c.behind_answer.new.out.items
+    IfOk-weaker c.after_answer.result _ _
+    (λ ended does delivery old h is.
+    does_answer delivery old c.args.self.now c.settle.new.self c.after_answer.new.self c.in-Some.waited
+    c.take_first.new.self c.args.reply ended c.args.out.now.items c.after_answer.new.out.items
     h c.in-Some.ensures
     (record {
       host_stays = s.host_stays;
@@ -17,4 +17,4 @@ returns c =
       asked_stays = s.asked_stays;
       extensions_stay = s.extensions_stay;
       settles = s.settles;
-    }) (λ m hm. does errand m hm is)) c.behind_answer.ensures
+    }) (λ m hm. does delivery m hm is)) c.after_answer.ensures

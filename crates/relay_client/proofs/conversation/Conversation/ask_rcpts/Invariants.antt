@@ -1,7 +1,7 @@
 -- the RCPTs written so far lead to where all of them lead
 use Rattle.std.proofs.Common.{◌-◌, length}
-use Rattle.relay_course.specs.Progress.{Errand, Progress}
-use Rattle.relay_client.specs.Conversation.{AsksOn, Holds, IsErrandOf}
+use Rattle.relay_course.specs.Progress.{Delivery, Progress}
+use Rattle.relay_client.specs.Conversation.{AsksOn, Holds, IsDeliveryOf}
 use Rattle.relay_client.proofs.conversation.Conversation.ask_rcpts.Given as goal
 
 abbrev pub decreases-loop-self : goal.decreases-loop-self
@@ -9,5 +9,5 @@ decreases-loop-self l = length l.self.places.items - l.self.asked
 
 abbrev pub invariant-loop-self : goal.invariant-loop-self
 invariant-loop-self l =
-    (errand : Errand) (old : Progress) → Holds l.initial.self errand old → IsErrandOf errand l.mail
-    → AsksOn errand old l.self l.initial.out.items l.out.items
+    (delivery : Delivery) (old : Progress) → Holds l.initial.self delivery old → IsDeliveryOf delivery l.mail
+    → AsksOn delivery old l.self l.initial.out.items l.out.items

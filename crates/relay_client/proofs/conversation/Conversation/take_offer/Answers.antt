@@ -1,17 +1,17 @@
 use Rattle.std.proofs.Common.{refl}
 use Rattle.std.proofs.lemmas.Result.{IfOk-weaker}
-use Rattle.relay_course.specs.Progress.{Progress, behind_hello}
+use Rattle.relay_course.specs.Progress.{Progress, after_hello}
 use Rattle.relay_course.specs.Extensions.{extensions_of}
 use Rattle.relay_client.proofs.DoesLemmas.{does_from}
 use Rattle.relay_client.proofs.conversation.Conversation.take_offer.Goals as goal
 
 pub returns : goal.returns
-returns c = IfOk-weaker c.behind_hello.result _ _
-    (λ ended does errand old h is.
+returns c = IfOk-weaker c.after_hello.result _ _
+    (λ ended does delivery old h is.
     let offered : Progress = record old { extensions = extensions_of c.args.reply.now } in
-    does_from errand offered old (behind_hello errand offered) c.behind_hello.new.self ended
-    c.args.out.now.items c.behind_hello.new.out.items refl
-    (does errand offered (record {
+    does_from delivery offered old (after_hello delivery offered) c.after_hello.new.self ended
+    c.args.out.now.items c.after_hello.new.out.items refl
+    (does delivery offered (record {
       host_is = h.host_is;
       places_are = h.places_are;
       waits_are = h.waits_are;
@@ -19,4 +19,4 @@ returns c = IfOk-weaker c.behind_hello.result _ _
       extensions_are = c.extensions_of-self.ensures;
       settled_is = h.settled_is;
       running = h.running;
-    }) is)) c.behind_hello.ensures
+    }) is)) c.after_hello.ensures

@@ -8,7 +8,7 @@ use Rattle.relay_connections.proofs.arrivals.Arrivals.next.Goals as goal
 pub loop-number-init : goal.loop-number-init
 loop-number-init g c = record {
   done = λ number below. absurd (omega (arith, below));
-  left = λ number behind. refl;
+  left = λ number after. refl;
 }
 
 pub loop-number-preserved : goal.loop-number-preserved

@@ -63,5 +63,5 @@ pub returns-in-Err-clause-served : goal.returns-in-Err-clause-served
 returns-in-Err-clause-served g c = λ changes setting all.
     let mid = c.accept.new.self in
     served.none_opened g.D.Disk.honest g.D.Disk.words g.S.Stream.remaining g.S.Stream.contents changes setting c.args.peer c.args.stream c.args.self.now.clients mid
-    (served.still_served g.D.Disk.honest g.D.Disk.words g.S.Stream.remaining g.S.Stream.contents changes setting c.args.self.now.clients c.args.relay.now mid c.in-Err.ensures.unchanged.0
+    (served.still_served g.D.Disk.honest g.D.Disk.words g.S.Stream.remaining g.S.Stream.contents changes setting c.args.self.now.clients c.args.relay.now mid c.in-Err.ensures.unchanged.0 c.in-Err.ensures.unchanged.1
     (refused_same c.args.relay.now.node mid.node c.in-Err.field-0 c.in-Err.ensures.refused) all)

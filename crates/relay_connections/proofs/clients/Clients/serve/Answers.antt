@@ -2,9 +2,9 @@
 use Rattle.std.proofs.Common.{◌++◌, sym, subst}
 use Rattle.relay_connections.specs.Leaving.{ClientsJoin, leavers_of}
 use Rattle.relay_connections.specs.Readiness.{clients_of}
-use Rattle.relay_connections.specs.Served.{AreServedBehind}
+use Rattle.relay_connections.specs.Served.{AreServedAfter}
 use Rattle.relay_connections.proofs.CarriedLemmas.{more_join}
-use Rattle.relay_connections.proofs.ServedLemmas.{served_at_once, served_behind}
+use Rattle.relay_connections.proofs.ServedLemmas.{served_at_once, served_after}
 use Rattle.relay_connections.proofs.clients.Clients.serve.Goals as goal
 use Rattle.relay_connections.proofs.clients.Clients.serve.Goals.{then-hears+in_ok-_none+in-Some-1, then-hears+in_ok-_none+in-None-1, else-hears}
 
@@ -21,23 +21,23 @@ returns-clause-served g c = λ changes setting served.
     elim c.if-hears.branch [
       | then-hears+in_ok-_none+in-Some-1 w ↦
           let third = w.in_ok-_none.ensures.served (changes ++ second.0.added) setting second.0.served in (
-            subst (λ self. AreServedBehind g.D.Disk.honest g.D.Disk.words g.S.Stream.remaining g.S.Stream.contents changes setting (clients_of self) c.if-hears.relay) (sym w.self-is)
-                (subst (λ relay. AreServedBehind g.D.Disk.honest g.D.Disk.words g.S.Stream.remaining g.S.Stream.contents changes setting (clients_of w.hear-then-hears.new.self) relay) (sym w.relay-is)
-                (served_behind g.D.Disk.honest g.D.Disk.words g.S.Stream.remaining g.S.Stream.contents changes setting second.0.added w.hear-then-hears.new.self.clients w.hear-then-hears.new.relay third.0)),
+            subst (λ self. AreServedAfter g.D.Disk.honest g.D.Disk.words g.S.Stream.remaining g.S.Stream.contents changes setting (clients_of self) c.if-hears.relay) (sym w.self-is)
+                (subst (λ relay. AreServedAfter g.D.Disk.honest g.D.Disk.words g.S.Stream.remaining g.S.Stream.contents changes setting (clients_of w.hear-then-hears.new.self) relay) (sym w.relay-is)
+                (served_after g.D.Disk.honest g.D.Disk.words g.S.Stream.remaining g.S.Stream.contents changes setting second.0.added w.hear-then-hears.new.self.clients w.hear-then-hears.new.relay third.0)),
             subst (λ leaving. ClientsJoin g.S.Stream.remaining g.S.Stream.contents setting c.args.leaving.now.leavers (leavers_of leaving)) (sym w.leaving-is)
                 (more_join g.S.Stream.remaining g.S.Stream.contents setting c.args.leaving.now.leavers c.hear.new.leaving.leavers w.hear-then-hears.new.leaving.leavers joined third.1),
           )
       | then-hears+in_ok-_none+in-None-1 w ↦
           let third = w.in_ok-_none.ensures.served (changes ++ second.0.added) setting second.0.served in (
-            subst (λ self. AreServedBehind g.D.Disk.honest g.D.Disk.words g.S.Stream.remaining g.S.Stream.contents changes setting (clients_of self) c.if-hears.relay) (sym w.self-is)
-                (subst (λ relay. AreServedBehind g.D.Disk.honest g.D.Disk.words g.S.Stream.remaining g.S.Stream.contents changes setting (clients_of w.hear-then-hears.new.self) relay) (sym w.relay-is)
-                (served_behind g.D.Disk.honest g.D.Disk.words g.S.Stream.remaining g.S.Stream.contents changes setting second.0.added w.hear-then-hears.new.self.clients w.hear-then-hears.new.relay third.0)),
+            subst (λ self. AreServedAfter g.D.Disk.honest g.D.Disk.words g.S.Stream.remaining g.S.Stream.contents changes setting (clients_of self) c.if-hears.relay) (sym w.self-is)
+                (subst (λ relay. AreServedAfter g.D.Disk.honest g.D.Disk.words g.S.Stream.remaining g.S.Stream.contents changes setting (clients_of w.hear-then-hears.new.self) relay) (sym w.relay-is)
+                (served_after g.D.Disk.honest g.D.Disk.words g.S.Stream.remaining g.S.Stream.contents changes setting second.0.added w.hear-then-hears.new.self.clients w.hear-then-hears.new.relay third.0)),
             subst (λ leaving. ClientsJoin g.S.Stream.remaining g.S.Stream.contents setting c.args.leaving.now.leavers (leavers_of leaving)) (sym w.leaving-is)
                 (more_join g.S.Stream.remaining g.S.Stream.contents setting c.args.leaving.now.leavers c.hear.new.leaving.leavers w.hear-then-hears.new.leaving.leavers joined third.1),
           )
       | else-hears w ↦ (
-        subst (λ self. AreServedBehind g.D.Disk.honest g.D.Disk.words g.S.Stream.remaining g.S.Stream.contents changes setting (clients_of self) c.if-hears.relay) (sym w.self-is)
-            (subst (λ relay. AreServedBehind g.D.Disk.honest g.D.Disk.words g.S.Stream.remaining g.S.Stream.contents changes setting (clients_of c.hear.new.self) relay) (sym w.relay-is) second.0),
+        subst (λ self. AreServedAfter g.D.Disk.honest g.D.Disk.words g.S.Stream.remaining g.S.Stream.contents changes setting (clients_of self) c.if-hears.relay) (sym w.self-is)
+            (subst (λ relay. AreServedAfter g.D.Disk.honest g.D.Disk.words g.S.Stream.remaining g.S.Stream.contents changes setting (clients_of c.hear.new.self) relay) (sym w.relay-is) second.0),
         subst (λ leaving. ClientsJoin g.S.Stream.remaining g.S.Stream.contents setting c.args.leaving.now.leavers (leavers_of leaving)) (sym w.leaving-is) joined,
       )
     ]

@@ -11,7 +11,7 @@ loop-number-init g c = record {
   few = omega arith;
   count = omega arith;
   done = λ number below. absurd (omega (arith, below));
-  left = λ number behind. refl;
+  left = λ number after. refl;
 }
 
 pub loop-number-preserved : goal.loop-number-preserved

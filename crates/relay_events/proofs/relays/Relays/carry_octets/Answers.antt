@@ -4,7 +4,7 @@ use Rattle.relay_events.specs.Hear.{WaitsAt}
 use Rattle.relay_events.specs.Happened.{HasHappened}
 use Rattle.relay_events.specs.Relays.{AreBound, world_of}
 use Rattle.relay_events.specs.Step.{Carries}
-use Rattle.relay_events.specs.Told.{IsToldOfBreaks, running_of}
+use Rattle.relay_events.specs.Told.{LearnsOfBreaks, running_of}
 use Rattle.relay_events.specs.Act.{did_of}
 use Rattle.relay_events.proofs.CarryLemmas.{carried_steps, kept_order, unheard_steps}
 use Rattle.relay_events.proofs.RunLemmas.{both_happened, none_happened, still_bound}
@@ -53,7 +53,7 @@ returns-in_default-hear-clause-order g c =
     let same = c.in_default-hear.ensures.carries ∙ c.keep_lines.ensures.world in
     record {
       bound = subst (λ w. AreBound g.D.Disk.honest g.D.Disk.words w) (sym same) c.requires.order.bound;
-      told = subst (λ w. IsToldOfBreaks w) (sym same) c.requires.order.told;
+      told = subst (λ w. LearnsOfBreaks w) (sym same) c.requires.order.told;
       room = c.hear.ensures.room;
     }
 

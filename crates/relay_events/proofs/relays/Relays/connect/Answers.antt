@@ -7,7 +7,7 @@ use Rattle.relay_events.specs.Happened.{HasHappened}
 use Rattle.relay_events.specs.Relays.{AreBound, free_lines, world_of}
 use Rattle.relay_hosts.specs.Room.{HasRoom}
 use Rattle.relay_events.specs.Step.{Steps, outside_address}
-use Rattle.relay_events.specs.Told.{IsToldOfBreaks}
+use Rattle.relay_events.specs.Told.{LearnsOfBreaks}
 use Rattle.relay_events.proofs.ConnectLemmas.{linked_bound, linked_happened, linked_room, linked_steps, linked_told, same_links, unlinked_steps}
 use Rattle.relay_events.proofs.RunLemmas.{none_happened}
 use Rattle.relay_events.proofs.relays.Relays.connect.Goals as goal
@@ -84,7 +84,7 @@ returns-in-Err-clause-order g c =
     let is : new ≡ old = c.in-Err.ensures.opens.new_is ∙ same in
     record {
       bound = subst (λ w. AreBound g.D.Disk.honest g.D.Disk.words w) (sym is) c.requires.order.bound;
-      told = subst (λ w. IsToldOfBreaks w) (sym is) c.requires.order.told;
+      told = subst (λ w. LearnsOfBreaks w) (sym is) c.requires.order.told;
       room = subst (λ l. HasRoom new (vec_capacity l - vec_len l)) (sym c.in-Err.ensures.rest.1)
           (subst (λ w. HasRoom w (free_lines c.args.self.now)) (sym is) c.requires.order.room);
     }
@@ -107,6 +107,6 @@ returns-in_default-reserve-clause-order g c =
     let same = same_links old c.reserve.new.self.items c.reserve.ensures.items in
     record {
       bound = subst (λ w. AreBound g.D.Disk.honest g.D.Disk.words w) (sym same) c.requires.order.bound;
-      told = subst (λ w. IsToldOfBreaks w) (sym same) c.requires.order.told;
+      told = subst (λ w. LearnsOfBreaks w) (sym same) c.requires.order.told;
       room = subst (λ w. HasRoom w (free_lines c.args.self.now)) (sym same) c.requires.order.room;
     }

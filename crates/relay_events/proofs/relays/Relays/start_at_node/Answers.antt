@@ -8,7 +8,7 @@ use Rattle.relay_events.specs.Happened.{HasHappened}
 use Rattle.relay_events.specs.Relays.{AreBound, free_lines, world_of}
 use Rattle.relay_hosts.specs.Room.{HasRoom}
 use Rattle.relay_events.specs.Step.{Steps}
-use Rattle.relay_events.specs.Told.{IsToldOfBreaks, running_of}
+use Rattle.relay_events.specs.Told.{LearnsOfBreaks, running_of}
 use Rattle.relay_hosts.specs.Work.{attempts_in}
 use Rattle.relay_events.proofs.AtNodeLemmas.{begun_bound, begun_happened, begun_room, begun_steps, begun_told, first_still, has_free, link_opened, next_number, one_too_many, unopened_steps, unstarted_steps}
 use Rattle.relay_events.proofs.ConnectLemmas.{linked_bound, linked_happened, linked_room}
@@ -212,7 +212,7 @@ returns-in-Err-clause-order g c =
     let is = c.in-Err.ensures.opens.new_is in
     record {
       bound = subst (λ w. AreBound g.D.Disk.honest g.D.Disk.words w) (sym is) c.requires.order.bound;
-      told = subst (λ w. IsToldOfBreaks w) (sym is) c.requires.order.told;
+      told = subst (λ w. LearnsOfBreaks w) (sym is) c.requires.order.told;
       room = subst (λ l. HasRoom new (vec_capacity l - vec_len l)) (sym c.in-Err.ensures.rest.1)
           (subst (λ w. HasRoom w (free_lines c.args.self.now)) (sym is) c.requires.order.room);
     }

@@ -7,7 +7,7 @@ use Rattle.relay_events.specs.Happened.{HasHappened}
 use Rattle.relay_events.specs.Relays.{AreBound, free_lines, world_of}
 use Rattle.relay_hosts.specs.Room.{HasRoom}
 use Rattle.relay_events.specs.Step.{Steps}
-use Rattle.relay_events.specs.Told.{IsToldOfBreaks}
+use Rattle.relay_events.specs.Told.{LearnsOfBreaks}
 use Rattle.relay_events.proofs.GiveLemmas.{first_not_down}
 use Rattle.relay_events.proofs.NamedLemmas.{none_is_down}
 use Rattle.relay_events.proofs.OutsideLemmas.{outside_bound, outside_happened, outside_room, outside_steps, outside_told, unstarted_outside}
@@ -101,7 +101,7 @@ returns-in-Err-clause-order g c =
     let is = c.in-Err.ensures.begun.0 in
     record {
       bound = subst (λ w. AreBound g.D.Disk.honest g.D.Disk.words w) (sym is) c.requires.order.bound;
-      told = subst (λ w. IsToldOfBreaks w) (sym is) c.requires.order.told;
+      told = subst (λ w. LearnsOfBreaks w) (sym is) c.requires.order.told;
       room = subst (λ l. HasRoom new (vec_capacity l - vec_len l)) (sym c.in-Err.ensures.rest.1)
           (subst (λ w. HasRoom w (free_lines c.args.self.now)) (sym is) c.requires.order.room);
     }

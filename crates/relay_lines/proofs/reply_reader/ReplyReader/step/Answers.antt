@@ -1,7 +1,7 @@
 use Rattle.std.proofs.Common.{length, take, refl, inl, inr, arith}
 use Rattle.std.proofs.lemmas.List.{take_all}
 use Rattle.std.proofs.lemmas.Result.{err_from_is_err_and}
-use Rattle.relay_lines.proofs.ReplyReadingLemmas.{part_is_held, part_has_fault, ended_has_fault, ended_behind}
+use Rattle.relay_lines.proofs.ReplyReadingLemmas.{part_is_held, part_has_fault, ended_has_fault, ended_after}
 use Rattle.relay_lines.proofs.reply_reader.ReplyReader.step.Goals as goal
 
 pub returns-in_default-clause-reads : goal.returns-in_default-clause-reads
@@ -25,10 +25,10 @@ returns-in_err-reply-clause-faults c =
     let octets = c.args.octets.now in
     let used = c.in-Some.used in
     let ends = c.in-Some.ensures.taken held.part held.holds in
-    let behind =
-    ended_behind old (record old { line = c.feed.new.self }) rest (take used octets) held ends refl
+    let after =
+    ended_after old (record old { line = c.feed.new.self }) rest (take used octets) held ends refl
     refl refl in
-    elim (c.in_err-reply.ensures.err behind.0 behind.1) [
+    elim (c.in_err-reply.ensures.err after.0 after.1) [
       | inl memory ↦ inl memory
       | inr breaks ↦
           inr

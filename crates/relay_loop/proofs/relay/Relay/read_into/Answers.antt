@@ -22,11 +22,11 @@ pub returns-in-Ok-clause-answers : goal.returns-in-Ok-clause-answers
 returns-in-Ok-clause-answers g c = rw (← c.self.view_is) (λ changes pending awaits.
     let drained = is_drained c.self.inside.clients c.args.piece.now.session c.in-Some.waiting.now c.is_empty.result c.in-Some.ensures.waiting c.is_empty.ensures c.if-not-is_empty.false in
     let light : IsLaden c.args.row.now → ⊥ = search rules in
-    let behind = c.in-Ok.ensures.receives changes pending awaits in
+    let after = c.in-Ok.ensures.receives changes pending awaits in
     let rest = c.in-Ok.ensures.rest in (
-      behind.more,
+      after.more,
       was_read g.D.Disk.honest g.D.Disk.words changes c.args.now pending c.args.piece.now _ _ c.args.row.now c.receive_into.new.row c.in-Ok.received c.set_by.result
-          (some_there c.self.inside.clients c.args.piece.now.session c.in-Some.waiting.now c.in-Some.ensures.waiting) drained light behind c.in-Ok.ensures.used
+          (some_there c.self.inside.clients c.args.piece.now.session c.in-Some.waiting.now c.in-Some.ensures.waiting) drained light after c.in-Ok.ensures.used
           (record { seats = rest.0; clients = c.set_by.ensures.others; config = rest.1; attempts = rest.2; hops = refl }) c.set_by.ensures.heard c.set_by.ensures.set,
     ))
 

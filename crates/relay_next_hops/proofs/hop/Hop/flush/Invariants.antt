@@ -1,10 +1,10 @@
--- what was read stays, and so does the errand
+-- what was read stays, and so does the delivery
 use Rattle.std.proofs.Common.{◌≡◌}
 use Rattle.relay_connections.specs.Channel.{unread_of}
-use Rattle.relay_next_hops.specs.Errands.{KeepsErrand}
+use Rattle.relay_next_hops.specs.Deliveries.{KeepsDelivery}
 use Rattle.relay_next_hops.proofs.hop.Hop.flush.Given as goal
 
 abbrev pub invariant-loop : goal.invariant-loop
 invariant-loop g l =
-    KeepsErrand l.initial.self l.self × (l.self.attempt ≡ l.initial.self.attempt)
+    KeepsDelivery l.initial.self l.self × (l.self.attempt ≡ l.initial.self.attempt)
     × (unread_of l.self.channel ≡ unread_of l.initial.self.channel) × (l.self.hears ≡ l.initial.self.hears)

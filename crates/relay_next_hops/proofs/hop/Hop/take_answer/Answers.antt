@@ -5,8 +5,8 @@ use Rattle.relay_next_hops.proofs.hop.Hop.take_answer.Goals as goal
 
 pub returns-then-was_left-clause-uses : goal.returns-then-was_left-clause-uses
 returns-then-was_left-clause-uses g c =
-    used_alone c.args.now.now.tick c.args.answer c.args.self.now c.hear_alone.new.self c.hear_alone.result c.hear_alone.ensures.errand (c.if-was_left.ensures.0 refl) c.hear_alone.ensures.used
+    used_alone c.args.now.now.tick c.args.answer c.args.self.now c.hear_alone.new.self c.hear_alone.result c.hear_alone.ensures.delivery (c.if-was_left.ensures.0 refl) c.hear_alone.ensures.used
 
 pub returns-else-was_left-clause-uses : goal.returns-else-was_left-clause-uses
 returns-else-was_left-clause-uses g c =
-    used_own c.args.now.now.tick c.args.answer c.args.self.now c.answer.new.self c.answer.result c.answer.ensures.errand c.answer.ensures.course
+    used_own c.args.now.now.tick c.args.answer c.args.self.now c.answer.new.self c.answer.result c.answer.ensures.delivery c.answer.ensures.course

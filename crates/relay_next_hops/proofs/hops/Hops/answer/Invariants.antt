@@ -3,7 +3,7 @@ use Rattle.std.proofs.Common.{◌+◌, ◌-◌, List, Option}
 use Rattle.relay_routes.specs.Routes.{Route}
 use Rattle.relay_connections.specs.Hearing.{turned}
 use Rattle.relay_next_hops.specs.Counts.{CountsMatch}
-use Rattle.relay_next_hops.specs.Errands.{AreAimed}
+use Rattle.relay_next_hops.specs.Deliveries.{AreAimed}
 use Rattle.relay_next_hops.specs.Hearing.{AnswersEach}
 use Rattle.relay_next_hops.specs.declared.hop.Hop.{Hop}
 use Rattle.relay_next_hops.proofs.hops.Hops.answer.Given as goal

@@ -1,4 +1,4 @@
--- The connection that is answered keeps its errand, and is counted until it is settled.
+-- The connection that is answered keeps its delivery, and is counted until it is settled.
 use Rattle.std.proofs.Common.{refl}
 use Rattle.relay_next_hops.proofs.HearingLemmas.{answered_by, on_ok}
 use Rattle.relay_next_hops.proofs.SlotLemmas.{out_aim, out_aimed, out_counts, out_free, out_low}
@@ -8,16 +8,16 @@ pub returns-clause-counts : goal.returns-clause-counts
 returns-clause-counts g c = λ match_is.
     let hops = c.args.self.now.hops in
     c.settle.ensures.counts
-    (out_counts hops c.take.new.self c.args.number c.in-Some.taken c.take_answer.new.self c.in-Some.ensures.taken c.take.ensures.rest c.take_answer.ensures.errand c.args.lanes.now.paces c.args.lanes.now.paces (λ lane. refl) match_is)
-    (out_free hops c.take.new.self c.args.number c.in-Some.taken c.take_answer.new.self c.in-Some.ensures.taken c.take.ensures.rest c.take_answer.ensures.errand)
-    (out_low hops c.take.new.self c.args.number c.in-Some.taken c.take_answer.new.self c.in-Some.ensures.taken c.take.ensures.rest c.take_answer.ensures.errand)
+    (out_counts hops c.take.new.self c.args.number c.in-Some.taken c.take_answer.new.self c.in-Some.ensures.taken c.take.ensures.rest c.take_answer.ensures.delivery c.args.lanes.now.paces c.args.lanes.now.paces (λ lane. refl) match_is)
+    (out_free hops c.take.new.self c.args.number c.in-Some.taken c.take_answer.new.self c.in-Some.ensures.taken c.take.ensures.rest c.take_answer.ensures.delivery)
+    (out_low hops c.take.new.self c.args.number c.in-Some.taken c.take_answer.new.self c.in-Some.ensures.taken c.take.ensures.rest c.take_answer.ensures.delivery)
 
 pub returns-clause-aimed : goal.returns-clause-aimed
 returns-clause-aimed g c = λ routes aimed.
     let hops = c.args.self.now.hops in
     c.settle.ensures.aimed routes
-    (out_aim hops c.take.new.self c.args.number c.in-Some.taken c.take_answer.new.self c.in-Some.ensures.taken c.take.ensures.rest c.take_answer.ensures.errand routes aimed)
-    (out_aimed hops c.take.new.self c.args.number c.in-Some.taken c.take_answer.new.self c.in-Some.ensures.taken c.take.ensures.rest c.take_answer.ensures.errand routes aimed)
+    (out_aim hops c.take.new.self c.args.number c.in-Some.taken c.take_answer.new.self c.in-Some.ensures.taken c.take.ensures.rest c.take_answer.ensures.delivery routes aimed)
+    (out_aimed hops c.take.new.self c.args.number c.in-Some.taken c.take_answer.new.self c.in-Some.ensures.taken c.take.ensures.rest c.take_answer.ensures.delivery routes aimed)
 
 pub returns-clause-heard : goal.returns-clause-heard
 returns-clause-heard g c =
@@ -25,6 +25,6 @@ returns-clause-heard g c =
     on_ok _ c.settle.result
     (answered_by c.args.now.now.tick hops c.take.new.self c.settle.new.self.hops c.args.number c.in-Some.taken c.take_answer.new.self c.in_ok-course.course c.args.answer c.in-Some.ensures.taken c.take.ensures.rest
     (c.settle.ensures.own
-    (out_free hops c.take.new.self c.args.number c.in-Some.taken c.take_answer.new.self c.in-Some.ensures.taken c.take.ensures.rest c.take_answer.ensures.errand)
-    (out_low hops c.take.new.self c.args.number c.in-Some.taken c.take_answer.new.self c.in-Some.ensures.taken c.take.ensures.rest c.take_answer.ensures.errand))
+    (out_free hops c.take.new.self c.args.number c.in-Some.taken c.take_answer.new.self c.in-Some.ensures.taken c.take.ensures.rest c.take_answer.ensures.delivery)
+    (out_low hops c.take.new.self c.args.number c.in-Some.taken c.take_answer.new.self c.in-Some.ensures.taken c.take.ensures.rest c.take_answer.ensures.delivery))
     c.settle.ensures.others c.in_ok-course.ensures.uses)

@@ -2,7 +2,7 @@
 use Rattle.std.proofs.Common.{List}
 use Rattle.relay_routes.specs.Routes.{Route}
 use Rattle.relay_next_hops.specs.Counts.{CountsMatch}
-use Rattle.relay_next_hops.specs.Errands.{AreAimed}
+use Rattle.relay_next_hops.specs.Deliveries.{AreAimed}
 use Rattle.relay_next_hops.proofs.hops.Hops.attend.Given as goal
 
 abbrev pub invariant-loop-step : goal.invariant-loop-step

@@ -1,4 +1,4 @@
--- The connection that is taken out keeps its errand, and is counted until it is settled.
+-- The connection that is taken out keeps its delivery, and is counted until it is settled.
 use Rattle.relay_slots.specs.Slots.{slot_at}
 use Rattle.relay_next_hops.proofs.BegunLemmas.{begun_there}
 use Rattle.relay_next_hops.proofs.HearingLemmas.{on_ok}
@@ -9,16 +9,16 @@ pub returns-clause-counts : goal.returns-clause-counts
 returns-clause-counts g c = λ match_is.
     let hops = c.args.self.now.hops in
     c.settle.ensures.counts
-    (out_counts hops c.take.new.self c.args.number c.in-Some.taken c.attend.new.self c.in-Some.ensures.taken c.take.ensures.rest c.attend.ensures.errand c.args.lanes.now.paces c.note_spoken.new.lanes.paces c.note_spoken.ensures.counts.runs match_is)
-    (out_free hops c.take.new.self c.args.number c.in-Some.taken c.attend.new.self c.in-Some.ensures.taken c.take.ensures.rest c.attend.ensures.errand)
-    (out_low hops c.take.new.self c.args.number c.in-Some.taken c.attend.new.self c.in-Some.ensures.taken c.take.ensures.rest c.attend.ensures.errand)
+    (out_counts hops c.take.new.self c.args.number c.in-Some.taken c.attend.new.self c.in-Some.ensures.taken c.take.ensures.rest c.attend.ensures.delivery c.args.lanes.now.paces c.note_spoken.new.lanes.paces c.note_spoken.ensures.counts.runs match_is)
+    (out_free hops c.take.new.self c.args.number c.in-Some.taken c.attend.new.self c.in-Some.ensures.taken c.take.ensures.rest c.attend.ensures.delivery)
+    (out_low hops c.take.new.self c.args.number c.in-Some.taken c.attend.new.self c.in-Some.ensures.taken c.take.ensures.rest c.attend.ensures.delivery)
 
 pub returns-clause-aimed : goal.returns-clause-aimed
 returns-clause-aimed g c = λ routes aimed.
     let hops = c.args.self.now.hops in
     c.settle.ensures.aimed routes
-    (out_aim hops c.take.new.self c.args.number c.in-Some.taken c.attend.new.self c.in-Some.ensures.taken c.take.ensures.rest c.attend.ensures.errand routes aimed)
-    (out_aimed hops c.take.new.self c.args.number c.in-Some.taken c.attend.new.self c.in-Some.ensures.taken c.take.ensures.rest c.attend.ensures.errand routes aimed)
+    (out_aim hops c.take.new.self c.args.number c.in-Some.taken c.attend.new.self c.in-Some.ensures.taken c.take.ensures.rest c.attend.ensures.delivery routes aimed)
+    (out_aimed hops c.take.new.self c.args.number c.in-Some.taken c.attend.new.self c.in-Some.ensures.taken c.take.ensures.rest c.attend.ensures.delivery routes aimed)
 
 pub returns-clause-starts : goal.returns-clause-starts
 returns-clause-starts g c =
@@ -27,8 +27,8 @@ returns-clause-starts g c =
     let taken = c.in-Some.taken in
     let hop = c.attend.new.self in
     let own = c.settle.ensures.own
-    (out_free hops c.take.new.self number taken hop c.in-Some.ensures.taken c.take.ensures.rest c.attend.ensures.errand)
-    (out_low hops c.take.new.self number taken hop c.in-Some.ensures.taken c.take.ensures.rest c.attend.ensures.errand) in
+    (out_free hops c.take.new.self number taken hop c.in-Some.ensures.taken c.take.ensures.rest c.attend.ensures.delivery)
+    (out_low hops c.take.new.self number taken hop c.in-Some.ensures.taken c.take.ensures.rest c.attend.ensures.delivery) in
     on_ok _ c.settle.result
     (λ old new was is none some.
     begun_there c.args.now.now.moment c.most_of-most.result c.args.self.now.portions taken old hop new c.in_ok-course.course c.args.relay.now c.attend.new.relay c.settle.new.relay

@@ -7,7 +7,7 @@ use Rattle.relay_next_hops.proofs.hops.Hops.clear.Goals as goal
 pub loop-number-preserved : goal.loop-number-preserved
 loop-number-preserved g c = (
   cleared_more c.loop-number.self.hops c.take-hop.new.self c.loop-number.number c.take-hop.ensures.rest c.loop-number.invariant.0,
-  λ other behind. ap (λ slots. slot_at slots other) c.take-hop.ensures.rest ∙ none_stays c.loop-number.self.hops c.loop-number.number other (c.loop-number.invariant.1 other behind),
+  λ other after. ap (λ slots. slot_at slots other) c.take-hop.ensures.rest ∙ none_stays c.loop-number.self.hops c.loop-number.number other (c.loop-number.invariant.1 other after),
 )
 
 pub returns : goal.returns

@@ -1,11 +1,11 @@
 -- The connection that is taken out is counted until it is settled.
 use Rattle.std.proofs.Common.{refl}
-use Rattle.relay_next_hops.specs.Errands.{KeepsErrand}
+use Rattle.relay_next_hops.specs.Deliveries.{KeepsDelivery}
 use Rattle.relay_next_hops.specs.declared.hop.Hop.{Hop}
 use Rattle.relay_next_hops.proofs.SlotLemmas.{out_aim, out_aimed, out_counts, out_free, out_low}
 use Rattle.relay_next_hops.proofs.hops.Hops.lose_one.Goals as goal
 
-same : {S : Type 0} (hop : Hop S) → KeepsErrand hop hop
+same : {S : Type 0} (hop : Hop S) → KeepsDelivery hop hop
 same hop = record { aim = refl; message = refl; name = refl }
 
 pub returns-clause-counts : goal.returns-clause-counts

@@ -1,4 +1,4 @@
--- The connection is put back with its errand.
+-- The connection is put back with its delivery.
 use Rattle.std.proofs.Common.{refl}
 use Rattle.relay_next_hops.specs.declared.hop.Hop.{Hop}
 use Rattle.relay_next_hops.proofs.SlotLemmas.{back_aimed, back_counts}

@@ -1,18 +1,18 @@
 -- A connection that stays is counted in the table again; of one that doesn't, its lane has one less.
 use Rattle.std.proofs.Common.{refl, sym, ◌∙◌, ap, subst}
-use Rattle.relay_next_hops.specs.Errands.{portions_after}
+use Rattle.relay_next_hops.specs.Deliveries.{portions_after}
 use Rattle.relay_next_hops.specs.Paces.{RunsOneLess}
-use Rattle.relay_next_hops.specs.declared.errand.Aim.{Aim}
+use Rattle.relay_next_hops.specs.declared.delivery.Aim.{Aim}
 use Rattle.relay_next_hops.proofs.SlotLemmas.{counts_ended, left_none, put_aimed, put_counts}
 use Rattle.relay_next_hops.proofs.hops.Hops.settle.Goals as goal
 
 pub returns-in-Stays-clause-counts : goal.returns-in-Stays-clause-counts
 returns-in-Stays-clause-counts g c = λ match_is free low.
-    put_counts c.args.self.now.hops c.put.new.self c.args.number c.args.hop c.put.ensures.stands c.put.ensures.behind c.args.lanes.now.paces free low match_is
+    put_counts c.args.self.now.hops c.put.new.self c.args.number c.args.hop c.put.ensures.stands c.put.ensures.after c.args.lanes.now.paces free low match_is
 
 pub returns-in-Stays-clause-aimed : goal.returns-in-Stays-clause-aimed
 returns-in-Stays-clause-aimed g c = λ routes is aimed.
-    put_aimed c.args.self.now.hops c.put.new.self c.args.number c.args.hop c.put.ensures.stands c.put.ensures.behind routes is aimed
+    put_aimed c.args.self.now.hops c.put.new.self c.args.number c.args.hop c.put.ensures.stands c.put.ensures.after routes is aimed
 
 pub returns-in_ok-conclude-in_default : goal.returns-in_ok-conclude-in_default
 returns-in_ok-conclude-in_default g c = record {
@@ -22,7 +22,7 @@ returns-in_ok-conclude-in_default g c = record {
   stays = λ is. absurd (c.in_default.not-Stays is);
   portions = c.conclude.ensures.portions
       ∙ ap (λ attempt. portions_after c.args.course attempt c.into_parts-ended.result.1.message c.args.self.now.portions) c.into_parts-ended.ensures.attempt
-      ∙ ap (λ message. portions_after c.args.course c.args.hop.attempt message c.args.self.now.portions) c.into_parts-ended.ensures.errand.0;
+      ∙ ap (λ message. portions_after c.args.course c.args.hop.attempt message c.args.self.now.portions) c.into_parts-ended.ensures.delivery.0;
   counts = λ match_is free low. counts_ended c.args.hop c.args.self.now.hops c.args.lanes.now.paces c.conclude.new.lanes.paces
       (subst (λ (aim : Aim). RunsOneLess aim.lane c.args.lanes.now.paces c.conclude.new.lanes.paces) c.into_parts-ended.ensures.aim c.conclude.ensures.runs) match_is;
   aimed = λ routes is aimed. aimed;

@@ -5,7 +5,7 @@ use Rattle.relay_slots.proofs.Theorems.{others_of_set}
 use Rattle.relay_records.specs.Records.{Kept}
 use Rattle.relay_node.proofs.AttemptLemmas.{same_serves}
 use Rattle.relay_node.proofs.NodeLemmas.{comes_there, history_at, rest_has_histories, taken_says}
-use Rattle.relay_node.proofs.StageLemmas.{receives_behind_by, unstaged}
+use Rattle.relay_node.proofs.StageLemmas.{receives_after_by, unstaged}
 use Rattle.relay_node.specs.declared.receive.Received.{Received}
 use Rattle.relay_node.proofs.SeatLemmas.{answered_at, back_histories, back_others, failed, fault_is, has_place, leaves_unstaged, left_histories, left_others, not_full, refused_hearing, refused_seat, stages_known}
 use Rattle.relay_node.proofs.node.Node.receive_into.Goals as goal
@@ -39,7 +39,7 @@ invariant_of-self-2 g c = (
 
 pub returns-clause-receives : goal.returns-clause-receives
 returns-clause-receives g c = rw (← c.self.view_is) (λ changes pending awaits.
-    receives_behind_by g.D.Disk.honest g.D.Disk.words c.self.inside.config changes pending c.args.now c.args.session c.args.piece.now c.self.inside.seats c.in_ok-seat.seat c.self.inside.attempts.runs c.note.new.attempts.runs
+    receives_after_by g.D.Disk.honest g.D.Disk.words c.self.inside.config changes pending c.args.now c.args.session c.args.piece.now c.self.inside.seats c.in_ok-seat.seat c.self.inside.attempts.runs c.note.new.attempts.runs
     c.in_ok-seat.ensures.taken.was c.hear_into.new.seat c.in_ok-received.ensures.peer c.self.inside.records c.hear_into.new.records _ _ c.in_ok-received.received (c.in_ok-received.ensures.hears changes pending awaits)
     c.in_ok-received.received.close refl c.take_seat.new.seats c.put_back.new.seats c.in_ok-seat.ensures.taken.rest
     (has_place c.self.inside.records c.args.session c.self.inside.seats c.take_seat.new.seats c.in_ok-seat.seat c.in_ok-seat.ensures.taken) c.put_back.ensures)

@@ -1,7 +1,7 @@
 -- What the attempts have done by the queue and a row, by the list of changes.
 use Rattle.std.proofs.Common.{◌≡◌, ◌∙◌, ◌++◌, true, true≢false, refl, rules, sym}
 use Rattle.relay_node.proofs.NodeLemmas.{standing_of}
-use Rattle.relay_node.proofs.ReplyIntoLemmas.{awaited_fit, heard_behind_there, into_unknown, refuses_reply_into, replies_into, row_stays, unknown_into, uses_into}
+use Rattle.relay_node.proofs.ReplyIntoLemmas.{awaited_fit, heard_after_there, into_unknown, refuses_reply_into, replies_into, row_stays, unknown_into, uses_into}
 use Rattle.relay_node.proofs.ReplyLemmas.{told_by_queue}
 use Rattle.relay_node.proofs.node.Node.reply_into.Goals as goal
 use Rattle.relay_report.specs.Report.{reporter_of}
@@ -35,7 +35,7 @@ returns-clause-used g c = rw (← c.self.view_is) (
 pub returns-clause-refused : goal.returns-clause-refused
 returns-clause-refused g c = rw (← c.self.view_is) (
     let live : c.self.inside.records.spool.live ≡ true = search rules in
-    let there = heard_behind_there (reporter_of c.self.inside.config) c.args.now c.args.attempt _ c.self.inside.attempts.runs
+    let there = heard_after_there (reporter_of c.self.inside.config) c.args.now c.args.attempt _ c.self.inside.attempts.runs
     c.reply_into.new.self.runs c.self.inside.records c.reply_into.new.records _ _ c.reply_into.result
     c.reply_into.ensures.heard in
     record {

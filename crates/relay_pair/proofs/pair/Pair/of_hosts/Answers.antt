@@ -4,7 +4,7 @@ use Rattle.relay_world.specs.Leaks.{NothingLeaks}
 use Rattle.relay_world.specs.World.{World}
 use Rattle.relay_events.specs.Relays.{AreBound, free_lines}
 use Rattle.relay_hosts.specs.Room.{HasRoom}
-use Rattle.relay_events.specs.Told.{IsToldOfBreaks}
+use Rattle.relay_events.specs.Told.{LearnsOfBreaks}
 use Rattle.relay_pair.proofs.BeginLemmas.{begun_are_bound, begun_are_told, begun_has_room, begun_leak_nothing}
 use Rattle.relay_pair.proofs.pair.Pair.of_hosts.Goals as goal
 
@@ -18,7 +18,7 @@ invariant_of-result g c =
         bound = subst (λ (w : World _). AreBound g.D.Disk.honest g.D.Disk.words w) (sym c.of_hosts.ensures)
             (begun_are_bound g.D.Disk.honest g.D.Disk.words configs hosts c.requires.1 c.requires.2 c.once_at_first.ensures
             c.hop_links_at_first.ensures);
-        told = subst (λ (w : World _). IsToldOfBreaks w) (sym c.of_hosts.ensures)
+        told = subst (λ (w : World _). LearnsOfBreaks w) (sym c.of_hosts.ensures)
             (begun_are_told g.D.Disk.honest g.D.Disk.words configs hosts c.requires.1);
         room = subst (λ (w : World _). HasRoom w (free_lines relays)) (sym c.of_hosts.ensures)
             (begun_has_room g.D.Disk.honest g.D.Disk.words configs hosts c.requires.1 (free_lines relays));

@@ -6,6 +6,6 @@ use Rattle.relay_pieces.proofs.pieces.Pieces.len.Given as goal
 
 abbrev pub invariant-loop-index : goal.invariant-loop-index
 invariant-loop-index l =
-    let behind = joined (take l.index l.self-inside.rest.items) in
-    (l.total ≡ min (length (front_of l.self-inside.window) + (length behind - l.self-inside.window.ahead)) (2 ^ 64 - 1))
-    × (l.self-inside.window.ahead ≤ length behind)
+    let after = joined (take l.index l.self-inside.rest.items) in
+    (l.total ≡ min (length (front_of l.self-inside.window) + (length after - l.self-inside.window.ahead)) (2 ^ 64 - 1))
+    × (l.self-inside.window.ahead ≤ length after)

@@ -2,7 +2,7 @@ use Rattle.std.proofs.Common.{ℕ, List, [], ◌∷◌, ◌++◌, drop, sym, sub
 use Rattle.std.specs.declared.alloc.Global.{Global}
 use Rattle.relay_pieces.specs.Pieces.{first_of, joined}
 use Rattle.relay_pieces.specs.Window.{Overlaps, front_of}
-use Rattle.relay_pieces.proofs.SeamLemmas.{put_behind, put_first}
+use Rattle.relay_pieces.proofs.SeamLemmas.{put_after, put_first}
 use Rattle.relay_pieces.proofs.pieces.Pieces.push.Goals as goal
 
 pub invariant_of-self-2 : goal.invariant_of-self-2
@@ -19,5 +19,5 @@ returns c =
     let pieces = c.self.inside.rest.items in
     rw (sym c.self.view_is) (
     ap (λ (rest : List (Vec ℕ Global)). front_of window ++ drop window.ahead (joined rest)) c.in_ok-push_back.ensures.items
-    ∙ ap (λ (xs : List ℕ). front_of window ++ xs) (put_behind pieces c.args.piece window.ahead c.self.invariant.within)
+    ∙ ap (λ (xs : List ℕ). front_of window ++ xs) (put_after pieces c.args.piece window.ahead c.self.invariant.within)
     ∙ sym (append_assoc (front_of window) (drop window.ahead (joined pieces)) c.args.piece.items))

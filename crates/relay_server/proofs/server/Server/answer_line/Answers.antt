@@ -9,7 +9,7 @@ use Rattle.relay_server.specs.State.{Command}
 use Rattle.relay_server.specs.Unit.{Asked, asked_of_long}
 use Rattle.relay_server.specs.Values.{IsJudged, command_state_of}
 use Rattle.relay_server.specs.declared.judge.Judged.TheVariants as judged
-use Rattle.relay_server.proofs.SessionLemmas.{gathers_line, if_ok, judged_line, long_asks, long_line, nothing_behind, refuses_line}
+use Rattle.relay_server.proofs.SessionLemmas.{gathers_line, if_ok, judged_line, long_asks, long_line, nothing_after, refuses_line}
 use Rattle.relay_server.proofs.server.Server.answer_line.Goals as goal
 
 pub returns-then-is_long-clause-moves : goal.returns-then-is_long-clause-moves
@@ -46,7 +46,7 @@ returns-in_ok-stage-in-Gathers-clause-moves c = λ line is_line given.
     let is : IsJudged setup (reading_of text) state (judged.Gathers chunk.transaction chunk.reader chunk.is_last) = rw chunk.is at c.in_ok-row.ensures in
     let short : IsGiven line text false = rw c.if-is_long.false at given in
     let here : IsJudged setup (reading_of line) state (judged.Gathers chunk.transaction chunk.reader chunk.is_last) = rw short.1 at is in
-    nothing_behind setup (Command state) c.in_ok-stage-in-Gathers.stage (line ++ crlf) c.args.out.now.items c.read_chunk.new.out.items c.in_ok-stage-in-Gathers.field-0-1
+    nothing_after setup (Command state) c.in_ok-stage-in-Gathers.stage (line ++ crlf) c.args.out.now.items c.read_chunk.new.out.items c.in_ok-stage-in-Gathers.field-0-1
     (c.in_ok-stage-in-Gathers.ensures.moves c.args.table.now (Command state) (line ++ crlf)
     (gathers_line setup state line chunk.transaction chunk.reader chunk.is_last is_line short.0 here))
 
@@ -59,6 +59,6 @@ returns-in_ok-stage-in-Refuses-clause-moves c = λ line is_line given.
     let is : IsJudged setup (reading_of text) state (judged.Refuses chunk.row chunk.state chunk.size) = rw chunk.is at c.in_ok-row.ensures in
     let short : IsGiven line text false = rw c.if-is_long.false at given in
     let here : IsJudged setup (reading_of line) state (judged.Refuses chunk.row chunk.state chunk.size) = rw short.1 at is in
-    nothing_behind setup (Command state) c.in_ok-stage-in-Refuses.stage (line ++ crlf) c.args.out.now.items c.skip.new.out.items c.in_ok-stage-in-Refuses.field-0-1
+    nothing_after setup (Command state) c.in_ok-stage-in-Refuses.stage (line ++ crlf) c.args.out.now.items c.skip.new.out.items c.in_ok-stage-in-Refuses.field-0-1
     (c.in_ok-stage-in-Refuses.ensures.moves c.args.table.now (Command state) (line ++ crlf)
     (refuses_line setup state line chunk.row chunk.state chunk.size is_line short.0 here))

@@ -2,7 +2,7 @@
 use Rattle.std.proofs.Common.{◌≡◌, ◌+◌, ◌≤◌, length, rules, sym, ◌∙◌, arith}
 use Rattle.std.proofs.lemmas.List.{length-drop, take_rest}
 use Rattle.relay_server.specs.Session.{next_of, open_offers}
-use Rattle.relay_server.proofs.StandsLemmas.{heard_behind, more_than, offers_need_octets, reads_on, waits_reads}
+use Rattle.relay_server.proofs.StandsLemmas.{heard_after, more_than, offers_need_octets, reads_on, waits_reads}
 use Rattle.relay_server.proofs.session.Session.hear.Goals as goal
 
 pub returns : goal.returns
@@ -15,16 +15,16 @@ returns c =
     let stands = rw take_rest at c.in_ok-used.ensures.stands in
     let short = rw take_rest at c.in_ok-used.ensures.within in
     let whole = rw take_rest at c.in_ok-used.ensures.whole in
-    let behind = length-drop used piece in
+    let after = length-drop used piece in
     let low = c.requires in
-    let end : used + count ≤ length piece = omega (arith, short, behind, low) in
+    let end : used + count ≤ length piece = omega (arith, short, after, low) in
     let next_is : c.next.result ≡ next_of new = c.next.ensures in
     record {
-      hears = λ setup said same stood. heard_behind setup said old new piece used count c.args.out.now.items c.read.new.out.items (stands setup said same stood);
+      hears = λ setup said same stood. heard_after setup said old new piece used count c.args.out.now.items c.read.new.out.items (stands setup said same stood);
       used = record {
         no_less = omega arith;
         within = end;
-        whole = λ more. let all = whole (reads_on new (sym next_is ∙ more)) in omega (arith, all, behind, low);
+        whole = λ more. let all = whole (reads_on new (sym next_is ∙ more)) in omega (arith, all, after, low);
         some = λ told.
             more_than (open_offers old) used (used + count) (omega arith) (λ none.
             let some = offers_need_octets old new count c.in_ok-used.ensures.idle none (sym next_is ∙ told) in

@@ -1,7 +1,0 @@
--- Spare file descriptors for attempts.
-use Rattle.std.specs.Prelude.{ℕ, vec_len}
-use Rattle.relay_next_hops.specs.declared.spares.Spares.{Spares}
-
--- how many are kept
-abbrev pub held_of : Spares → ℕ
-held_of spares = vec_len spares.copies

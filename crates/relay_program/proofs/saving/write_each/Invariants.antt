@@ -1,6 +1,0 @@
--- those that were saved so far
-use Rattle.relay_program.specs.Withdrawing.{AreSome}
-use Rattle.relay_program.proofs.saving.write_each.Given as goal
-
-abbrev pub invariant-loop-selected : goal.invariant-loop-selected
-invariant-loop-selected g l = AreSome l.saved.items l.yielded

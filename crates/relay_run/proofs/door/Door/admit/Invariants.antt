@@ -1,7 +1,0 @@
--- so far all clients may connect, and they are served as before
-use Rattle.relay_connections.specs.Welcome.{AreAllowed, KeepsRules}
-use Rattle.relay_run.proofs.door.Door.admit.Given as goal
-
-abbrev pub invariant-loop : goal.invariant-loop
-invariant-loop g l = (AreAllowed l.fn.clients l.fn.relay → AreAllowed l.clients l.relay)
-    × KeepsRules l.fn.clients l.clients

@@ -1,0 +1,244 @@
+//! Reading the configuration of a running relay again. A node has one configuration, so the new one takes effect when
+//! no session and no attempt is left: the sessions are ended between mail transactions, attempts end by themselves, and
+//! clients that come meanwhile wait to be accepted. After a minute it takes effect in any case.
+ghost use Rattle.std.specs.Prelude.{◌≡◌, ◌⊎◌, ◌↔◌, IfOk, IfSome, IsTrue, None};
+ghost use Rattle.relay_connections.specs.Table.{count_of};
+ghost use Rattle.relay_next_hops.specs.Readiness.{hops_of};
+ghost use Rattle.relay_run.specs.Reloading.{HoldsAlike, IsReloadable, IsReloading, KeepsPlaces, MayReload, RetiresFor};
+ghost use Rattle.relay_run.specs.Reloading.{TakesEffect};
+ghost use Rattle.relay_run.specs.Reopening.{IsWhole, KeepsConfig};
+
+use crate::answers::{Answer, done_with_count, refused};
+use crate::held_mail::copy_held;
+use crate::listen::Listen;
+use crate::reopening::Why;
+use crate::reporter::Reporter;
+use crate::shell::Shell;
+use crate::source::restart_answer;
+use crate::start::{Settings, log_form, read_settings};
+use crate::steering::Steering;
+use relay_connections::{Now, Stream};
+use relay_control::Held;
+use relay_disk::{Disk, FileDisk};
+use relay_files::Fault;
+use relay_limits::Limits;
+use relay_next_hops::NextHops;
+use relay_room::RoomFile;
+use std::alloc::{AllocError, Global};
+use std::fs::File;
+use std::io::Write;
+use std::rt::{Clock, Files};
+
+/// How many seconds after it was asked for a reload takes effect at the latest.
+const RELOAD_SECONDS: u64 = 60;
+
+/// How many seconds after that all sessions are ended. The last octets of their connections have the rest of the time.
+const SESSION_SECONDS: u64 = 59;
+
+/// How many milliseconds longer than the reload may take its caller is kept.
+const ANSWER_TIME: u64 = 5_000;
+
+/// The reload that was asked for.
+#[derive(Drop)]
+pub(crate) struct Reload {
+    /// What the configuration's file said.
+    pub(crate) settings: Settings,
+    /// The tick at which they take effect at the latest.
+    pub(crate) until: u64,
+    /// The number of the caller that has asked for it.
+    pub(crate) caller: usize,
+}
+
+impl Steering {
+    /// Returns whether a reload waits.
+    pub(crate) fn is_reloading(&self) -> bool
+        ensures { IsTrue result ↔ IsReloading self.now }
+    {
+        self.reload.is_some()
+    }
+}
+
+impl<S: Stream + Drop, D: Disk + Drop, F: Disk + Drop> Shell<S, D, F> {
+    /// Reads the configuration again, and prepares for it: begins no more attempts, and ends the sessions. The caller
+    /// is answered when it takes effect. Refuses it if the configuration has a fault, changes a place that the relay
+    /// keeps as long as it runs, another reload waits, or the relay drains; nothing is changed then.
+    pub(crate) fn begin_reload<O: Files<File = File>>(
+        &mut self,
+        files: &O,
+        caller: usize,
+        now: &Now,
+    ) -> Option<Answer>
+        ensures begun { result ≡ None → RetiresFor self.old.relay.node.config now.now.tick caller self.old.steering
+            self.new.steering self.old.clients self.new.clients }
+        ensures refused { IfSome result (λ _. (self.new.steering ≡ self.old.steering)
+            × (self.new.clients ≡ self.old.clients)) }
+        ensures drain { self.new.steering.drain ≡ self.old.steering.drain }
+        ensures stops { self.new.clients.stops ≡ self.old.clients.stops }
+        ensures rest { (self.new.relay ≡ self.old.relay) × (self.new.leaving ≡ self.old.leaving)
+            × (self.new.acceptor ≡ self.old.acceptor) × (self.new.room ≡ self.old.room) }
+    {
+        let alloc = self.steering.alloc;
+        if self.steering.is_draining() {
+            return Some(refused(alloc, b"the relay drains"));
+        }
+        if self.steering.is_reloading() {
+            return Some(refused(alloc, b"another reload waits"));
+        }
+        let settings = match read_settings(alloc, files, self.steering.source.path.as_str()) {
+            Ok(settings) => settings,
+            Err(fault) => return Some(fault_answer(alloc, &fault)),
+        };
+        let config = self.relay.node().config();
+        if !self.steering.source.keeps_places(config, &settings) {
+            let answer = restart_answer(alloc, &self.steering.source, config, &settings);
+            return Some(answer);
+        }
+        self.await_reload(settings, caller, now);
+        None
+    }
+
+    /// Keeps these settings, which take effect when no session and no attempt is left.
+    fn await_reload(&mut self, settings: Settings, caller: usize, now: &Now)
+        requires { (self.old.steering.reload ≡ None) × (self.old.steering.drain ≡ None)
+            × KeepsPlaces self.old.steering.source self.old.relay.node.config settings }
+        ensures begun { RetiresFor self.old.relay.node.config now.now.tick caller self.old.steering
+            self.new.steering self.old.clients self.new.clients }
+        ensures drain { self.new.steering.drain ≡ self.old.steering.drain }
+        ensures stops { self.new.clients.stops ≡ self.old.clients.stops }
+        ensures rest { (self.new.relay ≡ self.old.relay) × (self.new.leaving ≡ self.old.leaving)
+            × (self.new.acceptor ≡ self.old.acceptor) × (self.new.room ≡ self.old.room) }
+    {
+        let until = now.after(RELOAD_SECONDS);
+        let steering = &mut self.steering;
+        steering
+            .socket
+            .keep(caller, until.saturating_add(ANSWER_TIME));
+        steering.reload = Some(Reload {
+            settings,
+            until,
+            caller,
+        });
+        self.clients.retire(now.after(SESSION_SECONDS));
+    }
+
+    /// Returns whether a reload takes effect now: no session is left, and no attempt and no connection that is leaving,
+    /// or its time is over.
+    pub(crate) fn may_reload(&self, now: &Now) -> bool
+        ensures { IsTrue result → IsReloadable self.now.steering self.now.clients self.now.next_hops now.now.tick }
+    {
+        match &self.steering.reload {
+            Some(reload) => self.has_ended_for(reload, now),
+            None => false,
+        }
+    }
+
+    /// Returns whether this reload takes effect now.
+    fn has_ended_for(&self, reload: &Reload, now: &Now) -> bool
+        ensures { IsTrue result → TakesEffect reload.now self.now.clients self.now.next_hops now.now.tick }
+    {
+        self.clients.count() == 0 && (self.is_idle() || reload.until <= now.tick)
+    }
+
+    /// Returns whether no attempt runs, and no connection is leaving.
+    fn is_idle(&self) -> bool
+        ensures { IsTrue result → count_of (hops_of self.now.next_hops) ≡ 0 }
+    {
+        self.next_hops.running() == 0 && self.leaving.is_empty()
+    }
+}
+
+impl<S: Stream + Drop> Shell<S, FileDisk, RoomFile> {
+    /// Returns the same relay under the configuration of the reload that waits, with its spool opened again, and
+    /// answers the caller. Closes all connections. If memory runs out before that, the old configuration stays, and the
+    /// caller is told so. Fails if a sync has failed, or if the spool isn't the known one.
+    pub(crate) fn reloaded<C: Clock, E: Write, L: Listen<Stream = S>>(
+        mut self,
+        reporter: &mut Reporter<'_, C, E>,
+        listener: &mut L,
+        now: &Now,
+    ) -> Result<Self, Fault>
+        requires { IsReloadable self.steering self.clients self.next_hops now.now.tick }
+        ensures whole { IfOk result (λ shell. (shell.relay ≡ self.relay)
+            ⊎ IsWhole self.known shell.relay.node.records.queue.next shell.relay.node.records.spool.size) }
+        ensures config { IfOk result (λ shell. MayReload self.relay.node.config self.steering self.clients
+            self.next_hops shell.relay.node.config) }
+        ensures held { IfOk result (λ shell. HoldsAlike self.next_hops.lanes.held shell.next_hops.lanes.held) }
+        ensures ended { IfOk result (λ shell. (shell.steering.reload ≡ None)
+            × (shell.steering.drain ≡ self.steering.drain) × (shell.clients.stops ≡ self.clients.stops)) }
+    {
+        let alloc = reporter.alloc;
+        let Some(reload) = self.steering.reload.take() else {
+            return Ok(self);
+        };
+        let Reload {
+            settings,
+            until: _,
+            caller,
+        } = reload;
+        let cut = self.next_hops.running() as u64;
+        let Ok(next_hops) = hops_with(alloc, self.next_hops.held(), &settings.limits) else {
+            self.clients.stay();
+            self.steering
+                .socket
+                .answer(caller, refused(alloc, b"no memory"));
+            return Ok(self);
+        };
+        self.next_hops = next_hops;
+        let mut shell = self.under(settings, reporter, listener)?;
+        let answer = done_with_count(alloc, "reloaded; attempts cut=", cut);
+        shell.steering.socket.answer(caller, answer);
+        Ok(shell)
+    }
+
+    /// Returns the same relay under these settings, with its spool opened again.
+    fn under<C: Clock, E: Write, L: Listen<Stream = S>>(
+        mut self,
+        settings: Settings,
+        reporter: &mut Reporter<'_, C, E>,
+        listener: &mut L,
+    ) -> Result<Self, Fault>
+        ensures whole { IfOk result (λ shell. IsWhole self.known shell.relay.node.records.queue.next
+            shell.relay.node.records.spool.size) }
+        ensures config { IfOk result (λ shell. KeepsConfig settings.config shell.relay.node.config) }
+        ensures held { IfOk result (λ shell. shell.next_hops.lanes.held ≡ self.next_hops.lanes.held) }
+        ensures same { IfOk result (λ shell. (shell.steering ≡ self.steering)
+            × (shell.clients.stops ≡ self.clients.stops)) }
+    {
+        let Settings {
+            config,
+            limits,
+            balancers,
+            allowed,
+            control: _control,
+            control_group: _,
+        } = settings;
+        self.clients.reconfigure(&limits, allowed);
+        self.leaving.clear();
+        self.leaving.set_timeout(u64::from(limits.client_timeout));
+        self.acceptor.clear();
+        self.acceptor.set_balancers(balancers);
+        self.form = log_form(self.steering.source.quiet, &limits);
+        self.opened(reporter, listener, Why::Reloaded(config))
+    }
+}
+
+/// Returns next hops without connections and without listed mail, with these limits, of which the same mail is held.
+/// Fails if memory runs out.
+fn hops_with<S: Stream + Drop>(
+    alloc: Global,
+    held: &Held,
+    limits: &Limits,
+) -> Result<NextHops<S>, AllocError>
+    ensures { IfOk result (λ next_hops. HoldsAlike held.now next_hops.lanes.held) }
+{
+    let held = copy_held(alloc, held)?;
+    let mut next_hops = NextHops::new(alloc, limits)?;
+    next_hops.set_held(held);
+    Ok(next_hops)
+}
+
+/// Returns the answer to a reload whose configuration has a fault.
+fn fault_answer(alloc: Global, fault: &Fault) -> Answer {
+    let text = format!(in alloc; "{fault}")?;
+    refused(alloc, text.as_str().as_bytes())
+}

@@ -1,0 +1,3 @@
+mod ReportLemmas
+mod SavingLemmas
+mod WithdrawalLemmas

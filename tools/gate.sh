@@ -1,0 +1,37 @@
+#!/usr/bin/env bash
+# The whole gate, at the top of the repository: every proof from nothing and the edits that must fail, as many side by
+# side as tools/lanes.sh says (RT_JOBS, where it is given), and the scripts of tests/run_all.py. These begin as soon as
+# the programs that they run are proved and built, beside what is left of the edits. They mostly wait, so the prover
+# yields to them. Last come what each crate has cost, and the last line of the proofs. Exits with 1 if any part fails.
+set -euo pipefail
+
+mkdir -p build
+rm -rf build/lanes
+: > build/gate.log
+RT_JOBS=$(tools/lanes.sh) nice -n 15 rt ci > >(tee build/gate.log) &
+proofs=$!
+tools/gate_times.py --short "$proofs" > build/gate.times &
+times=$!
+trap 'kill $(jobs -p) 2> /dev/null || true' EXIT
+
+# Waits until this program is proved, or the proofs have ended without it, and copies it to build/.
+take() {
+    until grep -qE "^rt: $1 (proved|is kept)" build/gate.log; do
+        if ! kill -0 "$proofs" 2> /dev/null; then
+            wait "$proofs"
+            break
+        fi
+        sleep 1
+    done
+    cp "crates/$1/out/$1" "build/$1"
+}
+
+take relayd
+take relay_rows_tests
+status=0
+tests/run_all.py --junit build/tests.xml || status=1
+wait "$proofs" || status=1
+wait "$times" || true
+cat build/gate.times
+tail -n 1 build/gate.log
+exit "$status"
