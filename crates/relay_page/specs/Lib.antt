@@ -5,3 +5,4 @@ pub mod Request
 pub mod Response
 pub mod Rows
 pub mod Metrics
+pub mod Listing

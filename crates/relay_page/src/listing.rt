@@ -1,110 +1,66 @@
 //! The queue as JSON, one object per line, with a last line if the list was cut.
+ghost use Rattle.std.specs.Prelude.{◌≡◌, ◌++◌, [], OnOk};
+ghost use Rattle.std.specs.Option.{option_map_or};
+ghost use Rattle.relay_listing.specs.Object.{object_line};
+ghost use Rattle.relay_listing.specs.Row.{queued_in, said_by};
+ghost use Rattle.relay_page.specs.Listing.{cut_line};
+
+use crate::pieces::{Piece, push_pieces};
 use relay_book::Message;
+use relay_listing::{Row, object_text, row_in};
 use relay_routes::Table;
 use relay_trace::Moment;
-use serde::Serialize;
 use std::alloc::{AllocError, Global};
-use std::str;
 
 /// The most recipients of a list.
 pub const MOST_LISTED: usize = 500;
 
-/// A queued recipient as an object, with the members that `relayd list --json` gives it.
-#[derive(Drop, Serialize)]
-struct Listed<'a> {
-    message: u64,
-    place: u8,
-    /// In seconds since 1970.
-    accepted: u64,
-    /// In seconds.
-    age: u64,
-    /// In octets.
-    size: u64,
-    reverse_path: &'a str,
-    recipient: &'a str,
-    hop: Option<&'a str>,
-    /// How often it was deferred; 4 stands for four times and more.
-    tries: u8,
-    /// In seconds since 1970.
-    next_try: u64,
-}
-
-/// The last line of a list that was cut.
-#[derive(Drop, Serialize)]
-struct Cut {
-    cut: bool,
-    listed: u64,
-    queued: u64,
-}
-
-/// Adds the line of a queued recipient, if it is still queued.
+/// Adds the line of the recipient at a place of a message, which has this number, if it is still queued.
 pub fn push_listed(
     alloc: Global,
     text: &mut Vec<u8>,
     table: &Table,
+    number: u64,
     place: u8,
     message: &Message,
     now: Moment,
-) -> Result<(), AllocError> {
-    let index = usize::from(place);
-    let waiting = message.places.as_slice().get(index);
-    let recipient = message.accept.envelope.recipients.as_slice().get(index);
-    let (Some(waiting), Some(recipient)) = (waiting, recipient) else {
-        return Ok(());
-    };
-    if !waiting.held {
-        return Ok(());
-    }
-    let accepted = message.accept.at.seconds();
-    let listed = Listed {
-        message: message.number,
-        place,
-        accepted,
-        age: now.seconds().saturating_sub(accepted),
-        size: message.accept.stored_text.len() as u64,
-        reverse_path: text_of(message.accept.envelope.reverse_path.as_slice()),
-        recipient: text_of(recipient.path.as_slice()),
-        hop: match table.hop_at(&recipient.path) {
-            Some(hop) => Some(text_of(hop.name.as_slice())),
-            None => None,
-        },
-        tries: waiting.laters,
-        next_try: waiting.due,
-    };
-    match serde_json::to_string(alloc, &listed) {
-        Ok(line) => push_line(text, line.as_bytes()),
-        Err(_) => Err(AllocError),
+) -> Result<(), AllocError>
+    ensures { OnOk result (text.new.items
+        ≡ text.old.items ++ option_map_or (object_line now) (queued_in table.now number place message.now) []) }
+{
+    match row_in(table, number, place, message) {
+        Some(row) => push_object(alloc, text, &row, now),
+        None => Ok(()),
     }
 }
 
-/// Adds the line that says that only the first `listed` of `queued` recipients are listed.
-pub fn push_cut(
+/// Adds the line of a recipient.
+fn push_object(
     alloc: Global,
     text: &mut Vec<u8>,
-    listed: u64,
-    queued: u64,
-) -> Result<(), AllocError> {
-    let cut = Cut {
-        cut: true,
-        listed,
-        queued,
-    };
-    match serde_json::to_string(alloc, &cut) {
-        Ok(line) => push_line(text, line.as_bytes()),
-        Err(_) => Err(AllocError),
-    }
-}
-
-fn push_line(text: &mut Vec<u8>, line: &[u8]) -> Result<(), AllocError> {
-    text.extend_from_slice(line)?;
+    row: &Row<'_>,
+    now: Moment,
+) -> Result<(), AllocError>
+    ensures { OnOk result (text.new.items ≡ text.old.items ++ object_line now (said_by row.now)) }
+{
+    let object = object_text(alloc, row, now)?;
+    text.extend_from_slice(object.as_bytes())?;
     text.push(b'\n')?;
     Ok(())
 }
 
-/// Returns the text of a path or of a name, which are ASCII.
-fn text_of(octets: &[u8]) -> &str {
-    match str::from_utf8(octets) {
-        Ok(text) => text,
-        Err(_) => "",
-    }
+/// Adds the line that says that only the first `listed` of `queued` recipients are listed.
+pub fn push_cut(text: &mut Vec<u8>, listed: u64, queued: u64) -> Result<(), AllocError>
+    ensures { OnOk result (text.new.items ≡ text.old.items ++ cut_line listed queued) }
+{
+    push_pieces(
+        text,
+        &[
+            Piece::Markup(b"{\"cut\":true,\"listed\":"),
+            Piece::Number(listed),
+            Piece::Markup(b",\"queued\":"),
+            Piece::Number(queued),
+            Piece::Markup(b"}\n"),
+        ],
+    )
 }

@@ -1,6 +1,9 @@
 //! The queue by next hop. It is counted in parts, so that mail never waits while a long queue is counted.
+ghost use Rattle.std.specs.Prelude.{◌≡◌};
+
 use indexmap::IndexMap;
 use relay_book::Message;
+use relay_listing::{Row, row_in};
 use relay_routes::Table;
 use std::alloc::{AllocError, Global};
 use std::mem;
@@ -102,20 +105,13 @@ impl Survey {
 
     /// Counts a recipient of this message, if it is still queued.
     pub fn count(&mut self, table: &Table, place: u8, message: &Message) -> Result<(), AllocError> {
-        let index = usize::from(place);
-        let waiting = message.places.as_slice().get(index);
-        let recipient = message.accept.envelope.recipients.as_slice().get(index);
-        if let (Some(waiting), Some(recipient)) = (waiting, recipient) {
-            if waiting.held {
-                let name = match table.hop_at(&recipient.path) {
-                    Some(hop) => hop.name.as_slice(),
-                    None => b"",
-                };
-                let load = Load::of(message, waiting.due);
-                return add(self.alloc, &mut self.counting, name, load);
+        match row_in(table, message.number, place, message) {
+            Some(row) => {
+                let name = row.hop.unwrap_or(b"");
+                add(self.alloc, &mut self.counting, name, Load::of(&row))
             }
+            None => Ok(()),
         }
-        Ok(())
     }
 
     /// Completes the count at this tick, from which it is shown for a second.
@@ -131,7 +127,9 @@ impl Survey {
     }
 
     /// Returns the recipients that were queued when the last count began, in the order of the queue.
-    pub fn marks(&self) -> &[Mark] {
+    pub fn marks(&self) -> &[Mark]
+        ensures { result.now ≡ self.now.marks.items }
+    {
         self.marks.as_slice()
     }
 }
@@ -147,15 +145,15 @@ fn add(alloc: Global, loads: &mut Loads, name: &[u8], one: Load) -> Result<(), A
 }
 
 impl Load {
-    /// Returns the load of one recipient of a message, due at this time.
-    fn of(message: &Message, due: u64) -> Self {
+    /// Returns the load of one recipient.
+    fn of(row: &Row<'_>) -> Self {
         Load {
             messages: 1,
             recipients: 1,
-            octets: message.accept.stored_text.len() as u64,
-            oldest: message.accept.at.seconds(),
-            due,
-            last: message.number,
+            octets: row.size as u64,
+            oldest: row.accepted.seconds(),
+            due: row.due,
+            last: row.number,
         }
     }
 

@@ -2,7 +2,6 @@ mod GroupLemmas
 mod JoinLemmas
 mod ObjectLemmas
 mod PartLemmas
-mod PrintableLemmas
 mod RowLemmas
 mod ScreenLemmas
 mod TakenLemmas

@@ -6,7 +6,7 @@ use Rattle.std.proofs.lemmas.List.Elements.{filter_map-append}
 use Rattle.std.proofs.lemmas.List.Sums.{fold-append}
 use Rattle.relay_routes.specs.Routes.{RouteTable}
 use Rattle.relay_book.specs.Queue.{Queue}
-use Rattle.relay_queue.specs.Row.{Queued, queued_at}
+use Rattle.relay_listing.specs.Row.{Queued, queued_at}
 use Rattle.relay_queue.specs.Table.{column_width, hop_text, queued_of, wider_for, widths_for}
 use Rattle.relay_queue.specs.declared.table.Widths.{Widths}
 

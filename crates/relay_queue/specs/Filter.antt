@@ -4,7 +4,7 @@ use Rattle.std.specs.Prelude.{Option, None, Some}
 use Rattle.std.specs.Option.{option_copied, option_map_or}
 use Rattle.relay_lines.specs.Word.{is_word}
 use Rattle.relay_queue.specs.declared.filter.Filter.{Filter}
-use Rattle.relay_queue.specs.Row.{Queued}
+use Rattle.relay_listing.specs.Row.{Queued}
 
 -- a path without its brackets
 abbrev pub within_brackets : List ℕ → List ℕ

@@ -1,9 +1,8 @@
 pub mod Screen
 pub mod Amounts
-pub mod Row
 pub mod Filter
 pub mod Picks
 pub mod Table
-pub mod Object
+pub mod Objects
 pub mod Printed
 pub mod Selection

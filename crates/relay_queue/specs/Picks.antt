@@ -8,7 +8,7 @@ use Rattle.relay_routes.specs.Routes.{RouteTable}
 use Rattle.relay_book.specs.Queue.{Queue, held_of}
 use Rattle.relay_queue.specs.declared.filter.Filter.{Filter}
 use Rattle.relay_queue.specs.Filter.{passes}
-use Rattle.relay_queue.specs.Row.{Queued, queued_at}
+use Rattle.relay_listing.specs.Row.{Queued, queued_at}
 
 -- the sort key of a recipient: when its message was accepted, the message's number, and its place
 abbrev pub key_of : Queued → ℕ × ℕ × ℕ

@@ -14,7 +14,7 @@ use Rattle.relay_files.specs.Opening.{IsOpened}
 use Rattle.relay_queue.specs.declared.groups.Selected.{Selected}
 use Rattle.relay_queue.specs.declared.selection.Selection.{Selection}
 use Rattle.relay_queue.specs.Filter.{passes, passes_if}
-use Rattle.relay_queue.specs.Row.{Queued, queued_at}
+use Rattle.relay_listing.specs.Row.{Queued, queued_at}
 use Rattle.relay_queue.specs.Screen.{AreSafe, shown}
 use Rattle.relay_queue.specs.Table.{counted}
 

@@ -9,7 +9,7 @@ use Rattle.relay_queue.specs.declared.table.Totals.{Totals}
 use Rattle.relay_queue.specs.declared.table.Widths.{Widths}
 use Rattle.relay_queue.specs.Amounts.{age_text, size_text}
 use Rattle.relay_queue.specs.Screen.{padding, shown}
-use Rattle.relay_queue.specs.Row.{Queued, queued_at}
+use Rattle.relay_listing.specs.Row.{Queued, queued_at}
 
 -- a cell whose text is aligned to the left, and one to the right
 abbrev pub left_cell : ℕ → List ℕ → List ℕ

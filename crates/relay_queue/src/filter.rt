@@ -1,10 +1,10 @@
 ghost use Rattle.std.specs.Prelude.{◌≡◌, ◌-◌, nat_le};
 ghost use Rattle.std.specs.Option.{option_copied};
 ghost use Rattle.relay_queue.specs.Filter.{is_hop, is_path, passes, passes_if, within_brackets};
-ghost use Rattle.relay_queue.specs.Row.{said_by};
+ghost use Rattle.relay_listing.specs.Row.{said_by};
 
-use crate::row::Row;
 use relay_lines::word::is_word;
+use relay_listing::Row;
 use relay_trace::Moment;
 
 /// Selects the queued recipients to list: those that match every field that is set.

@@ -3,9 +3,9 @@ ghost use Rattle.std.specs.Prelude.{◌≡◌, ◌≤◌, ◌++◌, ◌==◌, If
 ghost use Rattle.std.specs.List.{prefix_len};
 ghost use Rattle.relay_queue.specs.Selection.{AreSelected, group_of, groups_of, is_selected, mark_if, selected_marks};
 
-use crate::row::row_at;
 use crate::selection::Selection;
 use relay_disk::Disk;
+use relay_listing::row_at;
 use relay_records::Records;
 use relay_routes::Table;
 use relay_trace::Moment;

@@ -3,8 +3,8 @@ ghost use Rattle.std.specs.Prelude.{◌≡◌, ◌++◌, IfOk, OnOk};
 ghost use Rattle.relay_queue.specs.Picks.{AreListed, keys_at, keys_of};
 
 use crate::filter::Filter;
-use crate::row::row_at;
 use relay_disk::Disk;
+use relay_listing::row_at;
 use relay_records::Records;
 use relay_routes::Table;
 use relay_trace::Moment;

@@ -1,19 +1,19 @@
 //! What a postmaster sees of the mail that a selection takes, and the mail itself.
 ghost use Rattle.std.specs.Prelude.{◌≡◌, ◌++◌, IfErr, IfOk, OnOk, length, map};
 ghost use Rattle.std.specs.List.{flat_map};
-ghost use Rattle.relay_queue.specs.Row.{said_by};
+ghost use Rattle.relay_listing.specs.Row.{said_by};
 ghost use Rattle.relay_queue.specs.Screen.{AreSafe};
 ghost use Rattle.relay_queue.specs.Selection.{IsTaken, TakesNothing, group_of, groups_of, line_of_mark, more_line};
 ghost use Rattle.relay_queue.specs.Selection.{preview_text, recipient_line, sums_line};
 
 use crate::fault::QueueFault;
 use crate::groups::{Mark, Selected, groups_of, selected_marks};
-use crate::row::{Row, row_at};
 use crate::screen::Screen;
 use crate::selection::Selection;
 use crate::table::push_count;
 use relay_disk::Disk;
 use relay_files::{Fault, configuration, open_to_read};
+use relay_listing::{Row, row_at};
 use relay_records::Records;
 use relay_routes::Table;
 use relay_trace::clock_moment;

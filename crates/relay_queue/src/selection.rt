@@ -1,14 +1,14 @@
 ghost use Rattle.std.specs.Prelude.{◌≡◌, MatchOption};
 ghost use Rattle.std.specs.Option.{option_copied};
 ghost use Rattle.relay_queue.specs.Filter.{passes_if};
-ghost use Rattle.relay_queue.specs.Row.{said_by};
+ghost use Rattle.relay_listing.specs.Row.{said_by};
 ghost use Rattle.relay_queue.specs.Selection.{FirstPart, OnePart, has_part, is_numbered, selects, sets_field};
 
 use crate::filter::Filter;
-use crate::row::Row;
 use itoa::Buffer;
 use memchr::memchr;
 use relay_lines::word::is_word;
+use relay_listing::Row;
 use relay_trace::Moment;
 
 /// Selects queued recipients to withdraw: those that match every field that is set. Without fields it selects none.

@@ -1,7 +1,7 @@
 //! The summary of the queue by next hop.
-use crate::row::{Row, row_at};
 use indexmap::IndexMap;
 use relay_disk::Disk;
+use relay_listing::{Row, row_at};
 use relay_records::Records;
 use relay_routes::Table;
 use std::alloc::{AllocError, Global};

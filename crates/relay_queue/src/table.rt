@@ -1,6 +1,6 @@
 //! The queue as a table for people.
 ghost use Rattle.std.specs.Prelude.{◌≡◌, ℕ, List, ◌++◌, ◌-◌, IfOk, OnOk, Some, length, max, min, option_map, slice_get};
-ghost use Rattle.relay_queue.specs.Row.{queued_at, said_by};
+ghost use Rattle.relay_listing.specs.Row.{queued_at, said_by};
 ghost use Rattle.relay_queue.specs.Screen.{shown};
 ghost use Rattle.relay_queue.specs.Table.{AreTotals, IsTable, counted, heading_line, heading_of, name_cells, names_text};
 ghost use Rattle.relay_queue.specs.Table.{number_headings, numbers_text, oldest_text, queued_of, row_line, row_text};
@@ -9,10 +9,10 @@ ghost use Rattle.relay_queue.specs.Table.{totals_text, tries_and_time, tries_in_
 use crate::amounts::{push_age, push_size};
 use crate::columns::{push_left, push_right};
 use crate::picks::Key;
-use crate::row::{Row, row_at};
 use crate::screen::Screen;
 use crate::zone::Zone;
 use relay_disk::Disk;
+use relay_listing::{Row, age_of, row_at};
 use relay_records::Records;
 use relay_routes::Table;
 use relay_trace::Moment;
@@ -250,13 +250,6 @@ fn push_tries(screen: &mut Screen, row: &Row<'_>, time: &[u8]) -> Result<(), All
     screen.push_spaces(2)?;
     screen.push(time)?;
     screen.end_line()
-}
-
-/// Returns how many seconds ago the message of a recipient was accepted.
-pub(crate) fn age_of(row: &Row<'_>, now: Moment) -> u64
-    ensures { result ≡ now - row.now.accepted }
-{
-    now.seconds().saturating_sub(row.accepted.seconds())
 }
 
 /// Returns how often a recipient was deferred, as it is shown.

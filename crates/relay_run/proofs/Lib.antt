@@ -1,4 +1,5 @@
 mod AnswerLemmas
+mod ListingLemmas
 mod AcceptorLemmas
 mod ReloadLemmas
 mod SteeringLemmas

@@ -1,9 +1,15 @@
 //! What the page shows: the relay's state as a page, as metrics, and as a list of the queue.
-use relay_disk::FileDisk;
+ghost use Rattle.std.specs.Prelude.{◌≡◌, ◌++◌, IfOk, OnOk};
+ghost use Rattle.relay_listing.specs.Object.{object_at};
+ghost use Rattle.relay_page.specs.Listing.{lines_of, listing};
+
+use relay_disk::{Disk, FileDisk};
+use relay_listing::row_in;
 use relay_log::Counters;
 use relay_loop::Relay;
+use relay_node::Node;
 use relay_page::{
-    Course, History, Kind, MOST_LISTED, Survey, Target, Totals, View, Waiting, page_text,
+    Course, History, Kind, MOST_LISTED, Mark, Survey, Target, Totals, View, Waiting, page_text,
     push_alone, push_cut, push_head, push_labelled, push_listed, push_loads,
 };
 use relay_trace::Moment;
@@ -41,11 +47,18 @@ pub(crate) fn text_of(
     alloc: Global,
     target: Target,
     state: &State<'_>,
-) -> Result<(Kind, Vec<u8>), AllocError> {
+) -> Result<(Kind, Vec<u8>), AllocError>
+    ensures queue { target ≡ Target.Queue → IfOk result (λ answer. (answer.0 ≡ Kind.JsonLines) × (answer.1.items
+        ≡ listing state.entry.now.now state.entry.now.relay.now.node.config.routes
+        state.entry.now.relay.now.node.records.queue state.entry.now.survey.now.marks.items)) }
+{
     match target {
         Target::Page => Ok((Kind::Html, page_of(alloc, state)?)),
         Target::Metrics => Ok((Kind::Metrics, metrics_of(alloc, state)?)),
-        Target::Queue => Ok((Kind::JsonLines, list_of(alloc, state)?)),
+        Target::Queue => {
+            let (node, marks) = (state.relay.node(), state.survey.marks());
+            Ok((Kind::JsonLines, list_of(alloc, node, marks, state.now)?))
+        }
     }
 }
 
@@ -91,40 +104,75 @@ fn oldest_of<'a>(alloc: Global, state: &State<'a>) -> Result<Vec<Waiting<'a>>, A
 
 /// Returns the recipient at a place of the message of this number, if it is queued.
 fn waiting_at(relay: &Relay<FileDisk>, number: u64, place: u8) -> Option<Waiting<'_>> {
-    let message = relay.node().message(number)?;
-    let index = usize::from(place);
-    let waiting = message.places.as_slice().get(index)?;
-    let recipient = message.accept.envelope.recipients.as_slice().get(index)?;
-    if !waiting.held {
-        return None;
+    let node = relay.node();
+    let message = node.message(number)?;
+    match row_in(&node.config().routes, number, place, message) {
+        Some(row) => Some(Waiting {
+            number,
+            accepted: row.accepted.seconds(),
+            reverse_path: row.reverse_path,
+            path: row.path,
+            tries: row.tries,
+            due: row.due,
+        }),
+        None => None,
     }
-    Some(Waiting {
-        number,
-        accepted: message.accept.at.seconds(),
-        reverse_path: message.accept.envelope.reverse_path.as_slice(),
-        path: recipient.path.as_slice(),
-        tries: waiting.laters,
-        due: waiting.due,
-    })
 }
 
 /// Returns the first recipients of the queue as JSON, with a last line if the list is cut.
-fn list_of(alloc: Global, state: &State<'_>) -> Result<Vec<u8>, AllocError> {
-    let node = state.relay.node();
+fn list_of<D: Disk>(
+    alloc: Global,
+    node: &Node<D>,
+    marks: &[Mark],
+    now: Moment,
+) -> Result<Vec<u8>, AllocError>
+    ensures { IfOk result (λ text. text.items
+        ≡ listing now node.now.config.routes node.now.records.queue marks.now) }
+{
     let mut text = Vec::new(alloc);
-    let marks = state.survey.marks();
-    let listed = marks.len().min(MOST_LISTED);
-    for index in 0..listed {
-        let (number, place) = marks[index];
-        if let Some(message) = node.message(number) {
-            let routes = &node.config().routes;
-            push_listed(alloc, &mut text, routes, place, message, state.now)?;
-        }
-    }
+    let listed = MOST_LISTED.min(marks.len());
+    push_lines(alloc, &mut text, node, &marks[..listed], now)?;
     if listed < marks.len() {
-        push_cut(alloc, &mut text, listed as u64, marks.len() as u64)?;
+        push_cut(&mut text, listed as u64, marks.len() as u64)?;
     }
     Ok(text)
+}
+
+/// Adds the lines of these recipients, as far as they are queued.
+fn push_lines<D: Disk>(
+    alloc: Global,
+    text: &mut Vec<u8>,
+    node: &Node<D>,
+    marks: &[Mark],
+    now: Moment,
+) -> Result<(), AllocError>
+    ensures { OnOk result (text.new.items
+        ≡ text.old.items ++ lines_of now node.now.config.routes node.now.records.queue marks.now) }
+{
+    for mark in marks {
+        push_line(alloc, text, node, *mark, now)?;
+    }
+    Ok(())
+}
+
+/// Adds the line of a recipient, if it is queued.
+fn push_line<D: Disk>(
+    alloc: Global,
+    text: &mut Vec<u8>,
+    node: &Node<D>,
+    mark: Mark,
+    now: Moment,
+) -> Result<(), AllocError>
+    ensures { OnOk result (text.new.items
+        ≡ text.old.items ++ object_at now node.now.config.routes node.now.records.queue mark) }
+{
+    match node.message(mark.0) {
+        Some(message) => {
+            let routes = &node.config().routes;
+            push_listed(alloc, text, routes, mark.0, mark.1, message, now)
+        }
+        None => Ok(()),
+    }
 }
 
 /// Returns how many commands and mail data were refused.

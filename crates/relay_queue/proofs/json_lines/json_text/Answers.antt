@@ -1,7 +1,7 @@
 -- a line for each key
 use Rattle.std.proofs.Common.{rules, ◌<◌, ◌≤◌, length, ap, ◌∙◌}
 use Rattle.std.proofs.lemmas.List.{take_all}
-use Rattle.relay_queue.specs.Object.{objects_text}
+use Rattle.relay_queue.specs.Objects.{objects_text}
 use Rattle.relay_queue.proofs.ObjectLemmas.{one_more}
 use Rattle.relay_queue.proofs.json_lines.json_text.Goals as goal
 

@@ -1,6 +1,6 @@
 -- the lines of the keys so far
 use Rattle.std.proofs.Common.{◌≡◌, take}
-use Rattle.relay_queue.specs.Object.{objects_text}
+use Rattle.relay_queue.specs.Objects.{objects_text}
 use Rattle.relay_queue.proofs.json_lines.json_text.Given as goal
 
 abbrev pub invariant-loop-key : goal.invariant-loop-key

@@ -2,7 +2,7 @@
 use Rattle.std.proofs.Common.{◌++◌, [], ap, sym, ◌∙◌, append-nil}
 use Rattle.std.specs.Option.{option_map_or}
 use Rattle.std.proofs.lemmas.Result.{on_ok_weaker}
-use Rattle.relay_queue.specs.Object.{object_line}
+use Rattle.relay_listing.specs.Object.{object_line}
 use Rattle.relay_queue.proofs.json_lines.push_object_at.Goals as goal
 
 pub returns-in-Some : goal.returns-in-Some

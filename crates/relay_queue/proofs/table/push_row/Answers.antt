@@ -1,6 +1,6 @@
 -- numbers, names, and the rest of the line
 use Rattle.std.proofs.lemmas.Result.{on_ok_weaker}
-use Rattle.relay_queue.specs.Row.{said_by}
+use Rattle.relay_listing.specs.Row.{said_by}
 use Rattle.relay_queue.specs.Table.{names_text, numbers_text, tries_and_time}
 use Rattle.relay_queue.proofs.JoinLemmas.{joined3}
 use Rattle.relay_queue.proofs.table.push_row.Goals as goal

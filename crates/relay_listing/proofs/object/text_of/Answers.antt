@@ -1,7 +1,7 @@
 -- octets that aren't UTF-8 aren't printable either
 use Rattle.std.proofs.Common.{sym}
-use Rattle.relay_queue.proofs.PrintableLemmas.{no_text}
-use Rattle.relay_queue.proofs.json_lines.text_of.Goals as goal
+use Rattle.relay_listing.proofs.PrintableLemmas.{no_text}
+use Rattle.relay_listing.proofs.object.text_of.Goals as goal
 
 pub returns-in-Err : goal.returns-in-Err
 returns-in-Err c = sym (no_text c.args.octets.now c.in-Err.ensures.cases.0)

@@ -1,6 +1,6 @@
 ghost use Rattle.std.specs.Prelude.{◌≡◌, None, Some, option_map};
 ghost use Rattle.std.specs.Option.{option_copied};
-ghost use Rattle.relay_queue.specs.Row.{hop_name, queued_at, queued_in, said_by};
+ghost use Rattle.relay_listing.specs.Row.{hop_name, queued_at, queued_in, said_by};
 
 use relay_book::Message;
 use relay_disk::Disk;
@@ -47,13 +47,8 @@ pub fn row_at<'a, D: Disk>(
     }
 }
 
-/// Returns the recipient at a place of a message, if it is queued.
-pub(crate) fn row_in<'a>(
-    table: &'a Table,
-    number: u64,
-    place: u8,
-    message: &'a Message,
-) -> Option<Row<'a>>
+/// Returns the recipient at a place of a message, which has this number, if it is queued. Allocates nothing.
+pub fn row_in<'a>(table: &'a Table, number: u64, place: u8, message: &'a Message) -> Option<Row<'a>>
     ensures { option_map said_by result ≡ queued_in table.now number place message.now }
 {
     let index = usize::from(place);

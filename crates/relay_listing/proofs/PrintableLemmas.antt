@@ -1,5 +1,5 @@
--- Printable texts: a terminal shows them as they are, and an object has no others.
-use Rattle.std.proofs.Common.{◌≡◌, ℕ, zero, suc, ◌+◌, ◌<◌, ◌%◌, ◌/◌, ◌==◌, Bool, true, false, ◌&&◌, List, [], ◌∷◌, ◌++◌, Option, None, Some, decimal, inl, inr, refl, ap, ◌∙◌, arith, lit<}
+-- An object has printable octets alone.
+use Rattle.std.proofs.Common.{◌≡◌, ℕ, zero, suc, ◌<◌, ◌%◌, ◌/◌, ◌==◌, Bool, true, false, ◌&&◌, List, [], ◌∷◌, ◌++◌, Option, None, Some, decimal, inl, inr, refl, ap, ◌∙◌, arith, lit<}
 use Rattle.std.specs.Prelude.{⊤, if◌then◌else◌}
 use Rattle.std.specs.Fmt.{digit_glyph, digits, digits_onto}
 use Rattle.std.specs.List.{list_all}
@@ -13,22 +13,14 @@ use Rattle.json.specs.Print.{escape, escape_byte, quoted}
 use Rattle.serde_json.specs.Data.{Data}
 use Rattle.serde_json.specs.Written.{comma_if, compact_text, members_text}
 use Rattle.relay_lines.specs.Word.{is_printable}
-use Rattle.relay_queue.specs.Object.{hop_value, in_order, members_of, object_of, text_of, text_value}
-use Rattle.relay_queue.specs.Row.{Queued}
-use Rattle.relay_queue.specs.Screen.{shown, escape as shown_escape}
+use Rattle.relay_listing.specs.Object.{hop_value, in_order, members_of, object_of, text_of, text_value}
+use Rattle.relay_listing.specs.Row.{Queued}
 
 abbrev pub ArePrintable : List ℕ → Type 0
 ArePrintable text = list_all is_printable text ≡ true
 
 joined : (front back : List ℕ) → ArePrintable front → ArePrintable back → ArePrintable (front ++ back)
 joined front back one two = list_all-append is_printable front back ∙ ap (λ b. b && list_all is_printable back) one ∙ two
-
--- they are shown as they are
-pub shown_printable : (text : List ℕ) → ArePrintable text → shown text ≡ text
-shown_printable [] all = refl
-shown_printable (octet ∷ text) all =
-    let each = and_parts (is_printable octet) (list_all is_printable text) all in
-    ap (λ b. (if b then octet ∷ [] else shown_escape octet) ++ shown text) each.0 ∙ ap (λ l. octet ∷ l) (shown_printable text each.1)
 
 -- numbers
 digit_printable : (digit : ℕ) → digit < 10 → is_printable (digit_glyph false digit) ≡ true

@@ -1,9 +1,9 @@
 -- one member after another
 use Rattle.std.proofs.Common.{ap}
 use Rattle.std.proofs.lemmas.Result.{on_ok_weaker}
-use Rattle.relay_queue.specs.Object.{number_value}
-use Rattle.relay_queue.proofs.ObjectLemmas.{same_sent}
-use Rattle.relay_queue.proofs.json_lines.ListedSerialize.serialize.Goals as goal
+use Rattle.relay_listing.specs.Object.{number_value}
+use Rattle.relay_listing.proofs.ObjectLemmas.{same_sent}
+use Rattle.relay_listing.proofs.object.ListedSerialize.serialize.Goals as goal
 
 pub returns : goal.returns
 returns g c =

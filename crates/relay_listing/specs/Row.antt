@@ -7,7 +7,7 @@ use Rattle.relay_book.specs.declared.change.Accept.{Accept}
 use Rattle.relay_book.specs.declared.message.Message.{Message}
 use Rattle.relay_book.specs.declared.message.Place.{Place}
 use Rattle.relay_book.specs.Queue.{Queue, message_of}
-use Rattle.relay_queue.specs.declared.row.Row.{Row}
+use Rattle.relay_listing.specs.declared.row.Row.{Row}
 
 -- its message and its place there, when the message was accepted, the message's size, its reverse path and forward
 -- path, its next hop, how often it was deferred, and when it is due

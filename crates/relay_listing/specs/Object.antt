@@ -1,6 +1,6 @@
--- A queued recipient as a JSON object, on a line of its own.
+-- A queued recipient as a JSON object (RFC 8259), and lines of such objects.
 use Rattle.std.specs.Prelude.{ℕ, ◌-◌, List, [], ◌∷◌, ◌++◌, codes, Option, if◌then◌else◌}
-use Rattle.std.specs.List.{flat_map, list_all}
+use Rattle.std.specs.List.{list_all}
 use Rattle.std.specs.Option.{option_map_or}
 use Rattle.serde.specs.Event.{Log, Logs, field_key}
 use Rattle.serde.specs.declared.name.Case.TheVariants.{AsIs}
@@ -10,7 +10,7 @@ use Rattle.serde_json.specs.Written.{compact_text}
 use Rattle.relay_lines.specs.Word.{is_printable}
 use Rattle.relay_routes.specs.Routes.{RouteTable}
 use Rattle.relay_book.specs.Queue.{Queue}
-use Rattle.relay_queue.specs.Row.{Queued, queued_at}
+use Rattle.relay_listing.specs.Row.{Queued, queued_at}
 
 -- the text of a path or a name; profile: empty if an octet isn't printable ASCII
 abbrev pub text_of : List ℕ → List ℕ
@@ -59,10 +59,6 @@ object_of now queued = object (in_order (members_of now queued))
 abbrev pub object_line : ℕ → Queued → List ℕ
 object_line now queued = compact_text (object_of now queued) ++ 10 ∷ []
 
--- the line of the recipient at a place, if it is queued
-abbrev pub object_at : ℕ → RouteTable → Queue → ℕ × ℕ × ℕ → List ℕ
-object_at now table queue key = option_map_or (object_line now) (queued_at table queue (key.1, key.2)) []
-
--- the lines of the recipients with these keys, in their order
-abbrev pub objects_text : ℕ → RouteTable → Queue → List (ℕ × ℕ × ℕ) → List ℕ
-objects_text now table queue keys = flat_map (object_at now table queue) keys
+-- the line of the recipient at a place of the message of this number, if it is queued
+abbrev pub object_at : ℕ → RouteTable → Queue → ℕ × ℕ → List ℕ
+object_at now table queue mark = option_map_or (object_line now) (queued_at table queue mark) []

@@ -1,0 +1,2 @@
+mod ObjectLemmas
+pub mod PrintableLemmas
