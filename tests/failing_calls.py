@@ -8,7 +8,6 @@ It ends at the first difference.
     tests/failing_calls.py build/relayd
 """
 import contextlib
-import os
 import pathlib
 import re
 import shutil

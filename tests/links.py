@@ -21,7 +21,7 @@ import time
 sys.dont_write_bytecode = True
 
 from mail_checks import connected
-from relay_program import PATIENCE, Difference, Relay, built, free_port, run_main, same, until
+from relay_program import PATIENCE, Relay, built, free_port, run_main, same, until
 
 # A client's lines, and the relay's greeting and its reply to each of them.
 COMMANDS = b"HELO x\r\nMAIL FROM:<a@example.org>\r\nRCPT TO:<b@example.org>\r\nDATA\r\n.\r\nQUIT\r\n"

@@ -19,7 +19,7 @@ import time
 sys.dont_write_bytecode = True
 
 from mail_checks import hand_in
-from relay_program import Difference, Relay, same
+from relay_program import Difference, PATIENCE, Relay, same
 from running_relay import Field
 from spool_files import file_of
 
@@ -68,7 +68,7 @@ class Queue:
 
     def look(self, *words):
         """Returns the output of a subcommand, which must be safe for a terminal."""
-        ended = self.relay.ended(120, *words)
+        ended = self.relay.ended(PATIENCE, *words)
         same(f"relayd {' '.join(words)}", (ended.returncode, ended.stderr), (0, b""))
         if not SAFE.fullmatch(ended.stdout):
             raise Difference(f"relayd {' '.join(words)} prints octets that a terminal must not get")
@@ -149,7 +149,7 @@ def filters_combine(queue):
         table = queue.look("list", "--long", *words).splitlines()
         same(f"list --long {words}", len(table) - 1 - (1 if numbers else 0), len(numbers))
     for age in ["4", "h", "4w", "-4h", "", "99999999999999999999d"]:
-        same(f"--older {age!r}", queue.relay.ended(20, "list", "--long", f"--older={age}").returncode, 1)
+        same(f"--older {age!r}", queue.relay.ended(PATIENCE, "list", "--long", f"--older={age}").returncode, 1)
 
 
 def objects_have_each_field(queue):
@@ -173,12 +173,12 @@ def message_is_shown(queue):
         ("reverse path", "<A@Example.Org>"), ("RET", "HDRS"), ("ENVID", "Q+2B7"), ("recipient", "<b@example.org>"),
         ("NOTIFY", "SUCCESS,FAILURE,DELAY"), ("ORCPT", "-"),
         ("state", f"queued for next.example at 127.0.0.1:2526; 0 tries, next {stamp(now - 300)}")])
-    raw = queue.relay.ended(20, "show", "3", "--raw")
+    raw = queue.relay.ended(PATIENCE, "show", "3", "--raw")
     same("the raw text", (raw.returncode, raw.stdout, raw.stderr), (0, b"S: t\r\n\r\n\x1b[2J\xff\r\n", b""))
     for number in ["4", "18446744073709551615"]:
         same(f"show {number}", queue.relay.refused("show", number), (1, f"relayd: message {number} is not queued"))
     for word in ["x", "0", "-1", "18446744073709551616"]:
-        same(f"show {word}", queue.relay.ended(20, "show", word).returncode, 2)
+        same(f"show {word}", queue.relay.ended(PATIENCE, "show", word).returncode, 2)
 
 
 def tries_are_told_in_words(queue):

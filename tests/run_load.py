@@ -19,7 +19,7 @@ import time
 sys.dont_write_bytecode = True
 
 from mail_checks import hand_in
-from relay_program import Difference, PATIENCE, Slow, free_port, same, until
+from relay_program import Difference, Lost, PATIENCE, Slow, free_port, same, until
 from running_relay import SOON, TIMES, Client, beside, clients_of, comes_to_rest, in_a_process, lines_of, no_later
 from running_relay import number_of, play_rows, resident, shim, slowest, switches, token_of
 
@@ -32,16 +32,26 @@ AT_ONCE = 20
 # How many messages come before all of them have to be out: what waits at once takes memory of which an allocator
 # doesn't give all back, more or less of it by how far the next hop lags.
 WAVE = 2000
+# How long a next hop may take to greet, in seconds, with some to spare.
+GREETING = 240
 # What a 250 may wait for while all that is due is listed, in seconds.
 LISTING = 0.02 * TIMES
 # What memory may grow by while mail goes through, in octets: what a run keeps doesn't grow with what has left.
 MOST_GROWN = 4 << 20
 
 
-def batch(domain, count, octets=b"Subject: much mail\r\n\r\ntext\r\n"):
-    """Returns so many messages for a domain, each in one chunk, so that no reply has to be waited for."""
-    one = b"MAIL FROM:<a@example.org>\r\nRCPT TO:<b@%b>\r\nBDAT %d LAST\r\n%b"
-    return one % (domain.encode(), len(octets), octets) * count
+def in_one_chunk(domain, octets=b"Subject: much mail\r\n\r\ntext\r\n"):
+    """Returns the commands of a message for a domain, with the message in one chunk, so that no reply has to be waited
+    for."""
+    commands = b"MAIL FROM:<a@example.org>\r\nRCPT TO:<b@%b>\r\nBDAT %d LAST\r\n%b"
+    return commands % (domain.encode(), len(octets), octets)
+
+
+def submit(client, messages):
+    """Submits messages, whose commands these are, at once."""
+    client.link.sendall(b"".join(messages))
+    replies = [client.reply() for _ in range(3 * len(messages))]
+    same("replies that aren't 250", [reply for reply in replies if reply[:4] != "250 "], [])
 
 
 def pour(relay, domains, count, address="127.0.0.1"):
@@ -49,9 +59,16 @@ def pour(relay, domains, count, address="127.0.0.1"):
     with Client(relay, address) as client:
         client.begin()
         for number in range(count // AT_ONCE):
-            client.link.sendall(batch(domains[number % len(domains)], AT_ONCE))
-            replies = [client.reply() for _ in range(3 * AT_ONCE)]
-            same("replies that aren't 250", [reply for reply in replies if reply[:4] != "250 "], [])
+            submit(client, [in_one_chunk(domains[number % len(domains)])] * AT_ONCE)
+
+
+def bring(relay, tokens):
+    """Submits a message for each token, which is its subject, on one connection."""
+    messages = [in_one_chunk("example.org", b"Subject: %d\r\n\r\ntext\r\n" % token) for token in tokens]
+    with Client(relay) as client:
+        client.begin()
+        for place in range(0, len(messages), AT_ONCE):
+            submit(client, messages[place:place + AT_ONCE])
 
 
 def pour_through(field, relay, count):
@@ -63,7 +80,7 @@ def pour_through(field, relay, count):
     for thread in threads:
         thread.join()
     # The sink takes a hundred a second at the least.
-    field.sink.wait_for(8 * each, 10 * PATIENCE + count / 100)
+    field.sink.wait_for(8 * each, PATIENCE + count / 100)
     field.sink.take_all()
 
 
@@ -124,23 +141,20 @@ def what_is_listed_in_parts_is_tried_once(field):
     shim(field, "run_clocks", relay, FASTER="15")
     field.sink.manners.holds_greeting = True
     field.sink.greets.clear()
-
-    def bring(tokens):
-        with Client(relay) as client:
-            client.begin()
-            for token in tokens:
-                client.hand_in(text=b"Subject: %d\r\n\r\ntext\r\n.\r\n" % token)
-
     with relay.running("--quiet"):
-        bring(range(THROUGH))
+        begun = time.monotonic()
+        bring(relay, range(THROUGH))
         time.sleep(5)
+        # A next hop has five minutes to greet; a message that waits longer for it is put off for hours.
+        if time.monotonic() - begun > GREETING / 15:
+            raise Slow(f"{THROUGH} messages take {time.monotonic() - begun:.1f} s")
         field.sink.greets.set()
-        bring(range(THROUGH, THROUGH + 200))
-        field.sink.wait_for(THROUGH + 200, PATIENCE + THROUGH / 50)
+        bring(relay, range(THROUGH, THROUGH + 200))
+        field.sink.wait_for(THROUGH + 200, PATIENCE)
         time.sleep(5)
         until("an empty list", lambda: relay.held() == [])
     tokens = sorted(token_of(message) for message in field.sink.take_all())
-    same("what came", tokens, list(range(THROUGH + 200)))
+    same("what came", tokens, list(range(THROUGH + 200)), Lost)
 
 
 def listing(relay):

@@ -19,9 +19,8 @@ sys.dont_write_bytecode = True
 
 from mail_checks import hand_in, read_report
 from relay_program import Difference, PATIENCE, Slow, free_port, same, until
-from running_relay import NO_SERVICE, SOON, TIMEOUT, TOO_MANY, Client, clients_of, hop_that
-from running_relay import hop_that_falls_silent, lines_of, no_later, play_rows, shim
-from running_relay import slowest
+from running_relay import NO_SERVICE, SOON, TIMEOUT, TOO_MANY, Client, Clocks, clients_of, hop_that
+from running_relay import hop_that_falls_silent, lines_of, no_later, play_rows, shim, slowest
 from spool_files import bodies_of
 
 MOMENT = re.compile(r"\d{4}-\d\d-\d\dT\d\d:\d\d:\d\dZ ")
@@ -163,7 +162,7 @@ def each_refusal_is_told_of_where_many_addresses_are_refused(field):
     """By a line of its own, or in the number of another, once; up to 64 addresses are counted at a time."""
     relay = field.relay(sessions_per_client=64, client_timeout=3600)
     addresses = [f"127.0.1.{last}" for last in range(1, 81)]
-    shim(field, "run_clocks", relay, FASTER="15")
+    clocks = Clocks(field, relay)
     counts = {address: 0 for address in addresses}
     with relay.running(), clients_of(relay, 64):
         for address in [*addresses, *addresses[:40], *addresses[:40]]:
@@ -178,7 +177,8 @@ def each_refusal_is_told_of_where_many_addresses_are_refused(field):
                 found[address] += int(times)
             return found
 
-        until("all of them", lambda: counted() == counts, 4 + SOON)
+        clocks.advance(61)
+        until("all of them", lambda: counted() == counts)
 
 
 def what_came_of_each_recipient_has_a_line(field):
@@ -430,7 +430,7 @@ def a_log_that_nobody_reads_stops_no_mail(field):
     with unread_log(relay) as (process, lines), clients_of(relay, 1) as [client]:
         alone = slowest(client, 10)
         flood(client, messages)
-        field.sink.wait_for(messages + 10, 60)
+        field.sink.wait_for(messages + 10, PATIENCE)
         no_later(client, alone, 10, "a log that nobody reads")
         until("an empty list", lambda: relay.held() == [])
         read = []
@@ -456,7 +456,7 @@ def dropped_lines_of_json_have_a_line_of_json(field):
     relay, messages = field.relay(more=own_route(field), spool_limit=1 << 30, log='"json"'), 150
     with unread_log(relay) as (process, lines), clients_of(relay, 1) as [client]:
         flood(client, messages)
-        field.sink.wait_for(messages, 60)
+        field.sink.wait_for(messages, PATIENCE)
         until("an empty list", lambda: relay.held() == [])
         read = []
         reader = threading.Thread(target=lambda: [read.append(json.loads(line)) for line in lines])
@@ -481,7 +481,7 @@ def who_reads_the_log_misses_no_line(field):
             thread.start()
         for thread in threads:
             thread.join()
-        field.sink.wait_for(8 * each, 120)
+        field.sink.wait_for(8 * each, PATIENCE)
         until("all lines", lambda: len(told(relay, "sent message")) == 8 * each)
     for text in ("accepted message", "sent message"):
         found = [int(re.search(r" message=(\d+)", line)[1]) for line in told(relay, text)]

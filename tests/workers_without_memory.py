@@ -8,7 +8,6 @@ cut off; and the receipts agree with what the node has accepted, or `serve` woul
 """
 import collections
 import contextlib
-import pathlib
 import re
 import socket
 import subprocess

@@ -1,18 +1,22 @@
 #!/usr/bin/env bash
 # The whole gate, at the top of the repository: every proof from nothing and the edits that must fail, as many side by
 # side as tools/lanes.sh says (RT_JOBS, where it is given), and the scripts of tests/run_all.py. These begin as soon as
-# the programs that they run are proved and built, beside what is left of the edits. They mostly wait, so the prover
-# yields to them. Last come what each crate has cost, and the last line of the proofs. Exits with 1 if any part fails.
+# the programs that they run are proved and built, beside what is left of the edits. They mostly wait, and have limits
+# on time, so the prover yields to them: by its nice value, and, where the system shares processors between sessions
+# (sched(7), autogroup), by that of its session. Last come what each crate has cost, and the last line of the proofs.
+# Exits with 1 if any part fails.
 set -euo pipefail
 
 mkdir -p build
 rm -rf build/lanes
 : > build/gate.log
-RT_JOBS=$(tools/lanes.sh) nice -n 15 rt ci > >(tee build/gate.log) &
+RT_JOBS=$(tools/lanes.sh) setsid nice -n 15 bash -c '
+    echo 15 2> /dev/null > /proc/self/autogroup || true
+    exec rt ci' > >(tee build/gate.log) &
 proofs=$!
 tools/gate_times.py --short "$proofs" > build/gate.times &
 times=$!
-trap 'kill $(jobs -p) 2> /dev/null || true' EXIT
+trap 'kill -- "-$proofs" $(jobs -p) 2> /dev/null || true' EXIT
 
 # Waits until this program is proved, or the proofs have ended without it, and copies it to build/.
 take() {
