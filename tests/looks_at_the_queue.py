@@ -26,7 +26,7 @@ from spool_files import file_of
 ROUTES = {"example.org": ("next.example", 2526), "example.net": ("other.example", 2527)}
 HOUR, DAY = 3600, 86400
 SAFE = re.compile(rb"[\n -~]*")
-# How long a look at 100,000 messages may take, in seconds, and how many there are.
+# How much of a processor a look at 100,000 messages may take, in seconds, and how many there are.
 SECONDS, MANY = 10.0, 100_000
 
 
@@ -233,18 +233,24 @@ def faults_are_those_of_list(queue):
     same("no spool", queue.relay.refused("status"), (1, "relayd: device"))
 
 
+def spent():
+    """Returns the processor time of all programs that have ended, in seconds."""
+    usage = resource.getrusage(resource.RUSAGE_CHILDREN)
+    return usage.ru_utime + usage.ru_stime
+
+
 def many_messages(queue):
     now = int(time.time()) - DAY
     text = b"Subject: one of many\r\n\r\n" + b"t" * 40 + b"\r\n"
     queue.write(*(accept(now + number // 10, b"<a@example.org>", [recipient(b"<b%d@example.org>" % number)], text)
                   for number in range(MANY)))
     for words in [["list", "--long"], ["list", "--json"], ["show", str(MANY)], ["status"], ["status", "--prometheus"]]:
-        begun = time.monotonic()
+        before = spent()
         queue.look(*words)
-        taken = time.monotonic() - begun
+        taken = spent() - before
         print(f"{MANY} messages: {' '.join(words)} {taken:.2f} s", file=sys.stderr)
         if taken > SECONDS:
-            raise Difference(f"{' '.join(words)} took {taken:.1f} s")
+            raise Difference(f"{' '.join(words)} took {taken:.1f} s of a processor")
     most = resource.getrusage(resource.RUSAGE_CHILDREN).ru_maxrss
     print(f"{MANY} messages: at most {most // 1024} MiB", file=sys.stderr)
 
