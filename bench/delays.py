@@ -27,7 +27,7 @@ HERE = pathlib.Path(__file__).resolve().parent
 sys.path.insert(0, str(HERE.parent / "tests"))
 sys.dont_write_bytecode = True
 
-from relay_program import PATIENCE, free_port, until
+from relay_program import free_port, until
 from run_load import pipeline, pour
 from running_relay import TEXT, Field, clients_of, in_a_process, lines_of, number_of, shim
 
@@ -175,7 +175,7 @@ def silent_hops(field, crowd):
                 for _ in range(MESSAGES):
                     begun = time.monotonic()
                     client.hand_in()
-                    field.sink.wait_for(1, PATIENCE)
+                    field.sink.wait_for(1, 60)
                     waits.append(Span(begun, time.monotonic()))
                     field.sink.take_all()
                 measured.tell(crowd, waits)

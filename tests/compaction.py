@@ -228,7 +228,7 @@ def list_beside_a_serve_that_compacts(field):
 
     def ask():
         while not done.is_set():
-            answers.append(field.relay.ended(PATIENCE, "list"))
+            answers.append(field.relay.ended(20, "list"))
 
     thread = threading.Thread(target=ask)
     thread.start()
@@ -238,7 +238,7 @@ def list_beside_a_serve_that_compacts(field):
     finally:
         done.set()
         thread.join()
-        process.communicate(timeout=PATIENCE)
+        process.communicate(timeout=20)
     same("messages at the sink", len(field.sink.take_all()), 120)
     generation = max(head[1] for head in map(head_of, field.files()) if head)
     same("the faults of list", {answer.stderr for answer in answers if answer.returncode != 0}, set())
@@ -256,7 +256,7 @@ def list_beside_a_run_that_compacts(field):
 
     def ask():
         while not done.is_set():
-            answers.append(field.relay.ended(PATIENCE, "list"))
+            answers.append(field.relay.ended(20, "list"))
 
     def is_enough():
         return len(accepted) >= 100 and len(answers) >= 40 and len(lines_of(field.relay, "relayd: compacted")) >= 10

@@ -13,8 +13,8 @@ import time
 
 HERE = pathlib.Path(__file__).resolve().parent
 
-# What hasn't come after so many seconds never comes, also on a machine that is busy with other work.
-PATIENCE = 300
+# How long anything may take that ought to be over at once, in seconds.
+PATIENCE = 20
 
 # What a subcommand that locks the spool ends with where another process holds the lock: its status, and its lines.
 LOCKED = (1, "relayd: device\nrelayd: another relayd holds the spool: stop it, or wait until it ends")
@@ -25,11 +25,7 @@ class Difference(Exception):
 
 
 class Slow(Difference):
-    """Something takes longer than it may, and may still come."""
-
-
-class Lost(Difference):
-    """Accepted mail doesn't come, or comes again where it may not."""
+    """Something takes longer than it may."""
 
 
 def shown(value):
@@ -38,17 +34,17 @@ def shown(value):
     return text if len(text) < 1000 else f"{text[:500]} [...] {text[-400:]}"
 
 
-def same(what, found, wanted, fault=Difference):
+def same(what, found, wanted):
     if found != wanted:
-        raise fault(f"{what}: {shown(found)}, and not {shown(wanted)}")
+        raise Difference(f"{what}: {shown(found)}, and not {shown(wanted)}")
 
 
 def until(what, holds, seconds=PATIENCE):
-    """Waits until a condition holds; one that doesn't before PATIENCE is over may still."""
+    """Waits until a condition holds."""
     ends = time.monotonic() + seconds
     while not holds():
         if time.monotonic() > ends:
-            raise (Slow if seconds < PATIENCE else Difference)(f"{what}: not within {seconds} seconds")
+            raise Slow(f"{what}: not within {seconds} seconds")
         time.sleep(0.01)
 
 
@@ -157,13 +153,13 @@ class Relay:
 
     def run(self, *words):
         """Returns the lines that a subcommand prints. It must succeed, and print nothing else."""
-        ended = self.ended(PATIENCE, *words)
+        ended = self.ended(120, *words)
         same(f"relayd {' '.join(words)}", (ended.returncode, ended.stderr), (0, b""))
         return ended.stdout.decode().splitlines()
 
     def logged(self, *words):
         """Returns the lines that a subcommand prints, and those of its log. It must succeed."""
-        ended = self.ended(PATIENCE, *words, "--log")
+        ended = self.ended(120, *words, "--log")
         same(f"relayd {' '.join(words)} --log", ended.returncode, 0)
         return ended.stdout.decode().splitlines(), ended.stderr.decode().splitlines()
 

@@ -23,7 +23,7 @@ import time
 sys.dont_write_bytecode = True
 
 from mail_checks import CONTENT, CONTENTS, behind_mark, hand_in, one_message
-from relay_program import Difference, LOCKED, Lost, PATIENCE, Slow, same, until
+from relay_program import Difference, LOCKED, PATIENCE, Slow, same, until
 from running_relay import NO_SERVICE, TEXT, TIMEOUT, TIMES, TOO_MANY, Client, Feeder, beside, clients_of, comes_to_rest
 from running_relay import greeted, lines_of, no_later, number_of, play_rows, repeats_at, resident, shim, slowest
 from running_relay import tokens_at
@@ -323,7 +323,7 @@ def a_client_that_reads_nothing_is_cut_off(field):
             return False
 
         # The system takes some megabytes of replies for it, by and by; the time counts from the last of them.
-        until("its connection is closed", is_gone)
+        until("its connection is closed", is_gone, 3 * PATIENCE)
         hand_in(relay)
         field.arrived(1)
 
@@ -450,16 +450,16 @@ def a_kill_loses_nothing(field):
             answered.update(feeder.answered)
         held, gone = {row[0] for row in relay.held()}, tokens_at(field.sink)
         lost = [token for token, number in answered.items() if number not in held and token not in gone]
-        same(f"messages lost after kill {kill}", lost, [], Lost)
+        same(f"messages lost after kill {kill}", lost, [])
     same("numbers given twice", len(answered) - len(set(answered.values())), 0)
     compactions = len(lines_of(relay, "relayd: compacted"))
     if len(answered) < 2 * KILLS or compactions < KILLS // 4:
         raise Slow(f"only {len(answered)} messages were answered 250, and {compactions} compactions")
     with relay.running():
         until("an empty list", lambda: relay.held() == [])
-    same("messages that never came", set(answered) - tokens_at(field.sink), set(), Lost)
+    same("messages that never came", set(answered) - tokens_at(field.sink), set())
     repeats, unasked = repeats_at(field.sink)
-    same("messages that came again though their reply was heard", unasked, [], Lost)
+    same("messages that came again though their reply was heard", unasked, [])
     # Of those whose reply was cut there are at most as many at a kill as the hop has attempts.
     if repeats > 4 * KILLS:
         raise Difference(f"{repeats} messages came again")

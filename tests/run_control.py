@@ -243,7 +243,7 @@ def a_drain_cuts_no_attempt(field):
         same("its status", process.wait(PATIENCE), 0)
         process.stdout.close()
         with relay.running():
-            until("all leave", lambda: relay.held() == [])
+            until("all leave", lambda: relay.held() == [], 60)
         same("each came once", len(arrived), 40)
         same("none came twice", len({content.split(b"\r\n\r\n")[0] for content in arrived if content}), len(arrived))
 
@@ -346,7 +346,7 @@ def a_reload_cuts_no_attempt(field):
                 client.hand_in("c@example.net", b"Subject: %d\r\n\r\ntext\r\n.\r\n" % number)
         until("attempts run", lambda: len(arrived) >= 1)
         same("reload", asked(path, b"reload\n"), RELOADED)
-        until("all leave", lambda: relay.held() == [])
+        until("all leave", lambda: relay.held() == [], 60)
         same("each came once", len(arrived), 40)
         same("none came twice", len({content.split(b"\r\n\r\n")[0] for content in arrived if content}), len(arrived))
 
@@ -534,7 +534,7 @@ def steering_under_load_loses_no_mail(field):
         ends.set()
         for sender in senders:
             sender.join()
-        until("the queue is empty", lambda: relay.held() == [])
+        until("the queue is empty", lambda: relay.held() == [], 60)
         same("messages were discarded", discarded > 0, True)
         field.arrived(len(taken) - discarded)
 

@@ -20,7 +20,7 @@ import time
 sys.dont_write_bytecode = True
 
 from mail_checks import hand_in
-from relay_program import Difference, Lost, PATIENCE, Slow, free_port, same, until
+from relay_program import Difference, PATIENCE, Slow, free_port, same, until
 from running_relay import SOON, TEXT, TIMEOUT, Client, clients_of, comes_to_rest, greeted
 from running_relay import hop_that_falls_silent, in_a_process, lines_of, number_of, play_rows, shim, switches
 
@@ -194,15 +194,15 @@ def what_doesnt_fit_costs_others_nothing(field):
         others.write_bytes(bytes(110 * 1024))
         with relay.running() as process:
             numbers = feed_while_others_offer(relay)
-            until("an empty list", lambda: relay.held() == [])
+            until("an empty list", lambda: relay.held() == [], 60)
             copies = copies_at(field.sink)
-            same("messages that were lost", set(numbers) - set(copies), set(), Lost)
+            same("messages that were lost", set(numbers) - set(copies), set())
             same("messages that came thrice", came_thrice(field), [])
             comes_to_rest(process, "after what didn't fit")
             # With room the state ends, and what didn't fit does.
             others.unlink()
             subprocess.run(["mount", "-o", "remount,size=32m", others.parent], check=True)
-            until("mail of any size", lambda: takes(relay, 300))
+            until("mail of any size", lambda: takes(relay, 300), 60)
         field.sink.take_all()
 
 
@@ -227,13 +227,13 @@ def a_disk_that_stays_full_for_ten_minutes_copies_nothing_twice_over(field):
             numbers = feed_beside(relay, 1, big=False)
             take_room(others, 8 * 1024)
             same("a message without room", takes(relay, 300), False)
-            until("an empty list", lambda: relay.held() == [])
+            until("an empty list", lambda: relay.held() == [], 60)
             copies = copies_at(field.sink)
-            same("messages that were lost", set(numbers) - set(copies), set(), Lost)
+            same("messages that were lost", set(numbers) - set(copies), set())
             # What was given up serves what comes meanwhile, until the others take that too.
-            until("a greeting", lambda: greeted(relay))
+            until("a greeting", lambda: greeted(relay), 60)
             hand_in(relay)
-            until("an empty list", lambda: relay.held() == [])
+            until("an empty list", lambda: relay.held() == [], 60)
             take_room(others, 0)
             ends = time.monotonic() + 10
             while time.monotonic() < ends:
@@ -245,8 +245,8 @@ def a_disk_that_stays_full_for_ten_minutes_copies_nothing_twice_over(field):
             if failures > 3:
                 raise Difference(f"the device fails {failures} times")
             others.unlink()
-            until("mail of any size", lambda: takes(relay, 300))
-            until("an empty list", lambda: relay.held() == [])
+            until("mail of any size", lambda: takes(relay, 300), 120)
+            until("an empty list", lambda: relay.held() == [], 60)
             same("messages that came thrice", came_thrice(field), [])
         field.sink.take_all()
 
@@ -265,7 +265,7 @@ def while_no_attempt_may_begin_it_sleeps(field):
             until("a next hop that is left alone", lambda: told(relay, "retry_in=60s"))
             take_room(others, 8 * 1024)
             same("a message without room", takes(relay, 300), False)
-            until("a greeting", lambda: greeted(relay))
+            until("a greeting", lambda: greeted(relay), 60)
             take_room(others, 0)
             # It isn't left alone any more, and the minute is over in which what is due was listed last.
             time.sleep(4)
@@ -309,7 +309,7 @@ def what_was_answered_stays_behind_a_full_device(field):
         until("an empty list", lambda: relay.held() == [])
         same("numbers that were given twice", len(answered) - len(set(answered)), 0)
         gone = {int(re.search(rb" id (\d+);", message.content)[1]) for message in field.sink.take_all()}
-        same("messages that were lost", set(answered) - gone, set(), Lost)
+        same("messages that were lost", set(answered) - gone, set())
         if not lines_of(relay, "device-failed"):
             raise Difference("the device hasn't failed")
 
@@ -331,11 +331,11 @@ def a_failure_has_one_line_with_its_reason_and_file(field):
             reason, seconds = os.strerror(errno.ENOSPC), 1
             same("it", told(relay, "device-failed"),
                  [f'device-failed reason="{reason}" file={relay.spool} retry_in={seconds}s'])
-            until("a greeting", lambda: greeted(relay))
+            until("a greeting", lambda: greeted(relay), 60)
             same("lines of its end, without room", told(relay, "shortage-ended"), [])
             others.unlink()
-            until("a line of its end", lambda: told(relay, "shortage-ended"))
-            until("mail of any size", lambda: takes(relay, 300))
+            until("a line of its end", lambda: told(relay, "shortage-ended"), 60)
+            until("mail of any size", lambda: takes(relay, 300), 60)
             same("lines of its end", told(relay, "shortage-ended"), ["shortage-ended"])
             same("lines of failures", len(told(relay, "device-failed")), 1)
         field.sink.take_all()

@@ -19,7 +19,7 @@ import time
 sys.dont_write_bytecode = True
 
 from mail_checks import hand_in
-from relay_program import Difference, Lost, PATIENCE, Slow, free_port, same, until
+from relay_program import Difference, PATIENCE, Slow, free_port, same, until
 from running_relay import SOON, TIMES, Client, beside, clients_of, comes_to_rest, in_a_process, lines_of, no_later
 from running_relay import number_of, play_rows, resident, shim, slowest, switches, token_of
 
@@ -80,7 +80,7 @@ def pour_through(field, relay, count):
     for thread in threads:
         thread.join()
     # The sink takes a hundred a second at the least.
-    field.sink.wait_for(8 * each, PATIENCE + count / 100)
+    field.sink.wait_for(8 * each, 10 * PATIENCE + count / 100)
     field.sink.take_all()
 
 
@@ -150,11 +150,11 @@ def what_is_listed_in_parts_is_tried_once(field):
             raise Slow(f"{THROUGH} messages take {time.monotonic() - begun:.1f} s")
         field.sink.greets.set()
         bring(relay, range(THROUGH, THROUGH + 200))
-        field.sink.wait_for(THROUGH + 200, PATIENCE)
+        field.sink.wait_for(THROUGH + 200, PATIENCE + THROUGH / 50)
         time.sleep(5)
         until("an empty list", lambda: relay.held() == [])
     tokens = sorted(token_of(message) for message in field.sink.take_all())
-    same("what came", tokens, list(range(THROUGH + 200)), Lost)
+    same("what came", tokens, list(range(THROUGH + 200)))
 
 
 def listing(relay):

@@ -178,7 +178,7 @@ def each_refusal_is_told_of_where_many_addresses_are_refused(field):
             return found
 
         clocks.advance(61)
-        until("all of them", lambda: counted() == counts)
+        until("all of them", lambda: counted() == counts, SOON)
 
 
 def what_came_of_each_recipient_has_a_line(field):
@@ -430,7 +430,7 @@ def a_log_that_nobody_reads_stops_no_mail(field):
     with unread_log(relay) as (process, lines), clients_of(relay, 1) as [client]:
         alone = slowest(client, 10)
         flood(client, messages)
-        field.sink.wait_for(messages + 10, PATIENCE)
+        field.sink.wait_for(messages + 10, 60)
         no_later(client, alone, 10, "a log that nobody reads")
         until("an empty list", lambda: relay.held() == [])
         read = []
@@ -456,7 +456,7 @@ def dropped_lines_of_json_have_a_line_of_json(field):
     relay, messages = field.relay(more=own_route(field), spool_limit=1 << 30, log='"json"'), 150
     with unread_log(relay) as (process, lines), clients_of(relay, 1) as [client]:
         flood(client, messages)
-        field.sink.wait_for(messages, PATIENCE)
+        field.sink.wait_for(messages, 60)
         until("an empty list", lambda: relay.held() == [])
         read = []
         reader = threading.Thread(target=lambda: [read.append(json.loads(line)) for line in lines])
@@ -481,7 +481,7 @@ def who_reads_the_log_misses_no_line(field):
             thread.start()
         for thread in threads:
             thread.join()
-        field.sink.wait_for(8 * each, PATIENCE)
+        field.sink.wait_for(8 * each, 120)
         until("all lines", lambda: len(told(relay, "sent message")) == 8 * each)
     for text in ("accepted message", "sent message"):
         found = [int(re.search(r" message=(\d+)", line)[1]) for line in told(relay, text)]

@@ -232,7 +232,7 @@ def a_large_text_reaches_a_slow_next_hop_whole(field):
             whole = LARGE + b"the end"
             begun[chunk] = number_of(client.say(b"BDAT %d LAST\r\n%b" % (len(whole), whole)))
             for sink, wanted in ((text, LARGE), (chunk, whole)):
-                same("whether it arrives", sink.wait_for(1, PATIENCE), True)
+                same("whether it arrives", sink.wait_for(1, 3 * PATIENCE), True)
                 [message] = sink.take_all()
                 same("whether it came in a chunk", message.by_chunks, sink is chunk)
                 same("the text", behind_mark(message.content, "relay.example", begun[sink]), wanted)

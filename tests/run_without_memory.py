@@ -14,7 +14,7 @@ import time
 
 sys.dont_write_bytecode = True
 
-from relay_program import Lost, PATIENCE, built, same, until
+from relay_program import PATIENCE, built, same, until
 from running_relay import Client, lines_of, number_of, play_rows, tokens_at
 
 # Once it gets ready, the numbers of the allocations that are refused are ever farther apart, by a part of them.
@@ -108,13 +108,13 @@ def an_allocation_that_is_refused_ends_one_connection_at_most(field):
             met["unrecorded"] += len(lines_of(relay, " relayd: unrecorded "))
         else:
             met["not ready"] += 1
-        same(f"messages lost without allocation {number}", lost_of(relay, field.sink, answered), [], Lost)
+        same(f"messages lost without allocation {number}", lost_of(relay, field.sink, answered), [])
         if not mark.exists():
             break
         number += 1 if process is None else 1 + number // PART
     with relay.running():
         until("nothing that is due", lambda: is_done(relay))
-    same("messages that are lost", lost_of(relay, field.sink, answered), [], Lost)
+    same("messages that are lost", lost_of(relay, field.sink, answered), [])
     # What was never met isn't counted.
     same("what was met", sorted(+met), ["cut off", "not ready", "unrecorded"])
 

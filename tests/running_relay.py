@@ -14,12 +14,12 @@ import tempfile
 import threading
 import time
 
-from relay_program import Difference, Lost, PATIENCE, Relay, Slow, preload, same
+from relay_program import Difference, PATIENCE, Relay, Slow, preload, same
 from smtp_sink import Listener, Sink
 
 # What has to be prompt may take so many times as long, since others may be at work on the machine.
 TIMES = float(os.environ.get("TIMES", "2"))
-# How often a row is run that may still pass, and the share of the processors' time that a host takes which is calm.
+# How often a row is run that is too slow while the host takes more than this share of the processors' time.
 ROUNDS, CALM = 5, 0.05
 # How much longer a reply may take beside others' work, and a message to a hop that is there, in seconds.
 PROMPT, SOON = 0.1 * TIMES, 1.0 * TIMES
@@ -45,9 +45,9 @@ class Field:
     def arrived(self, count, seconds=PATIENCE):
         """Returns so many messages, which must arrive in that time."""
         if not self.sink.wait_for(count, seconds):
-            raise (Slow if seconds < PATIENCE else Lost)(f"{count} messages at the sink: not within {seconds} seconds")
+            raise Slow(f"{count} messages at the sink: not within {seconds} seconds")
         messages = self.sink.take_all()
-        same("messages at the sink", len(messages), count, Lost)
+        same("messages at the sink", len(messages), count)
         return messages
 
     def close(self):
@@ -308,7 +308,7 @@ def comes_to_rest(process, what):
     spent = 1
     while spent > 0.1:
         if time.monotonic() > ends:
-            raise Difference(f"relayd run uses {spent:.2f} s of a second {what}")
+            raise Slow(f"relayd run uses {spent:.2f} s of a second {what}")
         before = worked(process)
         time.sleep(1)
         spent = worked(process) - before
@@ -366,10 +366,9 @@ def play_rows(name, rows):
     """Runs the rows that the command line names after the program, or all, each in a folder of its own. Ends at the
     first difference.
 
-    A relay that is slow by itself is so each time, and one whose processors are taken away isn't. So a row that is too
-    slow is run up to ROUNDS times, in a calm minute if one comes. So is one with any other difference while the host
-    runs other machines on these processors, since the relay's own time limits pass meanwhile; but a lost message ends
-    it at once."""
+    What a row asks of waits and rates, no relay can keep while the host runs other machines on the processors of this
+    one. So a row that is too slow then is run up to ROUNDS times, in a calm minute if one comes. Any other difference,
+    such as a lost message, ends it at once."""
     program, *names = sys.argv[1:]
     rows = [row for row in rows if not names or row.__name__ in names]
     for row in rows:
@@ -380,19 +379,14 @@ def play_rows(name, rows):
             if not fault:
                 break
             text = f"{type(fault).__name__}: {fault}"
-            if number == ROUNDS - 1 or not may_still_pass(fault, processors.taken):
+            is_slow = isinstance(fault, (Slow, TimeoutError, subprocess.TimeoutExpired))
+            if not is_slow or processors.taken <= CALM or number == ROUNDS - 1:
                 sys.exit(f"{name}: {row.__name__}: {text}")
-            print(f"{name}: {row.__name__}: again, while the host took {processors.taken:.0%} of the processors: {text}",
-                  flush=True)
+            print(f"{name}: {row.__name__}: again, since the host took {processors.taken:.0%} of the processors: {text}")
             wait_for_calm()
         if names:
             print(f"{name}: {row.__name__}: {time.monotonic() - begun:.1f} s")
     print(f"{name}: {len(rows)} rows, each as it has to be")
-
-
-def may_still_pass(fault, taken):
-    """Returns whether a row with this fault may pass another time, where the host took this share of the processors."""
-    return isinstance(fault, Slow) or taken > CALM and not isinstance(fault, Lost)
 
 
 def fault_of(row, program):

@@ -212,7 +212,7 @@ def a_client_without_a_thread_hears_nothing(program, folder, sink):
 def numbers_of_workers_are_looked_at(program, folder, sink):
     relay = new_relay(program, folder, sink)
     for word in ("0", "65", "x", ""):
-        same(f"--workers {word!r}", relay.ended(PATIENCE, "serve", "--workers", word).returncode, 2)
+        same(f"--workers {word!r}", relay.ended(20, "serve", "--workers", word).returncode, 2)
 
 
 ROWS = [
