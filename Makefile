@@ -17,7 +17,7 @@ demo:
 	@tools/needs.sh
 	@tools/demo.py
 
-# Hands mail in from other mail programs, and on to them: those of Debian that can be had, each skipped by its name else.
+# Exchanges mail with other mail programs of Debian, in both directions. One that isn't available is skipped by name.
 interop: relayd
 	tests/interop.sh build/relayd
 
@@ -30,9 +30,9 @@ hostile: relayd
 bench: relayd relay_rows_tests
 	bench/run.sh build/relayd build/relay_rows_tests
 
-# Measures a relay over sockets beside bare syncs, one that stays up beside the least that a relay does with half a
-# millisecond more for each sync, and what others cost a client; kills one at thirty moments and one that stays up at a
-# hundred while mail comes in; and looks at what much mail, and 64 messages of 16 MiB at once, cost it.
+# Measures a relay over sockets beside bare syncs; a long-running relay beside the least that a relay does, with half a
+# millisecond more for each sync; and what other clients cost a client. Kills a relay 30 times, and a long-running one
+# 100 times, while mail arrives. Measures what 100,000 queued messages, and 64 messages of 16 MiB at once, cost it.
 load: relayd
 	bench/load.py build/relayd
 	FLOOR=1 SYNC_WAIT=500 bench/load.py build/relayd run

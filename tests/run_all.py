@@ -53,6 +53,7 @@ SCRIPTS = [
     Script(["tests/run_without_memory.py", RELAYD], is_timed=True),
     Script(["tests/run_groups.py", RELAYD]),
     Script(["tests/unit_file.sh", RELAYD]),
+    Script(["tests/documents.py"]),
     Script(["tests/links.py", RELAYD]),
     Script(["tests/failing_calls.py", RELAYD]),
     Script(["tests/workers.py", RELAYD]),

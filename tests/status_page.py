@@ -24,6 +24,7 @@ sys.dont_write_bytecode = True
 
 from relay_program import PATIENCE, Slow, free_port, same, until
 from running_relay import PROMPT, TIMES, Client, beside, clients_of, hop_that_hangs, play_rows, slowest
+from smtp_sink import Manners, Sink
 
 SCRIPT = '"<script>alert(1)</script>"'
 FIELDS = {
@@ -270,6 +271,32 @@ def markup_in_a_path_is_text(field):
         page.pictures("script")
 
 
+def the_last_reply_of_each_next_hop_is_shown(field):
+    """The next hops: one that defers and refuses recipients, one that can't be reached, and one that says nothing."""
+    manners = Manners(refusals={"<later@refuses.example>": "451 4.2.1 mailbox <b>busy</b>, try again later",
+                                "<no@refuses.example>": "550 5.1.1 no such user"})
+    with Sink(manners=manners) as refusing, hop_that_hangs() as (port, _):
+        page = Page(field, more={"refuses.example": ("refuses.example", refusing.port),
+                                 "away.example": ("away.example", free_port()),
+                                 "silent.example": ("silent.example", port)})
+        with page.relay.running(), clients_of(page.relay, 1) as [client]:
+            for path in ("later@refuses.example", "b@away.example", "b@silent.example"):
+                client.hand_in(path)
+            wanted = {"refuses.example": "451 4.2.1 mailbox &#60;b&#62;busy&#60;/b&#62;, try again later",
+                      "away.example": "no reply: connection refused", "silent.example": "none yet"}
+            until("a reply, a reason, and none", lambda: last_replies(page) == wanted)
+            page.pictures("replies")
+            client.hand_in("no@refuses.example")
+            until("a later reply", lambda: last_replies(page)["refuses.example"] == "550 5.1.1 no such user")
+
+
+def last_replies(page):
+    """Returns what the page shows as the last reply of each next hop, without how long ago it came."""
+    cells = re.findall(r'<th scope="row">([^<]*)</th>.* data-name="Last reply"><span>(.*)</span></td></tr>',
+                       page.get("/")[1])
+    return {name: re.sub(r" <small>\d+ (s|min) ago</small>$", "", reply) for name, reply in cells}
+
+
 def a_long_queue_stops_no_mail(field):
     """5,000 messages for three next hops that are down: the page sums them up, the list is cut, and mail stays prompt
     while both are requested again and again."""
@@ -363,6 +390,7 @@ ROWS = [
     connections_are_counted_while_they_stand,
     the_list_is_that_of_list,
     markup_in_a_path_is_text,
+    the_last_reply_of_each_next_hop_is_shown,
     a_long_queue_stops_no_mail,
     eight_visitors_have_five_seconds_each,
     a_visitor_that_takes_nothing_is_sent_away,

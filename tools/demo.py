@@ -28,7 +28,7 @@ def main():
     print(f"\nDone in {time.monotonic() - begun:.0f} s. Each heading was also checked; no file is left.\n"
           "This program was compiled with run-time checks and isn't proved yet:\n"
           "   make relayd   proves and builds it, in about an hour on four processors\n"
-          "   make test     runs the whole gate, all proofs and tests, in one to two hours on four processors")
+          "   make test     runs the whole gate, all proofs and tests, in two hours on four processors")
 
 
 if __name__ == "__main__":

@@ -4,8 +4,8 @@ use Rattle.std.specs.Prelude.{Some, None, unwrap_or, if◌then◌else◌, option
 use Rattle.std.specs.Option.{option_copied, option_map_or}
 use Rattle.std.specs.Str.{bytes_eq}
 use Rattle.std.specs.Str.Parse.{digits_value, without_leading_plus}
-use Rattle.clap.specs.Words.{App, IsAmong, Kinds, Row, Rule, Text, fault_of, first_of, new_app, new_rule}
-use Rattle.clap.specs.Words.{subcommand_of, with_rule, with_subcommand}
+use Rattle.clap.specs.Words.{App, IsAmong, Kinds, Row, Rule, Shape, Text, fault_of, first_of, new_app, new_rule}
+use Rattle.clap.specs.Words.{subcommand_of}
 use Rattle.clap.specs.Kinds.{or_else}
 use Rattle.clap.specs.ValueTests.{is_unsigned_in}
 use Rattle.clap.specs.declared.builder.action.ArgAction.TheVariants.{Set, SetTrue}
@@ -47,6 +47,12 @@ without_subcommands = record {
   subs = [];
 }
 
+-- the grammar with these subcommands
+abbrev pub program_of : List Shape → App
+program_of [] = without_subcommands
+program_of (first ∷ more) =
+    record { top = record without_subcommands.top { is_leaf = false }; subs = first ∷ more }
+
 -- an option of this name with any value, as `--hop NAME`
 abbrev pub option_rule : Text → Rule
 option_rule name = record (new_rule name) { long = Some name; action = Some Set; value_names = 1 }
@@ -55,21 +61,9 @@ option_rule name = record (new_rule name) { long = Some name; action = Some Set;
 abbrev pub config_rule : Rule
 config_rule = record (option_rule (codes "config")) { required = true }
 
--- a subcommand with a configuration file
-abbrev pub configured : Text → App
-configured name = with_rule (new_app name) config_rule
-
 -- `--config FILE`, optional
 abbrev pub optional_config_rule : Rule
 optional_config_rule = option_rule (codes "config")
-
--- a subcommand with an optional configuration file
-abbrev pub configurable : Text → App
-configurable name = with_rule (new_app name) optional_config_rule
-
--- `--route ADDRESS`
-abbrev pub route_rule : Rule
-route_rule = option_rule (codes "route")
 
 -- profile: `--rounds N`, from 1 to 1,000,000
 abbrev pub rounds_rule : Rule
@@ -78,14 +72,6 @@ rounds_rule = record (option_rule (codes "rounds")) { parser = Some (Unsigned 1 
 -- profile: `--workers W`, from 1 to 64
 abbrev pub workers_rule : Rule
 workers_rule = record (option_rule (codes "workers")) { parser = Some (Unsigned 1 64) }
-
--- profile: `--log`
-abbrev pub log_rule : Rule
-log_rule = record (new_rule (codes "log")) { long = Some (codes "log"); action = Some SetTrue }
-
--- profile: `--quiet`
-abbrev pub quiet_rule : Rule
-quiet_rule = record (new_rule (codes "quiet")) { long = Some (codes "quiet"); action = Some SetTrue }
 
 -- profile: a switch of this name, as `--long`
 abbrev pub switch_rule : Text → Rule
@@ -109,108 +95,53 @@ seconds_rule = record (option_rule (codes "seconds")) { parser = Some (Unsigned 
 abbrev pub file_rule : Rule
 file_rule = record (new_rule (codes "file")) { action = Some Set; value_names = 1; required = true }
 
--- the subcommand that lists the queue, plainly, as a table or as JSON objects, with these filters
-abbrev pub with_forms : App
-with_forms =
-    with_rule (with_rule (configured (codes "list")) (switch_rule (codes "long"))) (switch_rule (codes "json"))
+-- a subcommand of this name with these parameters
+abbrev pub with_rules : Text → List Rule → Shape
+with_rules name rules = record (new_app name).top { rules = rules }
 
-abbrev pub listing : App
-listing =
-    with_rule (with_rule (with_rule (with_rule with_forms (option_rule (codes "hop"))) (option_rule (codes "from")))
-    (option_rule (codes "to"))) (option_rule (codes "older"))
+-- the options that name mail: a next hop, or a message
+abbrev pub mail_rules : List Rule
+mail_rules = optional_config_rule ∷ option_rule (codes "hop") ∷ message_rule ∷ []
 
--- the subcommand that shows a message
-abbrev pub showing : App
-showing = with_rule (with_rule (configurable (codes "show")) number_rule) (switch_rule (codes "raw"))
+-- the options that choose queued mail, by which it is withdrawn, and may be saved before that
+abbrev pub choice_rules : List Rule
+choice_rules =
+    optional_config_rule ∷ option_rule (codes "message") ∷ option_rule (codes "hop") ∷ option_rule (codes "from")
+    ∷ option_rule (codes "to") ∷ option_rule (codes "save") ∷ switch_rule (codes "yes") ∷ []
 
--- the subcommand that sums up the queue
-abbrev pub reporting : App
-reporting = with_rule (configurable (codes "status")) (switch_rule (codes "prometheus"))
+-- the options of `list`: its file, its forms, and its filters
+abbrev pub list_rules : List Rule
+list_rules =
+    config_rule ∷ switch_rule (codes "long") ∷ switch_rule (codes "json") ∷ option_rule (codes "hop")
+    ∷ option_rule (codes "from") ∷ option_rule (codes "to") ∷ option_rule (codes "older") ∷ []
 
--- the subcommand that checks a configuration
-abbrev pub checking : App
-checking = with_rule (configurable (codes "check")) route_rule
-
--- the subcommand that runs until its process is stopped
-abbrev pub running : App
-running = with_rule (configurable (codes "run")) quiet_rule
-
-abbrev pub serving : App
-serving = with_rule (with_rule (with_rule (configured (codes "serve")) rounds_rule) workers_rule) log_rule
-
-abbrev pub pushing : App
-pushing = with_rule (configured (codes "push")) log_rule
-
--- a subcommand about the mail of a next hop, or about a message
-abbrev pub steering : Text → App
-steering name = with_rule (with_rule (configurable name) (option_rule (codes "hop"))) message_rule
-
--- the subcommand that stops a running relay
-abbrev pub draining : App
-draining = with_rule (configurable (codes "drain")) seconds_rule
-
--- a subcommand with the options that choose queued mail
-abbrev pub with_choice : Text → App
-with_choice name =
-    with_rule (with_rule (with_rule (with_rule (configurable name) (option_rule (codes "message")))
-    (option_rule (codes "hop"))) (option_rule (codes "from"))) (option_rule (codes "to"))
-
--- a subcommand that withdraws the mail that its options choose, and may save it before that
-abbrev pub withdrawing : Text → App
-withdrawing name = with_rule (with_rule (with_choice name) (option_rule (codes "save"))) (switch_rule (codes "yes"))
-
--- the subcommand that saves a message to a file
-abbrev pub saving : App
-saving = with_rule (with_rule (configurable (codes "save")) number_rule) file_rule
-
--- the grammar with the subcommands that need no file
-abbrev pub without_files : App
-without_files =
-    with_subcommand (with_subcommand without_subcommands (new_app (codes "session")).top) (new_app (codes "play")).top
-
--- and with those that make and list a spool
-abbrev pub over_files : App
-over_files =
-    with_subcommand (with_subcommand without_files (configured (codes "init")).top) listing.top
-
--- and with those that show the queue
-abbrev pub with_queue : App
-with_queue = with_subcommand (with_subcommand over_files showing.top) reporting.top
-
--- and with the one that compacts a spool
-abbrev pub with_compact : App
-with_compact = with_subcommand with_queue (configured (codes "compact")).top
-
--- and with the one that checks a configuration
-abbrev pub with_check : App
-with_check = with_subcommand with_compact checking.top
-
--- and with the one that runs until its process is stopped
-abbrev pub with_run : App
-with_run = with_subcommand with_check running.top
-
--- and with those that serve in rounds and relay once
-abbrev pub with_push : App
-with_push = with_subcommand (with_subcommand with_run serving.top) pushing.top
-
--- and with those that steer a running relay
-abbrev pub with_hold : App
-with_hold = with_subcommand (with_subcommand with_push (steering (codes "flush")).top) (steering (codes "hold")).top
-
-abbrev pub with_drain : App
-with_drain = with_subcommand (with_subcommand with_hold (steering (codes "release")).top) draining.top
-
-abbrev pub with_reload : App
-with_reload = with_subcommand with_drain (configurable (codes "reload")).top
-
--- and with those that withdraw queued mail
-abbrev pub with_discard : App
-with_discard =
-    with_subcommand (with_subcommand with_reload (withdrawing (codes "return")).top) (withdrawing (codes "discard")).top
+-- the subcommands with their parameters, in the order in which `--help` lists them
+abbrev pub subcommands : List Shape
+subcommands =
+    with_rules (codes "session") []
+    ∷ with_rules (codes "play") []
+    ∷ with_rules (codes "init") (config_rule ∷ [])
+    ∷ with_rules (codes "list") list_rules
+    ∷ with_rules (codes "show") (optional_config_rule ∷ number_rule ∷ switch_rule (codes "raw") ∷ [])
+    ∷ with_rules (codes "status") (optional_config_rule ∷ switch_rule (codes "prometheus") ∷ [])
+    ∷ with_rules (codes "compact") (config_rule ∷ [])
+    ∷ with_rules (codes "check") (optional_config_rule ∷ option_rule (codes "route") ∷ [])
+    ∷ with_rules (codes "run") (optional_config_rule ∷ switch_rule (codes "quiet") ∷ [])
+    ∷ with_rules (codes "serve") (config_rule ∷ rounds_rule ∷ workers_rule ∷ switch_rule (codes "log") ∷ [])
+    ∷ with_rules (codes "push") (config_rule ∷ switch_rule (codes "log") ∷ [])
+    ∷ with_rules (codes "flush") mail_rules
+    ∷ with_rules (codes "hold") mail_rules
+    ∷ with_rules (codes "release") mail_rules
+    ∷ with_rules (codes "drain") (optional_config_rule ∷ seconds_rule ∷ [])
+    ∷ with_rules (codes "reload") (optional_config_rule ∷ [])
+    ∷ with_rules (codes "return") choice_rules
+    ∷ with_rules (codes "discard") choice_rules
+    ∷ with_rules (codes "save") (optional_config_rule ∷ number_rule ∷ file_rule ∷ [])
+    ∷ []
 
 -- the grammar of the program
 abbrev pub relayd : App
-relayd = with_subcommand with_discard saving.top
+relayd = program_of subcommands
 
 -- a next hop or a message is named
 abbrev pub names_mail : List Row → Bool

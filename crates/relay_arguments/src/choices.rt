@@ -48,7 +48,9 @@ impl ChoiceFault {
     pub(crate) fn error(self, alloc: Global) -> Result<Error, AllocError>
         ensures { IfOk result (λ error. kind_of error ≡ kind_of_choice self) }
     {
-        program(alloc)?.error(self.kind(), self.text())
+        let kind = self.kind();
+        let text = self.text();
+        program(alloc)?.error(kind, text)
     }
 }
 

@@ -4,7 +4,10 @@
 mod choices;
 mod grammar;
 mod looks;
+mod parameters;
 mod steering;
+mod syntax;
+mod table;
 mod tasks;
 mod withdrawing;
 mod words;

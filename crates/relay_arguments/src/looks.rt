@@ -1,18 +1,13 @@
 //! The arguments of the subcommands that show the queue.
-ghost use Rattle.std.specs.Prelude.{◌≡◌, codes, false, is_some, IfOk};
+ghost use Rattle.std.specs.Prelude.{◌≡◌, is_some};
 ghost use Rattle.std.specs.Option.{option_copied};
-ghost use Rattle.clap.specs.Words.{app_of, first_of, found_of, rows_of, rule_of};
-ghost use Rattle.relay_arguments.specs.Arguments.{is_plain, list_asked, listing, message_number_in};
-ghost use Rattle.relay_arguments.specs.Arguments.{number_rule, option_rule, reporting, rows_asked_in, rows_value};
-ghost use Rattle.relay_arguments.specs.Arguments.{show_asked, showing, status_asked, switch_rule, task_value};
-ghost use Rattle.relay_arguments.specs.Arguments.{with_forms};
+ghost use Rattle.clap.specs.Words.{first_of, found_of, rows_of};
+ghost use Rattle.relay_arguments.specs.Arguments.{is_plain, list_asked, message_number_in, rows_asked_in};
+ghost use Rattle.relay_arguments.specs.Arguments.{rows_value, show_asked, status_asked, task_value};
 
-use crate::grammar::{with_default_file, with_file};
 use crate::tasks::{Look, Task};
 use crate::words::{config, config_or_default, is_given, number_of};
-use clap::builder::ValueParser;
-use clap::{Arg, ArgAction, ArgMatches, Command};
-use std::alloc::{AllocError, Global};
+use clap::ArgMatches;
 
 /// Which queued recipients are listed, and how.
 #[derive(Clone, Copy, Drop)]
@@ -109,108 +104,4 @@ pub(crate) fn message_number(matches: &ArgMatches<'_>, argument: &str) -> u64
         Some(text) => number_of(text, 1, u64::MAX),
         None => 1,
     }
-}
-
-/// `list --config FILE [--long] [--json] [--hop NAME] [--from PATH] [--to PATH] [--older AGE]`. Fails if memory runs
-/// out.
-pub(crate) fn list<'a>(alloc: Global) -> Result<Command<'a>, AllocError>
-    ensures { IfOk result (λ command. app_of command ≡ listing) }
-{
-    let with_forms = with_file(
-        alloc,
-        "list",
-        "List each queued recipient: message, place, path, due moment",
-        "Example: relayd list --config /etc/relayd.toml --long --older 4h",
-    )?
-    .arg(switch(alloc, "long", "Print a table, oldest messages first"))?
-    .arg(switch(alloc, "json", "Print a JSON object a line"))?;
-    with_filters(alloc, with_forms)
-}
-
-/// `list` with the options that choose recipients. Fails if memory runs out.
-fn with_filters<'a>(alloc: Global, list: Command<'a>) -> Result<Command<'a>, AllocError>
-    requires { app_of list ≡ with_forms }
-    ensures { IfOk result (λ command. app_of command ≡ listing) }
-{
-    list.arg(option(alloc, "hop", "NAME", "List what this next hop gets"))?
-        .arg(option(
-            alloc,
-            "from",
-            "PATH",
-            "List messages with this reverse path",
-        ))?
-        .arg(option(alloc, "to", "PATH", "List recipients with this path"))?
-        .arg(option(
-            alloc,
-            "older",
-            "AGE",
-            "List messages of this age and older, as 90s, 30m, 4h or 2d",
-        ))
-}
-
-/// `show [--config FILE] [--raw] NUMBER`. Fails if memory runs out.
-pub(crate) fn show<'a>(alloc: Global) -> Result<Command<'a>, AllocError>
-    ensures { IfOk result (λ command. app_of command ≡ showing) }
-{
-    with_default_file(
-        alloc,
-        "show",
-        "Show the envelope, the state and the text of a message",
-        "Example: relayd show 7",
-    )?
-    .arg(number_argument(alloc))?
-    .arg(switch(alloc, "raw", "Write the text alone, octet by octet"))
-}
-
-/// `status [--config FILE] [--prometheus]`. Fails if memory runs out.
-pub(crate) fn status<'a>(alloc: Global) -> Result<Command<'a>, AllocError>
-    ensures { IfOk result (λ command. app_of command ≡ reporting) }
-{
-    with_default_file(
-        alloc,
-        "status",
-        "Sum up the queue by next hop, and show how full the spool is",
-        "Example: relayd status --prometheus",
-    )?
-    .arg(switch(
-        alloc,
-        "prometheus",
-        "Print metrics in Prometheus' text format",
-    ))
-}
-
-/// Returns a switch of this name.
-pub(crate) fn switch<'a>(alloc: Global, name: &'a str, help: &'a str) -> Arg<'a>
-    ensures rule { rule_of result ≡ switch_rule name.now }
-    ensures local { result.global ≡ false }
-{
-    Arg::new(alloc, name)
-        .long(name)
-        .action(ArgAction::SetTrue)
-        .help(help)
-}
-
-/// Returns an option of this name with any value, which `--help` calls `value`.
-pub(crate) fn option<'a>(alloc: Global, name: &'a str, value: &'a str, help: &'a str) -> Arg<'a>
-    ensures rule { rule_of result ≡ option_rule name.now }
-    ensures local { result.global ≡ false }
-{
-    Arg::new(alloc, name)
-        .long(name)
-        .value_name(value)
-        .action(ArgAction::Set)
-        .help(help)
-}
-
-/// `NUMBER`, a positional argument
-pub(crate) fn number_argument<'a>(alloc: Global) -> Arg<'a>
-    ensures rule { rule_of result ≡ number_rule }
-    ensures local { result.global ≡ false }
-{
-    Arg::new(alloc, "number")
-        .value_name("NUMBER")
-        .action(ArgAction::Set)
-        .required(true)
-        .value_parser(ValueParser::unsigned(1, u64::MAX))
-        .help("The number of the message")
 }

@@ -1,29 +1,25 @@
 //! The arguments of the subcommands that steer a running relay.
-ghost use Rattle.std.specs.Prelude.{◌≡◌, codes, false, option_map, IfOk};
+ghost use Rattle.std.specs.Prelude.{◌≡◌, option_map};
 ghost use Rattle.std.specs.Option.{option_map_or};
-ghost use Rattle.clap.specs.Words.{app_of, found_of, rows_of, rule_of};
-ghost use Rattle.relay_arguments.specs.Arguments.{configurable, drain_asked, draining, flush_asked, hold_asked};
-ghost use Rattle.relay_arguments.specs.Arguments.{mail_in, mail_value, message_rule, named_mail_in, names_mail};
-ghost use Rattle.relay_arguments.specs.Arguments.{release_asked, reload_asked, seconds_in, seconds_rule, steering};
-ghost use Rattle.relay_arguments.specs.Arguments.{steering_by, streams_asked, task_value};
+ghost use Rattle.clap.specs.Words.{found_of, rows_of};
+ghost use Rattle.relay_arguments.specs.Arguments.{drain_asked, flush_asked, hold_asked, mail_in, mail_value};
+ghost use Rattle.relay_arguments.specs.Arguments.{named_mail_in, names_mail, release_asked, reload_asked};
+ghost use Rattle.relay_arguments.specs.Arguments.{seconds_in, steering_by, streams_asked, task_value};
 
-use crate::grammar::with_default_file;
-use crate::looks::{is_some_text, message_number, option, text_of};
+use crate::looks::{is_some_text, message_number, text_of};
 use crate::tasks::{Control, Task};
 use crate::withdrawing::withdrawing_named;
 use crate::words::{config_or_default, number_of};
-use clap::builder::ValueParser;
-use clap::{Arg, ArgAction, ArgMatches, Command};
-use std::alloc::{AllocError, Global};
+use clap::ArgMatches;
 
 /// The most seconds that a drain may take.
-const MOST_SECONDS: u64 = 65_535;
+pub(crate) const MOST_SECONDS: u64 = 65_535;
 
 /// How many seconds a drain may take by default.
 const DRAIN_SECONDS: u16 = 60;
 
 /// Which queued mail a request is about.
-#[derive(Clone, Copy, Debug, Drop)]
+#[derive(Clone, Copy, Drop)]
 pub enum Mail<'a> {
     /// The mail of the next hop of this name.
     Hop(&'a str),
@@ -32,7 +28,7 @@ pub enum Mail<'a> {
 }
 
 /// A request to a running relay.
-#[derive(Clone, Copy, Debug, Drop)]
+#[derive(Clone, Copy, Drop)]
 pub enum Steering<'a> {
     /// Try this mail now, or all queued mail.
     Flush(Option<Mail<'a>>),
@@ -152,105 +148,4 @@ fn seconds(matches: &ArgMatches<'_>) -> u16
         Some(text) => number_of(text, 0, MOST_SECONDS) as u16,
         None => DRAIN_SECONDS,
     }
-}
-
-/// `flush [--config FILE] [--hop NAME | --message NUMBER]`. Fails if memory runs out.
-pub(crate) fn flush<'a>(alloc: Global) -> Result<Command<'a>, AllocError>
-    ensures { IfOk result (λ command. app_of command ≡ steering (codes "flush")) }
-{
-    about_mail(
-        alloc,
-        "flush",
-        "Try queued mail now: all of it, the mail of a next hop, or a message",
-        "Example: relayd flush --hop next.example",
-    )
-}
-
-/// `hold [--config FILE] (--hop NAME | --message NUMBER)`. Fails if memory runs out.
-pub(crate) fn hold<'a>(alloc: Global) -> Result<Command<'a>, AllocError>
-    ensures { IfOk result (λ command. app_of command ≡ steering (codes "hold")) }
-{
-    about_mail(
-        alloc,
-        "hold",
-        "Begin no attempt for mail until it is released, also after a restart; it still expires",
-        "Example: relayd hold --message 7",
-    )
-}
-
-/// `release [--config FILE] (--hop NAME | --message NUMBER)`. Fails if memory runs out.
-pub(crate) fn release<'a>(alloc: Global) -> Result<Command<'a>, AllocError>
-    ensures { IfOk result (λ command. app_of command ≡ steering (codes "release")) }
-{
-    about_mail(
-        alloc,
-        "release",
-        "Release held mail",
-        "Example: relayd release --hop next.example",
-    )
-}
-
-/// `drain [--config FILE] [--seconds N]`. Fails if memory runs out.
-pub(crate) fn drain<'a>(alloc: Global) -> Result<Command<'a>, AllocError>
-    ensures { IfOk result (λ command. app_of command ≡ draining) }
-{
-    with_default_file(
-        alloc,
-        "drain",
-        "Accept no more clients, let attempts end, and stop the relay",
-        "Example: relayd drain --seconds 30",
-    )?
-    .arg(seconds_argument(alloc))
-}
-
-/// `reload [--config FILE]`. Fails if memory runs out.
-pub(crate) fn reload<'a>(alloc: Global) -> Result<Command<'a>, AllocError>
-    ensures { IfOk result (λ command. app_of command ≡ configurable (codes "reload")) }
-{
-    with_default_file(
-        alloc,
-        "reload",
-        "Read the configuration again, and serve by it",
-        "Example: relayd reload",
-    )
-}
-
-/// Returns a subcommand of this name with an optional next hop and an optional message. Fails if memory runs out.
-fn about_mail<'a>(
-    alloc: Global,
-    name: &'a str,
-    about: &'a str,
-    example: &'a str,
-) -> Result<Command<'a>, AllocError>
-    ensures { IfOk result (λ command. app_of command ≡ steering name.now) }
-{
-    with_default_file(alloc, name, about, example)?
-        .arg(option(alloc, "hop", "NAME", "The mail of this next hop"))?
-        .arg(message_argument(alloc))
-}
-
-/// `--message NUMBER`
-fn message_argument<'a>(alloc: Global) -> Arg<'a>
-    ensures rule { rule_of result ≡ message_rule }
-    ensures local { result.global ≡ false }
-{
-    Arg::new(alloc, "message")
-        .long("message")
-        .value_name("NUMBER")
-        .action(ArgAction::Set)
-        .value_parser(ValueParser::unsigned(1, u64::MAX))
-        .help("The message of this number")
-}
-
-/// `--seconds N`
-fn seconds_argument<'a>(alloc: Global) -> Arg<'a>
-    ensures rule { rule_of result ≡ seconds_rule }
-    ensures local { result.global ≡ false }
-{
-    Arg::new(alloc, "seconds")
-        .long("seconds")
-        .value_name("N")
-        .action(ArgAction::Set)
-        .value_parser(ValueParser::unsigned(0, MOST_SECONDS))
-        .help("Cut the attempts that have not ended after N seconds, 0 to 65,535 [default: 60]")
 }

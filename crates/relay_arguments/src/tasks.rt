@@ -86,7 +86,7 @@ pub enum Relaying<'a> {
 }
 
 /// What is done with a running relay and with queued mail by hand.
-#[derive(Clone, Copy, Debug, Drop)]
+#[derive(Clone, Copy, Drop)]
 pub enum Control<'a> {
     /// Send a request to a running relay.
     Steer {

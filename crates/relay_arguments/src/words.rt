@@ -1,8 +1,9 @@
 ghost use Rattle.std.specs.Prelude.{◌≡◌, ◌≤◌, codes, map, option_map, IfOk};
 ghost use Rattle.std.specs.Option.{option_map_or};
 ghost use Rattle.clap.specs.Words.{FailsBy, first_of, found_of, rows_of, subcommand_rows_of};
-ghost use Rattle.relay_arguments.specs.Arguments.{WordsAreTaken, asked, asked_by, asked_in, asked_of, config_in};
-ghost use Rattle.relay_arguments.specs.Arguments.{check_asked, config_or_default_in, faults_in, is_given_in};
+ghost use Rattle.relay_arguments.specs.Arguments.{WordsAreTaken, asked, asked_by, asked_in, asked_of};
+ghost use Rattle.relay_arguments.specs.Arguments.{check_asked, choice_kinds, config_in, config_or_default_in};
+ghost use Rattle.relay_arguments.specs.Arguments.{faults_in, is_given_in};
 ghost use Rattle.relay_arguments.specs.Arguments.{number_of, push_asked, relaying_by, rounds_in, run_asked};
 ghost use Rattle.relay_arguments.specs.Arguments.{serve_asked, streams_asked, task_value, workers_in};
 
@@ -42,9 +43,17 @@ pub fn arguments<'a, S: AsStr>(alloc: Global, words: &'a [S]) -> Result<Subcomma
     ensures asked { IfOk result (λ subcommand. asked subcommand ≡ asked_in (map S.text words.now)) }
 {
     let matches = program(alloc)?.try_get_matches_from(words)?;
-    match choice_fault(&matches) {
+    checked(alloc, &matches)
+}
+
+/// Returns the subcommand that was given. Fails if its mail is named wrongly, or if memory runs out.
+fn checked<'a>(alloc: Global, matches: &ArgMatches<'a>) -> Result<Subcommand<'a>, Error>
+    ensures faults { FailsBy (choice_kinds (subcommand_rows_of matches.now)) result }
+    ensures asked { IfOk result (λ subcommand. asked subcommand ≡ asked_of (subcommand_rows_of matches.now)) }
+{
+    match choice_fault(matches) {
         Some(fault) => Err(fault.error(alloc)?),
-        None => Ok(asked_for(&matches)),
+        None => Ok(asked_for(matches)),
     }
 }
 

@@ -5,5 +5,4 @@ pub mod Answer
 pub mod Held
 pub mod HeldFile
 pub mod Caller
-pub mod Callers
 pub mod Laws

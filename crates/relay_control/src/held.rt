@@ -65,10 +65,11 @@ impl Held {
     }
 
     /// Holds this mail, and returns whether it wasn't held before. If memory runs out, it fails and nothing changes.
+    /// Mail that is held already needs no memory.
     pub fn hold(&mut self, scope: Scope) -> Result<bool, AllocError>
         ensures ok { IfOk result (λ is_new. (is_new ≡ not (holds_scope scope self.old))
             × Sets scope true self.old self.new) }
-        ensures err { OnErr result (HoldsSame self.old self.new) }
+        ensures err { OnErr result (HoldsSame self.old self.new × (holds_scope scope self.old ≡ false)) }
     {
         match scope {
             Scope::Hop(name) => self.hold_hop(name),
@@ -82,7 +83,7 @@ impl Held {
     fn hold_hop(&mut self, name: HostName) -> Result<bool, AllocError>
         ensures ok { IfOk result (λ is_new. (is_new ≡ not (holds_hop name self.old))
             × Sets (Scope.Hop name) true self.old self.new) }
-        ensures err { OnErr result (HoldsSame self.old self.new) }
+        ensures err { OnErr result (HoldsSame self.old self.new × (holds_hop name self.old ≡ false)) }
     {
         if self.holds_hop(name.as_slice()) {
             return Ok(false);

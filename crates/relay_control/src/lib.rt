@@ -3,7 +3,6 @@
 
 mod answer;
 mod arguments;
-mod caller;
 mod callers;
 mod front;
 mod held;
@@ -15,18 +14,16 @@ mod number;
 mod refusal;
 mod request;
 mod scope;
-mod stream;
 mod verb;
 
 pub use answer::{End, Reply, push_end, push_line, read_answer};
-pub use caller::{CALL_TIME, MOST_WRITTEN};
-pub use callers::{Callers, MOST_CALLERS};
+pub use callers::Callers;
 pub use held::Held;
 pub use held_file::{HeldFault, read_held, write_held};
-pub use line::{MOST_OCTETS, judge};
+pub use line::judge;
 pub use named::{MOST_NAMED, Named};
 pub use refusal::Refusal;
+pub use relay_callers::{MOST_CALLERS, MOST_OCTETS};
 pub use request::{Request, read_request, write_request};
 pub use scope::Scope;
-pub use stream::CallerStream;
 pub use verb::Verb;

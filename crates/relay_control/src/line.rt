@@ -5,10 +5,8 @@ ghost use Rattle.relay_control.specs.Request.{BeginsWithLine, HasNo, Judges};
 use crate::refusal::Refusal;
 use crate::request::{Request, read_request};
 use memchr::memchr;
+use relay_callers::MOST_OCTETS;
 use std::alloc::{AllocError, Global};
-
-/// The most octets of a request, with its LF.
-pub const MOST_OCTETS: usize = 4_096;
 
 /// Returns what the octets of a connection ask for, or why they are refused: `None` while more must come first. What
 /// follows the first line is ignored. Fails if memory runs out.

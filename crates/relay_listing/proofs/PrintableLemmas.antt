@@ -42,7 +42,7 @@ digits_printable (suc count) number rest all =
     by true others = more
     by false others = others
 
-decimal_printable : (number : ℕ) → ArePrintable (decimal number)
+pub decimal_printable : (number : ℕ) → ArePrintable (decimal number)
 unfolding digits
 decimal_printable number = digits_printable 64 number [] refl
 

@@ -1,2 +1,5 @@
 pub mod Row
 pub mod Object
+pub mod Amounts
+pub mod Pieces
+pub mod Metrics

@@ -3,13 +3,15 @@ mod PaceLemmas
 mod SlotLemmas
 mod HearingLemmas
 mod OrderLemmas
+mod LastReplyLemmas
 mod ListingLemmas
 mod OverdueLemmas
 mod StartLemmas
 mod SteeringLemmas
 mod TurnLemmas
-mod CountLemmas
 mod RoundLemmas
 mod DueLemmas
 mod GoingOnLemmas
 mod BegunLemmas
+mod ReadLemmas
+mod LeaveLemmas

@@ -1,8 +1,8 @@
 -- A flush goes over held places one by one: those that were listed stay so, and are counted.
-use Rattle.std.proofs.Common.{◌≡◌, ◌⊎◌, inl, inr, ℕ, ◌+◌, ◌<◌, ◌≤◌, zero, suc, Bool, true, false, List, [], ◌∷◌, length, take, get_or, MatchOption, Option, None, Some, sym, ap, subst, ◌∙◌, arith, if◌then◌else◌}
-use Rattle.std.specs.Prelude.{count_by, slice_get}
+use Rattle.std.proofs.Common.{◌≡◌, ◌⊎◌, inl, inr, ℕ, ◌+◌, ◌<◌, ◌≤◌, zero, suc, Bool, true, false, List, [], ◌∷◌, length, take, get_or, MatchOption, Option, None, Some, Result, Ok, Err, cond, sym, ap, subst, ◌∙◌, arith, if◌then◌else◌}
+use Rattle.std.specs.Prelude.{IfErr, OnErr, count_by, slice_get}
 use Rattle.std.proofs.lemmas.Bool.{cases_lt}
-use Rattle.std.proofs.lemmas.List.Sums.{count_by_more_no, count_by_more_yes}
+use Rattle.std.proofs.lemmas.List.Sums.{count_by_more_no, count_by_more_yes, sum_by-cons}
 use Rattle.relay_control.specs.declared.held.Held.{Held}
 use Rattle.relay_control.specs.declared.scope.Scope.{Scope}
 use Rattle.relay_routes.specs.declared.hop.Hop.{Hop as NextHop}
@@ -47,3 +47,21 @@ module _ {D S : Type 0} (node : NodeState D) (hops : List (Option (Hop S))) (old
 
       same : mark ≡ other
       same = same_found (slice_get marks n) mark other is (ap (slice_get marks) place ∙ there)
+
+-- some are counted, if one passes
+pub counts_some : {A : Type 0} (test : A → Bool) (xs : List A) (n : ℕ) (x : A) → slice_get xs n ≡ Some x → test x ≡ true → 0 < count_by test xs
+counts_some test [] n x there passes = absurd (cc there)
+counts_some test (y ∷ ys) zero x there passes =
+    let own : test y ≡ true = cc (there, passes) in
+    let grown : count_by test (y ∷ ys) ≡ 1 + count_by test ys = sum_by-cons (λ it. cond (test it) 1 0) y ys ∙ ap (λ (b : Bool). cond b 1 0 + count_by test ys) own in
+    omega (arith, grown)
+counts_some test (y ∷ ys) (suc n) x there passes =
+    let more : 0 < count_by test ys = counts_some test ys n x there passes in omega (arith, more, sum_by-cons (λ it. cond (test it) 1 0) y ys)
+
+pub if_err_at : {A E : Type 0} (result : Result A E) (P : E → Type 0) (why : E) → result ≡ Err why → IfErr result P → P why
+if_err_at (Ok value) P why is p = absurd (cc is)
+if_err_at (Err other) P why is p = let same : other ≡ why = cc is in subst P same p
+
+pub on_err : {A E : Type 0} (result : Result A E) (P : Type 0) → P → OnErr result P
+on_err (Ok value) P p = tt
+on_err (Err why) P p = p

@@ -1,6 +1,7 @@
 pub mod Places
 pub mod Paces
 pub mod Portions
+pub mod LastReplies
 pub mod Lanes
 pub mod Listing
 pub mod Deliveries

@@ -3,16 +3,22 @@ use Rattle.std.specs.Prelude.{◌≡◌, ◌&&◌, ◌==◌, ℕ, Bool, true, fa
 use Rattle.std.specs.Prelude.{MatchOption, bytes_eq, count_by, slice_get}
 use Rattle.std.specs.Option.{option_and_then, option_map_or}
 use Rattle.relay_routes.specs.declared.hop.Hop.{Hop as NextHop}
-use Rattle.relay_book.specs.Queue.{held_of, message_of}
+use Rattle.relay_book.specs.Queue.{message_of}
 use Rattle.relay_control.specs.Held.{holds}
 use Rattle.relay_control.specs.declared.held.Held.{Held}
 use Rattle.relay_control.specs.declared.scope.Scope.{Scope}
 use Rattle.relay_control.specs.declared.scope.Scope.TheVariants.{Hop as ForHop, Message as ForMessage}
+use Rattle.relay_files.specs.declared.fault.Fault.{Fault}
+use Rattle.relay_files.specs.declared.fault.Fault.TheVariants.{Device, NoMemory}
 use Rattle.relay_node.specs.Node.{NodeState}
 use Rattle.relay_next_hops.specs.Listing.{HasEarlyTurn, route_of}
 use Rattle.relay_next_hops.specs.declared.hop.Hop.{Hop}
 use Rattle.relay_next_hops.specs.declared.lanes.Lanes.{Lanes}
 use Rattle.relay_next_hops.specs.declared.next_hops.NextHops.{NextHops}
+
+-- this mail is held
+abbrev pub with_held : Held → Lanes → Lanes
+with_held held lanes = record lanes { held = held }
 
 -- this mail is held, and all due mail is listed again at the next turn
 abbrev pub relisted : Held → Lanes → Lanes
@@ -51,3 +57,9 @@ pub record FlushesEach {D S : Type 0} (node : NodeState D) (hops : List (Option 
   pub count_is : count ≡ count_by (is_flushed node held scope) marks
   pub each : (step : ℕ) (mark : ℕ × ℕ) → slice_get marks step ≡ Some mark → is_flushed node held scope mark ≡ true
       → IsFlushed node hops mark lanes
+
+-- not all was flushed, for this reason: the device has failed before, or memory ran out
+abbrev pub CantFlush : {D : Type 0} → NodeState D → Fault → Type 0
+CantFlush node Device = node.records.spool.live ≡ false
+CantFlush node NoMemory = Unit {0}
+CantFlush node other = ⊥

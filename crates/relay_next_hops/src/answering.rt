@@ -1,6 +1,7 @@
 //! The connection to a next hop after its attempt has heard replies.
-ghost use Rattle.std.specs.Prelude.{◌≡◌, ℕ, IfOk, Some, drop, false};
+ghost use Rattle.std.specs.Prelude.{◌≡◌, ℕ, IfOk, OnOk, Some, drop, false};
 ghost use Rattle.relay_connections.specs.Channel.{unread_of};
+ghost use Rattle.relay_connections.specs.Served.{LeavesClients};
 ghost use Rattle.relay_next_hops.specs.Deliveries.{KeepsDelivery, left_of};
 ghost use Rattle.relay_next_hops.specs.Hearing.{IsAnswered, IsCourse};
 
@@ -27,6 +28,7 @@ impl<S: Stream> Hop<S> {
         ensures delivery { KeepsDelivery self.old self.new }
         ensures uses { IfOk result (λ course. IsAnswered now.now.tick answer (Some self.old)
             (left_of course self.new)) }
+        ensures leaves { OnOk result (LeavesClients D.honest D.words relay.old relay.new) }
     {
         if was_left(&answer) {
             self.hear_alone(relay, attempt, now)
@@ -49,6 +51,7 @@ impl<S: Stream> Hop<S> {
         ensures attempt { self.new.attempt ≡ self.old.attempt }
         ensures hears { self.new.hears ≡ false }
         ensures course { IsCourse now.now.tick answered self.old self.new result }
+        ensures leaves { LeavesClients D.honest D.words relay.old relay.new }
     {
         self.hears = false;
         // After a fault the attempt is gone, and its message stays due.
@@ -81,6 +84,7 @@ impl<S: Stream> Hop<S> {
         ensures attempt { self.new.attempt ≡ self.old.attempt }
         ensures used { IfOk result (λ course. course ≡ Course.Stays → (used : ℕ)
             × (unread_of self.new.channel ≡ drop used (unread_of self.old.channel))) }
+        ensures leaves { OnOk result (LeavesClients D.honest D.words relay.old relay.new) }
     {
         let answered = relay.reply(attempt, self.channel.piece(), now.moment);
         if answered.as_ref().err() == Some(&NodeFault::Stopped) {

@@ -2,6 +2,7 @@
 ghost use Rattle.std.specs.Prelude.{◌≡◌, None, Ok, OnOk, Option, false, true};
 ghost use Rattle.relay_loop.specs.declared.outbox.Outbox.{Outbox};
 ghost use Rattle.relay_records.specs.declared.noted.Noted.{Noted};
+ghost use Rattle.relay_connections.specs.Served.{LeavesClients};
 ghost use Rattle.relay_next_hops.specs.Deliveries.{portions_after};
 ghost use Rattle.relay_next_hops.specs.GoingOn.{ComesNext};
 ghost use Rattle.relay_next_hops.specs.Lanes.{KeepsCounts, KeepsPlaces, OnlyLane};
@@ -12,6 +13,7 @@ ghost use Rattle.relay_next_hops.specs.Paces.{RunsOneLess};
 use crate::delivery::{Course, Delivery};
 use crate::going_on::go_on;
 use crate::lanes::Lanes;
+use crate::last_replies::Answer;
 use crate::portions::Portions;
 use relay_connections::{Channel, Leaving, Now, Stream};
 use relay_disk::Disk;
@@ -39,6 +41,7 @@ pub(crate) fn conclude<S: Stream + Drop, D: Disk>(
     ensures portions { portions.new ≡ portions_after course ended.1.attempt ended.1.message portions.old }
     ensures next { (outbox : Outbox) (noted : Option Noted) → course ≡ Course.Ended outbox noted
         → ComesNext now.now.moment ended.1 relay.new lanes.new }
+    ensures leaves { OnOk result (LeavesClients D.honest D.words relay.old relay.new) }
 {
     let (channel, delivery) = ended;
     let is_shared = lanes.is_shared(&delivery.aim);
@@ -83,6 +86,7 @@ fn finish<S: Stream + Drop, D: Disk>(
     ensures counts { KeepsCounts lanes.old lanes.new }
     ensures next { (outbox : Outbox) (noted : Option Noted) → course ≡ Course.Ended outbox noted
         → ComesNext now.now.moment delivery relay.new lanes.new }
+    ensures leaves { OnOk result (LeavesClients D.honest D.words relay.old relay.new) }
 {
     let lane = delivery.aim.lane;
     match course {
@@ -145,6 +149,7 @@ fn end_badly<D: Disk>(
     log: &mut Log<'_, Vec<u8>>,
 ) -> Result<(), Fault>
     ensures counts { KeepsCounts lanes.old lanes.new }
+    ensures leaves { OnOk result (LeavesClients D.honest D.words relay.old relay.new) }
 {
     let is_recorded = lose(relay, lanes, &delivery, loss, now, log)?;
     if is_recorded && delivery.attempt.is_some() {
@@ -168,6 +173,7 @@ pub(crate) fn lose<D: Disk>(
     ensures only { OnlyLane delivery.now.aim.lane lanes.old lanes.new }
     ensures tasks { lanes.new.lanes ≡ lanes.old.lanes }
     ensures config { relay.new.node.config ≡ relay.old.node.config }
+    ensures leaves { OnOk result (LeavesClients D.honest D.words relay.old relay.new) }
 {
     if delivery.attempt.is_none() && lanes.is_held(delivery.aim.lane, now) {
         return Ok(false);
@@ -176,6 +182,10 @@ pub(crate) fn lose<D: Disk>(
     let (is_recorded, noted) = record_and_note(relay, delivery, now)?;
     let talk = talk_of(delivery, &unheard);
     tell(delivery, Some(loss), noted, talk, now, log);
+    // If memory runs out, the one before stays.
+    let _ = lanes
+        .last_replies
+        .note(delivery.name.as_slice(), Answer::Failed(loss, now.moment));
     if !delivery.has_spoken {
         hold(lanes, delivery, loss, log, now);
     }
@@ -191,6 +201,7 @@ pub(crate) fn lose_held<D: Disk>(
 ) -> Result<(), Fault>
     ensures lost { OnOk result (IsRecordedOrRefused D.words now.now.moment delivery relay.old relay.new) }
     ensures config { relay.new.node.config ≡ relay.old.node.config }
+    ensures leaves { OnOk result (LeavesClients D.honest D.words relay.old relay.new) }
 {
     let talk = log.talk_of(relay.node().message(delivery.message));
     let (is_recorded, noted) = record_and_note(relay, &delivery, now)?;
@@ -208,6 +219,7 @@ fn record_and_note<D: Disk>(
 ) -> Result<(bool, Option<Noted>), Fault>
     ensures lost { OnOk result (IsRecordedOrRefused D.words now.now.moment delivery.now relay.old relay.new) }
     ensures config { relay.new.node.config ≡ relay.old.node.config }
+    ensures leaves { OnOk result (LeavesClients D.honest D.words relay.old relay.new) }
 {
     match record_loss(relay, delivery, now) {
         Ok(true) => Ok((true, relay.take_noted())),
@@ -237,6 +249,7 @@ fn record_loss<D: Disk>(relay: &mut Relay<D>, delivery: &Delivery, now: &Now) ->
     ensures refused { result ≡ Ok false
         → LosesNot D.words now.now.moment delivery.now relay.old relay.new delivery.now.attempt }
     ensures config { relay.new.node.config ≡ relay.old.node.config }
+    ensures leaves { OnOk result (LeavesClients D.honest D.words relay.old relay.new) }
 {
     match delivery.attempt {
         Some(attempt) => lose_attempt(relay, attempt, now),
@@ -254,6 +267,7 @@ fn lose_at_once<D: Disk>(
     ensures lost { result ≡ Ok true → StartsAndLoses D.words now.now.moment message name.now relay.old relay.new }
     ensures refused { result ≡ Ok false → StartsNothing D.words now.now.moment message name.now relay.old relay.new }
     ensures config { relay.new.node.config ≡ relay.old.node.config }
+    ensures leaves { OnOk result (LeavesClients D.honest D.words relay.old relay.new) }
 {
     match relay.start(message, name, now.moment) {
         Ok(started) => lose_attempt(relay, started.attempt, now),
@@ -267,11 +281,14 @@ fn lose_attempt<D: Disk>(relay: &mut Relay<D>, attempt: usize, now: &Now) -> Res
     ensures lost { result ≡ Ok true → LosesAttempt D.words now.now.moment relay.old relay.new attempt }
     ensures refused { result ≡ Ok false → RefusesLoss D.words now.now.moment relay.old relay.new attempt }
     ensures config { relay.new.node.config ≡ relay.old.node.config }
+    ensures leaves { OnOk result (LeavesClients D.honest D.words relay.old relay.new) }
 {
     match relay.lose(attempt, now.moment) {
         Ok(_) => Ok(true),
-        Err(NodeFault::Stopped) => Err(Fault::Device),
-        Err(_) => Ok(false),
+        Err(fault) => match fault {
+            NodeFault::Stopped => Err(Fault::Device),
+            _ => Ok(false),
+        },
     }
 }
 

@@ -1,5 +1,6 @@
 //! Giving up messages that no route leads on.
-ghost use Rattle.std.specs.Prelude.{◌≡◌, ◌∷◌, [], ℕ, List, IfOk, Ok, false};
+ghost use Rattle.std.specs.Prelude.{◌≡◌, ◌∷◌, [], ℕ, List, IfOk, Ok, OnOk, false};
+ghost use Rattle.relay_connections.specs.Served.{LeavesClients};
 ghost use Rattle.relay_next_hops.specs.Lanes.{KeepsCounts};
 ghost use Rattle.relay_next_hops.specs.Starting.{IsGivenUp};
 
@@ -26,6 +27,7 @@ pub(crate) fn give_up_next<D: Disk>(
         × (lanes.new.unroutable.items ≡ rest) }
     ensures counts { KeepsCounts lanes.old lanes.new }
     ensures config { relay.new.node.config ≡ relay.old.node.config }
+    ensures leaves { OnOk result (LeavesClients D.honest D.words relay.old relay.new) }
 {
     match lanes.next_unroutable() {
         Some(message) => give_up(relay, lanes, message, now, log),
@@ -46,6 +48,7 @@ fn give_up<D: Disk>(
     ensures others { lanes.new.unroutable ≡ lanes.old.unroutable }
     ensures counts { KeepsCounts lanes.old lanes.new }
     ensures config { relay.new.node.config ≡ relay.old.node.config }
+    ensures leaves { OnOk result (LeavesClients D.honest D.words relay.old relay.new) }
 {
     let talk = log.talk_of(relay.node().message(message));
     let age = age_since(accepted_at(relay, message), now);
@@ -55,14 +58,16 @@ fn give_up<D: Disk>(
             tell_given_up(message, age, &talk, noted, log);
             Ok(true)
         }
-        Err(NodeFault::Stopped) => Err(Fault::Device),
-        // Nothing of it is to be given up any more.
-        Err(NodeFault::Unknown | NodeFault::NotDue) => Ok(false),
-        // It stays due.
-        Err(_) => {
-            lanes.list_anew();
-            Ok(false)
-        }
+        Err(fault) => match fault {
+            NodeFault::Stopped => Err(Fault::Device),
+            // Nothing of it is to be given up any more.
+            NodeFault::Unknown | NodeFault::NotDue => Ok(false),
+            // It stays due.
+            _ => {
+                lanes.list_anew();
+                Ok(false)
+            }
+        },
     }
 }
 

@@ -1,6 +1,7 @@
 //! What attempts hear in a turn: the octets that were read from their own next hop.
 ghost use Rattle.std.specs.Prelude.{◌≡◌, ◌↔◌, ◌<◌, ◌≤◌, ◌%◌, IfOk, IfSome, IsTrue, List, OnOk, map, option_map};
 ghost use Rattle.relay_routes.specs.Routes.{Route};
+ghost use Rattle.relay_connections.specs.Served.{LeavesClients};
 ghost use Rattle.relay_next_hops.specs.Counts.{CountsMatch};
 ghost use Rattle.relay_next_hops.specs.Deliveries.{AreAimed};
 ghost use Rattle.relay_next_hops.specs.Hearing.{AnswersEach, AnswersOne, WasLeft, hearing_at, order_of, replies_of};
@@ -79,6 +80,7 @@ impl<S: Stream + Drop> Hops<S> {
         ensures counts { CountsMatch self.old.hops lanes.old.paces
             → OnOk result (CountsMatch self.new.hops lanes.new.paces) }
         ensures aimed { (routes : List Route) → AreAimed routes self.old.hops → AreAimed routes self.new.hops }
+        ensures leaves { OnOk result (LeavesClients D.honest D.words relay.old relay.new) }
     {
         let Some(Replied { answered, notes }) = replied else {
             return self.lose_one(registry, relay, lanes, leaving, now, log);
@@ -118,7 +120,8 @@ impl<S: Stream + Drop> Hops<S> {
     {
         match self.hops.standing().get(number) {
             Some(Some(hop)) => hop.hearing(),
-            _ => None,
+            Some(None) => None,
+            None => None,
         }
     }
 
@@ -143,6 +146,7 @@ impl<S: Stream + Drop> Hops<S> {
         ensures counts { CountsMatch self.old.hops lanes.old.paces
             → OnOk result (CountsMatch self.new.hops lanes.new.paces) }
         ensures aimed { (routes : List Route) → AreAimed routes self.old.hops → AreAimed routes self.new.hops }
+        ensures leaves { OnOk result (LeavesClients D.honest D.words relay.old relay.new) }
     {
         let is_left = was_left(&answer);
         if is_left && *alone == 0 {
@@ -173,6 +177,7 @@ impl<S: Stream + Drop> Hops<S> {
         ensures counts { CountsMatch self.old.hops lanes.old.paces
             → OnOk result (CountsMatch self.new.hops lanes.new.paces) }
         ensures aimed { (routes : List Route) → AreAimed routes self.old.hops → AreAimed routes self.new.hops }
+        ensures leaves { OnOk result (LeavesClients D.honest D.words relay.old relay.new) }
     {
         let Some(number) = self.first_hearing() else {
             return Ok(false);

@@ -1,13 +1,15 @@
 //! The connection to a next hop, and what a turn does with it.
-ghost use Rattle.std.specs.Prelude.{◌≡◌, ◌≢◌, ◌⊎◌, ℕ, [], None, Some, false, min, true};
+ghost use Rattle.std.specs.Prelude.{◌≡◌, ◌≢◌, ◌⊎◌, ℕ, [], None, OnOk, Some, false, min, true};
 ghost use Rattle.relay_loop.specs.Outboxes.{unwritten_at};
 ghost use Rattle.relay_connections.specs.Channel.{unread_of};
+ghost use Rattle.relay_connections.specs.Served.{LeavesClients};
 ghost use Rattle.relay_book.specs.Queue.{message_of};
 ghost use Rattle.relay_trace.specs.DateTime.{last_second};
 ghost use Rattle.relay_next_hops.specs.Deliveries.{KeepsDelivery, StartsFor, last_due, starting_moment};
 ghost use Rattle.relay_next_hops.specs.Hearing.{IsLate, hearing_of};
 
 use crate::delivery::{Aim, Course, Delivery};
+use crate::heard::Heard;
 use crate::phase::Phase;
 use relay_book::Place;
 use relay_connections::{Channel, End, Now, Stream};
@@ -41,6 +43,8 @@ pub(crate) struct Hop<S> {
     pub(crate) hears: bool,
     /// The replies, for the log.
     pub(crate) talk: Talk,
+    /// The last reply of this turn, for the page.
+    pub(crate) heard: Heard,
     /// What it waits for.
     pub(crate) phase: Phase,
     /// The tick at which it is lost, unless an octet is read or written before.
@@ -62,6 +66,7 @@ impl<S: Drop> Drop for Hop<S> {
             greeting: _,
             hears: _,
             talk: _talk,
+            heard: _heard,
             phase: _,
             idle_deadline: _,
             answer_deadline: _,
@@ -96,6 +101,7 @@ impl<S: Stream> Hop<S> {
             greeting: None,
             hears: false,
             talk: Talk::new(alloc, tells),
+            heard: Heard::new(alloc),
             phase: Phase::Connecting,
             idle_deadline: now.after(Phase::Connecting.seconds(false)),
             answer_deadline: now.after(ANSWER_SECONDS),
@@ -118,6 +124,7 @@ impl<S: Stream> Hop<S> {
             greeting,
             hears: _,
             talk,
+            heard: _heard,
             phase: _,
             idle_deadline: _,
             answer_deadline: _,
@@ -164,8 +171,10 @@ impl<S: Stream> Hop<S> {
         ensures starts { self.old.attempt ≡ None → self.new.attempt ≢ None
             → StartsFor self.old.aim.early now.now.moment most self.old.message self.old.name self.new.attempt
             relay.old relay.new }
+        ensures leaves { OnOk result (LeavesClients D.honest D.words relay.old relay.new) }
     {
         self.hears = false;
+        self.heard.last = None;
         let course = self.go_on(relay, most, is_shared, now)?;
         if self.hears {
             return Ok(course);
@@ -186,6 +195,7 @@ impl<S: Stream> Hop<S> {
         ensures starts { self.old.attempt ≡ None → self.new.attempt ≢ None
             → StartsFor self.old.aim.early now.now.moment most self.old.message self.old.name self.new.attempt
             relay.old relay.new }
+        ensures leaves { OnOk result (LeavesClients D.honest D.words relay.old relay.new) }
     {
         match self.attempt {
             Some(attempt) => Ok(self.exchange(relay, attempt, now)),
@@ -261,6 +271,7 @@ impl<S: Stream> Hop<S> {
         ensures starts { self.old.attempt ≡ None → self.new.attempt ≢ None
             → StartsFor self.old.aim.early now.now.moment most self.old.message self.old.name self.new.attempt
             relay.old relay.new }
+        ensures leaves { OnOk result (LeavesClients D.honest D.words relay.old relay.new) }
     {
         if !self.channel.fill() {
             return Ok(match self.channel.end() {
@@ -270,6 +281,7 @@ impl<S: Stream> Hop<S> {
         }
         self.has_spoken = true;
         self.greeting = self.channel.piece().first().copied();
+        self.heard.hear(self.channel.piece());
         if is_shared && self.greeting == Some(b'4') {
             return Ok(Course::TurnedAway);
         }
@@ -288,6 +300,7 @@ impl<S: Stream> Hop<S> {
         ensures starts { self.old.attempt ≡ None → self.new.attempt ≢ None
             → StartsFor self.old.aim.early now.now.moment most self.old.message self.old.name self.new.attempt
             relay.old relay.new }
+        ensures leaves { OnOk result (LeavesClients D.honest D.words relay.old relay.new) }
     {
         let at = self.start_moment(relay, now);
         match relay.start_some(self.message, &self.name, most, at) {
@@ -320,6 +333,7 @@ impl<S: Stream> Hop<S> {
     fn exchange<D: Disk>(&mut self, relay: &mut Relay<D>, attempt: usize, now: &Now) -> Course
         ensures delivery { KeepsDelivery self.old self.new }
         ensures attempt { self.new.attempt ≡ self.old.attempt }
+        ensures leaves { LeavesClients D.honest D.words relay.old relay.new }
     {
         self.flush(relay, attempt, now);
         if self.channel.end() == Some(End::Broken) {
@@ -332,6 +346,7 @@ impl<S: Stream> Hop<S> {
             self.has_spoken = true;
             self.wait_on(relay, attempt, now);
             self.talk.hear(self.channel.piece());
+            self.heard.hear(self.channel.piece());
         }
         if !self.channel.piece().is_empty() {
             self.hears = true;
@@ -359,6 +374,7 @@ impl<S: Stream> Hop<S> {
         ensures attempt { self.new.attempt ≡ self.old.attempt }
         ensures unread { unread_of self.new.channel ≡ unread_of self.old.channel }
         ensures hears { self.new.hears ≡ self.old.hears }
+        ensures leaves { LeavesClients D.honest D.words relay.old relay.new }
     {
         for _ in 0..WRITE_LIMIT {
             let count = self.channel.write(relay.to_hop(attempt));

@@ -2,6 +2,7 @@ ghost use Rattle.std.specs.Prelude.{◌≡◌, ◌≢◌, ◌<◌, ◌≤◌, �
 ghost use Rattle.relay_routes.specs.Routes.{Route};
 ghost use Rattle.relay_slots.specs.Slots.{AreFree, IsFull, IsLeastFree, OthersStay, slot_at};
 ghost use Rattle.relay_connections.specs.Table.{count_of, is_such};
+ghost use Rattle.relay_connections.specs.Served.{LeavesClients};
 ghost use Rattle.relay_limits.specs.declared.pace.Pace.{Pace};
 ghost use Rattle.relay_next_hops.specs.Counts.{CountsMatch, CountsMatchWith, is_unanswered, unanswered_of};
 ghost use Rattle.relay_next_hops.specs.Deliveries.{AreAimed, IsAimed, IsOpenedTo, PutsFor, StartsFor};
@@ -193,6 +194,7 @@ impl<S: Stream + Drop> Hops<S> {
         ensures counts { CountsMatch self.old.hops lanes.old.paces
             → OnOk result (CountsMatch self.new.hops lanes.new.paces) }
         ensures aimed { (routes : List Route) → AreAimed routes self.old.hops → AreAimed routes self.new.hops }
+        ensures leaves { OnOk result (LeavesClients D.honest D.words relay.old relay.new) }
     {
         let mut closed: usize = 0;
         let count = self.hops.standing().len();
@@ -231,6 +233,7 @@ impl<S: Stream + Drop> Hops<S> {
             → slot_at self.new.hops number ≡ Some new → old.attempt ≡ None → new.attempt ≢ None
             → StartsFor old.aim.early now.now.moment (portion_of self.old.portions old.message) old.message old.name
             new.attempt relay.old relay.new) }
+        ensures leaves { OnOk result (LeavesClients D.honest D.words relay.old relay.new) }
     {
         let Some(taken) = self.hops.take(number) else {
             return Ok(false);
@@ -270,6 +273,7 @@ impl<S: Stream + Drop> Hops<S> {
             → number < length self.old.hops → OnOk result (CountsMatch self.new.hops lanes.new.paces) }
         ensures aimed { (routes : List Route) → IsAimed routes hop → AreAimed routes self.old.hops
             → AreAimed routes self.new.hops }
+        ensures leaves { OnOk result (LeavesClients D.honest D.words relay.old relay.new) }
     {
         match course {
             Course::Stays => {
@@ -352,7 +356,7 @@ fn is_unanswered<S>(slot: &Option<Hop<S>>, lanes: &Lanes) -> bool
     }
 }
 
-/// Notes if the next hop of a connection has answered for the first time.
+/// Notes if the next hop of a connection has answered for the first time, and its last reply of this turn.
 fn note_spoken<S>(
     hop: &Hop<S>,
     had_spoken: bool,
@@ -365,6 +369,12 @@ fn note_spoken<S>(
     if hop.has_spoken && !had_spoken {
         tell_back(hop, lanes, now, log);
         lanes.answered(hop.aim.lane);
+    }
+    if let Some(reply) = &hop.heard.last {
+        // If memory runs out, the one before stays.
+        let _ = lanes
+            .last_replies
+            .note_reply(hop.name.as_slice(), reply, now.moment);
     }
 }
 

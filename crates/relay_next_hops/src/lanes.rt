@@ -9,6 +9,7 @@ ghost use Rattle.relay_next_hops.specs.Paces.{has_answered_at};
 
 use crate::delivery::Aim;
 use crate::lane::{Lane, Task};
+use crate::last_replies::LastReplies;
 use crate::numbers::Numbers;
 use crate::paces::Paces;
 use crate::places::Places;
@@ -67,6 +68,8 @@ pub(crate) struct Lanes {
     pub(crate) held: Held,
     /// Whether a listing has come to mail that a postmaster holds, since the last one began.
     pub(crate) keeps: bool,
+    /// The last reply of each next hop.
+    pub(crate) last_replies: LastReplies,
 }
 
 // Written out, so that the proof of a caller that drops them stops at this function.
@@ -96,6 +99,7 @@ impl Drop for Lanes {
             waiting: _,
             held: _held,
             keeps: _,
+            last_replies: _last_replies,
         } = self;
     }
 }
@@ -130,17 +134,19 @@ impl Lanes {
             waiting: None,
             held: Held::new(alloc),
             keeps: false,
+            last_replies: LastReplies::new(alloc),
         }
     }
 
     /// Returns the lanes as they were before anything was listed, for a relay that was opened again. The same mail is
-    /// held.
+    /// held, and the last replies stay.
     pub(crate) fn renewed(mut self) -> Self
         ensures fresh { IsNew self.most result }
         ensures held { result.held ≡ self.held }
     {
         let mut lanes = Lanes::new(self.alloc, self.most);
         mem::swap(&mut lanes.held, &mut self.held);
+        mem::swap(&mut lanes.last_replies, &mut self.last_replies);
         lanes
     }
 

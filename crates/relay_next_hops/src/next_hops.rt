@@ -3,6 +3,7 @@ ghost use Rattle.relay_routes.specs.Routes.{Route};
 ghost use Rattle.relay_slots.specs.Slots.{AreFree};
 ghost use Rattle.relay_control.specs.Held.{HoldsNothing};
 ghost use Rattle.relay_connections.specs.Table.{count_of};
+ghost use Rattle.relay_connections.specs.Served.{LeavesClients};
 ghost use Rattle.relay_next_hops.specs.Hearing.{AnswersEach, order_of, replies_of, told_of};
 ghost use Rattle.relay_next_hops.specs.Lanes.{IsNew, next_due_of};
 ghost use Rattle.relay_next_hops.specs.Portions.{fresh};
@@ -14,6 +15,7 @@ use crate::dial::Dial;
 use crate::giving_up::give_up_next;
 use crate::hops::{FIRST_TOKEN, Hops};
 use crate::lanes::Lanes;
+use crate::last_replies::LastReplies;
 use crate::starting::Starts;
 use crate::turning::start_tasks;
 use mio::net::TcpStream;
@@ -96,6 +98,13 @@ impl<S: Stream + Drop> NextHops<S> {
         self.hops.count()
     }
 
+    /// Returns the last reply of each next hop.
+    pub fn last_replies(&self) -> &LastReplies
+        ensures { result.now ≡ self.now.lanes.last_replies }
+    {
+        &self.lanes.last_replies
+    }
+
     /// Asks the node which messages are queued, before clients wait for turns: it takes some milliseconds for 100,000
     /// messages. If memory runs out, the first listing asks. Fails only if the device has failed.
     pub fn prepare<D: Disk>(&mut self, relay: &Relay<D>) -> Result<(), Fault>
@@ -123,7 +132,9 @@ impl<S: Stream + Drop> NextHops<S> {
         now: &Now,
         log: &mut Log<'_, Vec<u8>>,
     ) -> Result<bool, Fault>
-        ensures { (routes : List Route) → TablesMatch routes self.old → OnOk result (TablesMatch routes self.new) }
+        ensures matches { (routes : List Route) → TablesMatch routes self.old
+            → OnOk result (TablesMatch routes self.new) }
+        ensures leaves { OnOk result (LeavesClients D.honest D.words relay.old relay.new) }
     {
         self.hops
             .attend(registry, relay, &mut self.lanes, leaving, now, log)
@@ -153,6 +164,7 @@ impl<S: Stream + Drop> NextHops<S> {
             (hops_of self.new))) }
         ensures matches { (routes : List Route) → TablesMatch routes self.old
             → OnOk result (TablesMatch routes self.new) }
+        ensures leaves { OnOk result (LeavesClients D.honest D.words relay.old relay.new) }
     {
         self.hops.answer(replied, registry, relay, &mut self.lanes, leaving, now, log)
     }
@@ -181,6 +193,7 @@ impl<S: Stream + Drop> NextHops<S> {
         ensures unheld { OnOk result (OpensUnheld self.old.lanes.held (hops_of self.old) (hops_of self.new)) }
         ensures held { self.new.lanes.held ≡ self.old.lanes.held }
         ensures config { relay.new.node.config ≡ relay.old.node.config }
+        ensures leaves { OnOk result (LeavesClients D.honest D.words relay.old relay.new) }
     {
         self.lanes.refresh(clock, relay, &self.hops, now)?;
         let gave_up = give_up_next(relay, &mut self.lanes, now, log)?;

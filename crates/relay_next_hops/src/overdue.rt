@@ -2,13 +2,14 @@
 //! Otherwise one message among many would be given up, or reported as delayed, days late. Between two listings each
 //! task of such a lane is checked once, whatever comes before it; a bounded number in each turn.
 ghost use Rattle.std.specs.Prelude.{◌≡◌, ◌⊎◌, ◌≤◌, ◌++◌, [], IfOk, IfSome, None, Ok, Some, drop, false};
-ghost use Rattle.std.specs.Prelude.{length, option_to_list, true};
+ghost use Rattle.std.specs.Prelude.{OnOk, length, option_to_list, true};
 ghost use Rattle.std.specs.List.{list_any};
 ghost use Rattle.std.specs.declared.net.socket_addr.SocketAddrV4.{SocketAddrV4};
 ghost use Rattle.relay_book.specs.Queue.{message_of};
 ghost use Rattle.relay_control.specs.Held.{holds};
 ghost use Rattle.relay_routes.specs.Routes.{place_of};
 ghost use Rattle.relay_slots.specs.Slots.{IsFull};
+ghost use Rattle.relay_connections.specs.Served.{LeavesClients};
 ghost use Rattle.relay_next_hops.specs.declared.lane.Task.{Task};
 ghost use Rattle.relay_next_hops.specs.Lanes.{KeepsCounts, OnlyLane, first_message, tasks_at};
 ghost use Rattle.relay_next_hops.specs.Overdue.{Checks, LosesTask, TakesOut, checked_at, is_late, is_overdue};
@@ -57,6 +58,7 @@ pub(crate) fn lose_overdue<D: Disk>(
     ensures only { OnlyLane lane lanes.old lanes.new }
     ensures fewer { length (tasks_at lanes.new lane) ≤ length (tasks_at lanes.old lane) }
     ensures config { relay.new.node.config ≡ relay.old.node.config }
+    ensures leaves { OnOk result (LeavesClients D.honest D.words relay.old relay.new) }
 {
     // While 64 attempts are running, no loss can be recorded.
     if !lanes.is_held(lane, now) || relay.node().is_full_of_attempts() {

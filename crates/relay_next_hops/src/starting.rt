@@ -2,6 +2,7 @@
 ghost use Rattle.std.specs.Prelude.{◌≡◌, ◌+◌, ◌<◌, ◌≤◌, IfOk, MatchOption, None, Ok, OnOk, Some, length, option_map};
 ghost use Rattle.relay_book.specs.Queue.{message_of};
 ghost use Rattle.relay_routes.specs.Routes.{place_of};
+ghost use Rattle.relay_connections.specs.Served.{LeavesClients};
 ghost use Rattle.relay_next_hops.specs.Counts.{CountsMatch, unanswered_of};
 ghost use Rattle.relay_next_hops.specs.Deliveries.{AreAimed, IsOpenedTo};
 ghost use Rattle.relay_next_hops.specs.Lanes.{OnlyLane, tasks_at};
@@ -136,6 +137,7 @@ pub(crate) fn start_lane<S: Stream + Drop, N: Dial<Stream = S>, D: Disk>(
     ensures begun { IfOk result (IsBegun now.now.tick (N.spares dial.old) lanes.old hops.new.hops lanes.new
         (N.spares dial.new) lane) }
     ensures config { relay.new.node.config ≡ relay.old.node.config }
+    ensures leaves { OnOk result (LeavesClients D.honest D.words relay.old relay.new) }
 {
     for _ in 0..SLOT_COUNT {
         let step = start_next(dial, registry, relay, hops, lanes, lane, now, log)?;
@@ -190,6 +192,7 @@ fn start_next<S: Stream + Drop, N: Dial<Stream = S>, D: Disk>(
     ensures came { IfOk result (IsStep D.words (IsOpenedTo N.leads_to S.remaining S.contents) now.now lane
         hops.old.hops hops.new.hops lanes.old lanes.new relay.old relay.new) }
     ensures config { relay.new.node.config ≡ relay.old.node.config }
+    ensures leaves { OnOk result (LeavesClients D.honest D.words relay.old relay.new) }
 {
     let Some(number) = hops.free() else {
         return Ok(Step::NoSlot);
@@ -243,6 +246,7 @@ fn start_task<S: Stream + Drop, N: Dial<Stream = S>, D: Disk>(
     ensures fewer { IfOk result (λ tried. length (tasks_at lanes.new lane)
         ≤ length (tasks_at lanes.old lane) + back_of tried) }
     ensures config { relay.new.node.config ≡ relay.old.node.config }
+    ensures leaves { OnOk result (LeavesClients D.honest D.words relay.old relay.new) }
 {
     let Some(aim) = aim_of(relay, lanes, &task, lane) else {
         return Ok(Tried::HasNoPlace);

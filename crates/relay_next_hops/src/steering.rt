@@ -1,5 +1,6 @@
 //! What a postmaster asks of queued mail: to try it now, to hold it, and to release it.
-ghost use Rattle.std.specs.Prelude.{◌≡◌, ◌<◌, IfOk, List, OnErr, OnOk, false, not, option_copied, true};
+ghost use Rattle.std.specs.Prelude.{◌≡◌, ◌<◌, IfErr, IfOk, List, OnErr, OnOk, count_by, false, not, option_copied};
+ghost use Rattle.std.specs.Prelude.{true};
 ghost use Rattle.relay_book.specs.Queue.{held_of};
 ghost use Rattle.relay_control.specs.Held.{HoldsSame, Sets, holds, holds_scope};
 ghost use Rattle.relay_limits.specs.Pace.{probed};
@@ -7,7 +8,8 @@ ghost use Rattle.relay_routes.specs.Routes.{Route};
 ghost use Rattle.relay_next_hops.specs.Lanes.{KeepsCounts, ListsMore};
 ghost use Rattle.relay_next_hops.specs.Listing.{HasEarlyTurn, KeepsListed};
 ghost use Rattle.relay_next_hops.specs.Paces.{changed_at};
-ghost use Rattle.relay_next_hops.specs.Steering.{FlushesEach, IsFlushed, is_asked, is_flushed, relisted, with_lanes};
+ghost use Rattle.relay_next_hops.specs.Steering.{CantFlush, FlushesEach, IsFlushed, is_asked, is_flushed, relisted};
+ghost use Rattle.relay_next_hops.specs.Steering.{with_held, with_lanes};
 ghost use Rattle.relay_next_hops.specs.Tables.{TablesMatch};
 
 use crate::hops::Hops;
@@ -41,12 +43,14 @@ impl<S: Stream + Drop> NextHops<S> {
     }
 
     /// Holds this mail: no connection is opened for it from now on. Those that stand go on. Returns whether it wasn't
-    /// held before. Fails if memory runs out; the same mail is held then.
+    /// held before. Fails if memory runs out, which it needs only for mail that wasn't held; nothing changes then.
     pub fn hold(&mut self, scope: Scope) -> Result<bool, AllocError>
         ensures held { IfOk result (λ is_new. (is_new ≡ not (holds_scope scope self.old.lanes.held))
             × Sets scope true self.old.lanes.held self.new.lanes.held) }
-        ensures failed { OnErr result (HoldsSame self.old.lanes.held self.new.lanes.held) }
+        ensures failed { OnErr result (HoldsSame self.old.lanes.held self.new.lanes.held
+            × (holds_scope scope self.old.lanes.held ≡ false)) }
         ensures rest { OnOk result (self.new ≡ with_lanes (relisted self.new.lanes.held self.old.lanes) self.old) }
+        ensures same { OnErr result (self.new ≡ with_lanes (with_held self.new.lanes.held self.old.lanes) self.old) }
         ensures matches { (routes : List Route) → TablesMatch routes self.old → TablesMatch routes self.new }
     {
         let is_new = self.lanes.held.hold(scope)?;
@@ -79,8 +83,8 @@ impl<S: Stream + Drop> NextHops<S> {
         ensures flushed { IfOk result (λ count. FlushesEach relay.now.node self.old.hops.hops self.old.lanes.held
             (option_copied scope.entry) (held_of relay.now.node.records.queue) count self.new.lanes) }
         ensures opened { IfOk result (λ count. 0 < count → self.new.lanes.is_open ≡ true) }
-        ensures more { ListsMore self.old.lanes self.new.lanes }
-        ensures kept { KeepsListed self.old.lanes self.new.lanes }
+        ensures failed { IfErr result (CantFlush relay.now.node) }
+        ensures kept { ListsMore self.old.lanes self.new.lanes × KeepsListed self.old.lanes self.new.lanes }
         ensures hops { self.new.hops ≡ self.old.hops }
         ensures matches { (routes : List Route) → TablesMatch routes self.old → TablesMatch routes self.new }
     {
@@ -112,7 +116,7 @@ impl Lanes {
     }
 
     /// Lists those of these held places that are asked for and that no postmaster holds, and returns how many they are.
-    /// Fails if memory runs out, with a part of them listed.
+    /// Fails if memory runs out, with a part of them listed; it needs none if there are no such places.
     fn flush_each<S: Stream + Drop, D: Disk>(
         &mut self,
         relay: &Relay<D>,
@@ -124,6 +128,9 @@ impl Lanes {
         ensures flushed { IfOk result (λ count. FlushesEach relay.now.node hops.now.hops self.old.held
             (option_copied scope.entry) marks.now count self.new) }
         ensures opened { IfOk result (λ count. 0 < count → self.new.is_open ≡ true) }
+        ensures failed { IfErr result (λ fault. fault ≡ Fault.NoMemory) }
+        ensures needed { OnErr result
+            (0 < count_by (is_flushed relay.now.node self.old.held (option_copied scope.entry)) marks.now) }
         ensures more { ListsMore self.old self.new }
         ensures kept { KeepsListed self.old self.new }
     {
@@ -137,7 +144,7 @@ impl Lanes {
     }
 
     /// Lists a held place, if it is asked for and no postmaster holds it. Returns whether it has. Fails if memory runs
-    /// out.
+    /// out for that.
     fn flush_place<S: Stream + Drop, D: Disk>(
         &mut self,
         relay: &Relay<D>,
@@ -151,6 +158,8 @@ impl Lanes {
         ensures listed { IfOk result (λ flushed. flushed ≡ true
             → IsFlushed relay.now.node hops.now.hops mark self.new × (self.new.is_open ≡ true)) }
         ensures left { IfOk result (λ flushed. flushed ≡ false → self.new ≡ self.old) }
+        ensures failed { IfErr result (λ fault. (fault ≡ Fault.NoMemory)
+            × (is_flushed relay.now.node self.old.held (option_copied scope.entry) mark ≡ true)) }
         ensures more { ListsMore self.old self.new }
         ensures kept { KeepsListed self.old self.new }
     {
@@ -181,6 +190,7 @@ impl Lanes {
     ) -> Result<(), Fault>
         ensures listed { OnOk result (HasEarlyTurn hops.now.hops number hop.now.name hop.now.at self.new
             × (self.new.is_open ≡ true)) }
+        ensures failed { IfErr result (λ fault. fault ≡ Fault.NoMemory) }
         ensures more { ListsMore self.old self.new }
         ensures kept { KeepsListed self.old self.new }
     {

@@ -1,5 +1,6 @@
 //! In which order lanes have their turn, and how far a turn goes.
 ghost use Rattle.std.specs.Prelude.{◌≡◌, ◌≢◌, ◌⊎◌, ◌+◌, ◌<◌, ◌≤◌, ℕ, OnOk, false, length, min, true};
+ghost use Rattle.relay_connections.specs.Served.{LeavesClients};
 ghost use Rattle.relay_next_hops.specs.Counts.{CountsMatch};
 ghost use Rattle.relay_next_hops.specs.Deliveries.{AreAimed};
 ghost use Rattle.relay_next_hops.specs.Lanes.{IsNth, KeepsCounts, OnlyLane, tasks_at, turned_to};
@@ -116,6 +117,7 @@ pub(crate) fn start_tasks<S: Stream + Drop, N: Dial<Stream = S>, D: Disk>(
     ensures unheld { OnOk result (OpensUnheld lanes.old.held hops.old.hops hops.new.hops) }
     ensures held { lanes.new.held ≡ lanes.old.held }
     ensures config { relay.new.node.config ≡ relay.old.node.config }
+    ensures leaves { OnOk result (LeavesClients D.honest D.words relay.old relay.new) }
 {
     if !lanes.is_open() || now.tick < starts.paused_until {
         return Ok(());
@@ -163,6 +165,7 @@ fn lose_once<D: Disk>(
     ensures only { OnlyLane lane lanes.old lanes.new }
     ensures fewer { length (tasks_at lanes.new lane) ≤ length (tasks_at lanes.old lane) }
     ensures config { relay.new.node.config ≡ relay.old.node.config }
+    ensures leaves { OnOk result (LeavesClients D.honest D.words relay.old relay.new) }
 {
     if has_lost {
         return Ok(true);

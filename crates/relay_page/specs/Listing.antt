@@ -4,7 +4,7 @@ use Rattle.std.specs.List.{flat_map}
 use Rattle.relay_routes.specs.Routes.{RouteTable}
 use Rattle.relay_book.specs.Queue.{Queue}
 use Rattle.relay_listing.specs.Object.{object_at}
-use Rattle.relay_page.specs.Pieces.{joined}
+use Rattle.relay_listing.specs.Pieces.{joined}
 
 -- the last line of a list of the first recipients: how many they are, and how many are queued
 abbrev pub cut_line : ℕ → ℕ → List ℕ

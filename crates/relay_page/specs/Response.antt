@@ -1,11 +1,13 @@
 -- A response (RFC 9112, section 4): its status line, its fields and its body.
 use Rattle.std.specs.Prelude.{ℕ, Bool, List, [], ◌∷◌, ◌++◌, codes, decimal, length, if◌then◌else◌}
-use Rattle.relay_page.specs.Pieces.{joined}
+use Rattle.relay_listing.specs.Pieces.{joined}
 use Rattle.relay_page.specs.declared.response.Kind.{Kind}
 use Rattle.relay_page.specs.declared.response.Kind.TheVariants.{Html, Metrics, JsonLines, Plain}
 use Rattle.relay_page.specs.declared.response.Code.{Code}
 use Rattle.relay_page.specs.declared.response.Code.TheVariants.{Found, BadRequest, Forbidden, NotFound, BadMethod, TooLarge, Unavailable}
 use Rattle.relay_page.specs.declared.response.TheConstants.{FIELDS}
+use Rattle.relay_page.specs.declared.request.Refusal.{Refusal}
+use Rattle.relay_page.specs.declared.request.Refusal.TheVariants as refusals
 
 -- the status code and its phrase (RFC 9110, section 15; RFC 6585, section 5)
 abbrev pub code_text : Code → List ℕ
@@ -16,6 +18,14 @@ code_text NotFound = codes "404 Not Found"
 code_text BadMethod = codes "405 Method Not Allowed"
 code_text TooLarge = codes "431 Request Header Fields Too Large"
 code_text Unavailable = codes "503 Service Unavailable"
+
+-- the status code of a refusal
+abbrev pub code_of : Refusal → Code
+code_of refusals.BadRequest = BadRequest
+code_of refusals.Forbidden = Forbidden
+code_of refusals.NotFound = NotFound
+code_of refusals.BadMethod = BadMethod
+code_of refusals.TooLarge = TooLarge
 
 -- the media type of the body
 abbrev pub kind_text : Kind → List ℕ

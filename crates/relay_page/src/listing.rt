@@ -5,9 +5,8 @@ ghost use Rattle.relay_listing.specs.Object.{object_line};
 ghost use Rattle.relay_listing.specs.Row.{queued_in, said_by};
 ghost use Rattle.relay_page.specs.Listing.{cut_line};
 
-use crate::pieces::{Piece, push_pieces};
 use relay_book::Message;
-use relay_listing::{Row, object_text, row_in};
+use relay_listing::{Piece, Row, object_text, push_pieces, row_in};
 use relay_routes::Table;
 use relay_trace::Moment;
 use std::alloc::{AllocError, Global};

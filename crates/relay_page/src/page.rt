@@ -2,16 +2,15 @@
 ghost use Rattle.std.specs.Prelude.{◌≡◌, ◌==◌, if◌then◌else◌};
 
 use crate::history::{History, MINUTES};
-use crate::pieces::{Piece, push_pieces};
 use crate::plot::push_plot;
-use crate::rows::{Waiting, push_all_waiting, push_hop};
+use crate::rows::{LastReply, Waiting, push_all_waiting, push_hop};
 use crate::style::{BEGINNING, STYLE};
-use crate::survey::Loads;
+use relay_listing::{Loads, Piece, push_pieces};
 use relay_trace::{Moment, TraceFault, date_text};
 use std::alloc::{AllocError, Global};
 
 /// The most next hops of the page.
-const MOST_HOPS: usize = 100;
+pub const MOST_HOPS: usize = 100;
 
 /// Counts since the relay began.
 #[derive(Clone, Copy)]
@@ -42,6 +41,8 @@ pub struct View<'a> {
     pub spool_limit: u64,
     /// The queue by next hop.
     pub loads: &'a Loads,
+    /// The last reply of each of these next hops, in their order.
+    pub replies: &'a [LastReply<'a>],
     /// How many recipients are queued.
     pub recipients: u64,
     /// How many clients are connected, and how many attempts are running.
@@ -149,13 +150,17 @@ fn push_queue(text: &mut Vec<u8>, view: &View<'_>) -> Result<(), AllocError> {
     push_pieces(
         text,
         &[Piece::Markup(
-            b"<table>\n<thead><tr><th>Next hop</th><th>Messages</th><th>Recipients</th><th>Size</th><th>Oldest</th>\
-<th>Next try</th></tr></thead>\n<tbody>\n",
+            b"<table class=\"hops\">\n<thead><tr><th>Next hop</th><th>Messages</th><th>Recipients</th><th>Size</th>\
+<th>Oldest</th><th>Next try</th><th class=\"l\">Last reply</th></tr></thead>\n<tbody>\n",
         )],
     )?;
     for index in 0..view.loads.len().min(MOST_HOPS) {
         if let Some((name, load)) = view.loads.get_index(index) {
-            push_hop(text, name.as_slice(), load, view.now.seconds())?;
+            let reply = match view.replies.get(index) {
+                Some(reply) => *reply,
+                None => LastReply::NoneYet,
+            };
+            push_hop(text, name.as_slice(), load, reply, view.now.seconds())?;
         }
     }
     push_pieces(text, &[Piece::Markup(b"</tbody>\n</table>\n")])?;

@@ -1,6 +1,6 @@
 //! The plot of the last 24 hours: a point for each 10 minutes.
 use crate::history::{History, Minute};
-use crate::pieces::{Piece, push_pieces};
+use relay_listing::{Piece, push_pieces};
 use std::alloc::AllocError;
 
 /// How many points there are.

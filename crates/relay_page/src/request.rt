@@ -8,10 +8,8 @@ ghost use Rattle.relay_page.specs.Request.{target_of};
 use crate::host::is_loopback;
 use httparse::spans::{EMPTY_HEADER_SPAN, HeaderSpan, parse_request};
 use httparse::{Error, Status};
+use relay_callers::MOST_OCTETS;
 use relay_lines::word::is_word;
-
-/// The most octets of a request's head.
-pub const MOST_OCTETS: usize = 4_096;
 
 /// The most fields of a request.
 const MOST_FIELDS: usize = 32;

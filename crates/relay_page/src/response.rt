@@ -1,9 +1,9 @@
 //! Responses (RFC 9112, section 4).
 ghost use Rattle.std.specs.Prelude.{◌≡◌, ◌++◌, ◌∷◌, [], IfOk, OnOk};
-ghost use Rattle.relay_page.specs.Response.{code_text, head_text, kind_text, response_text};
+ghost use Rattle.relay_page.specs.Response.{code_of, code_text, head_text, kind_text, response_text};
 
-use crate::pieces::{Piece, push_pieces};
 use crate::request::Refusal;
+use relay_listing::{Piece, push_pieces};
 use std::alloc::{AllocError, Global};
 
 /// The fields of every response, and the end of its head: the connection closes after the response, which isn't stored,
@@ -61,15 +61,16 @@ impl Code {
     }
 }
 
-impl From<Refusal> for Code {
-    fn from(refusal: Refusal) -> Code {
-        match refusal {
-            Refusal::BadRequest => Code::BadRequest,
-            Refusal::Forbidden => Code::Forbidden,
-            Refusal::NotFound => Code::NotFound,
-            Refusal::BadMethod => Code::BadMethod,
-            Refusal::TooLarge => Code::TooLarge,
-        }
+/// Returns the status code of a refusal.
+pub(crate) fn code_of(refusal: Refusal) -> Code
+    ensures { result ≡ code_of refusal }
+{
+    match refusal {
+        Refusal::BadRequest => Code::BadRequest,
+        Refusal::Forbidden => Code::Forbidden,
+        Refusal::NotFound => Code::NotFound,
+        Refusal::BadMethod => Code::BadMethod,
+        Refusal::TooLarge => Code::TooLarge,
     }
 }
 

@@ -1,9 +1,8 @@
 //! The rows of the page's tables.
 ghost use Rattle.std.specs.Prelude.{◌≡◌, ◌++◌, OnOk};
-ghost use Rattle.relay_page.specs.Rows.{hop_row, shown_name, waiting_row, waiting_rows};
+ghost use Rattle.relay_page.specs.Rows.{hop_row, load_cells, reply_text, shown_name, waiting_row, waiting_rows};
 
-use crate::pieces::{Piece, push_pieces};
-use crate::survey::Load;
+use relay_listing::{Load, Piece, push_pieces};
 use std::alloc::AllocError;
 
 /// A queued recipient.
@@ -23,14 +22,35 @@ pub struct Waiting<'a> {
     pub due: u64,
 }
 
+/// The last reply of a next hop.
+#[derive(Clone, Copy)]
+pub enum LastReply<'a> {
+    /// There is none yet.
+    NoneYet,
+    /// Its code and text, and when it came, in seconds since 1970.
+    Replied(&'a [u8], u64),
+    /// There was none, for this reason: the last connection failed, at this time in seconds since 1970.
+    Failed(&'a [u8], u64),
+}
+
 /// Adds the row of a next hop at a time.
-pub(crate) fn push_hop(
+pub(crate) fn push_hop<'a>(
     text: &mut Vec<u8>,
     name: &[u8],
     load: &Load,
+    reply: LastReply<'a>,
     now: u64,
 ) -> Result<(), AllocError>
-    ensures { OnOk result (text.new.items ≡ text.old.items ++ hop_row name.now load.now now) }
+    ensures { OnOk result (text.new.items ≡ text.old.items ++ hop_row name.now load.now reply.entry now) }
+{
+    push_load(text, name, load, now)?;
+    push_reply(text, reply, now)?;
+    push_pieces(text, &[Piece::Markup(b"</span></td></tr>\n")])
+}
+
+/// Adds the cells of a next hop's load, and the start of the next cell.
+fn push_load(text: &mut Vec<u8>, name: &[u8], load: &Load, now: u64) -> Result<(), AllocError>
+    ensures { OnOk result (text.new.items ≡ text.old.items ++ load_cells name.now load.now now) }
 {
     push_pieces(
         text,
@@ -47,7 +67,29 @@ pub(crate) fn push_hop(
             Piece::Span(now.saturating_sub(load.oldest)),
             Piece::Markup(b"</td><td data-name=\"Next try\">"),
             Piece::Wait(load.due.saturating_sub(now)),
-            Piece::Markup(b"</td></tr>\n"),
+            Piece::Markup(b"</td><td class=\"l\" data-name=\"Last reply\"><span>"),
+        ],
+    )
+}
+
+/// Adds the last reply of a next hop, and how long ago it came.
+#[tactic(auto, unfolding(crate::specs::Rows::reply_text))]
+fn push_reply<'a>(text: &mut Vec<u8>, reply: LastReply<'a>, now: u64) -> Result<(), AllocError>
+    ensures { OnOk result (text.new.items ≡ text.old.items ++ reply_text reply.entry now) }
+{
+    let (before, octets, at): (&'static [u8], &'a [u8], u64) = match reply {
+        LastReply::NoneYet => return push_pieces(text, &[Piece::Markup(b"none yet")]),
+        LastReply::Replied(octets, at) => (b"", octets, at),
+        LastReply::Failed(reason, at) => (b"no reply: ", reason, at),
+    };
+    push_pieces(
+        text,
+        &[
+            Piece::Markup(before),
+            Piece::Text(octets),
+            Piece::Markup(b" <small>"),
+            Piece::Span(now.saturating_sub(at)),
+            Piece::Markup(b" ago</small>"),
         ],
     )
 }

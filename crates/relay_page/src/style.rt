@@ -13,7 +13,7 @@ pub(crate) const STYLE: &[u8] = b"</title>\n<style>\n\
 --line:#2f3a46;--came:#6ea2ff;--went:#4fcb8d}}\n\
 *{box-sizing:border-box}\n\
 body{margin:0;background:var(--page);color:var(--text);font:16px/1.45 system-ui,sans-serif}\n\
-main{max-width:60rem;margin:0 auto;padding:1rem}\n\
+main{max-width:66rem;margin:0 auto;padding:1rem}\n\
 h1{font-size:1.35rem;margin:.25rem 0;overflow-wrap:anywhere}\n\
 h2{font-size:1.05rem;margin:0 0 .6rem}\n\
 p{margin:.25rem 0 1rem;color:var(--soft)}\n\
@@ -27,8 +27,10 @@ thead th{border-top:0;color:var(--soft);font-size:.85rem;font-weight:400}\n\
 th:first-child,td.l,th.l{text-align:left}\n\
 th:first-child{padding-left:0}th:last-child,td:last-child{padding-right:0}\n\
 tbody th{font-weight:600;overflow-wrap:anywhere}\n\
+.hops th:first-child{min-width:10rem}.hops td:last-child{min-width:12rem}\n\
 td{white-space:nowrap}\n\
 td.l{overflow-wrap:anywhere;white-space:normal}\n\
+small{color:var(--soft);white-space:nowrap}\n\
 svg{display:block;width:100%;height:9rem;border-bottom:1px solid var(--line)}\n\
 .came{fill:var(--came);fill-opacity:.18;stroke:var(--came)}\n\
 .went{fill:none;stroke:var(--went)}\n\
@@ -38,7 +40,7 @@ polyline{stroke-width:2;vector-effect:non-scaling-stroke;stroke-linejoin:round}\
 background:var(--c);margin:0 .4rem 0 0}\n\
 .key{display:inline-block;white-space:nowrap;margin-right:1.2rem}\n\
 a{color:var(--came)}\n\
-@media(max-width:40rem){thead{display:none}tr{display:block;padding:.5rem 0;border-top:1px solid var(--line)}\
+@media(max-width:52rem){thead{display:none}tr{display:block;padding:.5rem 0;border-top:1px solid var(--line)}\
 tbody tr:first-child{border-top:0;padding-top:0}tbody th,td,td.l{display:flex;justify-content:space-between;gap:1rem;\
 padding:.1rem 0;border:0;text-align:right}td::before{content:attr(data-name);color:var(--soft);flex:none;\
 white-space:nowrap}}\n\

@@ -3,7 +3,7 @@ ghost use Rattle.std.specs.Prelude.{◌≡◌};
 
 use indexmap::IndexMap;
 use relay_book::Message;
-use relay_listing::{Row, row_in};
+use relay_listing::{Loads, count_row, row_in};
 use relay_routes::Table;
 use std::alloc::{AllocError, Global};
 use std::mem;
@@ -16,25 +16,6 @@ const FRESH: u64 = 1_000;
 
 /// A queued recipient: the number of its message, and its place there.
 pub type Mark = (u64, u8);
-
-/// What is queued for one next hop.
-#[derive(Clone, Copy)]
-pub struct Load {
-    /// How many messages have a recipient there.
-    pub messages: u64,
-    pub recipients: u64,
-    /// The octets of those messages.
-    pub octets: u64,
-    /// When the oldest of them was accepted, in seconds since 1970.
-    pub oldest: u64,
-    /// The earliest time at which a recipient is due, in seconds since 1970.
-    pub due: u64,
-    /// The number of the message that was counted last.
-    last: u64,
-}
-
-/// The queue by the names of the next hops. The empty name is for recipients without one.
-pub type Loads = IndexMap<Vec<u8>, Load>;
 
 /// The last complete count of the queue, and a count in progress.
 pub struct Survey {
@@ -106,10 +87,7 @@ impl Survey {
     /// Counts a recipient of this message, if it is still queued.
     pub fn count(&mut self, table: &Table, place: u8, message: &Message) -> Result<(), AllocError> {
         match row_in(table, message.number, place, message) {
-            Some(row) => {
-                let name = row.hop.unwrap_or(b"");
-                add(self.alloc, &mut self.counting, name, Load::of(&row))
-            }
+            Some(row) => count_row(self.alloc, &mut self.counting, &row),
             None => Ok(()),
         }
     }
@@ -131,44 +109,5 @@ impl Survey {
         ensures { result.now ≡ self.now.marks.items }
     {
         self.marks.as_slice()
-    }
-}
-
-/// Adds a recipient to the load of a next hop.
-fn add(alloc: Global, loads: &mut Loads, name: &[u8], one: Load) -> Result<(), AllocError> {
-    if let Some(load) = loads.get_mut(name) {
-        *load = load.with(one);
-        return Ok(());
-    }
-    loads.insert(Vec::from_slice(alloc, name)?, one)?;
-    Ok(())
-}
-
-impl Load {
-    /// Returns the load of one recipient.
-    fn of(row: &Row<'_>) -> Self {
-        Load {
-            messages: 1,
-            recipients: 1,
-            octets: row.size as u64,
-            oldest: row.accepted.seconds(),
-            due: row.due,
-            last: row.number,
-        }
-    }
-
-    /// Returns the load with one more recipient, whose message is the last one counted or a new one.
-    fn with(self, one: Load) -> Self {
-        let is_new = self.last != one.last;
-        Load {
-            messages: self.messages.saturating_add(u64::from(is_new)),
-            recipients: self.recipients.saturating_add(1),
-            octets: self
-                .octets
-                .saturating_add(if is_new { one.octets } else { 0 }),
-            oldest: self.oldest.min(one.oldest),
-            due: self.due.min(one.due),
-            last: one.last,
-        }
     }
 }

@@ -1,11 +1,8 @@
 -- Texts that are added one after another.
 use Rattle.std.proofs.Common.{◌≡◌, ℕ, List, ◌++◌, ap, ◌∙◌, append_assoc}
 
-pub joined3 : (old a b new x y z : List ℕ) → a ≡ old ++ x → b ≡ a ++ y → new ≡ b ++ z → new ≡ old ++ (x ++ y ++ z)
-joined3 old a b new x y z one two three =
-    three ∙ ap (λ l. l ++ z) (two ∙ ap (λ l. l ++ y) one ∙ append_assoc old x y) ∙ append_assoc old (x ++ y) z
+pub joined2 : (old a new x y : List ℕ) → a ≡ old ++ x → new ≡ a ++ y → new ≡ old ++ (x ++ y)
+joined2 old a new x y one two = two ∙ ap (λ l. l ++ y) one ∙ append_assoc old x y
 
--- the last three of four texts stand together
-pub regrouped : (front name number end : List ℕ) → front ++ name ++ number ++ end ≡ front ++ (name ++ number ++ end)
-regrouped front name number end =
-    ap (λ l. l ++ end) (append_assoc front name number) ∙ append_assoc front (name ++ number) end
+pub joined3 : (old a b new x y z : List ℕ) → a ≡ old ++ x → b ≡ a ++ y → new ≡ b ++ z → new ≡ old ++ (x ++ y ++ z)
+joined3 old a b new x y z one two three = joined2 old b new (x ++ y) z (joined2 old a b x y one two) three

@@ -4,6 +4,7 @@ mod ObjectLemmas
 mod PartLemmas
 mod RowLemmas
 mod ScreenLemmas
+mod ShownLemmas
 mod TakenLemmas
 mod TextLemmas
 mod WidthLemmas

@@ -1,25 +1,16 @@
 -- The line of an object is its text as it is written.
-use Rattle.std.proofs.Common.{◌≡◌, ℕ, ◌+◌, ◌<◌, List, [], ◌∷◌, ◌++◌, length, take, get_or, refl, sym, ap, ◌∙◌, append_assoc}
-use Rattle.std.specs.Prelude.{if◌then◌else◌}
-use Rattle.std.specs.List.{flat_map, list_all}
-use Rattle.std.proofs.lemmas.Bool.{and_parts}
+use Rattle.std.proofs.Common.{◌≡◌, ℕ, ◌+◌, ◌<◌, List, [], ◌∷◌, ◌++◌, length, take, get_or, sym, ap, ◌∙◌, append_assoc}
+use Rattle.std.specs.List.{flat_map}
 use Rattle.std.proofs.lemmas.List.{flat_map_more, take_more}
 use Rattle.serde_json.specs.Written.{compact_text}
-use Rattle.relay_lines.specs.Word.{is_printable}
 use Rattle.relay_routes.specs.Routes.{RouteTable}
 use Rattle.relay_book.specs.Queue.{Queue}
 use Rattle.relay_listing.specs.Object.{object_at, object_line, object_of}
 use Rattle.relay_listing.specs.Row.{Queued}
-use Rattle.relay_listing.proofs.PrintableLemmas.{ArePrintable, object_printable}
+use Rattle.relay_listing.proofs.PrintableLemmas.{object_printable}
 use Rattle.relay_queue.specs.Objects.{objects_text}
-use Rattle.relay_queue.specs.Screen.{escape, shown}
-
--- printable texts are shown as they are
-shown_printable : (text : List ℕ) → ArePrintable text → shown text ≡ text
-shown_printable [] all = refl
-shown_printable (octet ∷ text) all =
-    let each = and_parts (is_printable octet) (list_all is_printable text) all in
-    ap (λ b. (if b then octet ∷ [] else escape octet) ++ shown text) each.0 ∙ ap (λ l. octet ∷ l) (shown_printable text each.1)
+use Rattle.relay_queue.specs.Screen.{shown}
+use Rattle.relay_queue.proofs.ShownLemmas.{shown_printable}
 
 pub line_added : (now : ℕ) (queued : Queued) (object old pushed new : List ℕ) → object ≡ compact_text (object_of now queued)
     → pushed ≡ old ++ shown object → new ≡ pushed ++ 10 ∷ [] → new ≡ old ++ object_line now queued

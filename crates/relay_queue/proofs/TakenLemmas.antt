@@ -1,5 +1,5 @@
 -- The mail that a selection takes from the queue that was opened.
-use Rattle.std.proofs.Common.{◌≡◌, ℕ, List, map, Result, Ok, Err, IfOk, sym, ap, ◌∙◌}
+use Rattle.std.proofs.Common.{◌≡◌, ℕ, List, map, Result, Ok, Err, IfOk, ap, ◌∙◌}
 use Rattle.relay_disk.specs.declared.file.FileDisk.{FileDisk}
 use Rattle.relay_routes.specs.Config.{ReadsConfig}
 use Rattle.relay_routes.specs.declared.config.Config.{Config}

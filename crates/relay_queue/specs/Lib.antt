@@ -1,5 +1,4 @@
 pub mod Screen
-pub mod Amounts
 pub mod Filter
 pub mod Picks
 pub mod Table

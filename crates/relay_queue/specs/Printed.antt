@@ -17,7 +17,7 @@ use Rattle.relay_queue.specs.declared.calls.MessageForm.TheVariants.{Shown, Raw}
 use Rattle.relay_queue.specs.declared.calls.StatusForm.{StatusForm}
 use Rattle.relay_queue.specs.declared.calls.StatusForm.TheVariants.{Table as StatusTable, Metrics}
 use Rattle.relay_queue.specs.declared.filter.Filter.{Filter}
-use Rattle.relay_queue.specs.Amounts.{size_text}
+use Rattle.relay_listing.specs.Amounts.{size_text}
 use Rattle.relay_queue.specs.Objects.{objects_text}
 use Rattle.relay_queue.specs.Picks.{AreListed}
 use Rattle.relay_queue.specs.Screen.{AreSafe, IsShownText}

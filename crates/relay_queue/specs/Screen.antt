@@ -28,6 +28,10 @@ shown_octet octet = if is_printable octet then octet ∷ [] else escape octet
 abbrev pub shown : List ℕ → List ℕ
 shown octets = flat_map shown_octet octets
 
+-- octets in which each LF ends a line
+abbrev pub shown_lines : List ℕ → List ℕ
+shown_lines octets = flat_map (λ octet. if octet == 10 then 10 ∷ [] else shown_octet octet) octets
+
 -- a line of mail as a terminal shows it, and its end
 abbrev pub shown_line : List ℕ → List ℕ
 shown_line line = shown line ++ 10 ∷ []

@@ -7,7 +7,7 @@ use Rattle.relay_routes.specs.Routes.{RouteTable}
 use Rattle.relay_book.specs.Queue.{Queue}
 use Rattle.relay_queue.specs.declared.table.Totals.{Totals}
 use Rattle.relay_queue.specs.declared.table.Widths.{Widths}
-use Rattle.relay_queue.specs.Amounts.{age_text, size_text}
+use Rattle.relay_listing.specs.Amounts.{size_text, span_text}
 use Rattle.relay_queue.specs.Screen.{padding, shown}
 use Rattle.relay_listing.specs.Row.{Queued, queued_at}
 
@@ -29,7 +29,7 @@ tries_in_words tries = shown (tries_text tries) ++ (if tries == 1 then codes " t
 -- the number of the message, its age and its size
 abbrev pub numbers_text : ℕ → Queued → List ℕ
 numbers_text now queued =
-    right_cell 8 (decimal queued.number) ++ right_cell 8 (age_text (now - queued.accepted))
+    right_cell 8 (decimal queued.number) ++ right_cell 8 (span_text (now - queued.accepted))
     ++ right_cell 12 (size_text queued.size)
 
 -- the name of the next hop, or what stands for none
@@ -114,7 +114,7 @@ counted count noun = decimal count ++ codes " " ++ noun ++ (if count == 1 then [
 -- how old the oldest message is, if there is one
 abbrev pub oldest_text : Option ℕ → List ℕ
 oldest_text None = []
-oldest_text (Some age) = codes "; oldest " ++ age_text age
+oldest_text (Some age) = codes "; oldest " ++ span_text age
 
 -- the last line: how many messages and recipients there are, how large the messages are, and how old the oldest is
 abbrev pub totals_text : Totals → List ℕ

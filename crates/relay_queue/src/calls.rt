@@ -7,16 +7,16 @@ use crate::fault::QueueFault;
 use crate::filter::Filter;
 use crate::json_lines::json_text;
 use crate::message_text::message_text;
-use crate::metrics::metrics_text;
 use crate::picks::{Key, listed_keys};
 use crate::screen::Screen;
 use crate::status::{Fill, status_text};
-use crate::summary::{Summaries, summaries};
+use crate::summary::{loads_of, metrics_text};
 use crate::table::table_text;
 use crate::zone::Zone;
 use relay_book::Message;
 use relay_disk::{Disk, FileDisk};
 use relay_files::{configuration, open_to_read, write_out};
+use relay_listing::Loads;
 use relay_records::Records;
 use relay_routes::{Config, Table};
 use relay_trace::{Moment, clock_moment};
@@ -157,9 +157,9 @@ pub fn print_status<R: Files<File = File> + Env + Clock + AllocGlobal, W: Write>
     let config = configuration(alloc, rt, path)?;
     let records = open_to_read(alloc, rt, &config)?;
     let now = clock_moment(rt);
-    let summaries = summaries(alloc, &records, &config.routes)?;
+    let loads = loads_of(alloc, &records, &config.routes)?;
     let fill = fill_of(&records, &config);
-    let screen = fill_in_form(alloc, rt, &summaries, fill, form, now)?;
+    let screen = fill_in_form(alloc, rt, &loads, fill, form, now)?;
     Ok(write_out(writer, screen.as_slice())?)
 }
 
@@ -167,7 +167,7 @@ pub fn print_status<R: Files<File = File> + Env + Clock + AllocGlobal, W: Write>
 fn fill_in_form<R: Files<File = File> + Env + AllocGlobal>(
     alloc: Global,
     rt: &R,
-    summaries: &Summaries,
+    loads: &Loads,
     fill: Fill,
     form: StatusForm,
     now: Moment,
@@ -175,8 +175,8 @@ fn fill_in_form<R: Files<File = File> + Env + AllocGlobal>(
     ensures { IfOk result (ShowsFill form fill.size) }
 {
     match form {
-        StatusForm::Table => status_text(alloc, summaries, fill, &Zone::read(alloc, rt), now),
-        StatusForm::Metrics => metrics_text(alloc, summaries, fill, now),
+        StatusForm::Table => status_text(alloc, loads, fill, &Zone::read(alloc, rt), now),
+        StatusForm::Metrics => metrics_text(alloc, loads, fill, now),
     }
 }
 

@@ -2,7 +2,6 @@
 #![tactic(auto)]
 
 mod age;
-mod amounts;
 mod calls;
 mod columns;
 mod fault;
@@ -10,7 +9,6 @@ mod filter;
 mod groups;
 mod json_lines;
 mod message_text;
-mod metrics;
 mod picks;
 mod preview;
 mod screen;

@@ -2,7 +2,6 @@
 ghost use Rattle.std.specs.Prelude.{◌≡◌, ℕ, List, ◌++◌, IfOk};
 ghost use Rattle.relay_queue.specs.Screen.{IsShownText};
 
-use crate::amounts::{push_age, push_size};
 use crate::screen::Screen;
 use crate::table::push_tries_in_words;
 use crate::zone::Zone;
@@ -71,11 +70,11 @@ fn push_envelope(
     push_name(screen, b"accepted")?;
     screen.push(&zone.time(accepted))?;
     screen.push(b", ")?;
-    push_age(screen, now.seconds().saturating_sub(accepted))?;
+    screen.push_span(now.seconds().saturating_sub(accepted))?;
     screen.push(b" ago")?;
     screen.end_line()?;
     push_name(screen, b"size")?;
-    push_size(screen, message.accept.stored_text.len() as u64)?;
+    screen.push_size(message.accept.stored_text.len() as u64)?;
     screen.end_line()?;
     push_field(screen, b"reverse path", envelope.reverse_path.as_slice())?;
     push_field(screen, b"RET", ret_text(envelope.ret))?;

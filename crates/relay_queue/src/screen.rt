@@ -1,9 +1,13 @@
-ghost use Rattle.std.specs.Prelude.{◌≡◌, ℕ, List, ◌++◌, ◌∷◌, ◌-◌, ◌<◌, ◌^◌, [], length, decimal, IfOk, OnOk};
+ghost use Rattle.std.specs.Prelude.{◌≡◌, ℕ, List, ◌++◌, ◌∷◌, ◌-◌, ◌<◌, ◌^◌, [], length, decimal, IfOk, OnOk, true};
+ghost use Rattle.std.specs.List.{list_all};
+ghost use Rattle.relay_lines.specs.Word.{is_printable};
+ghost use Rattle.relay_listing.specs.Amounts.{amount_text, size_text, span_text, tenth_text};
 ghost use Rattle.relay_queue.specs.Screen.{AreSafe, IsShownText, escape, hex_digit, padding, shown, shown_last};
-ghost use Rattle.relay_queue.specs.Screen.{shown_octet};
+ghost use Rattle.relay_queue.specs.Screen.{shown_lines, shown_octet};
 
 use itoa::Buffer;
 use relay_lines::word::is_printable;
+use relay_listing::Amount;
 use relay_octets::find_crlf;
 use std::alloc::{AllocError, Global};
 use std::marker::Model;
@@ -105,6 +109,56 @@ impl Screen {
         }
         self.push(rest)?;
         self.end_line()
+    }
+
+    /// Adds lines, each of which ends with LF: other octets are escaped unless printable.
+    pub(crate) fn push_lines(&mut self, lines: &[u8]) -> Result<(), AllocError>
+        ensures { OnOk result (self.new ≡ self.old ++ shown_lines lines.now) }
+    {
+        for octet in lines {
+            if *octet == b'\n' {
+                self.end_line()?;
+            } else {
+                self.push_octet(*octet)?;
+            }
+        }
+        Ok(())
+    }
+
+    /// Adds a span of time, in whole seconds, minutes, hours or days.
+    pub(crate) fn push_span(&mut self, seconds: u64) -> Result<(), AllocError>
+        ensures { OnOk result (self.new ≡ self.old ++ span_text seconds) }
+    {
+        self.push_amount(Amount::of_span(seconds))
+    }
+
+    /// Adds a size, in octets, KiB, MiB or GiB.
+    pub(crate) fn push_size(&mut self, octets: u64) -> Result<(), AllocError>
+        ensures { OnOk result (self.new ≡ self.old ++ size_text octets) }
+    {
+        self.push_amount(Amount::of_size(octets))
+    }
+
+    fn push_amount(&mut self, amount: Amount) -> Result<(), AllocError>
+        requires unit { list_all is_printable amount.unit.now ≡ true }
+        ensures { OnOk result (self.new ≡ self.old ++ amount_text amount) }
+    {
+        self.push_number(amount.whole)?;
+        self.push_tenth(amount.tenth)?;
+        self.push(amount.unit)
+    }
+
+    /// Adds the tenths of an amount, if it has any.
+    fn push_tenth(&mut self, tenth: Option<u64>) -> Result<(), AllocError>
+        ensures { OnOk result (self.new ≡ self.old ++ tenth_text tenth) }
+    {
+        match tenth {
+            Some(tenth) => {
+                self.push(b".")?;
+                self.push_number(tenth)
+            }
+            None => Ok(()),
+        }
     }
 
     /// Adds a number in decimal.

@@ -2,11 +2,10 @@
 ghost use Rattle.std.specs.Prelude.{◌≡◌, ℕ, ◌*◌, ◌/◌, ◌-◌, ◌^◌, min, max, List, ◌++◌, IfOk, OnOk};
 ghost use Rattle.relay_queue.specs.Printed.{fill_text};
 
-use crate::amounts::{push_age, push_size};
 use crate::columns::{push_left, push_right};
 use crate::screen::Screen;
-use crate::summary::{Summaries, Summary};
 use crate::zone::Zone;
+use relay_listing::{Load, Loads};
 use relay_trace::Moment;
 use std::alloc::{AllocError, Global};
 
@@ -40,7 +39,7 @@ impl Fill {
 /// Returns a line for each next hop, and one for the spool.
 pub(crate) fn status_text(
     alloc: Global,
-    summaries: &Summaries,
+    loads: &Loads,
     fill: Fill,
     zone: &Zone,
     now: Moment,
@@ -49,12 +48,12 @@ pub(crate) fn status_text(
 {
     let mut screen = Screen::new(alloc);
     let mut cell = Screen::new(alloc);
-    if !summaries.is_empty() {
+    if !loads.is_empty() {
         push_heading(&mut screen)?;
     }
-    for index in 0..summaries.len() {
-        if let Some((name, summary)) = summaries.get_index(index) {
-            push_hop(&mut screen, &mut cell, name.as_slice(), summary, zone, now)?;
+    for index in 0..loads.len() {
+        if let Some((name, load)) = loads.get_index(index) {
+            push_hop(&mut screen, &mut cell, name.as_slice(), load, zone, now)?;
         }
     }
     push_fill(&mut screen, fill)?;
@@ -76,25 +75,25 @@ fn push_hop(
     screen: &mut Screen,
     cell: &mut Screen,
     name: &[u8],
-    summary: &Summary,
+    load: &Load,
     zone: &Zone,
     now: Moment,
 ) -> Result<(), AllocError> {
     push_left(screen, shown_name(name), HOP_WIDTH)?;
     cell.clear();
-    cell.push_number(summary.messages)?;
+    cell.push_number(load.messages)?;
     push_right(screen, cell.as_slice(), COUNT_WIDTH)?;
     cell.clear();
-    cell.push_number(summary.recipients)?;
+    cell.push_number(load.recipients)?;
     push_right(screen, cell.as_slice(), COUNT_WIDTH)?;
     cell.clear();
-    push_size(cell, summary.octets)?;
+    cell.push_size(load.octets)?;
     push_right(screen, cell.as_slice(), SIZE_WIDTH)?;
     cell.clear();
-    push_age(cell, now.seconds().saturating_sub(summary.oldest))?;
+    cell.push_span(now.seconds().saturating_sub(load.oldest))?;
     push_right(screen, cell.as_slice(), AGE_WIDTH)?;
     screen.push_spaces(2)?;
-    screen.push(&zone.time(summary.due))?;
+    screen.push(&zone.time(load.due))?;
     screen.end_line()
 }
 
@@ -108,9 +107,9 @@ fn push_fill(screen: &mut Screen, fill: Fill) -> Result<(), AllocError>
     ensures { OnOk result (screen.new ≡ screen.old ++ fill_text fill.size fill.limit) }
 {
     screen.push(b"spool ")?;
-    push_size(screen, fill.size)?;
+    screen.push_size(fill.size)?;
     screen.push(b" of ")?;
-    push_size(screen, fill.limit)?;
+    screen.push_size(fill.limit)?;
     screen.push(b", ")?;
     screen.push_number(fill.percent())?;
     screen.push(b" %")?;

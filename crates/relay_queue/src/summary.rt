@@ -1,82 +1,59 @@
-//! The summary of the queue by next hop.
-use indexmap::IndexMap;
+//! The queue by next hop, and that as metrics.
+ghost use Rattle.std.specs.Prelude.{◌≡◌, ℕ, List, ◌++◌, IfOk};
+ghost use Rattle.relay_queue.specs.Printed.{spool_gauge};
+
+use crate::screen::Screen;
+use crate::status::Fill;
 use relay_disk::Disk;
-use relay_listing::{Row, row_at};
+use relay_listing::{Course, Loads, count_row, push_alone, push_loads, row_at};
 use relay_records::Records;
 use relay_routes::Table;
+use relay_trace::Moment;
 use std::alloc::{AllocError, Global};
 
-/// What is queued for one next hop.
-#[derive(Clone, Copy)]
-pub(crate) struct Summary {
-    /// How many messages have a recipient there.
-    pub(crate) messages: u64,
-    pub(crate) recipients: u64,
-    /// The octets of those messages.
-    pub(crate) octets: u64,
-    /// When the oldest of them was accepted, in seconds since 1970.
-    pub(crate) oldest: u64,
-    /// The earliest time at which a recipient is due, in seconds since 1970.
-    pub(crate) due: u64,
-    /// The number of the message that was counted last.
-    last: u64,
-}
-
-/// Summaries by the names of next hops. The empty name is for recipients without one.
-pub(crate) type Summaries = IndexMap<Vec<u8>, Summary>;
-
-/// Returns a summary for each next hop, in the order in which the queue first names them.
-pub(crate) fn summaries<D: Disk>(
+/// Returns the load of each next hop, in the order in which the queue first names them.
+pub(crate) fn loads_of<D: Disk>(
     alloc: Global,
     records: &Records<D>,
     table: &Table,
-) -> Result<Summaries, AllocError> {
-    let mut all = IndexMap::new(alloc);
+) -> Result<Loads, AllocError> {
+    let mut loads = Loads::new(alloc);
     let marks = records.held(alloc)?;
     for mark in &marks {
         if let Some(row) = row_at(records, table, mark.0, mark.1) {
-            count(alloc, &mut all, &row)?;
+            count_row(alloc, &mut loads, &row)?;
         }
     }
-    Ok(all)
+    Ok(loads)
 }
 
-/// Counts a recipient.
-fn count(alloc: Global, all: &mut Summaries, row: &Row<'_>) -> Result<(), AllocError> {
-    let name = row.hop.unwrap_or(b"");
-    if let Some(summary) = all.get_mut(name) {
-        *summary = summary.with(row);
-        return Ok(());
-    }
-    all.insert(Vec::from_slice(alloc, name)?, Summary::of(row))?;
-    Ok(())
-}
-
-impl Summary {
-    /// Returns the summary of one recipient.
-    fn of(row: &Row<'_>) -> Self {
-        Summary {
-            messages: 1,
-            recipients: 1,
-            octets: row.size as u64,
-            oldest: row.accepted.seconds(),
-            due: row.due,
-            last: row.number,
-        }
-    }
-
-    /// Returns the summary with one more recipient, whose message is the last one counted or a new one.
-    fn with(self, row: &Row<'_>) -> Self {
-        let is_new = self.last != row.number;
-        Summary {
-            messages: self.messages.saturating_add(u64::from(is_new)),
-            recipients: self.recipients.saturating_add(1),
-            octets: self
-                .octets
-                .saturating_add(if is_new { row.size as u64 } else { 0 }),
-            oldest: self.oldest.min(row.accepted.seconds()),
-            due: self.due.min(row.due),
-            last: row.number,
-        }
-    }
+/// Returns the metrics: gauges of each next hop, with its name as the label `hop`, which is empty for recipients
+/// without one, and gauges of the spool.
+pub(crate) fn metrics_text(
+    alloc: Global,
+    loads: &Loads,
+    fill: Fill,
+    now: Moment,
+) -> Result<Screen, AllocError>
+    ensures { IfOk result (λ screen. (front rest : List ℕ) × (screen ≡ front ++ spool_gauge fill.size ++ rest)) }
+{
+    let mut text = Vec::new(alloc);
+    push_loads(&mut text, loads, now.seconds())?;
+    push_alone(
+        &mut text,
+        b"relayd_spool_bytes",
+        Course::Gauge,
+        b"Octets of the spool file in use.",
+        fill.size,
+    )?;
+    push_alone(
+        &mut text,
+        b"relayd_spool_limit_bytes",
+        Course::Gauge,
+        b"Octets that the spool file may take.",
+        fill.limit,
+    )?;
+    let mut screen = Screen::new(alloc);
+    screen.push_lines(text.as_slice())?;
+    Ok(screen)
 }

@@ -6,7 +6,6 @@ ghost use Rattle.relay_queue.specs.Table.{AreTotals, IsTable, counted, heading_l
 ghost use Rattle.relay_queue.specs.Table.{number_headings, numbers_text, oldest_text, queued_of, row_line, row_text};
 ghost use Rattle.relay_queue.specs.Table.{totals_text, tries_and_time, tries_in_words, tries_text, try_headings, wider_for, widths_for};
 
-use crate::amounts::{push_age, push_size};
 use crate::columns::{push_left, push_right};
 use crate::picks::Key;
 use crate::screen::Screen;
@@ -209,10 +208,10 @@ fn push_numbers(
     cell.push_number(row.number)?;
     push_right(screen, cell.as_slice(), NUMBER_WIDTH)?;
     cell.clear();
-    push_age(cell, age_of(row, now))?;
+    cell.push_span(age_of(row, now))?;
     push_right(screen, cell.as_slice(), AGE_WIDTH + 2)?;
     cell.clear();
-    push_size(cell, row.size as u64)?;
+    cell.push_size(row.size as u64)?;
     push_right(screen, cell.as_slice(), SIZE_WIDTH + 2)
 }
 
@@ -325,7 +324,7 @@ fn push_totals(screen: &mut Screen, totals: Totals) -> Result<(), AllocError>
     screen.push(b", ")?;
     push_count(screen, totals.recipients, b"recipient")?;
     screen.push(b", ")?;
-    push_size(screen, totals.octets)?;
+    screen.push_size(totals.octets)?;
     push_oldest(screen, totals.oldest)?;
     screen.end_line()
 }
@@ -337,7 +336,7 @@ fn push_oldest(screen: &mut Screen, oldest: Option<u64>) -> Result<(), AllocErro
     match oldest {
         Some(age) => {
             screen.push(b"; oldest ")?;
-            push_age(screen, age)
+            screen.push_span(age)
         }
         None => Ok(()),
     }

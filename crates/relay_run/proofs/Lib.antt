@@ -2,5 +2,8 @@ mod AnswerLemmas
 mod ListingLemmas
 mod AcceptorLemmas
 mod ReloadLemmas
+mod HoldingLemmas
+mod RequestLemmas
 mod SteeringLemmas
 mod WithdrawalLemmas
+mod ServedLemmas

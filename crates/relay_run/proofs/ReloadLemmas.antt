@@ -1,8 +1,26 @@
 -- A configuration that is kept, and the reload that takes effect.
-use Rattle.std.proofs.Common.{◌≡◌, ◌⊎◌, inl, inr, ℕ, Option, Some, Result, Ok, Err, IfOk, refl, sym, ◌∙◌, ap, subst}
+use Rattle.std.proofs.Common.{◌≡◌, ◌⊎◌, inl, inr, ℕ, Option, None, Some, Result, Ok, Err, IfOk, refl, sym, ◌∙◌, ap, subst}
+use Rattle.relay_connections.specs.declared.clients.Clients.{Clients}
+use Rattle.relay_connections.specs.declared.leaving.Leaving.{Leaving}
 use Rattle.relay_files.specs.declared.fault.Fault.{Fault}
+use Rattle.relay_next_hops.specs.declared.next_hops.NextHops.{NextHops}
 use Rattle.relay_routes.specs.declared.config.Config.{Config}
+use Rattle.relay_run.specs.Reloading.{IsReloadable, TakesEffect}
 use Rattle.relay_run.specs.Reopening.{KeepsConfig}
+use Rattle.relay_run.specs.declared.reload.Reload.{Reload}
+use Rattle.relay_run.specs.declared.steering.Steering.{Steering}
+
+-- no reload waits
+pub none_due : {S : Type 0} (steering : Steering) (clients : Clients S) (next_hops : NextHops S) (leaving : Leaving S) (tick : ℕ) → steering.reload ≡ None
+    → ¬ IsReloadable steering clients next_hops leaving tick
+none_due steering clients next_hops leaving tick none due = let no : ⊥ = cc (due.waits, none) in no
+
+-- the reload that takes effect is the one that waits
+pub due_then : {S : Type 0} (steering : Steering) (clients : Clients S) (next_hops : NextHops S) (leaving : Leaving S) (tick : ℕ) (reload : Reload) → steering.reload ≡ Some reload
+    → IsReloadable steering clients next_hops leaving tick → TakesEffect reload clients next_hops leaving tick
+due_then steering clients next_hops leaving tick reload is due =
+    let same : due.reload ≡ reload = cc (due.waits, is) in
+    subst (λ (it : Reload). TakesEffect it clients next_hops leaving tick) same due.effect
 
 pub keeps_self : (config : Config) → KeepsConfig config config
 keeps_self config = record {

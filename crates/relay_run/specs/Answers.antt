@@ -1,5 +1,7 @@
--- Answers of the control socket to requests to return or discard mail.
-use Rattle.std.specs.Prelude.{ℕ, ◌+◌, ◌-◌, ◌^◌, min, nat_lt, if◌then◌else◌, List, [], ◌∷◌, ◌++◌, codes, decimal, length}
+-- Answers of the control socket, and those to requests to return or discard mail.
+use Rattle.std.specs.Prelude.{◌≡◌, ℕ, ◌+◌, ◌-◌, ◌^◌, min, nat_lt, if◌then◌else◌, List, [], ◌∷◌, ◌++◌, codes, decimal}
+use Rattle.std.specs.Prelude.{IfOk, Result, length}
+use Rattle.std.specs.Global.{Vec}
 use Rattle.relay_book.specs.declared.change.Withdrawal.{Withdrawal}
 use Rattle.relay_book.specs.declared.change.Withdrawal.TheVariants.{Return, Discard}
 use Rattle.relay_control.specs.Answer.{end_text, error_text, line_text}
@@ -7,6 +9,14 @@ use Rattle.relay_control.specs.declared.answer.End.TheVariants.{Done}
 use Rattle.relay_control.specs.declared.named.Named.{Named}
 use Rattle.relay_run.specs.declared.withdrawing.Outcome.{Outcome}
 use Rattle.relay_run.specs.declared.withdrawing.Outcome.TheVariants.{Withdrawn, Unknown, Busy, Full}
+
+-- the answer is this text, if there was memory for it
+abbrev pub IsText : {E : Type 0} → Result (Vec ℕ) E → List ℕ → Type 0
+IsText answer text = IfOk answer (λ octets. octets.items ≡ text)
+
+-- it is an error, if there was memory for it
+abbrev pub IsError : {E : Type 0} → Result (Vec ℕ) E → Type 0
+IsError answer = IfOk answer (λ octets. (reason : List ℕ) × (octets.items ≡ error_text reason))
 
 -- the line of a message that was refused: its number, and why
 abbrev pub refused_line : Named → Outcome → List ℕ

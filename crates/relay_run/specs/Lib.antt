@@ -2,7 +2,11 @@ pub mod Answers
 pub mod Found
 pub mod Reopening
 pub mod Room
+pub mod Serving
 pub mod Withdrawing
+pub mod Holding
 pub mod Steering
 pub mod Reloading
+pub mod Requests
 pub mod Tidying
+pub mod LastReplies

@@ -1,15 +1,20 @@
 -- What a postmaster's requests do to a running relay. Mail is touched only by `return` and `discard`.
-use Rattle.std.specs.Prelude.{◌≡◌, ◌≢◌, ◌⊎◌, ℕ, ◌+◌, ◌-◌, ◌*◌, ◌^◌, ◌≤◌, min, true, List, Option, None, Some}
+use Rattle.std.specs.Prelude.{◌≡◌, ◌≢◌, ◌⊎◌, ℕ, ◌+◌, ◌-◌, ◌*◌, ◌^◌, ◌≤◌, min, false, true, List, Option, None, Some}
+use Rattle.std.specs.Prelude.{IsSomeAnd, Result}
+use Rattle.std.specs.Global.{Vec}
+use Rattle.relay_book.specs.declared.change.Withdrawal.{Withdrawal}
 use Rattle.relay_book.specs.declared.change.Withdrawal.TheVariants as withdrawal
 use Rattle.relay_connections.specs.Table.{count_of}
 use Rattle.relay_connections.specs.Welcome.{stopped}
 use Rattle.relay_connections.specs.declared.clients.Clients.{Clients}
+use Rattle.relay_control.specs.declared.named.Named.{Named}
 use Rattle.relay_control.specs.declared.request.Request.{Request}
 use Rattle.relay_control.specs.declared.request.Request.TheVariants.{Flush, Hold, Release, Return, Discard, Reload, Drain as Drains}
 use Rattle.relay_disk.specs.Device.{DiskWords}
 use Rattle.relay_loop.specs.Relay.{RelayState}
 use Rattle.relay_next_hops.specs.Readiness.{hops_of}
 use Rattle.relay_next_hops.specs.declared.next_hops.NextHops.{NextHops}
+use Rattle.relay_run.specs.Answers.{IsText, withdrawn_text}
 use Rattle.relay_run.specs.Room.{MayStart}
 use Rattle.relay_run.specs.Withdrawing.{FailsAmong, HaveOutcomes}
 use Rattle.relay_run.specs.declared.draining.Drain.{Drain}
@@ -57,24 +62,31 @@ DrainsBy tick caller (Discard names) old new clients_old clients_new = (new ≡ 
 DrainsBy tick caller Reload old new clients_old clients_new = (new ≡ old) × (clients_new.stops ≡ clients_old.stops)
 
 module _ {D : Type 0} (honest : Type 0) (words : DiskWords D) (at : ℕ) where
+  -- the named places have these outcomes, and the answer says them
+  abbrev pub IsWithdrawn
+      : {E : Type 0} → Withdrawal → List Named → RelayState D → RelayState D → Result (Vec ℕ) E → Type 0
+  IsWithdrawn how names old new answer =
+      (outcomes : List Outcome) × HaveOutcomes honest words at how names outcomes old new
+      × IsText answer (withdrawn_text how names outcomes)
+
   -- what a request at this time did to the relay: only `return` and `discard` change it, and only by the places that
   -- they name
-  abbrev pub Obeys : Request → RelayState D → RelayState D → Type 0
-  Obeys (Return names) old new =
-      (outcomes : List Outcome) × HaveOutcomes honest words at withdrawal.Return names.items outcomes old new
-  Obeys (Discard names) old new =
-      (outcomes : List Outcome) × HaveOutcomes honest words at withdrawal.Discard names.items outcomes old new
-  Obeys (Flush scope) old new = new ≡ old
-  Obeys (Hold scope) old new = new ≡ old
-  Obeys (Release scope) old new = new ≡ old
-  Obeys Reload old new = new ≡ old
-  Obeys (Drains seconds) old new = new ≡ old
+  abbrev pub Obeys : {E : Type 0} → Request → RelayState D → RelayState D → Option (Result (Vec ℕ) E) → Type 0
+  Obeys (Return names) old new answer =
+      IsSomeAnd answer (IsWithdrawn withdrawal.Return names.items old new)
+  Obeys (Discard names) old new answer =
+      IsSomeAnd answer (IsWithdrawn withdrawal.Discard names.items old new)
+  Obeys (Flush scope) old new answer = new ≡ old
+  Obeys (Hold scope) old new answer = new ≡ old
+  Obeys (Release scope) old new answer = new ≡ old
+  Obeys Reload old new answer = new ≡ old
+  Obeys (Drains seconds) old new answer = new ≡ old
 
-  -- what it did where the device failed meanwhile
+  -- what it did where the device failed meanwhile; a flush fails only if it has failed before
   abbrev pub FailsToObey : Request → RelayState D → RelayState D → Type 0
   FailsToObey (Return names) old new = FailsAmong honest words at withdrawal.Return names.items old new
   FailsToObey (Discard names) old new = FailsAmong honest words at withdrawal.Discard names.items old new
-  FailsToObey (Flush scope) old new = new ≡ old
+  FailsToObey (Flush scope) old new = (new ≡ old) × (old.node.records.spool.live ≡ false)
   FailsToObey (Hold scope) old new = ⊥
   FailsToObey (Release scope) old new = ⊥
   FailsToObey Reload old new = ⊥

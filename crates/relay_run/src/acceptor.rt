@@ -1,12 +1,17 @@
 //! The listener, and the clients that connect to it.
-ghost use Rattle.std.specs.Prelude.{◌≡◌, ◌≤◌, false, true};
+ghost use Rattle.std.specs.Prelude.{◌≡◌, ◌≤◌, List, OnOk, false, true};
 ghost use Rattle.std.specs.List.{list_any};
 ghost use Rattle.std.specs.Net.Addr.{ipv4_octets};
 ghost use Rattle.std.specs.Net.Socket.{v4_ip};
+ghost use Rattle.relay_book.specs.declared.change.Change.{Change};
+ghost use Rattle.relay_connections.specs.Carried.{Setting};
 ghost use Rattle.relay_connections.specs.Leaving.{leavers_of};
+ghost use Rattle.relay_connections.specs.Readiness.{clients_of};
+ghost use Rattle.relay_connections.specs.Served.{AreServed};
 ghost use Rattle.relay_connections.specs.Welcome.{AreAllowed, KeepsRules, LeavesWith, allowed_of, refusal_of};
 ghost use Rattle.relay_limits.specs.AllowedClients.{may_connect};
 ghost use Rattle.relay_routes.specs.Network.{is_in};
+ghost use Rattle.relay_run.specs.Serving.{AreServedWithMore};
 
 use crate::listen::{Found, Listen};
 use mio::net::TcpStream;
@@ -152,6 +157,10 @@ impl<S: Stream + Drop> Acceptor<S> {
     ) -> Result<(), Fault>
         ensures allowed { AreAllowed clients.old relay.old → AreAllowed clients.new relay.new }
         ensures rules { KeepsRules clients.old clients.new }
+        ensures served { (changes : List Change) (setting : Setting)
+            → AreServed D.honest D.words S.remaining S.contents changes setting (clients_of clients.old) relay.old
+            → OnOk result (AreServedWithMore D.honest D.words S.remaining S.contents changes setting
+            (clients_of clients.old) (clients_of clients.new) relay.new) }
     {
         self.refusals.tell(now, log);
         self.strangers.tell(now, log);
@@ -198,6 +207,10 @@ impl<S: Stream + Drop> Acceptor<S> {
             (leavers_of leaving.old) (leavers_of leaving.new) }
         ensures allowed { AreAllowed clients.old relay.old → AreAllowed clients.new relay.new }
         ensures rules { KeepsRules clients.old clients.new }
+        ensures served { (changes : List Change) (setting : Setting)
+            → AreServed D.honest D.words S.remaining S.contents changes setting (clients_of clients.old) relay.old
+            → OnOk result (AreServedWithMore D.honest D.words S.remaining S.contents changes setting
+            (clients_of clients.old) (clients_of clients.new) relay.new) }
     {
         if !self.balancers.contains(*peer.ip()) {
             return self.welcome(registry, relay, clients, leaving, stream, peer, now, log);
@@ -220,6 +233,10 @@ impl<S: Stream + Drop> Acceptor<S> {
     ) -> Result<(), Fault>
         ensures allowed { AreAllowed clients.old relay.old → AreAllowed clients.new relay.new }
         ensures rules { KeepsRules clients.old clients.new }
+        ensures served { (changes : List Change) (setting : Setting)
+            → AreServed D.honest D.words S.remaining S.contents changes setting (clients_of clients.old) relay.old
+            → OnOk result (AreServedWithMore D.honest D.words S.remaining S.contents changes setting
+            (clients_of clients.old) (clients_of clients.new) relay.new) }
     {
         for _ in 0..MOST_AT_ONCE {
             match self.arrivals.next(registry, now) {
@@ -254,6 +271,10 @@ impl<S: Stream + Drop> Acceptor<S> {
             (leavers_of leaving.old) (leavers_of leaving.new) }
         ensures allowed { AreAllowed clients.old relay.old → AreAllowed clients.new relay.new }
         ensures rules { KeepsRules clients.old clients.new }
+        ensures served { (changes : List Change) (setting : Setting)
+            → AreServed D.honest D.words S.remaining S.contents changes setting (clients_of clients.old) relay.old
+            → OnOk result (AreServedWithMore D.honest D.words S.remaining S.contents changes setting
+            (clients_of clients.old) (clients_of clients.new) relay.new) }
     {
         match clients.welcome(registry, relay, leaving, stream, peer, now)? {
             None => log.connected(),

@@ -1,5 +1,5 @@
 //! The end of a relay that a postmaster has asked for: it begins nothing more, and stops once its attempts have ended.
-ghost use Rattle.std.specs.Prelude.{◌≡◌, ◌+◌, ◌*◌, ◌^◌, ◌-◌, IsTrue, Some, min};
+ghost use Rattle.std.specs.Prelude.{◌≡◌, ◌↔◌, ◌+◌, ◌*◌, ◌^◌, ◌-◌, IsTrue, Some, min};
 ghost use Rattle.relay_connections.specs.Welcome.{stopped};
 ghost use Rattle.relay_run.specs.Steering.{HasDrained, joined_drain};
 
@@ -60,7 +60,12 @@ impl<S: Stream + Drop, D: Disk + Drop, F: Disk + Drop> Shell<S, D, F> {
     /// Returns whether the relay has drained: no attempt runs any more, or its time is over. Answers the caller that
     /// has asked for it then.
     pub(crate) fn has_drained(&mut self, registry: &Registry, now: &Now) -> bool
-        ensures { IsTrue result → HasDrained self.new.steering self.new.next_hops now.now.tick }
+        ensures drained { IsTrue result ↔ HasDrained self.new.steering self.new.next_hops now.now.tick }
+        ensures steering { (self.new.steering.drain ≡ self.old.steering.drain)
+            × (self.new.steering.reload ≡ self.old.steering.reload) }
+        ensures hops { self.new.next_hops ≡ self.old.next_hops }
+        ensures rest { (self.new.relay ≡ self.old.relay) × (self.new.clients ≡ self.old.clients)
+            × (self.new.leaving ≡ self.old.leaving) × (self.new.acceptor ≡ self.old.acceptor) }
     {
         let Some(drain) = self.steering.drain else {
             return false;

@@ -1,14 +1,15 @@
 //! The file of held mail, which is beside the spool: `SPOOL.held`.
-ghost use Rattle.std.specs.Prelude.{IfOk};
+ghost use Rattle.std.specs.Prelude.{IfOk, IsTrue};
+ghost use Rattle.relay_run.specs.Holding.{IsKept};
 ghost use Rattle.relay_run.specs.Reloading.{HoldsAlike};
 
+use crate::documents::Documents;
 use relay_control::laws::held_reads_back;
 use relay_control::{Held, HeldFault, read_held, write_held};
 use relay_files::Fault;
 use std::alloc::{AllocError, Global};
-use std::fs::{self, File};
-use std::io::{self, ErrorKind, Read, Write};
-use std::path::Path;
+use std::fs::File;
+use std::io::{ErrorKind, Read};
 use std::rt::Files;
 
 /// The file of held mail.
@@ -63,20 +64,17 @@ impl HeldMail {
     }
 
     /// Writes a new file, which replaces the old one once it is on the device. Returns whether that is done.
-    pub(crate) fn write<F: Files<File = File>>(&self, files: &F, held: &Held) -> bool {
-        self.replace(files, held).is_ok()
-    }
-
-    fn replace<F: Files<File = File>>(&self, files: &F, held: &Held) -> io::Result<()> {
+    pub(crate) fn write<O: Documents>(&self, files: &O, held: &Held) -> bool
+        ensures { IsTrue result → IsKept O.has_replaced files.now self.now held.now }
+    {
         let Ok(text) = write_held(self.alloc, held) else {
-            return Err(io::Error::from(ErrorKind::OutOfMemory));
+            return false;
         };
-        let mut file = File::create(files, self.new_path.as_str())?;
-        file.write_all(text.as_str().as_bytes())?;
-        file.sync_all()?;
-        fs::rename(files, self.new_path.as_str(), self.path.as_str())?;
-        // A stop must not bring the old file back.
-        File::open(files, folder_of(self.path.as_str()))?.sync_all()
+        let path = self.path.as_str();
+        match files.replace(self.new_path.as_str(), path, text.as_str()) {
+            Ok(()) => true,
+            Err(_) => false,
+        }
     }
 }
 
@@ -91,13 +89,5 @@ pub(crate) fn copy_held(alloc: Global, held: &Held) -> Result<Held, AllocError>
     match read_held(alloc, text.as_str()) {
         Ok(copy) => Ok(copy),
         Err(_) => Err(AllocError),
-    }
-}
-
-/// Returns the folder of a file.
-fn folder_of(path: &str) -> &str {
-    match Path::new(path).parent() {
-        Some(folder) if !folder.as_str().is_empty() => folder.as_str(),
-        _ => ".",
     }
 }

@@ -5,12 +5,15 @@
 mod acceptor;
 mod answers;
 mod control;
+mod documents;
 mod draining;
 mod failures;
 mod held_mail;
 mod holding;
 mod known;
+mod last_replies;
 mod listen;
+mod metrics;
 mod pauses;
 mod reload;
 mod reopening;

@@ -2,20 +2,20 @@
 //! no session and no attempt is left: the sessions are ended between mail transactions, attempts end by themselves, and
 //! clients that come meanwhile wait to be accepted. After a minute it takes effect in any case.
 ghost use Rattle.std.specs.Prelude.{◌≡◌, ◌⊎◌, ◌↔◌, IfOk, IfSome, IsTrue, None};
-ghost use Rattle.relay_connections.specs.Table.{count_of};
-ghost use Rattle.relay_next_hops.specs.Readiness.{hops_of};
-ghost use Rattle.relay_run.specs.Reloading.{HoldsAlike, IsReloadable, IsReloading, KeepsPlaces, MayReload, RetiresFor};
-ghost use Rattle.relay_run.specs.Reloading.{TakesEffect};
+ghost use Rattle.relay_run.specs.Answers.{IsError};
+ghost use Rattle.relay_run.specs.Reloading.{HoldsAlike, IsIdle, IsReloadable, IsReloading, KeepsPlaces, MayReload};
+ghost use Rattle.relay_run.specs.Reloading.{RetiresFor, ServesReload, TakesEffect};
 ghost use Rattle.relay_run.specs.Reopening.{IsWhole, KeepsConfig};
 
 use crate::answers::{Answer, done_with_count, refused};
+use crate::documents::Documents;
 use crate::held_mail::copy_held;
 use crate::listen::Listen;
 use crate::reopening::Why;
 use crate::reporter::Reporter;
 use crate::shell::Shell;
 use crate::source::restart_answer;
-use crate::start::{Settings, log_form, read_settings};
+use crate::start::{Settings, log_form};
 use crate::steering::Steering;
 use relay_connections::{Now, Stream};
 use relay_control::Held;
@@ -25,9 +25,8 @@ use relay_limits::Limits;
 use relay_next_hops::NextHops;
 use relay_room::RoomFile;
 use std::alloc::{AllocError, Global};
-use std::fs::File;
 use std::io::Write;
-use std::rt::{Clock, Files};
+use std::rt::Clock;
 
 /// How many seconds after it was asked for a reload takes effect at the latest.
 const RELOAD_SECONDS: u64 = 60;
@@ -60,22 +59,21 @@ impl Steering {
 
 impl<S: Stream + Drop, D: Disk + Drop, F: Disk + Drop> Shell<S, D, F> {
     /// Reads the configuration again, and prepares for it: begins no more attempts, and ends the sessions. The caller
-    /// is answered when it takes effect. Refuses it if the configuration has a fault, changes a place that the relay
-    /// keeps as long as it runs, another reload waits, or the relay drains; nothing is changed then.
-    pub(crate) fn begin_reload<O: Files<File = File>>(
+    /// is answered when it takes effect. Refuses it only if the relay drains, another reload waits, or the
+    /// configuration has a fault or changes a place that the relay keeps as long as it runs; nothing is changed then.
+    pub(crate) fn begin_reload<O: Documents>(
         &mut self,
         files: &O,
         caller: usize,
         now: &Now,
     ) -> Option<Answer>
-        ensures begun { result ≡ None → RetiresFor self.old.relay.node.config now.now.tick caller self.old.steering
-            self.new.steering self.old.clients self.new.clients }
-        ensures refused { IfSome result (λ _. (self.new.steering ≡ self.old.steering)
-            × (self.new.clients ≡ self.old.clients)) }
+        ensures served { ServesReload O.has_read files.now self.old.relay.node.config now.now.tick caller
+            self.old.steering self.new.steering self.old.clients self.new.clients result }
         ensures drain { self.new.steering.drain ≡ self.old.steering.drain }
         ensures stops { self.new.clients.stops ≡ self.old.clients.stops }
-        ensures rest { (self.new.relay ≡ self.old.relay) × (self.new.leaving ≡ self.old.leaving)
-            × (self.new.acceptor ≡ self.old.acceptor) × (self.new.room ≡ self.old.room) }
+        ensures rest { (self.new.relay ≡ self.old.relay) × (self.new.next_hops ≡ self.old.next_hops)
+            × (self.new.leaving ≡ self.old.leaving) × (self.new.acceptor ≡ self.old.acceptor)
+            × (self.new.room ≡ self.old.room) }
     {
         let alloc = self.steering.alloc;
         if self.steering.is_draining() {
@@ -84,7 +82,7 @@ impl<S: Stream + Drop, D: Disk + Drop, F: Disk + Drop> Shell<S, D, F> {
         if self.steering.is_reloading() {
             return Some(refused(alloc, b"another reload waits"));
         }
-        let settings = match read_settings(alloc, files, self.steering.source.path.as_str()) {
+        let settings = match files.settings(alloc, self.steering.source.path.as_str()) {
             Ok(settings) => settings,
             Err(fault) => return Some(fault_answer(alloc, &fault)),
         };
@@ -103,10 +101,12 @@ impl<S: Stream + Drop, D: Disk + Drop, F: Disk + Drop> Shell<S, D, F> {
             × KeepsPlaces self.old.steering.source self.old.relay.node.config settings }
         ensures begun { RetiresFor self.old.relay.node.config now.now.tick caller self.old.steering
             self.new.steering self.old.clients self.new.clients }
+        ensures settings { IfSome self.new.steering.reload (λ reload. reload.settings ≡ settings) }
         ensures drain { self.new.steering.drain ≡ self.old.steering.drain }
         ensures stops { self.new.clients.stops ≡ self.old.clients.stops }
-        ensures rest { (self.new.relay ≡ self.old.relay) × (self.new.leaving ≡ self.old.leaving)
-            × (self.new.acceptor ≡ self.old.acceptor) × (self.new.room ≡ self.old.room) }
+        ensures rest { (self.new.relay ≡ self.old.relay) × (self.new.next_hops ≡ self.old.next_hops)
+            × (self.new.leaving ≡ self.old.leaving) × (self.new.acceptor ≡ self.old.acceptor)
+            × (self.new.room ≡ self.old.room) }
     {
         let until = now.after(RELOAD_SECONDS);
         let steering = &mut self.steering;
@@ -124,7 +124,8 @@ impl<S: Stream + Drop, D: Disk + Drop, F: Disk + Drop> Shell<S, D, F> {
     /// Returns whether a reload takes effect now: no session is left, and no attempt and no connection that is leaving,
     /// or its time is over.
     pub(crate) fn may_reload(&self, now: &Now) -> bool
-        ensures { IsTrue result → IsReloadable self.now.steering self.now.clients self.now.next_hops now.now.tick }
+        ensures { IsTrue result ↔ IsReloadable self.now.steering self.now.clients self.now.next_hops self.now.leaving
+            now.now.tick }
     {
         match &self.steering.reload {
             Some(reload) => self.has_ended_for(reload, now),
@@ -134,14 +135,15 @@ impl<S: Stream + Drop, D: Disk + Drop, F: Disk + Drop> Shell<S, D, F> {
 
     /// Returns whether this reload takes effect now.
     fn has_ended_for(&self, reload: &Reload, now: &Now) -> bool
-        ensures { IsTrue result → TakesEffect reload.now self.now.clients self.now.next_hops now.now.tick }
+        ensures { IsTrue result ↔ TakesEffect reload.now self.now.clients self.now.next_hops self.now.leaving
+            now.now.tick }
     {
         self.clients.count() == 0 && (self.is_idle() || reload.until <= now.tick)
     }
 
     /// Returns whether no attempt runs, and no connection is leaving.
     fn is_idle(&self) -> bool
-        ensures { IsTrue result → count_of (hops_of self.now.next_hops) ≡ 0 }
+        ensures { IsTrue result ↔ IsIdle self.now.next_hops self.now.leaving }
     {
         self.next_hops.running() == 0 && self.leaving.is_empty()
     }
@@ -157,11 +159,11 @@ impl<S: Stream + Drop> Shell<S, FileDisk, RoomFile> {
         listener: &mut L,
         now: &Now,
     ) -> Result<Self, Fault>
-        requires { IsReloadable self.steering self.clients self.next_hops now.now.tick }
+        requires { IsReloadable self.steering self.clients self.next_hops self.leaving now.now.tick }
         ensures whole { IfOk result (λ shell. (shell.relay ≡ self.relay)
             ⊎ IsWhole self.known shell.relay.node.records.queue.next shell.relay.node.records.spool.size) }
         ensures config { IfOk result (λ shell. MayReload self.relay.node.config self.steering self.clients
-            self.next_hops shell.relay.node.config) }
+            self.next_hops self.leaving shell.relay.node.config) }
         ensures held { IfOk result (λ shell. HoldsAlike self.next_hops.lanes.held shell.next_hops.lanes.held) }
         ensures ended { IfOk result (λ shell. (shell.steering.reload ≡ None)
             × (shell.steering.drain ≡ self.steering.drain) × (shell.clients.stops ≡ self.clients.stops)) }
@@ -238,7 +240,9 @@ fn hops_with<S: Stream + Drop>(
 }
 
 /// Returns the answer to a reload whose configuration has a fault.
-fn fault_answer(alloc: Global, fault: &Fault) -> Answer {
+fn fault_answer(alloc: Global, fault: &Fault) -> Answer
+    ensures { IsError result }
+{
     let text = format!(in alloc; "{fault}")?;
     refused(alloc, text.as_str().as_bytes())
 }

@@ -1,5 +1,6 @@
 //! Log lines between two turns.
 use relay_disk::Side;
+use relay_files::Fault;
 use relay_log::{Counters, DeviceFailure, Form, Log};
 use relay_routes::Config;
 use relay_trace::clock_moment;
@@ -54,6 +55,12 @@ impl<'a, C: Clock, E: Write> Reporter<'a, C, E> {
         if !is_short {
             log.shortage_ended();
         }
+    }
+
+    /// Logs that a fault ends the relay.
+    pub(crate) fn stopping(&mut self, fault: &Fault) {
+        let moment = clock_moment(self.clock);
+        Log::stamped(self.alloc, self.errors, self.form, moment, self.counters).stopping(fault);
     }
 }
 

@@ -1,8 +1,13 @@
-ghost use Rattle.std.specs.Prelude.{◌≡◌, ◌↔◌, None, IfOk, IsErr, IsTrue};
+ghost use Rattle.std.specs.Prelude.{◌≡◌, ◌↔◌, List, None, IfOk, IsErr, IsTrue, OnOk};
+ghost use Rattle.relay_book.specs.declared.change.Change.{Change};
+ghost use Rattle.relay_connections.specs.Carried.{Setting};
+ghost use Rattle.relay_connections.specs.Readiness.{clients_of};
+ghost use Rattle.relay_connections.specs.Served.{AreServed, AreServedAfter};
 ghost use Rattle.relay_connections.specs.Welcome.{KeepsRules};
 ghost use Rattle.relay_run.specs.Reloading.{IsReloading};
 ghost use Rattle.relay_run.specs.Reopening.{HasFailedToSync, IsWhole, KeepsConfig, config_for};
 ghost use Rattle.relay_run.specs.Room.{MayStart};
+ghost use Rattle.relay_run.specs.Serving.{AreServedOn, AreServedWithMore};
 ghost use Rattle.relay_run.specs.Steering.{IsDraining, MayBegin, TurnsAway};
 
 use crate::acceptor::Acceptor;
@@ -129,7 +134,7 @@ impl<S: Stream + Drop, D: Disk + Drop, F: Disk + Drop> Shell<S, D, F> {
     }
 
     /// Does for each connection one thing that can be done at once, and begins due attempts. If the relay is short of
-    /// room and a test is due, tests the room first.
+    /// room and a test is due, tests the room first. Clients that stay are served as before, and so are those that came.
     pub(crate) fn turn<C: Clock, L: Listen<Stream = S>, N: Dial<Stream = S>>(
         &mut self,
         clock: &C,
@@ -140,6 +145,10 @@ impl<S: Stream + Drop, D: Disk + Drop, F: Disk + Drop> Shell<S, D, F> {
         log: &mut Log<'_, Vec<u8>>,
     ) -> Result<(), Fault>
         ensures rules { (self.new.steering ≡ self.old.steering) × KeepsRules self.old.clients self.new.clients }
+        ensures served { (changes : List Change) (setting : Setting)
+            → AreServed D.honest D.words S.remaining S.contents changes setting (clients_of self.old.clients)
+            self.old.relay → OnOk result (AreServedOn D.honest D.words S.remaining S.contents changes setting
+            (clients_of self.old.clients) (clients_of self.new.clients) self.new.relay) }
     {
         let node = self.relay.node();
         if self.room.look(node.size(), node.config().spool_limit, now) {
@@ -167,6 +176,10 @@ impl<S: Stream + Drop, D: Disk + Drop, F: Disk + Drop> Shell<S, D, F> {
         ensures rules { (self.new.steering ≡ self.old.steering) × KeepsRules self.old.clients self.new.clients }
         ensures waits { IsReloading self.old.steering → (self.new.relay ≡ self.old.relay)
             × (self.new.clients ≡ self.old.clients) }
+        ensures served { (changes : List Change) (setting : Setting)
+            → AreServed D.honest D.words S.remaining S.contents changes setting (clients_of self.old.clients)
+            self.old.relay → OnOk result (AreServedWithMore D.honest D.words S.remaining S.contents changes setting
+            (clients_of self.old.clients) (clients_of self.new.clients) self.new.relay) }
     {
         if self.steering.is_reloading() {
             return Ok(());
@@ -191,6 +204,10 @@ impl<S: Stream + Drop, D: Disk + Drop, F: Disk + Drop> Shell<S, D, F> {
         log: &mut Log<'_, Vec<u8>>,
     ) -> Result<(), Fault>
         ensures rules { (self.new.steering ≡ self.old.steering) × KeepsRules self.old.clients self.new.clients }
+        ensures served { (changes : List Change) (setting : Setting)
+            → AreServed D.honest D.words S.remaining S.contents changes setting (clients_of self.old.clients)
+            self.old.relay → OnOk result (AreServedAfter D.honest D.words S.remaining S.contents changes setting
+            (clients_of self.new.clients) self.new.relay) }
     {
         let closed = self
             .next_hops
@@ -208,6 +225,10 @@ impl<S: Stream + Drop, D: Disk + Drop, F: Disk + Drop> Shell<S, D, F> {
         log: &mut Log<'_, Vec<u8>>,
     ) -> Result<(), Fault>
         ensures rules { (self.new.steering ≡ self.old.steering) × KeepsRules self.old.clients self.new.clients }
+        ensures served { (changes : List Change) (setting : Setting)
+            → AreServed D.honest D.words S.remaining S.contents changes setting (clients_of self.old.clients)
+            self.old.relay → OnOk result (AreServedAfter D.honest D.words S.remaining S.contents changes setting
+            (clients_of self.new.clients) self.new.relay) }
     {
         let (intake, replied) = self.hear(registry, now, log)?;
         if intake.was_full {
@@ -237,6 +258,10 @@ impl<S: Stream + Drop, D: Disk + Drop, F: Disk + Drop> Shell<S, D, F> {
         log: &mut Log<'_, Vec<u8>>,
     ) -> Result<(Intake, Option<Replied>), NodeFault>
         ensures rules { (self.new.steering ≡ self.old.steering) × KeepsRules self.old.clients self.new.clients }
+        ensures served { (changes : List Change) (setting : Setting)
+            → AreServed D.honest D.words S.remaining S.contents changes setting (clients_of self.old.clients)
+            self.old.relay → OnOk result (AreServedAfter D.honest D.words S.remaining S.contents changes setting
+            (clients_of self.new.clients) self.new.relay) }
     {
         match self.next_hops.replies() {
             Ok(replies) => self.clients.serve(
@@ -260,7 +285,8 @@ impl<S: Stream + Drop, D: Disk + Drop, F: Disk + Drop> Shell<S, D, F> {
 
     /// Notes whether connections to next hops were closed.
     fn note_ends(&mut self, closed: bool)
-        ensures { (self.new.steering ≡ self.old.steering) × KeepsRules self.old.clients self.new.clients }
+        ensures rules { (self.new.steering ≡ self.old.steering) × KeepsRules self.old.clients self.new.clients }
+        ensures same { (self.new.relay ≡ self.old.relay) × (self.new.clients ≡ self.old.clients) }
     {
         if closed {
             self.tidying.note_shrunk();
@@ -281,6 +307,10 @@ impl<S: Stream + Drop, D: Disk + Drop, F: Disk + Drop> Shell<S, D, F> {
         ensures held { ¬ MayBegin self.old.steering self.old.room self.old.relay.node.records.spool.size
             → (self.new.relay ≡ self.old.relay) × (self.new.next_hops ≡ self.old.next_hops) }
         ensures rules { (self.new.steering ≡ self.old.steering) × KeepsRules self.old.clients self.new.clients }
+        ensures served { (changes : List Change) (setting : Setting)
+            → AreServed D.honest D.words S.remaining S.contents changes setting (clients_of self.old.clients)
+            self.old.relay → OnOk result (AreServedAfter D.honest D.words S.remaining S.contents changes setting
+            (clients_of self.new.clients) self.new.relay) }
     {
         if !self.may_start() {
             return Ok(());

@@ -1,5 +1,6 @@
 //! Where a running relay reads its configuration, and the places that it keeps as long as it runs.
 ghost use Rattle.std.specs.Prelude.{◌≡◌, ◌↔◌, IsTrue, option_map, string_bytes};
+ghost use Rattle.relay_run.specs.Answers.{IsError};
 ghost use Rattle.relay_run.specs.Reloading.{KeepsPlaces};
 
 use crate::answers::{Answer, refused};
@@ -65,7 +66,9 @@ pub(crate) fn restart_answer(
     source: &Source,
     config: &Config,
     settings: &Settings,
-) -> Answer {
+) -> Answer
+    ensures { IsError result }
+{
     let mut line = Vec::new(alloc);
     line.extend_from_slice(b"restart the relay to change")?;
     let new = &settings.config;

@@ -2,7 +2,7 @@
 ghost use Rattle.std.specs.Prelude.{◌≤◌};
 
 use crate::acceptor::Acceptor;
-use crate::status_texts::{Busy, State, text_of};
+use crate::status_texts::{Connections, State, text_of};
 use mio::net::{TcpListener, TcpStream};
 use mio::{Interest, Registry, Token};
 use relay_connections::{Now, Readiness};
@@ -100,7 +100,7 @@ impl StatusPage {
         &mut self,
         registry: &Registry,
         relay: &Relay<FileDisk>,
-        busy: Busy,
+        connections: Connections<'_>,
         counters: &Counters,
         now: &Now,
     ) {
@@ -111,7 +111,7 @@ impl StatusPage {
         self.admit(registry, now);
         self.visitors.serve(now.tick);
         if let Some((number, asked)) = self.visitors.asked() {
-            self.attend(number, asked, relay, busy, counters, now);
+            self.attend(number, asked, relay, connections, counters, now);
         }
     }
 
@@ -160,7 +160,7 @@ impl StatusPage {
         number: usize,
         asked: Asked,
         relay: &Relay<FileDisk>,
-        busy: Busy,
+        connections: Connections<'_>,
         counters: &Counters,
         now: &Now,
     ) {
@@ -171,7 +171,7 @@ impl StatusPage {
         };
         match counted {
             Ok(true) => {
-                let response = self.response(asked, relay, busy, counters, now);
+                let response = self.response(asked, relay, connections, counters, now);
                 self.respond(number, asked, response);
             }
             Ok(false) => {}
@@ -185,7 +185,7 @@ impl StatusPage {
             Ok(octets) => Ok(octets),
             Err(_) => refusal_octets(self.alloc, Code::Unavailable, asked.has_body),
         };
-        self.visitors.respond(number, response);
+        self.visitors.answer(number, response);
     }
 
     /// Counts a part of the queue, and returns whether that was the last. Fails if memory runs out, or the device has
@@ -216,13 +216,13 @@ impl StatusPage {
         &self,
         asked: Asked,
         relay: &Relay<FileDisk>,
-        busy: Busy,
+        connections: Connections<'_>,
         counters: &Counters,
         now: &Now,
     ) -> Result<Vec<u8>, AllocError> {
         let state = State {
             relay,
-            busy,
+            connections,
             counters,
             survey: &self.survey,
             history: &self.history,

@@ -1,12 +1,15 @@
 //! What a postmaster asks of a running relay, and how far it has come with it.
-ghost use Rattle.std.specs.Prelude.{◌≡◌, ◌≤◌, ◌↔◌, IfErr, IsTrue, List, OnErr, OnOk};
+ghost use Rattle.std.specs.Prelude.{◌≡◌, ◌≤◌, ◌↔◌, IfErr, IfOk, IsTrue, MatchOption, MatchResult, false, true};
+ghost use Rattle.std.specs.Prelude.{option_copied};
+ghost use Rattle.relay_run.specs.Answers.{IsText};
 ghost use Rattle.relay_run.specs.Reloading.{ReloadsBy};
-ghost use Rattle.relay_run.specs.Steering.{DrainsBy, FailsToObey, IsDraining, Obeys, TurnsAway};
-ghost use Rattle.relay_run.specs.Withdrawing.{FailsAmong, HaveOutcomes};
-ghost use Rattle.relay_run.specs.declared.withdrawing.Outcome.{Outcome};
+ghost use Rattle.relay_run.specs.Requests.{Flushes, FlushesThere, HoldsThere, Releases, Steers, is_there, missing_text};
+ghost use Rattle.relay_run.specs.Steering.{DrainsBy, FailsToObey, IsDraining, IsWithdrawn, Obeys, TurnsAway};
+ghost use Rattle.relay_run.specs.Withdrawing.{FailsAmong};
 
 use crate::answers::{Answer, done, done_with_count, refused, withdrawn};
 use crate::control::ControlSocket;
+use crate::documents::Documents;
 use crate::draining::Drain;
 use crate::held_mail::HeldMail;
 use crate::holding::held_line;
@@ -22,8 +25,6 @@ use relay_disk::Disk;
 use relay_files::Fault;
 use relay_log::Log;
 use std::alloc::{AllocError, Global};
-use std::fs::File;
-use std::rt::Files;
 
 /// The control socket, and what was asked for by it.
 pub(crate) struct Steering {
@@ -105,7 +106,7 @@ impl Steering {
 impl<S: Stream + Drop, D: Disk + Drop, F: Disk + Drop> Shell<S, D, F> {
     /// Serves the control socket. Does what one caller asks for, if one does, and logs that. Fails only if the device
     /// has failed.
-    pub(crate) fn steer<O: Files<File = File>>(
+    pub(crate) fn steer<O: Documents>(
         &mut self,
         files: &O,
         registry: &Registry,
@@ -131,7 +132,7 @@ impl<S: Stream + Drop, D: Disk + Drop, F: Disk + Drop> Shell<S, D, F> {
 
     /// Does what a caller asks for, and returns its answer; `None` for a drain and for a reload, which are answered
     /// when they are done. Fails only if the device has failed.
-    fn obey<O: Files<File = File>>(
+    fn obey<O: Documents>(
         &mut self,
         files: &O,
         caller: usize,
@@ -139,14 +140,16 @@ impl<S: Stream + Drop, D: Disk + Drop, F: Disk + Drop> Shell<S, D, F> {
         now: &Now,
         log: &mut Log<'_, Vec<u8>>,
     ) -> Result<Option<Answer>, Fault>
-        ensures obeys { OnOk result (Obeys D.honest D.words now.now.moment request self.old.relay self.new.relay) }
-        ensures failed { OnErr result (FailsToObey D.honest D.words now.now.moment request self.old.relay
-            self.new.relay) }
-        ensures fault { IfErr result (λ fault. fault ≡ Fault.Device) }
+        ensures obeys { IfOk result (Obeys D.honest D.words now.now.moment request self.old.relay self.new.relay) }
+        ensures failed { IfErr result (λ fault. (fault ≡ Fault.Device)
+            × FailsToObey D.honest D.words now.now.moment request self.old.relay self.new.relay) }
+        ensures steers { IfOk result (Steers self.old.relay.node self.old.next_hops self.new.next_hops
+            O.has_replaced files.now self.old.steering.held_mail request) }
         ensures drains { DrainsBy now.now.tick caller request self.old.steering.drain self.new.steering.drain
             self.old.clients self.new.clients }
-        ensures reloads { ReloadsBy self.old.relay.node.config now.now.tick caller request self.old.steering
-            self.new.steering self.old.clients self.new.clients }
+        ensures reloads { MatchResult result (ReloadsBy O.has_read files.now self.old.relay.node.config now.now.tick
+            caller request self.old.steering self.new.steering self.old.clients self.new.clients)
+            (λ _. self.new.steering.reload ≡ self.old.steering.reload) }
         ensures rest { (self.new.leaving ≡ self.old.leaving) × (self.new.acceptor ≡ self.old.acceptor)
             × (self.new.room ≡ self.old.room) }
     {
@@ -175,7 +178,10 @@ impl<S: Stream + Drop, D: Disk + Drop, F: Disk + Drop> Shell<S, D, F> {
 
     /// Lists mail to be tried now, due or not, and returns the answer. Fails only if the device has failed.
     fn flush(&mut self, scope: &Scope, now: &Now) -> Result<Answer, Fault>
-        ensures fault { IfErr result (λ fault. fault ≡ Fault.Device) }
+        ensures flushes { IfOk result (FlushesThere self.old.relay.node self.old.next_hops self.new.next_hops
+            scope.now) }
+        ensures fault { IfErr result (λ fault. (fault ≡ Fault.Device)
+            × (self.old.relay.node.records.spool.live ≡ false)) }
         ensures relay { self.new.relay ≡ self.old.relay }
         ensures drain { (self.new.steering.drain ≡ self.old.steering.drain)
             × (self.new.steering.reload ≡ self.old.steering.reload) }
@@ -191,7 +197,10 @@ impl<S: Stream + Drop, D: Disk + Drop, F: Disk + Drop> Shell<S, D, F> {
     /// Lists mail that is there, or all queued mail, to be tried now, and returns the answer. Fails only if the device
     /// has failed.
     fn flush_all(&mut self, scope: Option<&Scope>, now: &Now) -> Result<Answer, Fault>
-        ensures fault { IfErr result (λ fault. fault ≡ Fault.Device) }
+        ensures flushes { IfOk result (Flushes self.old.relay.node self.old.next_hops self.new.next_hops
+            (option_copied scope.entry)) }
+        ensures fault { IfErr result (λ fault. (fault ≡ Fault.Device)
+            × (self.old.relay.node.records.spool.live ≡ false)) }
         ensures relay { self.new.relay ≡ self.old.relay }
         ensures drain { (self.new.steering.drain ≡ self.old.steering.drain)
             × (self.new.steering.reload ≡ self.old.steering.reload) }
@@ -201,14 +210,17 @@ impl<S: Stream + Drop, D: Disk + Drop, F: Disk + Drop> Shell<S, D, F> {
         let alloc = self.steering.alloc;
         match self.next_hops.flush(&self.relay, scope, now) {
             Ok(count) => Ok(done_with_count(alloc, "flushed recipients=", count)),
-            Err(Fault::NoMemory) => Ok(Err(AllocError)),
-            Err(_) => Err(Fault::Device),
+            Err(Fault::Device) => Err(Fault::Device),
+            // Memory ran out: there is no other fault.
+            Err(_) => Ok(Err(AllocError)),
         }
     }
 
     /// Holds mail, in the file of held mail too, and returns the answer. If the file can't be written, mail that wasn't
     /// held stays so.
-    fn hold<O: Files<File = File>>(&mut self, files: &O, scope: Scope) -> Answer
+    fn hold<O: Documents>(&mut self, files: &O, scope: Scope) -> Answer
+        ensures holds { HoldsThere self.old.relay.node self.old.next_hops self.new.next_hops O.has_replaced files.now
+            self.old.steering.held_mail scope result }
         ensures relay { self.new.relay ≡ self.old.relay }
         ensures drain { (self.new.steering.drain ≡ self.old.steering.drain)
             × (self.new.steering.reload ≡ self.old.steering.reload) }
@@ -219,24 +231,25 @@ impl<S: Stream + Drop, D: Disk + Drop, F: Disk + Drop> Shell<S, D, F> {
             return answer;
         }
         let alloc = self.steering.alloc;
-        let undo = match &scope {
-            Scope::Hop(name) => Scope::Hop(name.copy(alloc)?),
-            Scope::Message(number) => Scope::Message(*number),
-        };
+        let undo = copy_of(alloc, &scope)?;
         let is_new = self.next_hops.hold(scope)?;
         if self.steering.held_mail.write(files, self.next_hops.held()) {
             let line = held_line(alloc, &self.relay, &undo, is_new)?;
             return done(alloc, line.as_slice());
         }
-        if is_new {
-            self.next_hops.release(&undo);
+        let reason = b"the file of held mail can't be written";
+        if !is_new {
+            return refused(alloc, reason);
         }
-        refused(alloc, b"the file of held mail can't be written")
+        self.next_hops.release(&undo);
+        refused(alloc, reason)
     }
 
     /// Releases mail, in the file of held mail too, and returns the answer. If the file can't be written, the mail is
     /// held again when the relay is started again, and the answer says so.
-    fn release<O: Files<File = File>>(&mut self, files: &O, scope: &Scope) -> Answer
+    fn release<O: Documents>(&mut self, files: &O, scope: &Scope) -> Answer
+        ensures releases { Releases self.old.relay.node self.old.next_hops self.new.next_hops O.has_replaced files.now
+            self.old.steering.held_mail scope.now result }
         ensures relay { self.new.relay ≡ self.old.relay }
         ensures drain { (self.new.steering.drain ≡ self.old.steering.drain)
             × (self.new.steering.reload ≡ self.old.steering.reload) }
@@ -265,13 +278,13 @@ impl<S: Stream + Drop, D: Disk + Drop, F: Disk + Drop> Shell<S, D, F> {
         now: &Now,
         log: &mut Log<'_, Vec<u8>>,
     ) -> Result<Answer, Fault>
-        ensures withdraws { OnOk result ((outcomes : List Outcome) × HaveOutcomes D.honest D.words now.now.moment
-            withdrawal names.now outcomes self.old.relay self.new.relay) }
-        ensures failed { OnErr result (FailsAmong D.honest D.words now.now.moment withdrawal names.now self.old.relay
-            self.new.relay) }
-        ensures fault { IfErr result (λ fault. fault ≡ Fault.Device) }
+        ensures withdraws { IfOk result (IsWithdrawn D.honest D.words now.now.moment withdrawal names.now
+            self.old.relay self.new.relay) }
+        ensures failed { IfErr result (λ fault. (fault ≡ Fault.Device) × FailsAmong D.honest D.words now.now.moment
+            withdrawal names.now self.old.relay self.new.relay) }
         ensures drain { (self.new.steering.drain ≡ self.old.steering.drain)
             × (self.new.steering.reload ≡ self.old.steering.reload) }
+        ensures hops { self.new.next_hops ≡ self.old.next_hops }
         ensures rest { (self.new.clients ≡ self.old.clients) × (self.new.leaving ≡ self.old.leaving)
             × (self.new.acceptor ≡ self.old.acceptor) × (self.new.room ≡ self.old.room) }
     {
@@ -287,7 +300,10 @@ impl<S: Stream + Drop, D: Disk + Drop, F: Disk + Drop> Shell<S, D, F> {
 
     /// Returns the answer to a request for mail that isn't there: no route has the next hop, or the message isn't
     /// queued. Returns `None` if it is there.
-    fn refusal(&self, scope: &Scope) -> Option<Answer> {
+    fn refusal(&self, scope: &Scope) -> Option<Answer>
+        ensures { MatchOption result (is_there self.now.relay.node scope.now ≡ true)
+            (λ answer. (is_there self.now.relay.node scope.now ≡ false) × IsText answer (missing_text scope.now)) }
+    {
         let alloc = self.steering.alloc;
         let node = self.relay.node();
         match scope {
@@ -303,8 +319,20 @@ impl<S: Stream + Drop, D: Disk + Drop, F: Disk + Drop> Shell<S, D, F> {
     }
 }
 
+/// Returns a copy of a scope. Fails if memory runs out.
+fn copy_of(alloc: Global, scope: &Scope) -> Result<Scope, AllocError>
+    ensures { IfOk result (λ copy. copy ≡ scope.now) }
+{
+    match scope {
+        Scope::Hop(name) => Ok(Scope::Hop(name.copy(alloc)?)),
+        Scope::Message(number) => Ok(Scope::Message(*number)),
+    }
+}
+
 /// Returns the answer to a request for a message that isn't queued.
-fn not_queued(alloc: Global, number: u64) -> Answer {
+fn not_queued(alloc: Global, number: u64) -> Answer
+    ensures { IsText result (missing_text (Scope.Message number)) }
+{
     let reason = format!(in alloc; "message {number} isn't queued")?;
     refused(alloc, reason.as_str().as_bytes())
 }

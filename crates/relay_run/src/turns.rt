@@ -1,26 +1,26 @@
 //! The turns of a relay: each waits for readiness, and does what can be done at once.
-ghost use Rattle.std.specs.Prelude.{◌≡◌, ◌≤◌, ◌-◌, ℕ, IfOk};
+ghost use Rattle.std.specs.Prelude.{◌≡◌, ◌≤◌, ◌-◌, ℕ, IfOk, IsOk, None};
 ghost use Rattle.relay_connections.specs.Readiness.{IsLeftClient, clients_of};
 ghost use Rattle.relay_next_hops.specs.Lanes.{next_due_of};
 ghost use Rattle.relay_next_hops.specs.Readiness.{IsLeftHop, hops_of};
-ghost use Rattle.relay_run.specs.Reloading.{MayReload};
+ghost use Rattle.relay_run.specs.Reloading.{IsReloadable, MayReload};
 ghost use Rattle.relay_run.specs.Room.{next_look};
 ghost use Rattle.relay_run.specs.Steering.{HasDrained, MayBegin};
 ghost use Rattle.relay_run.specs.declared.waiting.TheConstants.{LONGEST_WAIT};
 
 use crate::control::ControlSocket;
+use crate::documents::SystemFiles;
 use crate::reopening::Why;
 use crate::reporter::Reporter;
 use crate::shell::SystemShell;
 use crate::status_page::StatusPage;
-use crate::status_texts::Busy;
+use crate::status_texts::Connections;
 use mio::net::TcpListener;
 use mio::{Events, Poll};
 use relay_connections::{Now, Readiness};
 use relay_files::Fault;
 use relay_log::{Counters, Form, Log};
 use relay_next_hops::Sockets;
-use relay_trace::clock_moment;
 use std::alloc::Global;
 use std::fs::File;
 use std::io::Write;
@@ -78,7 +78,15 @@ pub(crate) fn serve<R: Files<File = File> + Clock + Net, E: Write>(
             &mut lines,
             errors,
         );
-        shell = after_turn(alloc, &mut system, shell, end, form, &mut counters, errors)?;
+        let mut reporter = Reporter {
+            alloc,
+            clock: system.clock,
+            form,
+            counters: &mut counters,
+            errors: &mut *errors,
+        };
+        let now = Now::of(system.clock);
+        shell = after_turn(&mut reporter, &mut system.listener, shell, end, &now)?;
         if shell.has_drained(system.poll.registry(), &Now::of(system.clock)) {
             return Ok(shell);
         }
@@ -127,57 +135,44 @@ fn next_wait(shell: &SystemShell, page: &StatusPage, now: &Now) -> u64
 }
 
 /// Returns the relay after a turn with this result. Logs a fault that ends the relay.
-fn after_turn<R: Clock, E: Write>(
-    alloc: Global,
-    system: &mut System<'_, R>,
+fn after_turn<C: Clock, E: Write>(
+    reporter: &mut Reporter<'_, C, E>,
+    listener: &mut TcpListener,
     shell: SystemShell,
     end: Result<(), Fault>,
-    form: Option<Form>,
-    counters: &mut Counters,
-    errors: &mut E,
+    now: &Now,
 ) -> Result<SystemShell, Fault>
-    ensures { IfOk result (λ after. MayReload shell.relay.node.config shell.steering shell.clients shell.next_hops
-        after.relay.node.config) }
+    ensures config { IfOk result (λ after. MayReload shell.relay.node.config shell.steering shell.clients
+        shell.next_hops shell.leaving after.relay.node.config) }
+    ensures reloads { IfOk result (λ after. IsOk end → IsReloadable shell.steering shell.clients shell.next_hops
+        shell.leaving now.now.tick → after.steering.reload ≡ None) }
 {
-    let after = kept_or_reopened(alloc, system, shell, end, form, counters, errors);
+    let after = kept_or_reopened(reporter, listener, shell, end, now);
     if let Err(fault) = &after {
-        let mut log = Log::stamped(alloc, errors, form, clock_moment(system.clock), counters);
-        log.stopping(fault);
+        reporter.stopping(fault);
     }
     after
 }
 
-/// Returns the relay after a turn with this result. Opens its spool again if the device has failed, or has room again,
-/// or if a reload takes effect.
-fn kept_or_reopened<R: Clock, E: Write>(
-    alloc: Global,
-    system: &mut System<'_, R>,
+/// Returns the relay after a turn with this result. Opens its spool again if a reload takes effect, if the device has
+/// failed, or if it has room again.
+fn kept_or_reopened<C: Clock, E: Write>(
+    reporter: &mut Reporter<'_, C, E>,
+    listener: &mut TcpListener,
     shell: SystemShell,
     end: Result<(), Fault>,
-    form: Option<Form>,
-    counters: &mut Counters,
-    errors: &mut E,
+    now: &Now,
 ) -> Result<SystemShell, Fault>
-    ensures { IfOk result (λ after. MayReload shell.relay.node.config shell.steering shell.clients shell.next_hops
-        after.relay.node.config) }
+    ensures config { IfOk result (λ after. MayReload shell.relay.node.config shell.steering shell.clients
+        shell.next_hops shell.leaving after.relay.node.config) }
+    ensures reloads { IfOk result (λ after. IsOk end → IsReloadable shell.steering shell.clients shell.next_hops
+        shell.leaving now.now.tick → after.steering.reload ≡ None) }
 {
-    let now = Now::of(system.clock);
-    let mut reporter = Reporter {
-        alloc,
-        clock: system.clock,
-        form,
-        counters,
-        errors,
-    };
     match end {
-        Ok(()) if shell.is_renewed(&now) => {
-            shell.reopened(&mut reporter, &mut system.listener, Why::Renewed)
-        }
-        Ok(()) if shell.may_reload(&now) => {
-            shell.reloaded(&mut reporter, &mut system.listener, &now)
-        }
+        Ok(()) if shell.may_reload(now) => shell.reloaded(reporter, listener, now),
+        Ok(()) if shell.is_renewed(now) => shell.reopened(reporter, listener, Why::Renewed),
         Ok(()) => Ok(shell),
-        Err(Fault::Device) => shell.reopened(&mut reporter, &mut system.listener, Why::Failed),
+        Err(Fault::Device) => shell.reopened(reporter, listener, Why::Failed),
         Err(fault) => Err(fault),
     }
 }
@@ -212,13 +207,15 @@ fn take_turn<R: Files<File = File> + Clock + Net, E: Write>(
 
 /// Serves the page only.
 fn show<R>(system: &mut System<'_, R>, shell: &SystemShell, counters: &Counters, now: &Now) {
-    let busy = Busy {
+    let connections = Connections {
         sessions: shell.clients.count() as u64,
         attempts: shell.next_hops.running() as u64,
+        replies: shell.next_hops.last_replies(),
     };
+    let registry = system.poll.registry();
     system
         .page
-        .turn(system.poll.registry(), &shell.relay, busy, counters, now);
+        .turn(registry, &shell.relay, connections, counters, now);
 }
 
 /// Serves all connections once, and collects the log lines.
@@ -253,7 +250,10 @@ fn steer<R: Files<File = File>>(
     lines: &mut Vec<u8>,
 ) -> Result<(), Fault> {
     let mut log = Log::stamped(alloc, lines, form, now.moment, counters);
-    shell.steer(system.clock, system.poll.registry(), now, &mut log)
+    let files = SystemFiles {
+        files: system.clock,
+    };
+    shell.steer(&files, system.poll.registry(), now, &mut log)
 }
 
 /// Compacts the spool if that is due, and collects the log lines.

@@ -1,3 +1,4 @@
 mod ReportLemmas
 mod SavingLemmas
 mod WithdrawalLemmas
+mod LineLemmas

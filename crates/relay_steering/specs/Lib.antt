@@ -1,4 +1,5 @@
 pub mod Exchange
+pub mod Lines
 pub mod Steering
 pub mod Requests
 pub mod Report

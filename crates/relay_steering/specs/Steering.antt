@@ -1,5 +1,6 @@
 -- Requests to a running relay.
 use Rattle.std.specs.Prelude.{◌≡◌, ℕ, List, Option, None, Some}
+use Rattle.std.specs.Io.KnownBytes.{Appends}
 use Rattle.relay_arguments.specs.declared.steering.Mail.{Mail}
 use Rattle.relay_arguments.specs.declared.steering.Mail.TheVariants as mail
 use Rattle.relay_arguments.specs.declared.steering.Steering.{Steering}
@@ -15,6 +16,7 @@ use Rattle.relay_control.specs.declared.scope.Scope.TheVariants as scope
 use Rattle.relay_files.specs.declared.fault.Fault.TheVariants.{NoMemory}
 use Rattle.relay_routes.specs.Value.{IsHostName}
 use Rattle.relay_steering.specs.Exchange.{IsAnswered}
+use Rattle.relay_steering.specs.Lines.{printed}
 use Rattle.relay_steering.specs.declared.steering_fault.SteeringFault.{SteeringFault}
 use Rattle.relay_steering.specs.declared.steering_fault.SteeringFault.TheVariants as fault
 
@@ -60,6 +62,13 @@ pub record IsDone (octets : List ℕ) : Type 0 where
   pub reads : ReadsAnswer octets reply
   pub done : reply.end ≡ Done
 
+-- they are an answer: the request was done, and the lines were printed
+pub record TellsDone (octets : List ℕ) (old new : Option (List ℕ)) : Type 0 where
+  pub reply : Reply
+  pub reads : ReadsAnswer octets reply
+  pub done : reply.end ≡ Done
+  pub printed : Appends old new (printed reply.lines.now)
+
 -- they are an answer: it was refused
 pub record IsRefused (octets : List ℕ) (why : SteeringFault) : Type 0 where
   pub reply : Reply
@@ -87,11 +96,17 @@ module _ {S : Type 0} (is_new : S → Type 0) (contents remaining : S → Option
     pub answered : IsAnswered is_new contents remaining request octets
     pub refused : IsRefused octets why
 
-  -- the relay has done what the arguments ask for
-  pub record IsObeyed (asked : Steering) : Type 0 where
+  -- it was done, and the lines of the answer were printed
+  pub record HasTold (old new : Option (List ℕ)) (request : Request) : Type 0 where
+    pub octets : List ℕ
+    pub answered : IsAnswered is_new contents remaining request octets
+    pub told : TellsDone octets old new
+
+  -- the relay has done what the arguments ask for, and the lines of its answer were printed
+  pub record IsObeyed (old new : Option (List ℕ)) (asked : Steering) : Type 0 where
     pub request : Request
     pub asks : AsksFor asked request
-    pub done : HasDone request
+    pub done : HasTold old new request
 
   -- it has refused that
   pub record IsDenied (asked : Steering) (why : SteeringFault) : Type 0 where

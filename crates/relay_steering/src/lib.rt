@@ -4,6 +4,7 @@
 
 mod control_client;
 mod exchange;
+mod lines;
 mod offline;
 mod report;
 mod requests;

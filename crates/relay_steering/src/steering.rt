@@ -1,10 +1,13 @@
 //! The subcommands `flush`, `hold`, `release`, `drain` and `reload`.
 ghost use Rattle.std.specs.Prelude.{◌≡◌, IfErr, IfOk, OnOk};
-ghost use Rattle.relay_steering.specs.Steering.{AsksFor, HasNoRequest, HasNoScope, IsDone, IsNotDone, IsNotObeyed};
-ghost use Rattle.relay_steering.specs.Steering.{IsObeyed, IsRefusal, Names};
+ghost use Rattle.std.specs.Io.KnownBytes.{Appends};
+ghost use Rattle.relay_steering.specs.Lines.{printed, printed_line};
+ghost use Rattle.relay_steering.specs.Steering.{AsksFor, HasNoRequest, HasNoScope, IsNotDone, IsNotObeyed, IsObeyed};
+ghost use Rattle.relay_steering.specs.Steering.{IsRefusal, Names, TellsDone};
 
 use crate::control_client::socket_path;
 use crate::exchange::{Relay, RelayAt, ask};
+use crate::lines::cut_line;
 use crate::steering_fault::SteeringFault;
 use relay_arguments::{Mail, Steering};
 use relay_control::{End, Request, Scope, read_answer};
@@ -42,7 +45,8 @@ fn steer_by<R: Relay, W: Write>(
     asked: Steering<'_>,
     writer: &mut W,
 ) -> Result<(), SteeringFault>
-    ensures obeyed { OnOk result (IsObeyed R.is_new R.Stream.contents R.Stream.remaining asked.entry) }
+    ensures obeyed { OnOk result (IsObeyed R.is_new R.Stream.contents R.Stream.remaining (W.contents writer.old)
+        (W.contents writer.new) asked.entry) }
     ensures failed { IfErr result (IsNotObeyed R.is_new R.Stream.contents R.Stream.remaining asked.entry) }
 {
     let request = request_of(alloc, asked)?;
@@ -53,7 +57,7 @@ fn steer_by<R: Relay, W: Write>(
 /// Prints the lines of an answer. Fails if the octets are no answer, if the output can't be written, if the relay
 /// refused the request, or if memory runs out.
 fn print_answer<W: Write>(alloc: Global, octets: &[u8], writer: &mut W) -> Result<(), SteeringFault>
-    ensures done { OnOk result (IsDone octets.now) }
+    ensures told { OnOk result (TellsDone octets.now (W.contents writer.old) (W.contents writer.new)) }
     ensures failed { IfErr result (IsNotDone octets.now) }
 {
     let Some(reply) = read_answer(octets) else {
@@ -108,12 +112,25 @@ fn scope_of(alloc: Global, mail: Mail<'_>) -> Result<Scope, SteeringFault>
 }
 
 /// Prints the lines of an answer, without the space that each begins with.
-fn print_lines<W: Write>(lines: &[u8], writer: &mut W) -> io::Result<()> {
-    for line in lines.split(|octet| *octet == b'\n') {
-        if let Some(text) = line.strip_prefix(b" ") {
-            writer.write_all(text)?;
-            writer.write_all(b"\n")?;
-        }
+fn print_lines<W: Write>(lines: &[u8], writer: &mut W) -> io::Result<()>
+    ensures { OnOk result (Appends (W.contents writer.old) (W.contents writer.new) (printed lines.now)) }
+{
+    let mut rest = Some(lines);
+    while let Some(octets) = rest {
+        let (line, next) = cut_line(octets);
+        print_line(line, writer)?;
+        rest = next;
     }
     writer.flush()
+}
+
+/// Prints a line without the space that it begins with; nothing if it begins with none.
+fn print_line<W: Write>(line: &[u8], writer: &mut W) -> io::Result<()>
+    ensures { OnOk result (Appends (W.contents writer.old) (W.contents writer.new) (printed_line line.now)) }
+{
+    if let Some(text) = line.strip_prefix(b" ") {
+        writer.write_all(text)?;
+        writer.write_all(b"\n")?;
+    }
+    Ok(())
 }

@@ -1,9 +1,25 @@
 -- One task more was tried.
-use Rattle.std.proofs.Common.{sym, subst, ◌∙◌, arith}
+use Rattle.std.proofs.Common.{refl, sym, subst, ◌∙◌, arith}
+use Rattle.relay_connections.proofs.Theorems.{leaves_then}
 use Rattle.relay_next_hops.specs.Deliveries.{AreAimed, IsOpenedTo}
-use Rattle.relay_next_hops.proofs.StartLemmas.{step_ends, step_goes_on, unheld_then}
+use Rattle.relay_next_hops.proofs.LeaveLemmas.{leaves_same}
+use Rattle.relay_next_hops.proofs.StartLemmas.{same_unheld, step_ends, step_goes_on, unheld_then}
 use Rattle.relay_next_hops.proofs.TurnLemmas.{only_then}
 use Rattle.relay_next_hops.proofs.starting.start_lane.Goals as goal
+
+pub loop-init : goal.loop-init
+loop-init g c = record {
+  leaves = leaves_same g.D.Disk.honest g.D.Disk.words c.args.relay.now;
+  config = refl;
+  counts = λ match_is. match_is;
+  aimed = λ aimed. aimed;
+  only = record { held = refl; most = refl; tasks = λ other apart. refl; paces = λ other apart. refl; silent = λ silent. silent; opened = refl };
+  unheld = same_unheld c.args.lanes.now.held c.args.hops.now.hops c.args.hops.now.hops refl;
+  more = omega arith;
+  kept = omega arith;
+  tries = omega arith;
+  tasks = omega arith;
+}
 
 pub loop-preserved : goal.loop-preserved
 loop-preserved g c =
@@ -12,6 +28,7 @@ loop-preserved g c =
     let kept = step_goes_on g.D.Disk.words (IsOpenedTo g.N.Dial.leads_to g.S.Stream.remaining g.S.Stream.contents) c.args.now.now c.args.lane c.loop.hops.hops c.start_next.new.hops.hops c.loop.lanes c.start_next.new.lanes c.loop.relay c.start_next.new.relay
     c.in_ok-step.step c.end_of.result _ _ next.came c.end_of.ensures (λ last is. c.in_default.not-Some last is) in
     record {
+      leaves = leaves_then g.D.Disk.honest g.D.Disk.words c.args.relay.now c.loop.relay c.start_next.new.relay before.leaves next.leaves;
       config = next.config ∙ before.config;
       counts = λ match_is. next.counts (before.counts match_is);
       aimed = λ aimed. subst (λ config. AreAimed config.routes.routes c.start_next.new.hops.hops) before.config
@@ -33,3 +50,9 @@ pub returns-in-Some-clause-begun : goal.returns-in-Some-clause-begun
 returns-in-Some-clause-begun g c =
     step_ends g.D.Disk.words (IsOpenedTo g.N.Dial.leads_to g.S.Stream.remaining g.S.Stream.contents) c.args.now.now c.args.lane c.loop.hops.hops c.start_next.new.hops.hops c.loop.lanes c.start_next.new.lanes c.loop.relay c.start_next.new.relay
     c.in_ok-step.step c.in-Some.begun _ c.args.lanes.now _ (g.N.Dial.spares c.end_of.new.dial) c.in_ok-step.ensures.came c.in-Some.ensures
+
+pub returns-in-Some-clause-leaves : goal.returns-in-Some-clause-leaves
+returns-in-Some-clause-leaves g c = leaves_then g.D.Disk.honest g.D.Disk.words c.args.relay.now c.loop.relay c.start_next.new.relay c.loop.invariant.leaves c.in_ok-step.ensures.leaves
+
+pub returns-clause-leaves : goal.returns-clause-leaves
+returns-clause-leaves g c = c.loop.invariant.leaves

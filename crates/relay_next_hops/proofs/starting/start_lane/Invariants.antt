@@ -1,6 +1,7 @@
 -- How far it has come with the lane: where counts and aims matched before, they do, and so many of its tasks have left
 -- it as were tried, but for those that were put back for want of a descriptor.
 use Rattle.std.proofs.Common.{◌≡◌, ◌+◌, ◌≤◌, length}
+use Rattle.relay_connections.specs.Served.{LeavesClients}
 use Rattle.relay_next_hops.specs.Counts.{CountsMatch, unanswered_of}
 use Rattle.relay_next_hops.specs.Deliveries.{AreAimed}
 use Rattle.relay_next_hops.specs.Lanes.{OnlyLane, tasks_at}
@@ -9,6 +10,7 @@ use Rattle.relay_next_hops.proofs.starting.start_lane.Given as goal
 
 abbrev pub invariant-loop : goal.invariant-loop
 invariant-loop g l = record {
+  leaves : LeavesClients g.D.Disk.honest g.D.Disk.words l.initial.relay l.relay;
   config : l.relay.node.config ≡ l.initial.relay.node.config;
   counts : CountsMatch l.initial.hops.hops l.initial.lanes.paces → CountsMatch l.hops.hops l.lanes.paces;
   aimed : AreAimed l.initial.relay.node.config.routes.routes l.initial.hops.hops

@@ -7,6 +7,7 @@ use Rattle.relay_next_hops.specs.Deliveries.{IsOpenedTo}
 use Rattle.relay_next_hops.specs.Lanes.{tasks_at}
 use Rattle.relay_next_hops.specs.Paces.{HasLane}
 use Rattle.relay_next_hops.specs.Starting.{IsStep}
+use Rattle.relay_next_hops.proofs.LeaveLemmas.{leaves_same}
 use Rattle.relay_next_hops.proofs.StartLemmas.{back_few, same_unheld, step_is, tried_aimed, tried_counts, tried_unanswered, tried_unheld}
 use Rattle.relay_next_hops.proofs.TurnLemmas.{has_lane, only_then}
 use Rattle.relay_next_hops.proofs.starting.start_next.Goals as goal
@@ -63,6 +64,7 @@ returns g c =
           })
           (λ before is. omega (arith, c.in_ok-tried.ensures.fewer, longer, is)));
       config = c.in_ok-tried.ensures.config;
+      leaves = c.in_ok-tried.ensures.leaves;
     }
 
 -- A task that a postmaster holds has left the lane, and nothing else changes.
@@ -96,4 +98,18 @@ returns-then-is_kept g c =
         omega (arith, longer),
       );
       config = refl;
+      leaves = leaves_same g.D.Disk.honest g.D.Disk.words c.args.relay.now;
     }
+
+-- No task is tried.
+pub returns-in_default-clause-leaves : goal.returns-in_default-clause-leaves
+returns-in_default-clause-leaves g c = leaves_same g.D.Disk.honest g.D.Disk.words c.args.relay.now
+
+pub returns-then-not-may_begin-clause-leaves : goal.returns-then-not-may_begin-clause-leaves
+returns-then-not-may_begin-clause-leaves g c = leaves_same g.D.Disk.honest g.D.Disk.words c.args.relay.now
+
+pub returns-then-count_unanswered-ge-MOST_UNANSWERED-clause-leaves : goal.returns-then-count_unanswered-ge-MOST_UNANSWERED-clause-leaves
+returns-then-count_unanswered-ge-MOST_UNANSWERED-clause-leaves g c = leaves_same g.D.Disk.honest g.D.Disk.words c.args.relay.now
+
+pub returns-in_default-next-clause-leaves : goal.returns-in_default-next-clause-leaves
+returns-in_default-next-clause-leaves g c = leaves_same g.D.Disk.honest g.D.Disk.words c.args.relay.now

@@ -1,16 +1,33 @@
 -- One lane more has had its turn.
-use Rattle.std.proofs.Common.{◌+◌, ◌<◌, ◌≤◌, ◌^◌, inl, inr, length, min, sym, ap, subst, ◌∙◌, arith}
+use Rattle.std.proofs.Common.{◌+◌, ◌<◌, ◌≤◌, ◌^◌, inl, inr, length, min, refl, sym, ap, subst, ◌∙◌, arith}
+use Rattle.relay_connections.proofs.Theorems.{leaves_then}
 use Rattle.relay_next_hops.specs.Counts.{unanswered_of}
 use Rattle.relay_next_hops.specs.Deliveries.{AreAimed}
 use Rattle.relay_next_hops.specs.Lanes.{tasks_at}
 use Rattle.relay_next_hops.specs.Starting.{IsDone, IsStoppedBy}
 use Rattle.relay_next_hops.specs.Turns.{IsGoneOver}
 use Rattle.relay_next_hops.specs.declared.lanes.Lanes.{Lanes}
+use Rattle.relay_next_hops.proofs.LeaveLemmas.{leaves_same}
 use Rattle.relay_next_hops.proofs.RoundLemmas.{done_kept, done_own, fewer_then, gone_kept, gone_own, round_all, round_next, stopped}
 use Rattle.relay_next_hops.proofs.SlotLemmas.{counts_stay}
-use Rattle.relay_next_hops.proofs.StartLemmas.{unheld_then}
+use Rattle.relay_next_hops.proofs.StartLemmas.{same_unheld, unheld_then}
 use Rattle.relay_next_hops.proofs.TurnLemmas.{only_then, unanswered_stay}
 use Rattle.relay_next_hops.proofs.turning.start_tasks.Goals as goal
+
+pub loop-step-init : goal.loop-step-init
+loop-step-init g c = record {
+  leaves = leaves_same g.D.Disk.honest g.D.Disk.words c.args.relay.now;
+  config = refl;
+  counts = λ match_is. match_is;
+  aimed = λ aimed. aimed;
+  unheld = same_unheld c.args.lanes.now.held c.args.hops.now.hops c.args.hops.now.hops refl;
+  held = refl;
+  opened = refl;
+  kept = omega arith;
+  fewer = λ lane. omega arith;
+  gone = λ lane past early. absurd (omega (arith, early));
+  done = λ none lane past early. absurd (omega (arith, early));
+}
 
 pub loop-step-preserved : goal.loop-step-preserved
 loop-step-preserved g c =
@@ -33,7 +50,11 @@ loop-step-preserved g c =
     let goes = subst (IsStoppedBy c.in_ok-begun.begun) c.if-stops.false c.stops.ensures in
     let few : length (tasks_at between lane) ≤ length (tasks_at start lane) = omega (arith, lost.fewer, before.fewer lane) in
     let short : c.loop-step.step < c.len-count.result + 1 = omega (arith, c.loop-step-test.true, c.saturating_add-step-end.ensures) in
+    let honest = g.D.Disk.honest in
+    let words = g.D.Disk.words in
     record {
+      leaves = leaves_then honest words c.args.relay.now c.lose_once.new.relay c.start_lane.new.relay
+          (leaves_then honest words c.args.relay.now c.loop-step.relay c.lose_once.new.relay before.leaves lost.leaves) began.leaves;
       config = began.config ∙ same;
       counts = λ match_is. began.counts (counts_stay hops_old old.paces between.paces lost.counts.runs (before.counts match_is));
       aimed = λ aimed. subst (λ config. AreAimed config.routes.routes hops_new) same
@@ -81,6 +102,8 @@ returns-then-stops g c =
       unheld = unheld_then start.held between.held c.args.hops.now.hops hops_old hops_new (lost.only.held ∙ before.held) before.unheld began.unheld;
       held = c.turn.ensures.counts.held ∙ only.held ∙ before.held;
       config = began.config ∙ same;
+      leaves = leaves_then g.D.Disk.honest g.D.Disk.words c.args.relay.now c.lose_once.new.relay c.start_lane.new.relay
+          (leaves_then g.D.Disk.honest g.D.Disk.words c.args.relay.now c.loop-step.relay c.lose_once.new.relay before.leaves lost.leaves) began.leaves;
     }
 
 -- each lane has had its turn
@@ -120,3 +143,13 @@ returns-clause-closes g c = λ opened. inr (λ lane low.
     subst (λ (lanes : Lanes). IsDone tick hops lanes lane) (sym c.close.ensures.rest)
     (subst (λ (lanes : Lanes). IsDone tick hops lanes lane) (sym c.turn-2.ensures.rest)
     (round_all (IsDone tick hops c.loop-step.lanes) (min c.first-first.result c.len-count.result) c.len-count.result c.loop-step.step within over (c.loop-step.invariant.done c.if-has_more.false) lane (omega (arith, c.len-count.ensures, low)))))
+
+-- No lane is visited.
+pub returns-then-not-is_open-clause-leaves : goal.returns-then-not-is_open-clause-leaves
+returns-then-not-is_open-clause-leaves g c = leaves_same g.D.Disk.honest g.D.Disk.words c.args.relay.now
+
+pub returns-then-has_lost-clause-leaves : goal.returns-then-has_lost-clause-leaves
+returns-then-has_lost-clause-leaves g c = c.loop-step.invariant.leaves
+
+pub returns-clause-leaves : goal.returns-clause-leaves
+returns-clause-leaves g c = c.loop-step.invariant.leaves

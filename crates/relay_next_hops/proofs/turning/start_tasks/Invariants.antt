@@ -1,6 +1,7 @@
 -- The lanes so far were gone over, and all of them are done where none has more; where counts and aims matched before,
 -- they do.
 use Rattle.std.proofs.Common.{◌≡◌, ◌+◌, ◌<◌, ◌≤◌, ℕ, false, length, min}
+use Rattle.relay_connections.specs.Served.{LeavesClients}
 use Rattle.relay_next_hops.specs.Counts.{CountsMatch}
 use Rattle.relay_next_hops.specs.Deliveries.{AreAimed}
 use Rattle.relay_next_hops.specs.Lanes.{IsNth, tasks_at}
@@ -10,6 +11,7 @@ use Rattle.relay_next_hops.proofs.turning.start_tasks.Given as goal
 
 abbrev pub invariant-loop-step : goal.invariant-loop-step
 invariant-loop-step g l = record {
+  leaves : LeavesClients g.D.Disk.honest g.D.Disk.words l.initial.relay l.relay;
   config : l.relay.node.config ≡ l.initial.relay.node.config;
   counts : CountsMatch l.initial.hops.hops l.initial.lanes.paces → CountsMatch l.hops.hops l.lanes.paces;
   aimed : AreAimed l.initial.relay.node.config.routes.routes l.initial.hops.hops

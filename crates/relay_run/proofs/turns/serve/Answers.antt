@@ -5,4 +5,4 @@ pub returns : goal.returns
 returns g c = tt
 
 pub returns-then-has_drained : goal.returns-then-has_drained
-returns-then-has_drained g c = (_, c.has_drained.ensures c.if-has_drained.true)
+returns-then-has_drained g c = (_, c.has_drained.ensures.drained.0 c.if-has_drained.true)

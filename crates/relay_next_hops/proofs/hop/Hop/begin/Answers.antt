@@ -1,6 +1,7 @@
 -- The attempt has begun by the moment that was computed for it.
 use Rattle.std.proofs.Common.{rules, ℕ, Some, subst}
 use Rattle.relay_attempts.specs.Attempts.{StartsAtMost}
+use Rattle.relay_next_hops.proofs.LeaveLemmas.{leaves_equal, start_leaves}
 use Rattle.relay_next_hops.proofs.hop.Hop.begin.Goals as goal
 
 pub returns-in-Ok-clause-starts : goal.returns-in-Ok-clause-starts
@@ -13,3 +14,11 @@ returns-in-Ok-clause-starts g c = λ fresh runs. record {
   records = search rules;
   only = search rules;
 }
+
+pub returns-in-Ok-clause-leaves : goal.returns-in-Ok-clause-leaves
+returns-in-Ok-clause-leaves g c =
+    start_leaves g.D.Disk.honest g.D.Disk.words c.args.relay.now c.start_some.new.self c.args.self.now.message c.args.self.now.name (Some c.args.most) c.start_moment-at.result c.in-Ok.started
+    c.in-Ok.ensures.starts c.start_some.ensures.records c.in-Ok.ensures.only
+
+pub returns-in-Err-clause-leaves : goal.returns-in-Err-clause-leaves
+returns-in-Err-clause-leaves g c = leaves_equal g.D.Disk.honest g.D.Disk.words c.args.relay.now c.start_some.new.self c.in-Err.ensures.unchanged

@@ -4,8 +4,10 @@ use Rattle.std.specs.Vec.Iter.{into_iter_steps}
 use Rattle.relay_records.specs.declared.fault.NodeFault.{NodeFault}
 use Rattle.relay_loop.specs.declared.hops.Answered.{Answered}
 use Rattle.relay_connections.specs.Hearing.{turned}
+use Rattle.relay_connections.proofs.Theorems.{leaves_then}
 use Rattle.relay_next_hops.specs.Hearing.{AnswersEach, hearing_at, order_of}
 use Rattle.relay_next_hops.proofs.HearingLemmas.{all_over, hears, if_some, none_of, passes, stops}
+use Rattle.relay_next_hops.proofs.LeaveLemmas.{leaves_same}
 use Rattle.relay_next_hops.proofs.OrderLemmas.{first_low, round_answered}
 use Rattle.relay_next_hops.proofs.SlotLemmas.{is_none}
 use Rattle.relay_next_hops.proofs.hops.Hops.answer.Goals as goal
@@ -18,6 +20,7 @@ loop-step-preserved-in_default-hearing_at g c = (
       c.loop-step.invariant.0 new (passes (length c.standing-count.result.now) c.first_of-first.result c.loop-step.step tick c.loop-step.answers.rest.items c.loop-step.self.hops new c.loop-step-test.true none each),
   c.loop-step.invariant.1,
   c.loop-step.invariant.2,
+  c.loop-step.invariant.3,
 )
 
 pub returns-in_default-next-clause-heard : goal.returns-in_default-next-clause-heard
@@ -51,6 +54,7 @@ loop-step-preserved g c = (
       (hears count first step tick c.in-Some-next.answer c.next.new.self.rest.items hops c.answer_one.new.self.hops new c.loop-step-test.true some c.in_ok-closed.ensures.heard each)),
   λ match_is. c.in_ok-closed.ensures.counts (c.loop-step.invariant.1 match_is),
   λ routes aimed. c.answer_one.ensures.aimed routes (c.loop-step.invariant.2 routes aimed),
+  leaves_then g.D.Disk.honest g.D.Disk.words c.args.relay.now c.loop-step.relay c.answer_one.new.relay c.loop-step.invariant.3 c.in_ok-closed.ensures.leaves,
 )
 
 pub returns-clause-heard : goal.returns-clause-heard
@@ -70,3 +74,12 @@ overflow_add-number g c =
     let some : 0 < length c.standing-count.result.now = omega (arith, c.loop-step-test.true) in
     let low = first_low c.args.self.now.first (length c.standing-count.result.now) c.first_of-first.result c.first_of-first.ensures.first c.first_of-first.ensures.over some in
     omega (arith, low, within, c.loop-step-test.true)
+
+pub loop-step-init : goal.loop-step-init
+loop-step-init g c = (λ new each. each, λ match_is. match_is, λ routes aimed. aimed, leaves_same g.D.Disk.honest g.D.Disk.words c.args.relay.now)
+
+pub returns-in_default-next-clause-leaves : goal.returns-in_default-next-clause-leaves
+returns-in_default-next-clause-leaves g c = c.loop-step.invariant.3
+
+pub returns-clause-leaves : goal.returns-clause-leaves
+returns-clause-leaves g c = c.loop-step.invariant.3

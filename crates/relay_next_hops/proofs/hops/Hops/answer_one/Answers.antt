@@ -1,6 +1,7 @@
 -- The connection that is answered keeps its delivery, and is counted until it is settled.
 use Rattle.std.proofs.Common.{refl}
 use Rattle.relay_next_hops.proofs.HearingLemmas.{answered_by, on_ok}
+use Rattle.relay_next_hops.proofs.LeaveLemmas.{leaves_on, leaves_same}
 use Rattle.relay_next_hops.proofs.SlotLemmas.{out_aim, out_aimed, out_counts, out_free, out_low}
 use Rattle.relay_next_hops.proofs.hops.Hops.answer_one.Goals as goal
 
@@ -28,3 +29,12 @@ returns-clause-heard g c =
     (out_free hops c.take.new.self c.args.number c.in-Some.taken c.take_answer.new.self c.in-Some.ensures.taken c.take.ensures.rest c.take_answer.ensures.delivery)
     (out_low hops c.take.new.self c.args.number c.in-Some.taken c.take_answer.new.self c.in-Some.ensures.taken c.take.ensures.rest c.take_answer.ensures.delivery))
     c.settle.ensures.others c.in_ok-course.ensures.uses)
+
+pub returns-clause-leaves : goal.returns-clause-leaves
+returns-clause-leaves g c = leaves_on g.D.Disk.honest g.D.Disk.words c.settle.result c.args.relay.now c.take_answer.new.relay c.settle.new.relay c.in_ok-course.ensures.leaves c.settle.ensures.leaves
+
+pub returns-then-alone-eq0-clause-leaves : goal.returns-then-alone-eq0-clause-leaves
+returns-then-alone-eq0-clause-leaves g c = leaves_same g.D.Disk.honest g.D.Disk.words c.args.relay.now
+
+pub returns-in_default-clause-leaves : goal.returns-in_default-clause-leaves
+returns-in_default-clause-leaves g c = leaves_same g.D.Disk.honest g.D.Disk.words c.args.relay.now

@@ -2,6 +2,7 @@
 use Rattle.relay_slots.specs.Slots.{slot_at}
 use Rattle.relay_next_hops.proofs.BegunLemmas.{begun_there}
 use Rattle.relay_next_hops.proofs.HearingLemmas.{on_ok}
+use Rattle.relay_next_hops.proofs.LeaveLemmas.{leaves_on, leaves_same}
 use Rattle.relay_next_hops.proofs.SlotLemmas.{out_aim, out_aimed, out_counts, out_free, out_low}
 use Rattle.relay_next_hops.proofs.hops.Hops.attend_one.Goals as goal
 
@@ -34,3 +35,9 @@ returns-clause-starts g c =
     begun_there c.args.now.now.moment c.most_of-most.result c.args.self.now.portions taken old hop new c.in_ok-course.course c.args.relay.now c.attend.new.relay c.settle.new.relay
     (slot_at hops number) (slot_at c.settle.new.self.hops number) c.in-Some.ensures.taken was own is
     c.most_of-most.ensures c.attend.ensures.starts c.settle.ensures.stays none some)
+
+pub returns-clause-leaves : goal.returns-clause-leaves
+returns-clause-leaves g c = leaves_on g.D.Disk.honest g.D.Disk.words c.settle.result c.args.relay.now c.attend.new.relay c.settle.new.relay c.in_ok-course.ensures.leaves c.settle.ensures.leaves
+
+pub returns-in_default-clause-leaves : goal.returns-in_default-clause-leaves
+returns-in_default-clause-leaves g c = leaves_same g.D.Disk.honest g.D.Disk.words c.args.relay.now

@@ -1,9 +1,8 @@
 -- A slot that was passed over counts where the next hop of its connection hasn't said anything.
 use Rattle.std.proofs.Common.{sym, ap, ◌∙◌, arith}
 use Rattle.relay_connections.specs.Table.{is_such}
-use Rattle.relay_connections.proofs.Theorems.{stands_there}
+use Rattle.relay_connections.proofs.Theorems.{counted_none, counted_one, none_left, same_count, stands_there}
 use Rattle.relay_next_hops.specs.Counts.{is_unanswered}
-use Rattle.relay_next_hops.proofs.CountLemmas.{counted_none, counted_one, none_left, same_count}
 use Rattle.relay_next_hops.proofs.hops.Hops.count_unanswered.Goals as goal
 use Rattle.relay_next_hops.proofs.hops.Hops.count_unanswered.Goals.{else-is_unanswered, then-is_unanswered}
 

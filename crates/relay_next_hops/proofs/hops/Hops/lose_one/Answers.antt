@@ -2,6 +2,7 @@
 use Rattle.std.proofs.Common.{refl}
 use Rattle.relay_next_hops.specs.Deliveries.{KeepsDelivery}
 use Rattle.relay_next_hops.specs.declared.hop.Hop.{Hop}
+use Rattle.relay_next_hops.proofs.LeaveLemmas.{leaves_same}
 use Rattle.relay_next_hops.proofs.SlotLemmas.{out_aim, out_aimed, out_counts, out_free, out_low}
 use Rattle.relay_next_hops.proofs.hops.Hops.lose_one.Goals as goal
 
@@ -24,3 +25,9 @@ returns-clause-aimed g c = λ routes aimed.
     c.settle.ensures.aimed routes
     (out_aim hops c.take.new.self c.in-Some.number hop hop c.in-Some-take.ensures.taken c.take.ensures.rest (same hop) routes aimed)
     (out_aimed hops c.take.new.self c.in-Some.number hop hop c.in-Some-take.ensures.taken c.take.ensures.rest (same hop) routes aimed)
+
+pub returns-in_default-clause-leaves : goal.returns-in_default-clause-leaves
+returns-in_default-clause-leaves g c = leaves_same g.D.Disk.honest g.D.Disk.words c.args.relay.now
+
+pub returns-in_default-take-clause-leaves : goal.returns-in_default-take-clause-leaves
+returns-in_default-take-clause-leaves g c = leaves_same g.D.Disk.honest g.D.Disk.words c.args.relay.now

@@ -3,6 +3,7 @@ use Rattle.std.proofs.Common.{refl, sym, ◌∙◌, ap, subst}
 use Rattle.relay_next_hops.specs.Deliveries.{portions_after}
 use Rattle.relay_next_hops.specs.Paces.{RunsOneLess}
 use Rattle.relay_next_hops.specs.declared.delivery.Aim.{Aim}
+use Rattle.relay_next_hops.proofs.LeaveLemmas.{leaves_same}
 use Rattle.relay_next_hops.proofs.SlotLemmas.{counts_ended, left_none, put_aimed, put_counts}
 use Rattle.relay_next_hops.proofs.hops.Hops.settle.Goals as goal
 
@@ -26,4 +27,8 @@ returns-in_ok-conclude-in_default g c = record {
   counts = λ match_is free low. counts_ended c.args.hop c.args.self.now.hops c.args.lanes.now.paces c.conclude.new.lanes.paces
       (subst (λ (aim : Aim). RunsOneLess aim.lane c.args.lanes.now.paces c.conclude.new.lanes.paces) c.into_parts-ended.ensures.aim c.conclude.ensures.runs) match_is;
   aimed = λ routes is aimed. aimed;
+  leaves = c.in_ok-conclude-in_default.ensures.leaves;
 }
+
+pub returns-in-Stays-clause-leaves : goal.returns-in-Stays-clause-leaves
+returns-in-Stays-clause-leaves g c = leaves_same g.D.Disk.honest g.D.Disk.words c.args.relay.now

@@ -5,7 +5,7 @@ use Rattle.std.proofs.lemmas.List.{take_all}
 use Rattle.relay_next_hops.specs.Steering.{is_flushed}
 use Rattle.relay_next_hops.specs.declared.lanes.Lanes.{Lanes}
 use Rattle.relay_next_hops.proofs.ListingLemmas.{get_at, kept_then, more_then}
-use Rattle.relay_next_hops.proofs.SteeringLemmas.{counted_next, each_next, flushed_same, low_of}
+use Rattle.relay_next_hops.proofs.SteeringLemmas.{counted_next, counts_some, each_next, flushed_same, if_err_at, low_of, on_err}
 use Rattle.relay_next_hops.proofs.lanes.Lanes.flush_each.Goals as goal
 use Rattle.relay_next_hops.proofs.lanes.Lanes.flush_each.Goals.{else-branch, then-branch}
 
@@ -58,3 +58,14 @@ returns-clause-flushed g c =
           ∙ ap (count_by (is_flushed c.args.relay.now.node c.args.self.now.held (option_copied c.args.scope))) (take_all index marks (omega (arith, c.loop-mark-test.false)));
       each = λ step mark there is. c.loop-mark.invariant.each step mark (omega (arith, low_of marks step mark there, c.loop-mark-test.false)) there is;
     }
+
+pub returns-in_err-flush_place-clause-needed : goal.returns-in_err-flush_place-clause-needed
+returns-in_err-flush_place-clause-needed g c =
+    let before = c.loop-mark.invariant in
+    let failed = if_err_at c.flush_place.result _ _ c.in_err-flush_place.was c.flush_place.ensures.failed in
+    let marks = c.args.marks.now in
+    let index = c.loop-mark.mark-index in
+    let test = is_flushed c.args.relay.now.node c.args.self.now.held (option_copied c.args.scope) in
+    on_err _ _
+    (counts_some test marks index (slice_index_or marks index _) (get_at marks index _ c.loop-mark-test.true)
+    (sym (flushed_same c.args.relay.now.node (option_copied c.args.scope) _ c.args.self.now.held c.loop-mark.self.held true before.more.held (sym failed.1))))

@@ -4,4 +4,4 @@ use Rattle.relay_run.specs.Withdrawing.{HaveNone}
 use Rattle.relay_run.proofs.shell.Shell.withdraw.Goals as goal
 
 pub returns-in_default-clause-withdraws : goal.returns-in_default-clause-withdraws
-returns-in_default-clause-withdraws g c = ([], HaveNone c.args.names.now c.args.self.now.relay)
+returns-in_default-clause-withdraws g c = ([], HaveNone c.args.names.now c.args.self.now.relay, tt)

@@ -1,9 +1,0 @@
--- The subcommand that hands on.
-use Rattle.std.proofs.Common.{◌∙◌, ap₂}
-use Rattle.std.proofs.lemmas.Result.{IfOk-weaker}
-use Rattle.clap.specs.Words.{with_rule}
-use Rattle.relay_arguments.proofs.grammar.push.Goals as goal
-
-pub returns : goal.returns
-returns c =
-    IfOk-weaker c.arg.result _ _ (λ command added. added.shape c.log_argument.ensures.local ∙ ap₂ with_rule c.in_ok-with_file.ensures c.log_argument.ensures.rule) c.arg.ensures

@@ -1,6 +1,0 @@
-use Rattle.std.proofs.Common.{◌≡◌, ◌++◌, take}
-use Rattle.relay_page.specs.Pieces.{escaped}
-use Rattle.relay_page.proofs.pieces.push_escaped.Given as goal
-
-abbrev pub invariant-loop-octet : goal.invariant-loop-octet
-invariant-loop-octet l = l.text.items ≡ l.fn.text.items ++ escaped (take l.octet-index l.octets)

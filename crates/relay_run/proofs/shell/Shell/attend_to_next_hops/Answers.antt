@@ -1,0 +1,18 @@
+-- Clients are left alone.
+use Rattle.std.proofs.Common.{ap}
+use Rattle.relay_connections.specs.Readiness.{clients_of}
+use Rattle.relay_connections.specs.declared.clients.Clients.{Clients}
+use Rattle.relay_connections.proofs.Theorems.{left_are_served}
+use Rattle.relay_run.proofs.ServedLemmas.{after_same}
+use Rattle.relay_run.proofs.shell.Shell.attend_to_next_hops.Goals as goal
+
+pub returns-clause-served : goal.returns-clause-served
+returns-clause-served g c = λ changes setting served.
+    let honest = g.D.Disk.honest in
+    let words = g.D.Disk.words in
+    let remaining = g.S.Stream.remaining in
+    let contents = g.S.Stream.contents in
+    let clients = clients_of c.args.self.now.clients in
+    after_same honest words remaining contents changes setting clients (clients_of c.note_ends.new.self.clients) c.attend.new.relay c.note_ends.new.self.relay
+    (ap (λ (it : Clients _). clients_of it) c.note_ends.ensures.same.1) c.note_ends.ensures.same.0
+    (left_are_served honest words remaining contents changes setting clients c.args.self.now.relay c.attend.new.relay c.in_ok-closed.ensures.leaves served)
