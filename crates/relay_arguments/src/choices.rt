@@ -68,14 +68,11 @@ pub(crate) fn choice_fault(matches: &ArgMatches<'_>) -> Option<ChoiceFault>
 fn choice_fault_of(name: &str, matches: &ArgMatches<'_>) -> Option<ChoiceFault>
     ensures { kinds_of result ≡ choice_kinds_by name.now (rows_of (found_of matches.now)) }
 {
-    if name == "flush" {
-        mail_fault(matches, false)
-    } else if name == "hold" || name == "release" {
-        mail_fault(matches, true)
-    } else if name == "return" || name == "discard" {
-        withdrawal_fault(matches)
-    } else {
-        None
+    match name {
+        "flush" => mail_fault(matches, false),
+        "hold" | "release" => mail_fault(matches, true),
+        "return" | "discard" => withdrawal_fault(matches),
+        _ => None,
     }
 }
 

@@ -47,18 +47,13 @@ pub(crate) fn steering_named<'a>(name: &str, matches: &ArgMatches<'a>) -> Option
     ensures { option_map_or task_value result (streams_asked name.now)
         ≡ steering_by name.now (rows_of (found_of matches.now)) }
 {
-    if name == "flush" {
-        Some(flush_asked(matches))
-    } else if name == "hold" {
-        Some(hold_asked(matches))
-    } else if name == "release" {
-        Some(release_asked(matches))
-    } else if name == "drain" {
-        Some(drain_asked(matches))
-    } else if name == "reload" {
-        Some(reload_asked(matches))
-    } else {
-        withdrawing_named(name, matches)
+    match name {
+        "flush" => Some(flush_asked(matches)),
+        "hold" => Some(hold_asked(matches)),
+        "release" => Some(release_asked(matches)),
+        "drain" => Some(drain_asked(matches)),
+        "reload" => Some(reload_asked(matches)),
+        _ => withdrawing_named(name, matches),
     }
 }
 

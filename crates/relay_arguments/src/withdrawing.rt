@@ -37,14 +37,11 @@ pub(crate) fn withdrawing_named<'a>(name: &str, matches: &ArgMatches<'a>) -> Opt
     ensures { option_map_or task_value result (streams_asked name.now)
         ≡ withdrawing_by name.now (rows_of (found_of matches.now)) }
 {
-    if name == "return" {
-        Some(withdraw_asked(Removal::Return, matches))
-    } else if name == "discard" {
-        Some(withdraw_asked(Removal::Discard, matches))
-    } else if name == "save" {
-        Some(save_asked(matches))
-    } else {
-        None
+    match name {
+        "return" => Some(withdraw_asked(Removal::Return, matches)),
+        "discard" => Some(withdraw_asked(Removal::Discard, matches)),
+        "save" => Some(save_asked(matches)),
+        _ => None,
     }
 }
 

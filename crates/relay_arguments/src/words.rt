@@ -83,20 +83,14 @@ fn task_named<'a>(name: &str, matches: &ArgMatches<'a>) -> Option<Task<'a>>
     ensures { option_map_or task_value result (streams_asked name.now)
         ≡ asked_by name.now (rows_of (found_of matches.now)) }
 {
-    if name == "init" {
-        Some(Task::Init(config(matches)))
-    } else if name == "list" {
-        Some(list_asked(matches))
-    } else if name == "show" {
-        Some(show_asked(matches))
-    } else if name == "status" {
-        Some(status_asked(matches))
-    } else if name == "compact" {
-        Some(Task::Compact(config(matches)))
-    } else if name == "check" {
-        Some(check_asked(matches))
-    } else {
-        relaying_named(name, matches)
+    match name {
+        "init" => Some(Task::Init(config(matches))),
+        "list" => Some(list_asked(matches)),
+        "show" => Some(show_asked(matches)),
+        "status" => Some(status_asked(matches)),
+        "compact" => Some(Task::Compact(config(matches))),
+        "check" => Some(check_asked(matches)),
+        _ => relaying_named(name, matches),
     }
 }
 
@@ -105,14 +99,11 @@ fn relaying_named<'a>(name: &str, matches: &ArgMatches<'a>) -> Option<Task<'a>>
     ensures { option_map_or task_value result (streams_asked name.now)
         ≡ relaying_by name.now (rows_of (found_of matches.now)) }
 {
-    if name == "run" {
-        Some(run_asked(matches))
-    } else if name == "serve" {
-        Some(serve_asked(matches))
-    } else if name == "push" {
-        Some(push_asked(matches))
-    } else {
-        steering_named(name, matches)
+    match name {
+        "run" => Some(run_asked(matches)),
+        "serve" => Some(serve_asked(matches)),
+        "push" => Some(push_asked(matches)),
+        _ => steering_named(name, matches),
     }
 }
 

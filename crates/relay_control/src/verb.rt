@@ -41,22 +41,15 @@ impl Verb {
     pub(crate) fn of(word: &[u8]) -> Option<Verb>
         ensures { MatchOption result (HasNoVerb word.now) (λ verb. word.now ≡ verb_text verb) }
     {
-        if word == b"flush".as_slice() {
-            Some(Verb::Flush)
-        } else if word == b"hold".as_slice() {
-            Some(Verb::Hold)
-        } else if word == b"release".as_slice() {
-            Some(Verb::Release)
-        } else if word == b"return".as_slice() {
-            Some(Verb::Return)
-        } else if word == b"discard".as_slice() {
-            Some(Verb::Discard)
-        } else if word == b"reload".as_slice() {
-            Some(Verb::Reload)
-        } else if word == b"drain".as_slice() {
-            Some(Verb::Drain)
-        } else {
-            None
+        match word {
+            b"flush" => Some(Verb::Flush),
+            b"hold" => Some(Verb::Hold),
+            b"release" => Some(Verb::Release),
+            b"return" => Some(Verb::Return),
+            b"discard" => Some(Verb::Discard),
+            b"reload" => Some(Verb::Reload),
+            b"drain" => Some(Verb::Drain),
+            _ => None,
         }
     }
 }
