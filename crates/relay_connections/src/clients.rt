@@ -161,6 +161,13 @@ impl<S: Stream + Drop> Clients<S> {
         self.clients.count()
     }
 
+    /// Returns whether no client is left.
+    pub fn is_empty(&self) -> bool
+        ensures { IsTrue result ↔ (count_of (clients_of self.now) ≡ 0) }
+    {
+        self.clients.count() == 0
+    }
+
     /// Returns how many clients are at an address.
     fn count_at(&self, address: [u8; 4]) -> usize
         ensures { result ≡ count_of_such (is_at address) (clients_of self.now) }

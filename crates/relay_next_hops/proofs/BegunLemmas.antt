@@ -3,7 +3,7 @@ use Rattle.std.proofs.Common.{◌≡◌, ◌≢◌, ℕ, Option, None, Some, ref
 use Rattle.relay_loop.specs.Relay.{RelayState}
 use Rattle.relay_connections.proofs.Theorems.{same_value}
 use Rattle.relay_next_hops.specs.Deliveries.{StartsFor, left_of}
-use Rattle.relay_next_hops.specs.Portions.{Shares, portion_of}
+use Rattle.relay_lanes.specs.Portions.{Shares, portion_of}
 use Rattle.relay_next_hops.specs.declared.delivery.Course.{Course}
 use Rattle.relay_next_hops.specs.declared.delivery.Course.TheVariants.{Stays, Ended, Lost, TurnedAway, Void}
 use Rattle.relay_next_hops.specs.declared.hop.Hop.{Hop}

@@ -1,9 +1,6 @@
-mod PlaceLemmas
-mod PaceLemmas
 mod SlotLemmas
 mod HearingLemmas
 mod OrderLemmas
-mod LastReplyLemmas
 mod ListingLemmas
 mod OverdueLemmas
 mod StartLemmas

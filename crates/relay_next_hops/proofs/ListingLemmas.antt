@@ -16,11 +16,13 @@ use Rattle.relay_book.specs.declared.message.Message.{Message}
 use Rattle.relay_book.specs.declared.message.Place.{Place}
 use Rattle.relay_control.specs.Held.{holds}
 use Rattle.relay_node.specs.Node.{NodeState}
-use Rattle.relay_next_hops.specs.Lanes.{IsListedUnroutable, KeepsCounts, ListsMore, tasks_at, tasks_of, with_last}
-use Rattle.relay_next_hops.specs.Listing.{ArePlacesListed, AreListedFrom, HasConnection, HasEarlyTurn, IsKept, IsListed, IsListedFor, IsPlaceListed, KeepsListed, Waits, WaitsEarly, is_early_for, is_for, route_of}
+use Rattle.relay_next_hops.specs.Lanes.{IsListedUnroutable, KeepsCounts, ListsMore, tasks_at}
+use Rattle.relay_lanes.specs.Lane.{tasks_of, with_last}
+use Rattle.relay_next_hops.specs.Listing.{ArePlacesListed, AreListedFrom, HasConnection, HasEarlyTurn, IsKept, IsListed, IsListedFor, IsPlaceListed, KeepsListed, Waits, WaitsEarly, route_of}
+use Rattle.relay_lanes.specs.Lane.{is_early_for, is_for}
 use Rattle.relay_next_hops.specs.declared.hop.Hop.{Hop}
-use Rattle.relay_next_hops.specs.declared.lane.Lane.{Lane}
-use Rattle.relay_next_hops.specs.declared.lane.Task.{Task}
+use Rattle.relay_lanes.specs.declared.lane.Lane.{Lane}
+use Rattle.relay_lanes.specs.declared.lane.Task.{Task}
 use Rattle.relay_next_hops.specs.declared.lanes.Lanes.{Lanes}
 
 -- one that passes stays among more
@@ -93,10 +95,6 @@ set_own p (first ∷ lanes) zero after low waits = waits
 set_own p (first ∷ lanes) (suc number) after low waits = set_own p lanes number after (omega (arith, low)) waits
 
 -- of no tasks none is first
-pub front_none : {A : Type 0} (xs ys : List A) → xs ++ ys ≡ [] → xs ≡ []
-front_none [] ys none = refl
-front_none (x ∷ xs) ys none = absurd (cc none)
-
 or_more : (a b c : Bool) → (a || b) ≡ true → (a || (c || b)) ≡ true
 or_more true b c passes = refl
 or_more false b true passes = refl

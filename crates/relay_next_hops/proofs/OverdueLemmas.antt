@@ -1,23 +1,14 @@
 -- The last tasks of a lane, which weren't checked, and the first of them that passes a test.
-use Rattle.std.proofs.Common.{◌≡◌, append_assoc, ℕ, zero, suc, ◌+◌, ◌-◌, ◌≤◌, min, cond, Bool, true, false, List, [], ◌∷◌, ◌++◌, length, length-append, take, drop, refl, sym, ap, ◌∙◌, arith, find, option_map, option_to_list, slice_get, Option, Some, None, IfSome}
-use Rattle.std.proofs.lemmas.List.{drop-drop, drop_min, take-append-drop}
+use Rattle.std.proofs.Common.{◌≡◌, append_assoc, ℕ, zero, suc, ◌+◌, ◌-◌, ◌≤◌, cond, Bool, true, false, List, [], ◌∷◌, ◌++◌, length, length-append, take, drop, refl, sym, ap, ◌∙◌, arith, find, option_map, option_to_list, slice_get, Option, Some, None, IfSome}
+use Rattle.std.proofs.lemmas.List.{take-append-drop}
 use Rattle.std.specs.Option.{option_map_or}
-use Rattle.relay_next_hops.specs.declared.lane.Lane.{Lane}
-use Rattle.relay_next_hops.specs.declared.lane.Task.{Task}
+use Rattle.relay_lanes.specs.declared.lane.Lane.{Lane}
+use Rattle.relay_lanes.specs.declared.lane.Task.{Task}
 use Rattle.relay_next_hops.specs.declared.lanes.Lanes.{Lanes}
-use Rattle.relay_next_hops.specs.Lanes.{tasks_at, tasks_of}
-use Rattle.relay_next_hops.specs.Overdue.{TakesOut, checked_at, checked_of, unchecked_at, unchecked_of}
-
--- what is left after one of two places, where both are the same or past the end
-pub drop_same : {A : Type 0} (xs : List A) (a b : ℕ) → min a (length xs) ≡ min b (length xs) → drop a xs ≡ drop b xs
-drop_same xs a b e = sym (drop_min a xs) ∙ ap (λ n. drop n xs) e ∙ drop_min b xs
-
--- one less of the last ones is all of them but the first
-pub last_less : {A : Type 0} (xs : List A) (u : ℕ)
-    → drop (length xs - (min u (length xs) - 1)) xs ≡ drop 1 (drop (length xs - u) xs)
-last_less xs u =
-    drop_same xs (length xs - (min u (length xs) - 1)) ((length xs - u) + 1) (omega arith)
-    ∙ sym (drop-drop 1 (length xs - u) xs)
+use Rattle.relay_next_hops.specs.Lanes.{tasks_at}
+use Rattle.relay_lanes.specs.Lane.{tasks_of}
+use Rattle.relay_next_hops.specs.Overdue.{TakesOut, checked_at, unchecked_at}
+use Rattle.relay_lanes.specs.Lane.{checked_of, unchecked_of}
 
 no_message : (m : ℕ) → None ≡ Some m → ⊥
 no_message m e = cc

@@ -7,11 +7,11 @@ use Rattle.relay_limits.specs.Pace.{MayBegin}
 use Rattle.relay_slots.specs.declared.slots.TheConstants.{SLOT_COUNT}
 use Rattle.relay_next_hops.specs.Counts.{unanswered_of}
 use Rattle.relay_next_hops.specs.Lanes.{IsNth, OnlyLane, tasks_at}
-use Rattle.relay_next_hops.specs.Paces.{MayBeginAt, has_answered_at}
+use Rattle.relay_lanes.specs.Paces.{MayBeginAt, has_answered_at}
 use Rattle.relay_next_hops.specs.Starting.{IsBegun, IsDone, IsStoppedBy}
 use Rattle.relay_next_hops.specs.Turns.{IsGoneOver, IsStopped}
 use Rattle.relay_next_hops.specs.declared.hop.Hop.{Hop}
-use Rattle.relay_next_hops.specs.declared.lane.Task.{Task}
+use Rattle.relay_lanes.specs.declared.lane.Task.{Task}
 use Rattle.relay_next_hops.specs.declared.lanes.Lanes.{Lanes}
 use Rattle.relay_next_hops.specs.declared.starting.Begun.{Begun}
 use Rattle.relay_next_hops.specs.declared.starting.Begun.TheVariants.{AllDone, Crowded, HasMore, Full, Wanting}

@@ -8,7 +8,7 @@ use Rattle.relay_slots.specs.Slots.{AreFree, OthersStay, slot_at}
 use Rattle.relay_connections.specs.Table.{count_of, count_of_such, is_such}
 use Rattle.relay_next_hops.specs.Counts.{CountsMatch, CountsMatchWith, is_in}
 use Rattle.relay_next_hops.specs.Deliveries.{AreAimed, IsAimed, KeepsDelivery, left_of}
-use Rattle.relay_next_hops.specs.Paces.{RunAsBefore, RunsOneLess, RunsOneMore, running_at}
+use Rattle.relay_lanes.specs.Paces.{RunAsBefore, RunsOneLess, RunsOneMore, running_at}
 use Rattle.relay_next_hops.specs.declared.delivery.Aim.{Aim}
 use Rattle.relay_next_hops.specs.declared.delivery.Course.{Course}
 use Rattle.relay_next_hops.specs.declared.delivery.Course.TheVariants.{Stays, Ended, Lost, TurnedAway, Void}

@@ -15,11 +15,11 @@ use Rattle.relay_connections.specs.declared.clocks.Now.{Now}
 use Rattle.relay_next_hops.specs.Counts.{CountsMatch, unanswered_of}
 use Rattle.relay_next_hops.specs.Deliveries.{AreAimed, IsAimed}
 use Rattle.relay_next_hops.specs.Lanes.{OnlyLane, tasks_at}
-use Rattle.relay_next_hops.specs.Paces.{RunsOneMore}
+use Rattle.relay_lanes.specs.Paces.{RunsOneMore}
 use Rattle.relay_next_hops.specs.Starting.{ConnectsFor, IsBegun, IsEndOf, IsStep, IsTried, OpensUnheld, TriesNext, back_of, step_after}
 use Rattle.relay_next_hops.specs.declared.delivery.Aim.{Aim}
 use Rattle.relay_next_hops.specs.declared.hop.Hop.{Hop}
-use Rattle.relay_next_hops.specs.declared.lane.Task.{Task}
+use Rattle.relay_lanes.specs.declared.lane.Task.{Task}
 use Rattle.relay_next_hops.specs.declared.lanes.Lanes.{Lanes}
 use Rattle.relay_next_hops.specs.declared.starting.Begun.{Begun}
 use Rattle.relay_next_hops.specs.declared.starting.Begun.TheVariants.{AllDone, Crowded, Full, Wanting}

@@ -8,10 +8,11 @@ use Rattle.relay_limits.specs.Pace.{MayBegin}
 use Rattle.relay_slots.specs.Slots.{slot_at}
 use Rattle.relay_connections.specs.Table.{count_of_such, is_such}
 use Rattle.relay_next_hops.specs.Counts.{is_unanswered, unanswered_of}
-use Rattle.relay_next_hops.specs.Lanes.{OnlyLane, tasks_at, tasks_of}
-use Rattle.relay_next_hops.specs.Paces.{HasLane, MayBeginAt, changed_at, has_answered_at, put_at}
+use Rattle.relay_next_hops.specs.Lanes.{OnlyLane, tasks_at}
+use Rattle.relay_lanes.specs.Lane.{tasks_of}
+use Rattle.relay_lanes.specs.Paces.{HasLane, MayBeginAt, changed_at, has_answered_at, put_at}
 use Rattle.relay_next_hops.specs.declared.hop.Hop.{Hop}
-use Rattle.relay_next_hops.specs.declared.lane.Lane.{Lane}
+use Rattle.relay_lanes.specs.declared.lane.Lane.{Lane}
 use Rattle.relay_next_hops.specs.declared.lanes.Lanes.{Lanes}
 use Rattle.relay_next_hops.proofs.ListingLemmas.{get_beside, get_own}
 use Rattle.relay_next_hops.proofs.SlotLemmas.{count_set}

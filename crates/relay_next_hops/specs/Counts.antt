@@ -2,7 +2,7 @@
 use Rattle.std.specs.Prelude.{◌≡◌, ◌+◌, ◌==◌, ℕ, Bool, not, List, Option, if◌then◌else◌}
 use Rattle.relay_limits.specs.declared.pace.Pace.{Pace}
 use Rattle.relay_connections.specs.Table.{count_of_such}
-use Rattle.relay_next_hops.specs.Paces.{has_answered_at, running_at}
+use Rattle.relay_lanes.specs.Paces.{has_answered_at, running_at}
 use Rattle.relay_next_hops.specs.declared.hop.Hop.{Hop}
 
 -- the connection belongs to this lane

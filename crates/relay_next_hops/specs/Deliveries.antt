@@ -15,7 +15,7 @@ use Rattle.relay_log.specs.declared.hop_link.Loss.{Loss}
 use Rattle.relay_log.specs.declared.hop_link.Loss.TheVariants.{Refused, Unreachable, Silent, Cut}
 use Rattle.relay_connections.specs.Channel.{held_of, is_shut, unread_of}
 use Rattle.relay_connections.specs.declared.channel.Channel.{Channel}
-use Rattle.relay_next_hops.specs.Portions.{Shares, halved_for}
+use Rattle.relay_lanes.specs.Portions.{Shares, halved_for}
 use Rattle.relay_next_hops.specs.declared.delivery.Aim.{Aim}
 use Rattle.relay_next_hops.specs.declared.delivery.Course.{Course}
 use Rattle.relay_next_hops.specs.declared.delivery.Course.TheVariants.{Stays, Ended, Lost, TurnedAway, Void}

@@ -6,7 +6,7 @@ use Rattle.relay_book.specs.Queue.{message_of}
 use Rattle.relay_loop.specs.Relay.{RelayState}
 use Rattle.relay_next_hops.specs.Lanes.{IsPutBack}
 use Rattle.relay_next_hops.specs.declared.delivery.Delivery.{Delivery}
-use Rattle.relay_next_hops.specs.declared.lane.Task.{Task}
+use Rattle.relay_lanes.specs.declared.lane.Task.{Task}
 use Rattle.relay_next_hops.specs.declared.lanes.Lanes.{Lanes}
 
 -- a place of the message is due at a time, and goes to the next hop of this name

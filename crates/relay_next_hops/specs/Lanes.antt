@@ -1,22 +1,18 @@
 -- The due mail at next hops, by lanes: the address of each lane, its running attempts, and its tasks.
-use Rattle.std.specs.Prelude.{◌≡◌, ◌≢◌, ◌⊎◌, ◌==◌, ◌+◌, ℕ, false, true, List, [], ◌∷◌, ◌++◌, Option, None, Some}
-use Rattle.std.specs.Prelude.{Contains, if◌then◌else◌, option_map, slice_get}
+use Rattle.std.specs.Prelude.{◌≡◌, ◌≢◌, ◌⊎◌, ◌==◌, ◌+◌, ℕ, false, true, List, [], Option, None, Some}
+use Rattle.std.specs.Prelude.{Contains, slice_get}
 use Rattle.std.specs.List.{list_any}
 use Rattle.std.specs.Option.{option_map_or}
 use Rattle.std.specs.declared.net.socket_addr.SocketAddrV4.{SocketAddrV4}
-use Rattle.relay_next_hops.specs.declared.lane.Lane.{Lane}
-use Rattle.relay_next_hops.specs.declared.lane.Task.{Task}
+use Rattle.relay_lanes.specs.Lane.{tasks_of, with_first}
+use Rattle.relay_lanes.specs.Paces.{RunAsBefore, has_answered_at}
+use Rattle.relay_lanes.specs.declared.lane.Task.{Task}
 use Rattle.relay_next_hops.specs.declared.lanes.Lanes.{Lanes}
 use Rattle.relay_next_hops.specs.declared.next_hops.NextHops.{NextHops}
-use Rattle.relay_next_hops.specs.Paces.{RunAsBefore, has_answered_at}
 
 -- the tick at which mail is due that isn't listed, according to the node
 abbrev pub next_due_of : {S : Type 0} → NextHops S → ℕ
 next_due_of next_hops = next_hops.lanes.next_due
-
--- the tasks of a lane in the order in which they begin: first those that were asked for early
-abbrev pub tasks_of : Lane → List Task
-tasks_of lane = lane.early.items ++ lane.tasks.items
 
 -- the tasks of the lane of a number, in the order in which they begin; none if there is no such lane
 abbrev pub tasks_at : Lanes → ℕ → List Task
@@ -25,19 +21,6 @@ tasks_at lanes number = option_map_or tasks_of (slice_get lanes.lanes.items numb
 -- the tasks of the lane of a number that were asked for early; none if there is no such lane
 abbrev pub early_at : Lanes → ℕ → List Task
 early_at lanes number = option_map_or (λ lane. lane.early.items) (slice_get lanes.lanes.items number) []
-
--- the tasks of a lane with one more before the others of its kind: those that were asked for early, or the rest
-abbrev pub with_first : Task → Lane → List Task
-with_first task lane = if task.early then task ∷ tasks_of lane else lane.early.items ++ task ∷ lane.tasks.items
-
--- the tasks of a lane with one more after the others of its kind
-abbrev pub with_last : Task → Lane → List Task
-with_last task lane =
-    if task.early then lane.early.items ++ task ∷ lane.tasks.items else tasks_of lane ++ task ∷ []
-
--- the message of the first of these tasks, if there is one
-abbrev pub first_message : List Task → Option ℕ
-first_message tasks = option_map (λ task. task.message) (slice_get tasks 0)
 
 -- each lane keeps its address
 abbrev pub KeepsPlaces : Lanes → Lanes → Type 0

@@ -1,7 +1,3 @@
-pub mod Places
-pub mod Paces
-pub mod Portions
-pub mod LastReplies
 pub mod Lanes
 pub mod Listing
 pub mod Deliveries
@@ -17,4 +13,3 @@ pub mod Tables
 pub mod SpareDescriptors
 pub mod Readiness
 pub mod Phases
-pub mod Numbers

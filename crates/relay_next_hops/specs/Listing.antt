@@ -1,7 +1,7 @@
 -- What is listed of a message: each due place that no postmaster holds, by a task in the lane of its next hop; and the
 -- message as unroutable if one of its held places has no next hop.
-use Rattle.std.specs.Prelude.{◌≡◌, ◌⊎◌, ◌==◌, ◌&&◌, ◌<◌, ◌≤◌, ℕ, Bool, true, List, [], Option, Some}
-use Rattle.std.specs.Prelude.{MatchOption, bytes_eq, drop, length, slice_get}
+use Rattle.std.specs.Prelude.{◌≡◌, ◌⊎◌, ◌<◌, ◌≤◌, ℕ, Bool, true, List, [], Option, Some}
+use Rattle.std.specs.Prelude.{MatchOption, drop, length, slice_get}
 use Rattle.std.specs.List.{list_any}
 use Rattle.std.specs.Option.{option_and_then}
 use Rattle.std.specs.declared.net.socket_addr.SocketAddrV4.{SocketAddrV4}
@@ -13,23 +13,16 @@ use Rattle.relay_book.specs.Queue.{message_of}
 use Rattle.relay_book.specs.declared.message.Place.{Place}
 use Rattle.relay_control.specs.Held.{holds}
 use Rattle.relay_node.specs.Node.{NodeState}
+use Rattle.relay_lanes.specs.Lane.{is_early_for, is_for}
+use Rattle.relay_lanes.specs.declared.lane.Task.{Task}
 use Rattle.relay_next_hops.specs.Lanes.{IsListedUnroutable, tasks_at}
 use Rattle.relay_next_hops.specs.declared.hop.Hop.{Hop}
-use Rattle.relay_next_hops.specs.declared.lane.Task.{Task}
 use Rattle.relay_next_hops.specs.declared.lanes.Lanes.{Lanes}
 use Rattle.relay_next_hops.specs.declared.listing.TheConstants.{PART_SIZE}
-
--- the task is for this message and next hop
-abbrev pub is_for : ℕ → List ℕ → Task → Bool
-is_for message name task = (task.message == message) && bytes_eq task.hop name
 
 -- a task for this message and next hop is in the lane of this number
 abbrev pub Waits : ℕ → List ℕ → Lanes → ℕ → Type 0
 Waits message name lanes lane = list_any (is_for message name) (tasks_at lanes lane) ≡ true
-
--- the task is for this message and next hop, and was asked for early
-abbrev pub is_early_for : ℕ → List ℕ → Task → Bool
-is_early_for message name task = task.early && is_for message name task
 
 -- a task for this message and next hop that was asked for early is in the lane of this number
 abbrev pub WaitsEarly : ℕ → List ℕ → Lanes → ℕ → Type 0

@@ -10,7 +10,7 @@ use Rattle.relay_loop.specs.Hops.{RefusesHop}
 use Rattle.relay_loop.specs.Relay.{RelayState}
 use Rattle.relay_limits.specs.declared.pace.Pace.{Pace}
 use Rattle.relay_connections.specs.declared.clocks.Now.{Now}
-use Rattle.relay_next_hops.specs.Paces.{IsHeldAt}
+use Rattle.relay_lanes.specs.Paces.{IsHeldAt}
 use Rattle.relay_next_hops.specs.declared.delivery.Delivery.{Delivery}
 use Rattle.relay_report.specs.Report.{reporter_of}
 

@@ -1,6 +1,6 @@
 -- Overdue mail: tasks at a next hop on hold that have been due for too long.
-use Rattle.std.specs.Prelude.{◌≡◌, ◌-◌, ◌+◌, ◌*◌, ℕ, Bool, false, nat_lt, ◌&&◌, List, [], ◌∷◌, ◌++◌, Option}
-use Rattle.std.specs.Prelude.{take, drop, find, length, slice_get}
+use Rattle.std.specs.Prelude.{◌≡◌, ◌+◌, ◌*◌, ℕ, Bool, false, nat_lt, ◌&&◌, List, [], ◌∷◌, ◌++◌, Option}
+use Rattle.std.specs.Prelude.{take, drop, find, slice_get}
 use Rattle.std.specs.List.{list_any}
 use Rattle.std.specs.Option.{option_map_or}
 use Rattle.relay_disk.specs.Device.{DiskWords}
@@ -8,12 +8,12 @@ use Rattle.relay_book.specs.Queue.{message_of}
 use Rattle.relay_book.specs.declared.message.Message.{Message}
 use Rattle.relay_book.specs.declared.message.Place.{Place}
 use Rattle.relay_loop.specs.Relay.{RelayState}
+use Rattle.relay_lanes.specs.Lane.{checked_of, unchecked_of}
+use Rattle.relay_lanes.specs.declared.lane.Task.{Task}
 use Rattle.relay_next_hops.specs.Lanes.{tasks_at}
 use Rattle.relay_next_hops.specs.Losses.{IsRecordedOrRefused}
 use Rattle.relay_next_hops.specs.Starting.{IsOfTask}
 use Rattle.relay_next_hops.specs.declared.delivery.Delivery.{Delivery}
-use Rattle.relay_next_hops.specs.declared.lane.Lane.{Lane}
-use Rattle.relay_next_hops.specs.declared.lane.Task.{Task}
 use Rattle.relay_next_hops.specs.declared.lanes.Lanes.{Lanes}
 
 -- profile: at this time the place is held, and has been due for more than four hours
@@ -27,15 +27,6 @@ is_overdue at message = option_map_or (λ message. list_any (is_late at) message
 -- the message of the task is overdue
 abbrev pub is_overdue_task : ℕ → List (ℕ × Message) → Task → Bool
 is_overdue_task at messages task = is_overdue at (message_of messages task.message)
-
--- the tasks of a lane that weren't checked for being overdue since it was last emptied, in their order; those that were
--- asked for early don't count
-abbrev pub unchecked_of : Lane → List Task
-unchecked_of lane = drop (length lane.tasks.items - lane.unchecked) lane.tasks.items
-
--- the tasks before these
-abbrev pub checked_of : Lane → List Task
-checked_of lane = lane.early.items ++ take (length lane.tasks.items - lane.unchecked) lane.tasks.items
 
 -- the unchecked tasks of the lane of a number, none if there is no such lane
 abbrev pub unchecked_at : Lanes → ℕ → List Task

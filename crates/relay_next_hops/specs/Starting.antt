@@ -18,11 +18,11 @@ use Rattle.relay_next_hops.specs.Counts.{unanswered_of}
 use Rattle.relay_next_hops.specs.Deliveries.{PutsFor}
 use Rattle.relay_next_hops.specs.Lanes.{IsPutBack, KeepsCounts, KeepsPlaces, tasks_at}
 use Rattle.relay_next_hops.specs.Losses.{EndsLost, TakesNote}
-use Rattle.relay_next_hops.specs.Paces.{MayBeginAt, RunsOneMore, has_answered_at}
+use Rattle.relay_lanes.specs.Paces.{MayBeginAt, RunsOneMore, has_answered_at}
 use Rattle.relay_next_hops.specs.declared.delivery.Aim.{Aim}
 use Rattle.relay_next_hops.specs.declared.delivery.Delivery.{Delivery}
 use Rattle.relay_next_hops.specs.declared.hop.Hop.{Hop}
-use Rattle.relay_next_hops.specs.declared.lane.Task.{Task}
+use Rattle.relay_lanes.specs.declared.lane.Task.{Task}
 use Rattle.relay_next_hops.specs.declared.lanes.Lanes.{Lanes}
 use Rattle.relay_next_hops.specs.declared.starting.TheConstants.{MOST_UNANSWERED}
 use Rattle.relay_next_hops.specs.declared.starting.Begun.{Begun}

@@ -1,8 +1,8 @@
 //! What the connections to next hops are made for, and what becomes of them.
 ghost use Rattle.std.specs.Prelude.{◌≡◌, ◌-◌, false, option_map};
 
-use crate::lane::Task;
 use relay_connections::Now;
+use relay_lanes::Task;
 use relay_log::{Loss, Talk};
 use relay_loop::Outbox;
 use relay_node::Noted;

@@ -8,23 +8,22 @@ ghost use Rattle.relay_next_hops.specs.GoingOn.{ComesNext};
 ghost use Rattle.relay_next_hops.specs.Lanes.{KeepsCounts, KeepsPlaces, OnlyLane};
 ghost use Rattle.relay_next_hops.specs.Losses.{EndsLost, IsRecordedOrRefused, Loses, LosesAttempt, LosesNot};
 ghost use Rattle.relay_next_hops.specs.Losses.{RefusesLoss, StartsAndLoses, StartsNothing};
-ghost use Rattle.relay_next_hops.specs.Paces.{RunsOneLess};
+ghost use Rattle.relay_lanes.specs.Paces.{RunsOneLess};
 
 use crate::delivery::{Course, Delivery};
 use crate::going_on::go_on;
 use crate::lanes::Lanes;
-use crate::last_replies::Answer;
-use crate::portions::Portions;
 use relay_connections::{Channel, Leaving, Now, Stream};
 use relay_disk::Disk;
 use relay_files::Fault;
-use relay_log::{Attempt, Log, Loss, Talk};
+use relay_lanes::Portions;
+use relay_log::{Answer, Attempt, Log, Loss, Talk};
 use relay_loop::{Outbox, Relay};
 use relay_node::{NodeFault, Noted};
 use relay_routes::HostName;
 
 /// Does what follows after a delivery has ended.
-#[tactic(auto, using(crate::proofs::PaceLemmas::less_then_same))]
+#[tactic(auto, using(relay_lanes::proofs::PaceLemmas::less_then_same))]
 pub(crate) fn conclude<S: Stream + Drop, D: Disk>(
     registry: &S::Registry,
     relay: &mut Relay<D>,

@@ -9,19 +9,18 @@ ghost use Rattle.relay_next_hops.specs.Deliveries.{AreAimed, IsAimed, IsOpenedTo
 ghost use Rattle.relay_next_hops.specs.Deliveries.{left_of, portions_after};
 ghost use Rattle.relay_next_hops.specs.Lanes.{KeepsCounts};
 ghost use Rattle.relay_next_hops.specs.Listing.{HasConnection};
-ghost use Rattle.relay_next_hops.specs.Portions.{fresh, portion_of};
+ghost use Rattle.relay_lanes.specs.Portions.{fresh, portion_of};
 ghost use Rattle.relay_next_hops.specs.Readiness.{IsLeftHop};
 
 use crate::delivery::{Aim, Course};
 use crate::dial::Dial;
 use crate::ending::conclude;
 use crate::hop::Hop;
-use crate::lane::Task;
 use crate::lanes::Lanes;
-use crate::portions::Portions;
 use relay_connections::{Channel, Leaving, Now, Readiness, Stream, Table, holds, turned};
 use relay_disk::Disk;
 use relay_files::Fault;
+use relay_lanes::{Portions, Task};
 use relay_log::Log;
 use relay_loop::Relay;
 use relay_routes::HostName;

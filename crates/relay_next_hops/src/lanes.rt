@@ -4,18 +4,15 @@ ghost use Rattle.std.specs.Prelude.{false, length, option_to_list, slice_get, tr
 ghost use Rattle.relay_control.specs.Held.{HoldsNothing};
 ghost use Rattle.relay_next_hops.specs.Lanes.{IsNew, IsPutBack, KeepsCounts, KeepsPlaces};
 ghost use Rattle.relay_next_hops.specs.Lanes.{OnlyLane, closed, tasks_at};
-ghost use Rattle.relay_next_hops.specs.Paces.{HasLane, IsHeldAt, MayBeginAt, RunsOneLess, RunsOneMore};
-ghost use Rattle.relay_next_hops.specs.Paces.{has_answered_at};
+ghost use Rattle.relay_lanes.specs.Paces.{HasLane, IsHeldAt, MayBeginAt, RunsOneLess, RunsOneMore};
+ghost use Rattle.relay_lanes.specs.Paces.{has_answered_at};
 
 use crate::delivery::Aim;
-use crate::lane::{Lane, Task};
-use crate::last_replies::LastReplies;
-use crate::numbers::Numbers;
-use crate::paces::Paces;
-use crate::places::Places;
 use relay_connections::{Leaving, Now, Stream};
 use relay_control::Held;
+use relay_lanes::{Lane, Numbers, Paces, Places, Task};
 use relay_limits::Outage;
+use relay_log::LastReplies;
 use std::alloc::Global;
 use std::collections::VecDeque;
 use std::mem;
@@ -264,7 +261,7 @@ impl Lanes {
     }
 
     /// Notes that a connection of a lane was begun.
-    #[tactic(auto, using(crate::proofs::PaceLemmas::begun_runs))]
+    #[tactic(auto, using(relay_lanes::proofs::PaceLemmas::begun_runs))]
     pub(crate) fn began(&mut self, number: usize)
         ensures runs { HasLane self.old.paces number → RunsOneMore number self.old.paces self.new.paces }
         ensures places { KeepsPlaces self.old self.new }

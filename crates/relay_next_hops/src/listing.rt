@@ -12,10 +12,10 @@ ghost use Rattle.relay_next_hops.specs.Listing.{AreListedFrom, IsListed, KeepsLi
 
 use crate::hops::Hops;
 use crate::lanes::Lanes;
-use crate::numbers::Numbers;
 use relay_connections::{Now, Stream, tick_of};
 use relay_disk::Disk;
 use relay_files::Fault;
+use relay_lanes::Numbers;
 use relay_loop::Relay;
 use relay_node::NodeFault;
 use relay_trace::Moment;

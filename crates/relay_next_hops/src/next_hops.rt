@@ -1,4 +1,4 @@
-ghost use Rattle.std.specs.Prelude.{◌≡◌, ◌≤◌, ℕ, IfOk, IfSome, List, OnOk, map, true};
+ghost use Rattle.std.specs.Prelude.{◌≡◌, ◌≤◌, ℕ, IfOk, IfSome, List, OnOk, false, map, true};
 ghost use Rattle.relay_routes.specs.Routes.{Route};
 ghost use Rattle.relay_slots.specs.Slots.{AreFree};
 ghost use Rattle.relay_control.specs.Held.{HoldsNothing};
@@ -6,7 +6,7 @@ ghost use Rattle.relay_connections.specs.Table.{count_of};
 ghost use Rattle.relay_connections.specs.Served.{LeavesClients};
 ghost use Rattle.relay_next_hops.specs.Hearing.{AnswersEach, order_of, replies_of, told_of};
 ghost use Rattle.relay_next_hops.specs.Lanes.{IsNew, next_due_of};
-ghost use Rattle.relay_next_hops.specs.Portions.{fresh};
+ghost use Rattle.relay_lanes.specs.Portions.{fresh};
 ghost use Rattle.relay_next_hops.specs.Readiness.{IsLeftHop, hops_of};
 ghost use Rattle.relay_next_hops.specs.Starting.{OpensUnheld};
 ghost use Rattle.relay_next_hops.specs.Tables.{TablesMatch};
@@ -15,7 +15,6 @@ use crate::dial::Dial;
 use crate::giving_up::give_up_next;
 use crate::hops::{FIRST_TOKEN, Hops};
 use crate::lanes::Lanes;
-use crate::last_replies::LastReplies;
 use crate::starting::Starts;
 use crate::turning::start_tasks;
 use mio::net::TcpStream;
@@ -23,7 +22,7 @@ use relay_connections::{Leaving, Now, Readiness, Replied, Stream};
 use relay_disk::Disk;
 use relay_files::Fault;
 use relay_limits::Limits;
-use relay_log::Log;
+use relay_log::{LastReplies, Log};
 use relay_loop::{Relay, ReplyPiece};
 use std::alloc::{AllocError, Global};
 use std::rt::Clock;
@@ -177,17 +176,19 @@ impl<S: Stream + Drop> NextHops<S> {
     }
 
     /// Begins due attempts, as far as they may begin, with the spare file descriptors, but opens no connection for mail
-    /// that is held; and gives up the places of one message that have no next hop. Returns whether it gave any up.
-    /// Fails only if the device has failed.
+    /// that is held; and gives up the places of one message that have no next hop. Returns whether it gave any up. Does
+    /// nothing unless `may_begin` is set. Fails only if the device has failed.
     pub fn begin<C: Clock, N: Dial<Stream = S>, D: Disk>(
         &mut self,
         clock: &C,
         dial: &mut N,
         registry: &S::Registry,
         relay: &mut Relay<D>,
+        may_begin: bool,
         now: &Now,
         log: &mut Log<'_, Vec<u8>>,
     ) -> Result<bool, Fault>
+        ensures idle { may_begin ≡ false → (relay.new ≡ relay.old) × (self.new ≡ self.old) }
         ensures matches { TablesMatch relay.old.node.config.routes.routes self.old
             → OnOk result (TablesMatch relay.old.node.config.routes.routes self.new) }
         ensures unheld { OnOk result (OpensUnheld self.old.lanes.held (hops_of self.old) (hops_of self.new)) }
@@ -195,6 +196,9 @@ impl<S: Stream + Drop> NextHops<S> {
         ensures config { relay.new.node.config ≡ relay.old.node.config }
         ensures leaves { OnOk result (LeavesClients D.honest D.words relay.old relay.new) }
     {
+        if !may_begin {
+            return Ok(false);
+        }
         self.lanes.refresh(clock, relay, &self.hops, now)?;
         let gave_up = give_up_next(relay, &mut self.lanes, now, log)?;
         start_tasks(

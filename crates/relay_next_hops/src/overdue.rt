@@ -10,20 +10,21 @@ ghost use Rattle.relay_control.specs.Held.{holds};
 ghost use Rattle.relay_routes.specs.Routes.{place_of};
 ghost use Rattle.relay_slots.specs.Slots.{IsFull};
 ghost use Rattle.relay_connections.specs.Served.{LeavesClients};
-ghost use Rattle.relay_next_hops.specs.declared.lane.Task.{Task};
-ghost use Rattle.relay_next_hops.specs.Lanes.{KeepsCounts, OnlyLane, first_message, tasks_at};
+ghost use Rattle.relay_lanes.specs.declared.lane.Task.{Task};
+ghost use Rattle.relay_next_hops.specs.Lanes.{KeepsCounts, OnlyLane, tasks_at};
+ghost use Rattle.relay_lanes.specs.Lane.{first_message};
 ghost use Rattle.relay_next_hops.specs.Overdue.{Checks, LosesTask, TakesOut, checked_at, is_late, is_overdue};
 ghost use Rattle.relay_next_hops.specs.Overdue.{overdue_at, unchecked_at};
-ghost use Rattle.relay_next_hops.specs.Paces.{IsHeldAt};
+ghost use Rattle.relay_lanes.specs.Paces.{IsHeldAt};
 
 use crate::ending::lose_held;
-use crate::lane::Task;
 use crate::lanes::Lanes;
 use crate::starting::{aim_of, delivery_of};
 use relay_book::Place;
 use relay_connections::Now;
 use relay_disk::Disk;
 use relay_files::Fault;
+use relay_lanes::Task;
 use relay_log::Log;
 use relay_loop::Relay;
 

@@ -5,12 +5,12 @@ ghost use Rattle.relay_next_hops.specs.Listing.{ArePlacesListed, HasEarlyTurn, H
 ghost use Rattle.relay_next_hops.specs.Listing.{IsPlaceListed, KeepsListed, route_of};
 
 use crate::hops::Hops;
-use crate::lane::{Lane, Task};
 use crate::lanes::Lanes;
 use relay_book::Place;
 use relay_connections::{Now, Stream};
 use relay_disk::Disk;
 use relay_envelope::Recipient;
+use relay_lanes::{Lane, Task};
 use relay_loop::Relay;
 use relay_routes::{Hop, HostName, Table};
 use std::net::SocketAddrV4;

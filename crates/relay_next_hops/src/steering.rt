@@ -7,7 +7,7 @@ ghost use Rattle.relay_limits.specs.Pace.{probed};
 ghost use Rattle.relay_routes.specs.Routes.{Route};
 ghost use Rattle.relay_next_hops.specs.Lanes.{KeepsCounts, ListsMore};
 ghost use Rattle.relay_next_hops.specs.Listing.{HasEarlyTurn, KeepsListed};
-ghost use Rattle.relay_next_hops.specs.Paces.{changed_at};
+ghost use Rattle.relay_lanes.specs.Paces.{changed_at};
 ghost use Rattle.relay_next_hops.specs.Steering.{CantFlush, FlushesEach, IsFlushed, is_asked, is_flushed, relisted};
 ghost use Rattle.relay_next_hops.specs.Steering.{with_held, with_lanes};
 ghost use Rattle.relay_next_hops.specs.Tables.{TablesMatch};

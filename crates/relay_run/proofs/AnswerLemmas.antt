@@ -1,5 +1,5 @@
 -- The answer to a request that has withdrawn places, put together.
-use Rattle.std.proofs.Common.{◌≡◌, ◌⊎◌, inl, inr, ℕ, ◌+◌, ◌-◌, ◌^◌, ◌<◌, min, List, [], ◌∷◌, ◌++◌, refl, sym, ◌∙◌, ap, subst, arith, append-nil}
+use Rattle.std.proofs.Common.{◌≡◌, ◌⊎◌, inl, inr, ℕ, ◌+◌, ◌-◌, ◌^◌, ◌<◌, min, List, [], ◌∷◌, ◌++◌, refl, sym, ◌∙◌, ap, arith, append-nil}
 use Rattle.relay_control.specs.declared.named.Named.{Named}
 use Rattle.relay_run.specs.Answers.{refused_lines, withdrawn_in}
 use Rattle.relay_run.specs.declared.withdrawing.Outcome.{Outcome}

@@ -1,5 +1,4 @@
 mod AnswerLemmas
-mod ListingLemmas
 mod AcceptorLemmas
 mod ReloadLemmas
 mod HoldingLemmas

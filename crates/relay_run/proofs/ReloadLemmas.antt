@@ -1,14 +1,18 @@
 -- A configuration that is kept, and the reload that takes effect.
-use Rattle.std.proofs.Common.{◌≡◌, ◌⊎◌, inl, inr, ℕ, Option, None, Some, Result, Ok, Err, IfOk, refl, sym, ◌∙◌, ap, subst}
+use Rattle.std.proofs.Common.{◌≡◌, ◌≢◌, ℕ, Option, None, Some, refl, ◌∙◌, subst}
 use Rattle.relay_connections.specs.declared.clients.Clients.{Clients}
 use Rattle.relay_connections.specs.declared.leaving.Leaving.{Leaving}
-use Rattle.relay_files.specs.declared.fault.Fault.{Fault}
 use Rattle.relay_next_hops.specs.declared.next_hops.NextHops.{NextHops}
 use Rattle.relay_routes.specs.declared.config.Config.{Config}
 use Rattle.relay_run.specs.Reloading.{IsReloadable, TakesEffect}
 use Rattle.relay_run.specs.Reopening.{KeepsConfig}
 use Rattle.relay_run.specs.declared.reload.Reload.{Reload}
 use Rattle.relay_run.specs.declared.steering.Steering.{Steering}
+
+-- what isn't something is nothing
+pub is_none : {A : Type 0} (x : Option A) → ¬ (x ≢ None) → x ≡ None
+is_none None nothing = refl
+is_none (Some x) nothing = absurd (nothing (λ is. let no : ⊥ = cc is in no))
 
 -- no reload waits
 pub none_due : {S : Type 0} (steering : Steering) (clients : Clients S) (next_hops : NextHops S) (leaving : Leaving S) (tick : ℕ) → steering.reload ≡ None

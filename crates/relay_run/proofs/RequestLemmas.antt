@@ -1,5 +1,5 @@
 -- What was done of a request.
-use Rattle.std.proofs.Common.{◌≡◌, ℕ, List, Option, Some, Result, Ok, Err, IfOk, sym, subst}
+use Rattle.std.proofs.Common.{◌≡◌, ℕ, List, Some, Result, Ok, Err, IfOk, sym, subst}
 use Rattle.std.specs.Global.{Vec}
 use Rattle.relay_book.specs.declared.change.Withdrawal.TheVariants as withdrawal
 use Rattle.relay_control.specs.declared.named.Named.{Named}

@@ -1,5 +1,5 @@
 -- A relay that drains turns clients away, whatever is asked of it.
-use Rattle.std.proofs.Common.{◌≡◌, ◌≢◌, ℕ, true, refl, sym, ◌∙◌, ap, subst}
+use Rattle.std.proofs.Common.{◌≡◌, ◌≢◌, ℕ, true, ◌∙◌, ap, subst}
 use Rattle.std.specs.Prelude.{Option, None}
 use Rattle.relay_connections.specs.declared.clients.Clients.{Clients}
 use Rattle.relay_control.specs.declared.request.Request.{Request}

@@ -9,4 +9,3 @@ pub mod Steering
 pub mod Reloading
 pub mod Requests
 pub mod Tidying
-pub mod LastReplies

@@ -65,15 +65,18 @@ module _ {O : Type 0} (has_read : O → List ℕ → Result Settings Fault → T
   abbrev pub HasReadReload : Source → Option Reload → Type 0
   HasReadReload source reload = IfSome reload (λ reload. HasRead source (Ok reload.settings))
 
-  -- A reload is refused for one of these reasons: the relay drains, another reload waits, the configuration can't be
-  -- read or has a fault, or it changes a place.
+  -- the configuration can't be read or has a fault, or it changes a place
+  abbrev pub IsBadReload : {E : Type 0} → Config → Source → Result (Vec ℕ) E → Type 0
+  IsBadReload config source answer =
+      ((fault : Fault) × HasRead source (Err fault) × IsError answer)
+      ⊎ ((settings : Settings) × HasRead source (Ok settings) × ¬ KeepsPlaces source config settings × IsError answer)
+
+  -- A reload is refused for the first of these reasons: the relay drains; another reload waits; its configuration is bad.
   abbrev pub RefusesReload : {E : Type 0} → Config → Steering → Result (Vec ℕ) E → Type 0
   RefusesReload config steering answer =
       ((steering.drain ≢ None) × IsText answer (error_text (codes "the relay drains")))
-      ⊎ (IsReloading steering × IsText answer (error_text (codes "another reload waits")))
-      ⊎ ((fault : Fault) × HasRead steering.source (Err fault) × IsError answer)
-      ⊎ ((settings : Settings) × HasRead steering.source (Ok settings) × ¬ KeepsPlaces steering.source config settings
-      × IsError answer)
+      ⊎ ((steering.drain ≡ None) × IsReloading steering × IsText answer (error_text (codes "another reload waits")))
+      ⊎ ((steering.drain ≡ None) × (steering.reload ≡ None) × IsBadReload config steering.source answer)
 
   -- A request to reload was refused, and nothing has changed; or a reload waits, by the settings that were read, and it
   -- is answered later.

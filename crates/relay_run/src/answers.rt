@@ -1,5 +1,5 @@
 //! Answers of the control socket.
-ghost use Rattle.std.specs.Prelude.{◌≡◌, ◌++◌, ◌-◌, ◌^◌, IfOk, OnOk, codes, decimal, if◌then◌else◌, min};
+ghost use Rattle.std.specs.Prelude.{◌≡◌, ◌++◌, ◌-◌, IfOk, OnOk, codes, decimal, if◌then◌else◌};
 ghost use Rattle.relay_control.specs.Answer.{end_text, error_text, line_text};
 ghost use Rattle.relay_run.specs.Answers.{count_line, done_word, refused_line, withdrawn_of, withdrawn_text};
 

@@ -2,11 +2,12 @@
 ghost use Rattle.std.specs.Prelude.{◌≤◌};
 
 use crate::answers::Answer;
-use crate::status_page::StatusPage;
+use crate::start::PAGE_TOKEN;
 use mio::net::{UnixListener, UnixStream};
 use mio::{Interest, Registry, Token};
 use relay_connections::{Now, Readiness};
 use relay_control::{Callers, MOST_CALLERS, Request};
+use relay_status::StatusPage;
 use std::alloc::Global;
 use std::fs::{self, File, Permissions};
 use std::io::{self, ErrorKind};
@@ -47,7 +48,7 @@ impl Drop for ControlSocket {
 
 impl ControlSocket {
     /// The token of its listener; those of its callers follow in the order of their numbers.
-    pub(crate) const TOKEN: usize = StatusPage::TOKEN + StatusPage::TOKENS;
+    pub(crate) const TOKEN: usize = PAGE_TOKEN + StatusPage::TOKENS;
 
     /// How many tokens it has.
     pub(crate) const TOKENS: usize = 1 + MOST_CALLERS;

@@ -59,7 +59,7 @@ impl Steering {
 
 impl<S: Stream + Drop, D: Disk + Drop, F: Disk + Drop> Shell<S, D, F> {
     /// Reads the configuration again, and prepares for it: begins no more attempts, and ends the sessions. The caller
-    /// is answered when it takes effect. Refuses it only if the relay drains, another reload waits, or the
+    /// is answered when it takes effect. Refuses it only if the relay drains, else if another reload waits, else if the
     /// configuration has a fault or changes a place that the relay keeps as long as it runs; nothing is changed then.
     pub(crate) fn begin_reload<O: Documents>(
         &mut self,
@@ -138,7 +138,7 @@ impl<S: Stream + Drop, D: Disk + Drop, F: Disk + Drop> Shell<S, D, F> {
         ensures { IsTrue result ↔ TakesEffect reload.now self.now.clients self.now.next_hops self.now.leaving
             now.now.tick }
     {
-        self.clients.count() == 0 && (self.is_idle() || reload.until <= now.tick)
+        self.clients.is_empty() && (self.is_idle() || reload.until <= now.tick)
     }
 
     /// Returns whether no attempt runs, and no connection is leaving.

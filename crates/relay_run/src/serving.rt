@@ -6,12 +6,12 @@ use crate::start::{
     Settings, kept_file, locked_relay, log_form, open_listener, open_page, open_steering,
     read_settings, say_ready,
 };
-use crate::status_page::StatusPage;
 use crate::turns::{System, serve};
 use mio::{Events, Poll};
 use relay_files::Fault;
 use relay_next_hops::{Sockets, SpareDescriptors};
 use relay_slots::SLOT_COUNT;
+use relay_status::StatusPage;
 use std::alloc::Global;
 use std::fs::File;
 use std::io::Write;

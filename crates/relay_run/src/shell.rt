@@ -312,12 +312,16 @@ impl<S: Stream + Drop, D: Disk + Drop, F: Disk + Drop> Shell<S, D, F> {
             self.old.relay → OnOk result (AreServedAfter D.honest D.words S.remaining S.contents changes setting
             (clients_of self.new.clients) self.new.relay) }
     {
-        if !self.may_start() {
-            return Ok(());
-        }
-        let gave_up = self
-            .next_hops
-            .begin(clock, dial, registry, &mut self.relay, now, log)?;
+        let may_start = self.may_start();
+        let gave_up = self.next_hops.begin(
+            clock,
+            dial,
+            registry,
+            &mut self.relay,
+            may_start,
+            now,
+            log,
+        )?;
         if gave_up {
             self.tidying.note_shrunk();
         }

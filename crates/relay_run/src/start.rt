@@ -1,4 +1,5 @@
 //! The start of a relay.
+use crate::acceptor::Acceptor;
 use crate::control::ControlSocket;
 use crate::held_mail::HeldMail;
 use crate::known::Known;
@@ -6,7 +7,6 @@ use crate::listen::listener_at;
 use crate::reopening::open_bounded;
 use crate::room::Room;
 use crate::source::Source;
-use crate::status_page::StatusPage;
 use crate::steering::Steering;
 use mio::Registry;
 use mio::net::TcpListener;
@@ -18,6 +18,7 @@ use relay_limits::{
 use relay_log::{Counters, Form, Log};
 use relay_loop::Relay;
 use relay_routes::{Config, ConfigFault};
+use relay_status::StatusPage;
 use relay_trace::clock_moment;
 use std::alloc::Global;
 use std::fs::File;
@@ -29,6 +30,9 @@ use std::time::Duration;
 /// How many seconds to wait for an address that this machine doesn't have yet, as during boot. It is tried once per
 /// second.
 const ADDRESS_SECONDS: u64 = 60;
+
+/// The token of the page's listener; those of its visitors follow.
+pub(crate) const PAGE_TOKEN: usize = Acceptor::TOKEN + 1;
 
 /// What the configuration's file says.
 #[derive(Drop)]
@@ -163,7 +167,15 @@ pub(crate) fn open_page<R: Clock + Net>(
 ) -> Result<StatusPage, Fault> {
     let next_number = relay.node().next_number();
     let since = clock_moment(rt);
-    match StatusPage::open(alloc, rt, registry, limits.status_port, next_number, since) {
+    match StatusPage::open(
+        alloc,
+        rt,
+        registry,
+        PAGE_TOKEN,
+        limits.status_port,
+        next_number,
+        since,
+    ) {
         Ok(page) => Ok(page),
         Err(error) if error.kind() == ErrorKind::OutOfMemory => Err(Fault::NoMemory),
         Err(_) => Err(Fault::Socket),

@@ -13,14 +13,14 @@ use crate::documents::SystemFiles;
 use crate::reopening::Why;
 use crate::reporter::Reporter;
 use crate::shell::SystemShell;
-use crate::status_page::StatusPage;
-use crate::status_texts::Connections;
+use crate::start::PAGE_TOKEN;
 use mio::net::TcpListener;
 use mio::{Events, Poll};
 use relay_connections::{Now, Readiness};
 use relay_files::Fault;
 use relay_log::{Counters, Form, Log};
 use relay_next_hops::Sockets;
+use relay_status::{Connections, StatusPage};
 use std::alloc::Global;
 use std::fs::File;
 use std::io::Write;
@@ -104,10 +104,10 @@ fn wait<R: Clock>(system: &mut System<'_, R>, shell: &mut SystemShell) {
         .poll(&mut system.events, Some(Duration::from_millis(wait)));
     for event in system.events.iter() {
         let (token, ready) = (event.token().0, Readiness::of(event));
-        if token < StatusPage::TOKEN {
+        if token < PAGE_TOKEN {
             shell.note(token, ready);
         } else if token < ControlSocket::TOKEN {
-            system.page.note(token - StatusPage::TOKEN, ready);
+            system.page.note(token - PAGE_TOKEN, ready);
         } else {
             shell
                 .steering

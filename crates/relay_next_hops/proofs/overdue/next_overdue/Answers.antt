@@ -1,8 +1,8 @@
 use Rattle.std.proofs.Common.{◌≡◌, ◌-◌, ℕ, Bool, true, false, drop, take, find, sym, ap, ◌∙◌, Some, inr, length, arith}
 use Rattle.std.proofs.lemmas.List.{drop-drop, drop_all}
 use Rattle.relay_book.specs.Queue.{message_of}
-use Rattle.relay_next_hops.specs.declared.lane.Task.{Task}
-use Rattle.relay_next_hops.specs.Lanes.{first_message}
+use Rattle.relay_lanes.specs.declared.lane.Task.{Task}
+use Rattle.relay_lanes.specs.Lane.{first_message}
 use Rattle.relay_next_hops.specs.Overdue.{is_overdue, is_overdue_task, unchecked_at}
 use Rattle.relay_next_hops.proofs.OverdueLemmas.{find_none, find_passes, find_stops, first_taken, none_left, takes_fewer, takes_out}
 use Rattle.relay_next_hops.proofs.TurnLemmas.{only_then}

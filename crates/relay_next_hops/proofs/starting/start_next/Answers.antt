@@ -5,7 +5,7 @@ use Rattle.relay_limits.specs.declared.pace.Pace.{Pace}
 use Rattle.relay_next_hops.specs.Counts.{CountsMatch, unanswered_of}
 use Rattle.relay_next_hops.specs.Deliveries.{IsOpenedTo}
 use Rattle.relay_next_hops.specs.Lanes.{tasks_at}
-use Rattle.relay_next_hops.specs.Paces.{HasLane}
+use Rattle.relay_lanes.specs.Paces.{HasLane}
 use Rattle.relay_next_hops.specs.Starting.{IsStep}
 use Rattle.relay_next_hops.proofs.LeaveLemmas.{leaves_same}
 use Rattle.relay_next_hops.proofs.StartLemmas.{back_few, same_unheld, step_is, tried_aimed, tried_counts, tried_unanswered, tried_unheld}

@@ -1,7 +1,7 @@
 -- A connection that stays is counted in the table again; of one that doesn't, its lane has one less.
 use Rattle.std.proofs.Common.{refl, sym, ◌∙◌, ap, subst}
 use Rattle.relay_next_hops.specs.Deliveries.{portions_after}
-use Rattle.relay_next_hops.specs.Paces.{RunsOneLess}
+use Rattle.relay_lanes.specs.Paces.{RunsOneLess}
 use Rattle.relay_next_hops.specs.declared.delivery.Aim.{Aim}
 use Rattle.relay_next_hops.proofs.LeaveLemmas.{leaves_same}
 use Rattle.relay_next_hops.proofs.SlotLemmas.{counts_ended, left_none, put_aimed, put_counts}

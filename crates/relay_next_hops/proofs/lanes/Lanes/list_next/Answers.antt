@@ -1,6 +1,6 @@
 -- The next message of the walk is listed.
 use Rattle.std.proofs.Common.{◌≡◌, ◌∷◌, ◌∙◌, ℕ, inr, sym, ap, drop, add-one, arith}
-use Rattle.relay_next_hops.specs.Numbers.{Walk}
+use Rattle.relay_lanes.specs.Numbers.{Walk}
 use Rattle.relay_next_hops.proofs.ListingLemmas.{get_dropped, kept_then, left_dropped, more_then, walk_next}
 use Rattle.relay_next_hops.proofs.lanes.Lanes.list_next.Goals as goal
 

@@ -1,7 +1,7 @@
 -- What was listed before stays so.
 use Rattle.std.proofs.Common.{ap, ◌∙◌, ℕ, List, ◌≡◌, drop}
 use Rattle.std.specs.Prelude.{slice_get}
-use Rattle.relay_next_hops.specs.Numbers.{Walk}
+use Rattle.relay_lanes.specs.Numbers.{Walk}
 use Rattle.relay_next_hops.proofs.ListingLemmas.{kept_then}
 use Rattle.relay_next_hops.proofs.lanes.Lanes.list_part.Goals as goal
 

@@ -1,7 +1,7 @@
 -- What the listing keeps, and the part that it lists.
 use Rattle.std.proofs.Common.{◌≡◌, ◌⊎◌, [], ap, sym, subst, ◌∙◌, ℕ, List, drop}
 use Rattle.std.specs.Prelude.{slice_get}
-use Rattle.relay_next_hops.specs.Numbers.{Walk}
+use Rattle.relay_lanes.specs.Numbers.{Walk}
 use Rattle.relay_next_hops.specs.declared.listing.TheConstants.{PART_SIZE}
 use Rattle.relay_next_hops.proofs.ListingLemmas.{kept_then, message_kept, more_of, more_then}
 use Rattle.relay_next_hops.proofs.lanes.Lanes.refresh.Goals as goal

@@ -1,6 +1,6 @@
 -- The task is added to the lane of its next hop's place, after what waits there.
 use Rattle.std.proofs.Common.{inl, refl, ap, ◌∙◌, ◌&&◌, arith}
-use Rattle.relay_next_hops.specs.Listing.{is_early_for, is_for}
+use Rattle.relay_lanes.specs.Lane.{is_early_for, is_for}
 use Rattle.relay_next_hops.proofs.ListingLemmas.{is_own, pushed_more, pushed_own, set_own, set_waits, tasks_failed}
 use Rattle.relay_next_hops.proofs.lanes.Lanes.sort_in.Goals as goal
 

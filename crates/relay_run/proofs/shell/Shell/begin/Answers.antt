@@ -1,12 +1,7 @@
 -- Clients are left alone, whether attempts begin or not.
 use Rattle.relay_connections.specs.Readiness.{clients_of}
 use Rattle.relay_connections.proofs.Theorems.{left_are_served}
-use Rattle.relay_run.proofs.ServedLemmas.{after_none}
 use Rattle.relay_run.proofs.shell.Shell.begin.Goals as goal
-
-pub returns-then-not-may_start-clause-served : goal.returns-then-not-may_start-clause-served
-returns-then-not-may_start-clause-served g c = λ changes setting served.
-    after_none g.D.Disk.honest g.D.Disk.words g.S.Stream.remaining g.S.Stream.contents changes setting (clients_of c.args.self.now.clients) c.args.self.now.relay served
 
 pub returns-then-gave_up-clause-served : goal.returns-then-gave_up-clause-served
 returns-then-gave_up-clause-served g c = λ changes setting served.

@@ -1,0 +1,5 @@
+pub mod Lane
+pub mod Numbers
+pub mod Paces
+pub mod Places
+pub mod Portions

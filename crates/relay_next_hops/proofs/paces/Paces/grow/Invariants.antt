@@ -1,6 +1,0 @@
--- as many attempts of each lane run as before
-use Rattle.relay_next_hops.specs.Paces.{RunAsBefore}
-use Rattle.relay_next_hops.proofs.paces.Paces.grow.Given as goal
-
-abbrev pub invariant-loop : goal.invariant-loop
-invariant-loop l = RunAsBefore l.initial.self-inside.paces.items l.self-inside.paces.items
