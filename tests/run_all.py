@@ -2,12 +2,13 @@
 """Runs the test scripts, all or those named, in parallel, and prints a line for each with its seconds. The output of
 each is in build/tests/; that of a script that fails is printed too.
 
-    tests/run_all.py [--lanes N] [--junit FILE] [--list] [NAME ..]
+    tests/run_all.py [--lanes N] [--junit FILE] [--list] [--with FILE] [--without FILE] [NAME ..]
 
-A NAME is a script's name without its suffix, with or without its arguments, as --list prints them. Each script listens
-at a free port, and works in a folder of its own. Scripts that compare how long clients wait run one at a time, and the
-others beside them at a lower priority, in N lanes, by default one for every two processors. TIMES (10) is how much
-longer such a wait may take. Exits with 1 if a script fails.
+A NAME is a script's name without its suffix, with or without its arguments, as --list prints them; --with and --without
+choose the scripts that run a program, as build/relayd, or don't. Each script listens at a free port, and works in a
+folder of its own. Scripts that compare how long clients wait run one at a time, and the others beside them at a lower
+priority, in N lanes, by default one for every two processors. TIMES (10) is how much longer such a wait may take. Exits
+with 1 if a script fails.
 """
 import argparse
 import collections
@@ -92,6 +93,12 @@ def name_of(script):
 
 def is_named(script, names):
     return not names or name_of(script) in names or stem_of(script) in names
+
+
+def is_chosen(script, told):
+    """Returns whether the words that this program was started with choose a script."""
+    by_program = not told.program or told.program in script.words
+    return is_named(script, told.names) and by_program and told.no_program not in script.words
 
 
 class Running:
@@ -216,12 +223,14 @@ def main():
                         help="how many run side by side")
     parser.add_argument("--junit", metavar="FILE", help="write the results there, as JUnit's XML")
     parser.add_argument("--list", action="store_true", help="print the names, and run nothing")
+    parser.add_argument("--with", dest="program", metavar="FILE", help="run only the scripts that run this program")
+    parser.add_argument("--without", dest="no_program", metavar="FILE", help="run only the scripts that don't")
     parser.add_argument("names", nargs="*", metavar="NAME")
     told = parser.parse_args()
     unknown = [name for name in told.names if not any(is_named(script, [name]) for script in SCRIPTS)]
     if unknown:
         parser.error(f"no script is named {', '.join(unknown)}: --list prints the names")
-    scripts = [script for script in SCRIPTS if is_named(script, told.names)]
+    scripts = [script for script in SCRIPTS if is_chosen(script, told)]
     if told.list:
         print("\n".join(map(name_of, scripts)))
         return 0

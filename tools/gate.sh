@@ -1,10 +1,10 @@
 #!/usr/bin/env bash
 # The whole gate, at the top of the repository: every proof from nothing and the edits that must fail, as many side by
 # side as tools/lanes.sh says (RT_JOBS, where it is given), and the scripts of tests/run_all.py. These begin as soon as
-# the programs that they run are proved and built, beside what is left of the edits. They mostly wait, and have limits
-# on time, so the prover yields to them: by its nice value, and, where the system shares processors between sessions
-# (sched(7), autogroup), by that of its session. Last come what each crate has cost, and the last line of the proofs.
-# Exits with 1 if any part fails.
+# the programs that they run are proved and built, beside what is left: first those that run the program of rows, or
+# none, then those that run relayd. They mostly wait, and have limits on time, so the prover yields to them: by its nice
+# value, and, where the system shares processors between sessions (sched(7), autogroup), by that of its session. Last
+# come what each crate has cost, and the last line of the proofs. Exits with 1 if any part fails.
 set -euo pipefail
 
 mkdir -p build
@@ -30,10 +30,11 @@ take() {
     cp "crates/$1/out/$1" "build/$1"
 }
 
-take relayd
-take relay_rows_tests
 status=0
-tests/run_all.py --junit build/tests.xml || status=1
+take relay_rows_tests
+tests/run_all.py --without build/relayd --junit build/tests-without-relayd.xml || status=1
+take relayd
+tests/run_all.py --with build/relayd --junit build/tests-with-relayd.xml || status=1
 wait "$proofs" || status=1
 wait "$times" || true
 cat build/gate.times
