@@ -6,3 +6,7 @@ mod RequestLemmas
 mod SteeringLemmas
 mod WithdrawalLemmas
 mod ServedLemmas
+mod TidyLemmas
+mod LeavingLemmas
+mod TurnsLemmas
+mod FreeLemmas

@@ -156,3 +156,45 @@ module _ {D S : Type 0} (honest : Type 0) (words : DiskWords D) (remaining conte
       → OnOk result (AreServedWithMore honest words remaining contents changes setting (clients_of first) (clients_of later) after)
   serves_last (Ok value) changes setting first clients later relay after came more = more_then changes setting (clients_of first) (clients_of clients) (clients_of later) relay after came more
   serves_last (Err fault) changes setting first clients later relay after came more = tt
+
+  -- nothing that concerns clients happened, or a call left them alone
+  pub on_left : (changes : List Change) (setting : Setting) (clients later : Table) (old new : RelayState D) → later ≡ clients → LeavesClients honest words old new → AreServed honest words remaining contents changes setting clients old
+      → AreServedOn honest words remaining contents changes setting clients later new
+  on_left changes setting clients later old new same leaves served = record {
+    later = setting;
+    keeps = record { setups = refl; starts = λ number stands. refl };
+    served = subst (λ (table : Table). AreServedAfter honest words remaining contents changes setting table new) (sym same) (left_are_served honest words remaining contents changes setting clients old new leaves served);
+  }
+
+  pub on_same : (changes : List Change) (setting : Setting) (clients : Table) (relay : RelayState D) → AreServed honest words remaining contents changes setting clients relay
+      → AreServedOn honest words remaining contents changes setting clients clients relay
+  on_same changes setting clients relay served = record {
+    later = setting;
+    keeps = record { setups = refl; starts = λ number stands. refl };
+    served = after_none changes setting clients relay served;
+  }
+
+  -- a call follows that keeps the changes
+  pub on_kept : (changes : List Change) (setting : Setting) (one two three : Table) (before after : RelayState D) → AreServedOn honest words remaining contents changes setting one two before
+      → ((changes : List Change) (setting : Setting) → AreServed honest words remaining contents changes setting two before → AreServed honest words remaining contents changes setting three after)
+      → AreServedOn honest words remaining contents changes setting one three after
+  on_kept changes setting one two three before after on kept = record {
+    later = on.later;
+    keeps = on.keeps;
+    served = record { added = on.served.added; served = kept (changes ++ on.served.added) on.later on.served.served };
+  }
+
+  -- if that returned without a fault
+  pub on_kept_ok : {A E : Type 0} (result : Result A E) (changes : List Change) (setting : Setting) (one two three : Table) (before after : RelayState D)
+      → AreServedOn honest words remaining contents changes setting one two before
+      → ((changes : List Change) (setting : Setting) → AreServed honest words remaining contents changes setting two before → OnOk result (AreServed honest words remaining contents changes setting three after))
+      → OnOk result (AreServedOn honest words remaining contents changes setting one three after)
+  on_kept_ok (Ok value) changes setting one two three before after on kept = on_kept changes setting one two three before after on kept
+  on_kept_ok (Err fault) changes setting one two three before after on kept = tt
+
+  -- the table and the relay are the same
+  pub served_same : (changes : List Change) (setting : Setting) (clients later : Table) (relay after : RelayState D) → later ≡ clients → after ≡ relay → AreServed honest words remaining contents changes setting clients relay
+      → AreServed honest words remaining contents changes setting later after
+  served_same changes setting clients later relay after same alike served =
+      subst (λ (table : Table). AreServed honest words remaining contents changes setting table after) (sym same)
+      (subst (λ (it : RelayState D). AreServed honest words remaining contents changes setting clients it) (sym alike) served)

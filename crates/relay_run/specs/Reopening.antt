@@ -1,8 +1,10 @@
 -- When the spool of a failed device is opened again, and when it isn't.
-use Rattle.std.specs.Prelude.{◌≡◌, ◌⊎◌, ℕ, ◌*◌, ◌≤◌, min, IsTrue, MatchOption}
+use Rattle.std.specs.Prelude.{◌≡◌, ◌⊎◌, ℕ, ◌*◌, ◌≤◌, min, MatchOption}
 use Rattle.relay_disk.specs.declared.disks.Disks.{Disks}
-use Rattle.relay_disk.specs.declared.file.FileDisk.{FileDisk}
-use Rattle.relay_disk.specs.File.{sync_failed}
+use Rattle.relay_disk.specs.Device.{DiskWords}
+use Rattle.relay_slots.specs.Slots.{AreFree}
+use Rattle.relay_records.specs.Open.{Opens}
+use Rattle.relay_loop.specs.Relay.{RelayState}
 use Rattle.relay_routes.specs.declared.config.Config.{Config}
 use Rattle.relay_run.specs.declared.known.Known.{Known}
 use Rattle.relay_run.specs.declared.reopening.Opening.{Opening}
@@ -10,9 +12,9 @@ use Rattle.relay_run.specs.declared.reopening.Opening.TheVariants.{Done, Failed 
 use Rattle.relay_run.specs.declared.reopening.Why.{Why}
 use Rattle.relay_run.specs.declared.reopening.Why.TheVariants.{Failed, Renewed, Reloaded}
 
--- a sync of one of the two files has failed since it was opened
-abbrev pub HasFailedToSync : Disks FileDisk → Type 0
-HasFailedToSync disks = IsTrue (sync_failed disks.first) ⊎ IsTrue (sync_failed disks.second)
+-- a sync of one of the two disks has failed
+abbrev pub HasFailedToSync : {D : Type 0} → (D → Type 0) → Disks D → Type 0
+HasFailedToSync has_failed disks = has_failed disks.first ⊎ has_failed disks.second
 
 -- profile: twice as long each time, up to a minute
 abbrev pub next_pause : ℕ → ℕ
@@ -52,7 +54,22 @@ config_for Failed config = config
 config_for Renewed config = config
 config_for (Reloaded other) config = other
 
+module _ {D : Type 0} (honest : Type 0) (words : DiskWords D) where
+  -- The relay has opened the spool of these disks: its node keeps each list of changes for which they stood. It has no
+  -- session, no attempt with a connection, and no connection of a client yet.
+  pub record HasOpened (relay : RelayState D) : Type 0 where
+    pub disks : Disks D
+    pub opens : Opens honest words disks relay.node.records
+    pub seats : AreFree relay.node.seats
+    pub connections : AreFree relay.clients
+    pub hops : AreFree relay.hops
+
+  -- the same of the relay of a spool that was to be opened, if it is open
+  abbrev pub HasOpenedIn : Opening D → Type 0
+  HasOpenedIn (Done relay) = HasOpened relay
+  HasOpenedIn (Fails closed) = Unit {0}
+
 -- the configuration of a spool that was to be opened
-abbrev pub config_in : Opening → Config
+abbrev pub config_in : {D : Type 0} → Opening D → Config
 config_in (Done relay) = relay.node.config
 config_in (Fails closed) = closed.config

@@ -34,6 +34,9 @@ const WANT_PAUSE: u64 = 1_000;
 /// The most clients that are accepted in one turn.
 const MOST_AT_ONCE: usize = 64;
 
+/// The token of the listener.
+pub const LISTENER_TOKEN: usize = Arrivals::FIRST_TOKEN + SLOT_COUNT;
+
 /// The state of the listener, the balancers' connections whose headers aren't read yet, and the clients that were
 /// refused.
 pub(crate) struct Acceptor<S = TcpStream> {
@@ -70,7 +73,7 @@ impl<S: Drop> Drop for Acceptor<S> {
 
 impl Acceptor {
     /// The token of the listener.
-    pub(crate) const TOKEN: usize = Arrivals::FIRST_TOKEN + SLOT_COUNT;
+    pub(crate) const TOKEN: usize = LISTENER_TOKEN;
 }
 
 impl<S: Stream + Drop> Acceptor<S> {

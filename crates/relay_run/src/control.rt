@@ -8,7 +8,7 @@ use mio::{Interest, Registry, Token};
 use relay_connections::{Now, Readiness};
 use relay_control::{Callers, MOST_CALLERS, Request};
 use relay_status::StatusPage;
-use std::alloc::Global;
+use std::alloc::{AllocError, Global};
 use std::fs::{self, File, Permissions};
 use std::io::{self, ErrorKind};
 use std::net::Net;
@@ -70,6 +70,15 @@ impl ControlSocket {
         Ok(ControlSocket {
             is_ready: listener.is_some(),
             listener,
+            callers: Callers::new(alloc)?,
+        })
+    }
+
+    /// Returns no socket, at which nobody asks for anything. Fails if memory runs out.
+    pub(crate) fn none(alloc: Global) -> Result<Self, AllocError> {
+        Ok(ControlSocket {
+            listener: None,
+            is_ready: false,
             callers: Callers::new(alloc)?,
         })
     }

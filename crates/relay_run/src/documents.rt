@@ -8,7 +8,7 @@ use std::path::Path;
 use std::rt::Files;
 
 /// The file of the configuration, and the file of held mail.
-pub(crate) trait Documents {
+pub trait Documents {
     ghost use Rattle.std.specs.Prelude.{List, OnOk, Result, ℕ};
     ghost use Rattle.relay_files.specs.declared.fault.Fault.{Fault};
     ghost use Rattle.relay_run.specs.declared.start.Settings.{Settings};

@@ -1,5 +1,5 @@
 //! Which file of a spool has failed.
-use relay_disk::{Disk, Disks, FileDisk, Side};
+use relay_disk::{Disk, Disks, Side};
 
 /// How many calls on each file of a spool had failed at some time.
 #[derive(Clone, Copy)]
@@ -18,7 +18,7 @@ impl Failures {
     }
 
     /// Returns how many calls have failed on these files.
-    pub(crate) fn of(disks: &Disks<FileDisk>) -> Self {
+    pub(crate) fn of<D: Disk>(disks: &Disks<D>) -> Self {
         Failures {
             first: disks.first.failures(),
             second: disks.second.failures(),
@@ -26,7 +26,7 @@ impl Failures {
     }
 
     /// Returns the file on which a call has failed since then, if any.
-    pub(crate) fn side(&self, disks: &Disks<FileDisk>) -> Option<Side> {
+    pub(crate) fn side<D: Disk>(&self, disks: &Disks<D>) -> Option<Side> {
         let now = Failures::of(disks);
         if self.first != now.first {
             Some(Side::First)

@@ -7,7 +7,7 @@ use std::net::{Net, SocketAddr, SocketAddrV4};
 
 /// The result of accepting a client.
 #[derive(Drop)]
-pub(crate) enum Found<S> {
+pub enum Found<S> {
     /// A client's stream, and its address.
     Client(S, SocketAddrV4),
     /// The client went away again, or has no IPv4 address.
@@ -19,7 +19,7 @@ pub(crate) enum Found<S> {
 }
 
 /// A source of clients, which never waits.
-pub(crate) trait Listen {
+pub trait Listen {
     ghost use Rattle.std.specs.declared.net.socket_addr.SocketAddrV4.{SocketAddrV4};
     ghost use Rattle.relay_run.specs.Found.{IsFound};
 

@@ -2,28 +2,31 @@
 //! no session and no attempt is left: the sessions are ended between mail transactions, attempts end by themselves, and
 //! clients that come meanwhile wait to be accepted. After a minute it takes effect in any case.
 ghost use Rattle.std.specs.Prelude.{◌≡◌, ◌⊎◌, ◌↔◌, IfOk, IfSome, IsTrue, None};
+ghost use Rattle.relay_connections.specs.Readiness.{clients_of};
 ghost use Rattle.relay_run.specs.Answers.{IsError};
 ghost use Rattle.relay_run.specs.Reloading.{HoldsAlike, IsIdle, IsReloadable, IsReloading, KeepsPlaces, MayReload};
 ghost use Rattle.relay_run.specs.Reloading.{RetiresFor, ServesReload, TakesEffect};
-ghost use Rattle.relay_run.specs.Reopening.{IsWhole, KeepsConfig};
+ghost use Rattle.relay_run.specs.Reopening.{HasOpened, IsWhole, KeepsConfig};
+ghost use Rattle.relay_run.specs.Serving.{GoesOnOrServesNone};
 
 use crate::answers::{Answer, done_with_count, refused};
+use crate::device::Device;
 use crate::documents::Documents;
 use crate::held_mail::copy_held;
+use crate::journal::Journal;
 use crate::listen::Listen;
 use crate::reopening::Why;
-use crate::reporter::Reporter;
+use crate::room::Ballast;
 use crate::shell::Shell;
 use crate::source::restart_answer;
 use crate::start::{Settings, log_form};
 use crate::steering::Steering;
 use relay_connections::{Now, Stream};
 use relay_control::Held;
-use relay_disk::{Disk, FileDisk};
+use relay_disk::Disk;
 use relay_files::Fault;
 use relay_limits::Limits;
 use relay_next_hops::NextHops;
-use relay_room::RoomFile;
 use std::alloc::{AllocError, Global};
 use std::io::Write;
 use std::rt::Clock;
@@ -149,13 +152,13 @@ impl<S: Stream + Drop, D: Disk + Drop, F: Disk + Drop> Shell<S, D, F> {
     }
 }
 
-impl<S: Stream + Drop> Shell<S, FileDisk, RoomFile> {
+impl<S: Stream + Drop, D: Device + Drop, F: Ballast + Drop> Shell<S, D, F> {
     /// Returns the same relay under the configuration of the reload that waits, with its spool opened again, and
     /// answers the caller. Closes all connections. If memory runs out before that, the old configuration stays, and the
     /// caller is told so. Fails if a sync has failed, or if the spool isn't the known one.
     pub(crate) fn reloaded<C: Clock, E: Write, L: Listen<Stream = S>>(
         mut self,
-        reporter: &mut Reporter<'_, C, E>,
+        journal: &mut Journal<'_, C, E>,
         listener: &mut L,
         now: &Now,
     ) -> Result<Self, Fault>
@@ -167,8 +170,10 @@ impl<S: Stream + Drop> Shell<S, FileDisk, RoomFile> {
         ensures held { IfOk result (λ shell. HoldsAlike self.next_hops.lanes.held shell.next_hops.lanes.held) }
         ensures ended { IfOk result (λ shell. (shell.steering.reload ≡ None)
             × (shell.steering.drain ≡ self.steering.drain) × (shell.clients.stops ≡ self.clients.stops)) }
+        ensures served { IfOk result (λ shell. GoesOnOrServesNone D.Disk.honest D.Disk.words (clients_of self.clients)
+            (clients_of shell.clients) self.relay shell.relay) }
     {
-        let alloc = reporter.alloc;
+        let alloc = journal.alloc;
         let Some(reload) = self.steering.reload.take() else {
             return Ok(self);
         };
@@ -186,7 +191,7 @@ impl<S: Stream + Drop> Shell<S, FileDisk, RoomFile> {
             return Ok(self);
         };
         self.next_hops = next_hops;
-        let mut shell = self.under(settings, reporter, listener)?;
+        let mut shell = self.under(settings, journal, listener)?;
         let answer = done_with_count(alloc, "reloaded; attempts cut=", cut);
         shell.steering.socket.answer(caller, answer);
         Ok(shell)
@@ -196,7 +201,7 @@ impl<S: Stream + Drop> Shell<S, FileDisk, RoomFile> {
     fn under<C: Clock, E: Write, L: Listen<Stream = S>>(
         mut self,
         settings: Settings,
-        reporter: &mut Reporter<'_, C, E>,
+        journal: &mut Journal<'_, C, E>,
         listener: &mut L,
     ) -> Result<Self, Fault>
         ensures whole { IfOk result (λ shell. IsWhole self.known shell.relay.node.records.queue.next
@@ -205,6 +210,8 @@ impl<S: Stream + Drop> Shell<S, FileDisk, RoomFile> {
         ensures held { IfOk result (λ shell. shell.next_hops.lanes.held ≡ self.next_hops.lanes.held) }
         ensures same { IfOk result (λ shell. (shell.steering ≡ self.steering)
             × (shell.clients.stops ≡ self.clients.stops)) }
+        ensures opened { IfOk result (λ shell. (clients_of shell.clients ≡ clients_of self.clients)
+            × HasOpened D.Disk.honest D.Disk.words shell.relay) }
     {
         let Settings {
             config,
@@ -220,7 +227,7 @@ impl<S: Stream + Drop> Shell<S, FileDisk, RoomFile> {
         self.acceptor.clear();
         self.acceptor.set_balancers(balancers);
         self.form = log_form(self.steering.source.quiet, &limits);
-        self.opened(reporter, listener, Why::Reloaded(config))
+        self.opened(journal, listener, Why::Reloaded(config))
     }
 }
 

@@ -1,17 +1,19 @@
 //! Opening a spool again after its device has failed, on the files that are open and locked already.
 ghost use Rattle.std.specs.Prelude.{ℕ, ◌≡◌, IfErr, IfOk, IsErr, OnOk};
-ghost use Rattle.relay_run.specs.Reopening.{HasFailedToSync, IsWhole, KeepsConfig, config_for, config_in};
+ghost use Rattle.relay_run.specs.Reopening.{HasFailedToSync, HasOpened, HasOpenedIn, IsWhole, KeepsConfig, config_for};
+ghost use Rattle.relay_run.specs.Reopening.{config_in};
 ghost use Rattle.relay_run.specs.Room.{MayStart};
 
 use crate::acceptor::refuse_all;
+use crate::device::Device;
 use crate::failures::Failures;
+use crate::journal::Journal;
 use crate::known::Known;
 use crate::listen::Listen;
 use crate::pauses::Pauses;
-use crate::reporter::Reporter;
-use crate::room::Room;
+use crate::room::{Ballast, Room};
 use relay_connections::Stream;
-use relay_disk::{Disk, Disks, FileDisk};
+use relay_disk::{Disk, Disks};
 use relay_files::Fault;
 use relay_loop::Relay;
 use relay_node::{Node, NotOpened, NotReopened};
@@ -31,13 +33,13 @@ const TELLINGS: u64 = 5;
 const TELLING_PAUSE: u64 = 200;
 
 /// A spool that isn't open, and its configuration.
-struct Closed {
+struct Closed<D> {
     config: Config,
-    disks: Disks<FileDisk>,
+    disks: Disks<D>,
 }
 
 // Written out, so that the proof of a caller that drops it stops at this function.
-impl Drop for Closed {
+impl<D: Drop> Drop for Closed<D> {
     fn drop(self) {
         let Closed {
             config: _config,
@@ -47,11 +49,11 @@ impl Drop for Closed {
 }
 
 /// The result of opening a spool.
-enum Opening {
+enum Opening<D: Disk> {
     /// It is open.
-    Done(Relay<FileDisk>),
+    Done(Relay<D>),
     /// Its device has failed, or memory ran out: it is tried again later.
-    Failed(Closed),
+    Failed(Closed<D>),
 }
 
 /// Why a spool is opened again.
@@ -67,26 +69,34 @@ pub(crate) enum Why {
 
 /// Opens the spool of a relay again, and checks that it is the known one: if its device has failed, once a test finds
 /// room; else at once. Drops all connections. Fails if a sync has failed.
-pub(crate) fn reopen<C: Clock, E: Write, S: Stream + Drop, L: Listen<Stream = S>>(
-    reporter: &mut Reporter<'_, C, E>,
-    relay: Relay<FileDisk>,
+pub(crate) fn reopen<
+    C: Clock,
+    E: Write,
+    S: Stream + Drop,
+    D: Device + Drop,
+    F: Ballast,
+    L: Listen<Stream = S>,
+>(
+    journal: &mut Journal<'_, C, E>,
+    relay: Relay<D>,
     known: Known,
     why: Why,
     listener: &mut L,
-    room: &mut Room,
+    room: &mut Room<F>,
     pauses: &mut Pauses,
-) -> Result<Relay<FileDisk>, Fault>
-    ensures synced { HasFailedToSync relay.node.records.spool.disk → IsErr result }
+) -> Result<Relay<D>, Fault>
+    ensures synced { HasFailedToSync D.has_failed_to_sync relay.node.records.spool.disk → IsErr result }
     ensures whole { IfOk result (λ opened. IsWhole known opened.node.records.queue.next
         opened.node.records.spool.size) }
     ensures tested { why ≡ Why.Failed → IfOk result (λ _. MayStart room.new known.size) }
     ensures config { IfOk result (λ opened. KeepsConfig (config_for why relay.node.config) opened.node.config) }
+    ensures opened { IfOk result (HasOpened D.Disk.honest D.Disk.words) }
 {
     match why {
-        Why::Failed => open_again(reporter, relay, known, listener, room, pauses),
-        Why::Renewed => open_bounded(reporter.alloc, relay, known, room),
+        Why::Failed => open_again(journal, relay, known, listener, room, pauses),
+        Why::Renewed => open_bounded(journal.alloc, relay, known, room),
         Why::Reloaded(config) => {
-            open_under(config, reporter, relay, known, listener, room, pauses)
+            open_under(config, journal, relay, known, listener, room, pauses)
         }
     }
 }
@@ -94,45 +104,61 @@ pub(crate) fn reopen<C: Clock, E: Write, S: Stream + Drop, L: Listen<Stream = S>
 /// Opens the spool of a relay under another configuration, with the limit that the room allows; later if its device
 /// fails, or memory runs out. Drops all connections. Fails if a sync has failed, or if the spool's content isn't what
 /// was known.
-fn open_under<C: Clock, E: Write, S: Stream + Drop, L: Listen<Stream = S>>(
+fn open_under<
+    C: Clock,
+    E: Write,
+    S: Stream + Drop,
+    D: Device + Drop,
+    F: Ballast,
+    L: Listen<Stream = S>,
+>(
     config: Config,
-    reporter: &mut Reporter<'_, C, E>,
-    relay: Relay<FileDisk>,
+    journal: &mut Journal<'_, C, E>,
+    relay: Relay<D>,
     known: Known,
     listener: &mut L,
-    room: &mut Room,
+    room: &mut Room<F>,
     pauses: &mut Pauses,
-) -> Result<Relay<FileDisk>, Fault>
-    ensures synced { HasFailedToSync relay.node.records.spool.disk → IsErr result }
+) -> Result<Relay<D>, Fault>
+    ensures synced { HasFailedToSync D.has_failed_to_sync relay.node.records.spool.disk → IsErr result }
     ensures whole { IfOk result (λ opened. IsWhole known opened.node.records.queue.next
         opened.node.records.spool.size) }
     ensures config { IfOk result (λ opened. KeepsConfig config opened.node.config) }
+    ensures opened { IfOk result (HasOpened D.Disk.honest D.Disk.words) }
 {
     let mut closed = Closed::of(relay.into_node());
     sync(&mut closed.disks)?;
     closed.config = config;
-    open_configured(reporter, closed, known, listener, room, pauses)
+    open_configured(journal, closed, known, listener, room, pauses)
 }
 
 /// Opens a spool whose configuration is new, as [`open_under`].
-fn open_configured<C: Clock, E: Write, S: Stream + Drop, L: Listen<Stream = S>>(
-    reporter: &mut Reporter<'_, C, E>,
-    closed: Closed,
+fn open_configured<
+    C: Clock,
+    E: Write,
+    S: Stream + Drop,
+    D: Device + Drop,
+    F: Ballast,
+    L: Listen<Stream = S>,
+>(
+    journal: &mut Journal<'_, C, E>,
+    closed: Closed<D>,
     known: Known,
     listener: &mut L,
-    room: &mut Room,
+    room: &mut Room<F>,
     pauses: &mut Pauses,
-) -> Result<Relay<FileDisk>, Fault>
+) -> Result<Relay<D>, Fault>
     ensures whole { IfOk result (λ opened. IsWhole known opened.node.records.queue.next
         opened.node.records.spool.size) }
     ensures config { IfOk result (λ opened. KeepsConfig closed.config opened.node.config) }
+    ensures opened { IfOk result (HasOpened D.Disk.honest D.Disk.words) }
 {
     let mut closed = closed;
     room.reconfigure(&closed.config, known.size());
     closed.bound(room)?;
-    match closed.open(reporter.alloc)? {
+    match closed.open(journal.alloc)? {
         Opening::Done(relay) => unless_less(known, relay, room),
-        Opening::Failed(closed) => await_device(reporter, closed, known, listener, room, pauses),
+        Opening::Failed(closed) => await_device(journal, closed, known, listener, room, pauses),
     }
 }
 
@@ -140,60 +166,77 @@ fn open_configured<C: Clock, E: Write, S: Stream + Drop, L: Listen<Stream = S>>(
 /// takes until a test finds room for the outcome of an attempt. Logs the failure, and that the spool is open again.
 /// Drops all connections of the relay, and refuses clients that come meanwhile. Fails at once if a sync has failed,
 /// because written octets may be lost then, and if the spool's content isn't what was known.
-fn open_again<C: Clock, E: Write, S: Stream + Drop, L: Listen<Stream = S>>(
-    reporter: &mut Reporter<'_, C, E>,
-    relay: Relay<FileDisk>,
+fn open_again<
+    C: Clock,
+    E: Write,
+    S: Stream + Drop,
+    D: Device + Drop,
+    F: Ballast,
+    L: Listen<Stream = S>,
+>(
+    journal: &mut Journal<'_, C, E>,
+    relay: Relay<D>,
     known: Known,
     listener: &mut L,
-    room: &mut Room,
+    room: &mut Room<F>,
     pauses: &mut Pauses,
-) -> Result<Relay<FileDisk>, Fault>
-    ensures synced { HasFailedToSync relay.node.records.spool.disk → IsErr result }
+) -> Result<Relay<D>, Fault>
+    ensures synced { HasFailedToSync D.has_failed_to_sync relay.node.records.spool.disk → IsErr result }
     ensures whole { IfOk result (λ opened. IsWhole known opened.node.records.queue.next
         opened.node.records.spool.size) }
     ensures tested { IfOk result (λ _. MayStart room.new known.size) }
     ensures config { IfOk result (λ opened. KeepsConfig relay.node.config opened.node.config) }
+    ensures opened { IfOk result (HasOpened D.Disk.honest D.Disk.words) }
 {
     pauses.note_failure(known.size());
     let closed = Closed::of(relay.into_node());
-    await_device(reporter, closed, known, listener, room, pauses)
+    await_device(journal, closed, known, listener, room, pauses)
 }
 
 /// Opens a spool whose device has failed, after 1 second, 2, 4 and up to 60, as [`open_again`].
-fn await_device<C: Clock, E: Write, S: Stream + Drop, L: Listen<Stream = S>>(
-    reporter: &mut Reporter<'_, C, E>,
-    closed: Closed,
+fn await_device<
+    C: Clock,
+    E: Write,
+    S: Stream + Drop,
+    D: Device + Drop,
+    F: Ballast,
+    L: Listen<Stream = S>,
+>(
+    journal: &mut Journal<'_, C, E>,
+    closed: Closed<D>,
     known: Known,
     listener: &mut L,
-    room: &mut Room,
+    room: &mut Room<F>,
     pauses: &mut Pauses,
-) -> Result<Relay<FileDisk>, Fault>
-    ensures synced { HasFailedToSync closed.disks → IsErr result }
+) -> Result<Relay<D>, Fault>
+    ensures synced { HasFailedToSync D.has_failed_to_sync closed.disks → IsErr result }
     ensures whole { IfOk result (λ opened. IsWhole known opened.node.records.queue.next
         opened.node.records.spool.size) }
     ensures tested { IfOk result (λ _. MayStart room.new known.size) }
     ensures config { IfOk result (λ opened. KeepsConfig closed.config opened.node.config) }
+    ensures opened { IfOk result (HasOpened D.Disk.honest D.Disk.words) }
 {
     let mut closed = closed;
     let failed = pauses.failures.side(&closed.disks);
     sync(&mut closed.disks)?;
     let reason = room.fail();
-    reporter.device_failed(reason, failed, &closed.config, pauses.seconds);
-    wait_for_room(reporter, closed, known, listener, room, pauses)
+    journal.device_failed(reason, failed, &closed.config, pauses.seconds);
+    wait_for_room(journal, closed, known, listener, room, pauses)
 }
 
 /// Opens the spool of a relay with the limit that the room allows. Drops all connections. Fails if a sync has failed,
 /// or if the spool's content isn't what was known.
-pub(crate) fn open_bounded(
+pub(crate) fn open_bounded<D: Device + Drop, F: Ballast>(
     alloc: Global,
-    relay: Relay<FileDisk>,
+    relay: Relay<D>,
     known: Known,
-    room: &mut Room,
-) -> Result<Relay<FileDisk>, Fault>
-    ensures synced { HasFailedToSync relay.node.records.spool.disk → IsErr result }
+    room: &mut Room<F>,
+) -> Result<Relay<D>, Fault>
+    ensures synced { HasFailedToSync D.has_failed_to_sync relay.node.records.spool.disk → IsErr result }
     ensures whole { IfOk result (λ opened. IsWhole known opened.node.records.queue.next
         opened.node.records.spool.size) }
     ensures config { IfOk result (λ opened. KeepsConfig relay.node.config opened.node.config) }
+    ensures opened { IfOk result (HasOpened D.Disk.honest D.Disk.words) }
 {
     let mut closed = Closed::of(relay.into_node());
     sync(&mut closed.disks)?;
@@ -201,15 +244,16 @@ pub(crate) fn open_bounded(
 }
 
 /// Opens a spool with the limit that the room allows.
-fn open_at_once(
+fn open_at_once<D: Device + Drop, F: Ballast>(
     alloc: Global,
-    closed: Closed,
+    closed: Closed<D>,
     known: Known,
-    room: &mut Room,
-) -> Result<Relay<FileDisk>, Fault>
+    room: &mut Room<F>,
+) -> Result<Relay<D>, Fault>
     ensures whole { IfOk result (λ opened. IsWhole known opened.node.records.queue.next
         opened.node.records.spool.size) }
     ensures config { IfOk result (λ opened. KeepsConfig closed.config opened.node.config) }
+    ensures opened { IfOk result (HasOpened D.Disk.honest D.Disk.words) }
 {
     let mut closed = closed;
     closed.bound(room)?;
@@ -220,32 +264,40 @@ fn open_at_once(
 }
 
 /// Opens a spool as soon as its device works and there is room.
-fn wait_for_room<C: Clock, E: Write, S: Stream + Drop, L: Listen<Stream = S>>(
-    reporter: &mut Reporter<'_, C, E>,
-    closed: Closed,
+fn wait_for_room<
+    C: Clock,
+    E: Write,
+    S: Stream + Drop,
+    D: Device + Drop,
+    F: Ballast,
+    L: Listen<Stream = S>,
+>(
+    journal: &mut Journal<'_, C, E>,
+    closed: Closed<D>,
     known: Known,
     listener: &mut L,
-    room: &mut Room,
+    room: &mut Room<F>,
     pauses: &mut Pauses,
-) -> Result<Relay<FileDisk>, Fault>
+) -> Result<Relay<D>, Fault>
     requires { ¬ MayStart room.old known.size }
     ensures whole { IfOk result (λ opened. IsWhole known opened.node.records.queue.next
         opened.node.records.spool.size) }
     ensures tested { IfOk result (λ _. MayStart room.new known.size) }
     ensures config { IfOk result (λ opened. KeepsConfig closed.config opened.node.config) }
+    ensures opened { IfOk result (HasOpened D.Disk.honest D.Disk.words) }
 {
     let mut closed = closed;
-    let line = refusal(reporter.alloc, &closed.config)?;
+    let line = refusal(journal.alloc, &closed.config)?;
     for _ in 0..u64::MAX {
-        pause(reporter.clock, pauses.next(), listener, line.as_slice());
+        pause(journal.clock, pauses.next(), listener, line.as_slice());
         room.test(known.size());
         if room.may_start(known.size()) {
             closed.bound(room)?;
             pauses.failures = Failures::of(&closed.disks);
-            match closed.open(reporter.alloc)? {
+            match closed.open(journal.alloc)? {
                 Opening::Done(relay) => {
                     pauses.opened_size = relay.node().size();
-                    reporter.opened_again(room.is_short());
+                    journal.opened_again(room.is_short());
                     return unless_less(known, relay, room);
                 }
                 Opening::Failed(again) => closed = again,
@@ -257,15 +309,16 @@ fn wait_for_room<C: Clock, E: Write, S: Stream + Drop, L: Listen<Stream = S>>(
 }
 
 /// Returns the relay, or fails if its spool isn't the known one.
-fn unless_less(
+fn unless_less<D: Disk + Drop, F: Disk>(
     known: Known,
-    relay: Relay<FileDisk>,
-    room: &mut Room,
-) -> Result<Relay<FileDisk>, Fault>
+    relay: Relay<D>,
+    room: &mut Room<F>,
+) -> Result<Relay<D>, Fault>
     ensures whole { IfOk result (λ opened. IsWhole known opened.node.records.queue.next
         opened.node.records.spool.size) }
     ensures stays { (size : ℕ) → MayStart room.old size → MayStart room.new size }
     ensures same { IfOk result (λ opened. opened ≡ relay) }
+    ensures opened { HasOpened D.honest D.words relay → IfOk result (HasOpened D.honest D.words) }
 {
     if !known.is_in(&Known::of(&relay)) {
         return Err(Fault::Device);
@@ -297,19 +350,19 @@ fn refusal(alloc: Global, config: &Config) -> Result<Vec<u8>, AllocError> {
 }
 
 /// Syncs both files. Fails if a sync of one has failed before.
-fn sync(disks: &mut Disks<FileDisk>) -> Result<(), Fault>
-    ensures failed { HasFailedToSync disks.old → IsErr result }
+fn sync<D: Device>(disks: &mut Disks<D>) -> Result<(), Fault>
+    ensures failed { HasFailedToSync D.has_failed_to_sync disks.old → IsErr result }
     ensures fault { IfErr result (λ fault. fault ≡ Fault.Device) }
 {
-    match (disks.first.sync(), disks.second.sync()) {
+    match (disks.first.sync_again(), disks.second.sync_again()) {
         (Ok(()), Ok(())) => Ok(()),
         _ => Err(Fault::Device),
     }
 }
 
-impl Closed {
+impl<D: Disk + Drop> Closed<D> {
     /// Returns the spool of a node.
-    fn of(node: Node<FileDisk>) -> Self
+    fn of(node: Node<D>) -> Self
         ensures disks { result.disks ≡ node.records.spool.disk }
         ensures config { result.config ≡ node.config }
     {
@@ -318,7 +371,7 @@ impl Closed {
     }
 
     /// Sets the limit that the room allows.
-    fn bound(&mut self, room: &Room) -> Result<(), Fault>
+    fn bound<F: Disk>(&mut self, room: &Room<F>) -> Result<(), Fault>
         ensures { OnOk result (KeepsConfig self.old.config self.new.config) }
     {
         let (Ok(first), Ok(second)) = (self.disks.first.size(), self.disks.second.size()) else {
@@ -330,8 +383,9 @@ impl Closed {
     }
 
     /// Opens the spool. Fails if its content isn't a spool.
-    fn open(self, alloc: Global) -> Result<Opening, Fault>
-        ensures { IfOk result (λ opening. config_in opening ≡ self.config) }
+    fn open(self, alloc: Global) -> Result<Opening<D>, Fault>
+        ensures config { IfOk result (λ opening. config_in opening ≡ self.config) }
+        ensures opened { IfOk result (HasOpenedIn D.honest D.words) }
     {
         let Closed { config, disks } = self;
         match Node::open_again(alloc, config, disks) {

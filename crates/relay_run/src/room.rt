@@ -18,6 +18,22 @@ const TEST_SECONDS: u64 = 5;
 /// limit.
 const DRAIN_SECONDS: u64 = 5;
 
+/// The disk of a ballast file.
+pub trait Ballast: Disk {
+    ghost use Rattle.std.specs.Prelude.{◌<◌, ◌^◌};
+
+    /// Looks for the reason why a device has just failed, by writing up to twice this many octets, the size of the
+    /// ballast. Returns the system's error if a write fails. What was written stays until the ballast is given up.
+    fn reason(&mut self, size: usize) -> Option<io::Error>
+        requires { size < 2 ^ 62 };
+}
+
+impl Ballast for RoomFile {
+    fn reason(&mut self, size: usize) -> Option<io::Error> {
+        RoomFile::reason(self, size)
+    }
+}
+
 /// The room on the disk of a spool. A fault of the ballast file doesn't end the relay: it counts as no ballast and no
 /// room.
 pub(crate) struct Room<F = RoomFile> {
@@ -51,9 +67,6 @@ impl<F: Drop> Drop for Room<F> {
 }
 
 impl Room {
-    ghost use Rattle.relay_room.specs.Standing.{standing_at_failure};
-    ghost use Rattle.relay_run.specs.Room.{MayStart};
-
     /// Opens the ballast file, whose name is that of the spool with `.room` appended. The room isn't tested yet.
     pub(crate) fn open<R: Files<File = File>>(
         alloc: Global,
@@ -62,18 +75,15 @@ impl Room {
     ) -> Result<Self, Fault> {
         let path = format!(in alloc; "{}.room", config.spool.as_str())?;
         match RoomFile::open(files, path.as_str()) {
-            Ok(file) => Ok(Room {
-                file,
-                size: ballast_size(config.max_content),
-                configured: config.spool_limit,
-                standing: Standing::untested(),
-                tested_size: 0,
-                next_test: 0,
-                renewal: u64::MAX,
-            }),
+            Ok(file) => Ok(Room::beside(file, config)),
             Err(error) => Err(Fault::of_device(&error)),
         }
     }
+}
+
+impl<F: Ballast> Room<F> {
+    ghost use Rattle.relay_room.specs.Standing.{standing_at_failure};
+    ghost use Rattle.relay_run.specs.Room.{MayStart};
 
     /// Gives up the ballast after the device has failed; nothing is known of the room then. Before that makes a test
     /// write to the ballast file, and returns the system's error if it fails, because the failed call itself didn't
@@ -93,6 +103,19 @@ impl Room {
 
 impl<F: Disk> Room<F> {
     ghost use Rattle.relay_run.specs.Room.{IsTested, MayStart, grown_since, next_look};
+
+    /// Returns the room beside the spool of this configuration, which has this ballast file. It isn't tested yet.
+    pub(crate) fn beside(file: F, config: &Config) -> Self {
+        Room {
+            file,
+            size: ballast_size(config.max_content),
+            configured: config.spool_limit,
+            standing: Standing::untested(),
+            tested_size: 0,
+            next_test: 0,
+            renewal: u64::MAX,
+        }
+    }
 
     /// Tests the room beside a spool of this many octets, if the relay is short of it. A fault of the file counts as no
     /// room.

@@ -1,13 +1,15 @@
 use crate::acceptor::Acceptor;
 use crate::control::ControlSocket;
+use crate::journal::Journal;
 use crate::shell::{Shell, SystemShell};
 use crate::source::Source;
 use crate::start::{
     Settings, kept_file, locked_relay, log_form, open_listener, open_page, open_steering,
     read_settings, say_ready,
 };
-use crate::turns::{System, serve};
-use mio::{Events, Poll};
+use crate::system::SystemWatch;
+use crate::turns::Surroundings;
+use mio::Poll;
 use relay_files::Fault;
 use relay_next_hops::{Sockets, SpareDescriptors};
 use relay_slots::SLOT_COUNT;
@@ -76,16 +78,15 @@ pub fn run<
     let held = shell.steering.held_mail.read(rt)?;
     shell.next_hops.set_held(held);
     shell.next_hops.prepare(&shell.relay)?;
-    let events = Events::with_capacity(alloc, EVENT_COUNT)?;
+    let watch = SystemWatch::new(alloc, rt, poll, page, EVENT_COUNT)?;
     say_ready(alloc, &shell.relay, at, writer)?;
-    let system = System {
+    let mut surroundings = Surroundings {
         clock: rt,
         listener,
         dial,
-        poll,
-        events,
-        page,
+        watch,
     };
-    let _drained = serve(alloc, system, shell, errors)?;
+    let mut journal = Journal::new(alloc, rt, errors);
+    let _drained = shell.serve(&mut surroundings, &mut journal)?;
     Ok(())
 }

@@ -1,22 +1,23 @@
-ghost use Rattle.std.specs.Prelude.{◌≡◌, ◌↔◌, List, None, IfOk, IsErr, IsTrue, OnOk};
+ghost use Rattle.std.specs.Prelude.{◌≡◌, ◌↔◌, List, None, IfOk, IsErr, IsOk, IsTrue, OnOk};
 ghost use Rattle.relay_book.specs.declared.change.Change.{Change};
 ghost use Rattle.relay_connections.specs.Carried.{Setting};
 ghost use Rattle.relay_connections.specs.Readiness.{clients_of};
 ghost use Rattle.relay_connections.specs.Served.{AreServed, AreServedAfter};
 ghost use Rattle.relay_connections.specs.Welcome.{KeepsRules};
-ghost use Rattle.relay_run.specs.Reloading.{IsReloading};
-ghost use Rattle.relay_run.specs.Reopening.{HasFailedToSync, IsWhole, KeepsConfig, config_for};
+ghost use Rattle.relay_run.specs.Reloading.{IsReloadable, IsReloading, MayReload};
+ghost use Rattle.relay_run.specs.Reopening.{HasFailedToSync, HasOpened, IsWhole, KeepsConfig, config_for};
 ghost use Rattle.relay_run.specs.Room.{MayStart};
-ghost use Rattle.relay_run.specs.Serving.{AreServedOn, AreServedWithMore};
+ghost use Rattle.relay_run.specs.Serving.{AreServedOn, AreServedWithMore, GoesOnOrServesNone, ServesNoneYet};
 ghost use Rattle.relay_run.specs.Steering.{IsDraining, MayBegin, TurnsAway};
 
 use crate::acceptor::Acceptor;
+use crate::device::Device;
+use crate::journal::Journal;
 use crate::known::Known;
 use crate::listen::Listen;
 use crate::pauses::Pauses;
 use crate::reopening::{Why, reopen};
-use crate::reporter::Reporter;
-use crate::room::Room;
+use crate::room::{Ballast, Room};
 use crate::start::log_form;
 use crate::steering::Steering;
 use crate::tidying::Tidying;
@@ -34,16 +35,17 @@ use std::alloc::{AllocError, Global};
 use std::io::Write;
 use std::rt::Clock;
 
-/// All connections of a relay, and the due mail: over any streams, any disks and any ballast file. What opens the
-/// streams, and what reports their readiness, is passed to each turn.
-pub(crate) struct Shell<S, D: Disk, F> {
+/// A running relay: its connections, and the due mail, over any streams, any disks and any ballast file. What opens the
+/// streams, and what reports their readiness, is passed to each turn. What its streams may be ready for is noted before
+/// a turn ([`note`](Shell::note)), and after it the relay goes on ([`resumed`](Shell::resumed)).
+pub struct Shell<S, D: Disk, F> {
     pub(crate) relay: Relay<D>,
     pub(crate) acceptor: Acceptor<S>,
     pub(crate) clients: Clients<S>,
     pub(crate) next_hops: NextHops<S>,
     pub(crate) leaving: Leaving<S>,
     pub(crate) tidying: Tidying,
-    pauses: Pauses,
+    pub(crate) pauses: Pauses,
     pub(crate) room: Room<F>,
     pub(crate) known: Known,
     pub(crate) steering: Steering,
@@ -114,6 +116,9 @@ impl<S: Stream + Drop, D: Disk + Drop, F: Disk + Drop> Shell<S, D, F> {
         ensures number { self.new.known.next_number ≡ self.old.relay.node.records.queue.next }
         ensures size { self.new.known.size ≡ self.old.relay.node.records.spool.size }
         ensures compacted { self.new.known.compacted ≡ None }
+        ensures rest { (self.new.relay ≡ self.old.relay) × (self.new.clients ≡ self.old.clients)
+            × (self.new.next_hops ≡ self.old.next_hops) × (self.new.leaving ≡ self.old.leaving)
+            × (self.new.acceptor ≡ self.old.acceptor) × (self.new.steering ≡ self.old.steering) }
     {
         self.known = Known::of(&self.relay);
     }
@@ -131,6 +136,34 @@ impl<S: Stream + Drop, D: Disk + Drop, F: Disk + Drop> Shell<S, D, F> {
         !self.steering.is_draining()
             && !self.steering.is_reloading()
             && self.room.may_start(self.relay.node().size())
+    }
+
+    /// Takes a turn, and writes its log lines. Then keeps the spool small, which may take a while, and so comes after
+    /// those lines. Clients that stay are served as before, and so are those that came.
+    pub fn advance<C: Clock, L: Listen<Stream = S>, N: Dial<Stream = S>, E: Write>(
+        &mut self,
+        listener: &mut L,
+        dial: &mut N,
+        registry: &S::Registry,
+        now: &Now,
+        journal: &mut Journal<'_, C, E>,
+    ) -> Result<(), Fault>
+        ensures served { (changes : List Change) (setting : Setting)
+            → AreServed D.honest D.words S.remaining S.contents changes setting (clients_of self.old.clients)
+            self.old.relay → OnOk result (AreServedOn D.honest D.words S.remaining S.contents changes setting
+            (clients_of self.old.clients) (clients_of self.new.clients) self.new.relay) }
+    {
+        journal.form = self.form;
+        let clock = journal.clock;
+        let end = self.turn(clock, listener, dial, registry, now, &mut journal.log(now));
+        journal.write();
+        end?;
+        self.note_known();
+        let end = self.tidy(now, &mut journal.log(now));
+        journal.write();
+        end?;
+        self.note_known();
+        Ok(())
     }
 
     /// Does for each connection one thing that can be done at once, and begins due attempts. If the relay is short of
@@ -329,17 +362,69 @@ impl<S: Stream + Drop, D: Disk + Drop, F: Disk + Drop> Shell<S, D, F> {
     }
 }
 
-impl<S: Stream + Drop> Shell<S, FileDisk, RoomFile> {
+impl<S: Stream + Drop, D: Device + Drop, F: Ballast + Drop> Shell<S, D, F> {
+    /// Returns the relay after a turn with this result. Opens its spool again if a reload takes effect, if the device
+    /// has failed, or if it has room again; it serves no client then. Logs a fault that ends the relay.
+    pub fn resumed<C: Clock, L: Listen<Stream = S>, E: Write>(
+        self,
+        listener: &mut L,
+        end: Result<(), Fault>,
+        now: &Now,
+        journal: &mut Journal<'_, C, E>,
+    ) -> Result<Self, Fault>
+        ensures config { IfOk result (λ after. MayReload self.relay.node.config self.steering self.clients
+            self.next_hops self.leaving after.relay.node.config) }
+        ensures reloads { IfOk result (λ after. IsOk end → IsReloadable self.steering self.clients self.next_hops
+            self.leaving now.now.tick → after.steering.reload ≡ None) }
+        ensures served { IfOk result (λ after. GoesOnOrServesNone D.Disk.honest D.Disk.words (clients_of self.clients)
+            (clients_of after.clients) self.relay after.relay) }
+        ensures none { IsErr end → IfOk result (λ after. ServesNoneYet D.Disk.honest D.Disk.words
+            (clients_of after.clients) after.relay) }
+    {
+        journal.form = self.form;
+        let after = self.kept_or_reopened(journal, listener, end, now);
+        if let Err(fault) = &after {
+            journal.stopping(fault);
+        }
+        after
+    }
+
+    /// Returns the relay after a turn with this result, as [`resumed`](Shell::resumed), without that log line.
+    fn kept_or_reopened<C: Clock, L: Listen<Stream = S>, E: Write>(
+        self,
+        journal: &mut Journal<'_, C, E>,
+        listener: &mut L,
+        end: Result<(), Fault>,
+        now: &Now,
+    ) -> Result<Self, Fault>
+        ensures config { IfOk result (λ after. MayReload self.relay.node.config self.steering self.clients
+            self.next_hops self.leaving after.relay.node.config) }
+        ensures reloads { IfOk result (λ after. IsOk end → IsReloadable self.steering self.clients self.next_hops
+            self.leaving now.now.tick → after.steering.reload ≡ None) }
+        ensures served { IfOk result (λ after. GoesOnOrServesNone D.Disk.honest D.Disk.words (clients_of self.clients)
+            (clients_of after.clients) self.relay after.relay) }
+        ensures none { IsErr end → IfOk result (λ after. ServesNoneYet D.Disk.honest D.Disk.words
+            (clients_of after.clients) after.relay) }
+    {
+        match end {
+            Ok(()) if self.may_reload(now) => self.reloaded(journal, listener, now),
+            Ok(()) if self.is_renewed(now) => self.reopened(journal, listener, Why::Renewed),
+            Ok(()) => Ok(self),
+            Err(Fault::Device) => self.reopened(journal, listener, Why::Failed),
+            Err(fault) => Err(fault),
+        }
+    }
+
     /// Returns the same relay with its spool opened again: after a failure once the device has room; else at once, with
     /// its configured limit. Closes all connections, and refuses clients at the listener meanwhile. Fails if a sync has
     /// failed, or if the spool isn't the known one.
     pub(crate) fn reopened<C: Clock, E: Write, L: Listen<Stream = S>>(
         mut self,
-        reporter: &mut Reporter<'_, C, E>,
+        journal: &mut Journal<'_, C, E>,
         listener: &mut L,
         why: Why,
     ) -> Result<Self, Fault>
-        ensures synced { HasFailedToSync self.relay.node.records.spool.disk → IsErr result }
+        ensures synced { HasFailedToSync D.has_failed_to_sync self.relay.node.records.spool.disk → IsErr result }
         ensures whole { IfOk result (λ shell. IsWhole self.known shell.relay.node.records.queue.next
             shell.relay.node.records.spool.size) }
         ensures tested { why ≡ Why.Failed → IfOk result (λ shell. MayStart shell.room self.known.size) }
@@ -347,21 +432,27 @@ impl<S: Stream + Drop> Shell<S, FileDisk, RoomFile> {
             × KeepsRules self.clients shell.clients) }
         ensures config { IfOk result (λ shell. KeepsConfig (config_for why self.relay.node.config)
             shell.relay.node.config) }
+        ensures none { IfOk result (λ shell. ServesNoneYet D.Disk.honest D.Disk.words (clients_of shell.clients)
+            shell.relay) }
     {
         self.clients.clear();
         self.leaving.clear();
         self.acceptor.clear();
-        self.opened(reporter, listener, why)
+        if !self.clients.is_empty() {
+            // A client that stayed would have no session. It never does: all numbers were cleared.
+            return Err(Fault::Device);
+        }
+        self.opened(journal, listener, why)
     }
 
     /// Returns the same relay with its spool opened again for this reason.
     pub(crate) fn opened<C: Clock, E: Write, L: Listen<Stream = S>>(
         self,
-        reporter: &mut Reporter<'_, C, E>,
+        journal: &mut Journal<'_, C, E>,
         listener: &mut L,
         why: Why,
     ) -> Result<Self, Fault>
-        ensures synced { HasFailedToSync self.relay.node.records.spool.disk → IsErr result }
+        ensures synced { HasFailedToSync D.has_failed_to_sync self.relay.node.records.spool.disk → IsErr result }
         ensures whole { IfOk result (λ shell. IsWhole self.known shell.relay.node.records.queue.next
             shell.relay.node.records.spool.size) }
         ensures tested { why ≡ Why.Failed → IfOk result (λ shell. MayStart shell.room self.known.size) }
@@ -369,6 +460,7 @@ impl<S: Stream + Drop> Shell<S, FileDisk, RoomFile> {
             × (shell.next_hops.lanes.held ≡ self.next_hops.lanes.held)) }
         ensures config { IfOk result (λ shell. KeepsConfig (config_for why self.relay.node.config)
             shell.relay.node.config) }
+        ensures opened { IfOk result (λ shell. HasOpened D.Disk.honest D.Disk.words shell.relay) }
     {
         let Shell {
             relay,
@@ -385,15 +477,7 @@ impl<S: Stream + Drop> Shell<S, FileDisk, RoomFile> {
         } = self;
         let mut pauses = pauses;
         let mut room = room;
-        let relay = reopen(
-            reporter,
-            relay,
-            known,
-            why,
-            listener,
-            &mut room,
-            &mut pauses,
-        )?;
+        let relay = reopen(journal, relay, known, why, listener, &mut room, &mut pauses)?;
         Ok(Shell {
             known: Known::of(&relay),
             relay,

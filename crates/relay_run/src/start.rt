@@ -1,11 +1,12 @@
 //! The start of a relay.
 use crate::acceptor::Acceptor;
 use crate::control::ControlSocket;
+use crate::device::Device;
 use crate::held_mail::HeldMail;
 use crate::known::Known;
 use crate::listen::listener_at;
 use crate::reopening::open_bounded;
-use crate::room::Room;
+use crate::room::{Ballast, Room};
 use crate::source::Source;
 use crate::steering::Steering;
 use mio::Registry;
@@ -17,6 +18,7 @@ use relay_limits::{
 };
 use relay_log::{Counters, Form, Log};
 use relay_loop::Relay;
+use relay_node::Node;
 use relay_routes::{Config, ConfigFault};
 use relay_status::StatusPage;
 use relay_trace::clock_moment;
@@ -36,49 +38,59 @@ pub(crate) const PAGE_TOKEN: usize = Acceptor::TOKEN + 1;
 
 /// What the configuration's file says.
 #[derive(Drop)]
-pub(crate) struct Settings {
-    pub(crate) config: Config,
-    pub(crate) limits: Limits,
-    pub(crate) balancers: Balancers,
+pub struct Settings {
+    /// The configuration of the node.
+    pub config: Config,
+    /// The limits of a running relay.
+    pub limits: Limits,
+    /// The addresses whose connections begin with a PROXY protocol header.
+    pub balancers: Balancers,
     /// The clients that may connect.
-    pub(crate) allowed: AllowedClients,
+    pub allowed: AllowedClients,
     /// The path of the control socket, if there is one.
     pub(crate) control: Option<String>,
     /// The number of the group that may use the control socket, if any.
     pub(crate) control_group: Option<u32>,
 }
 
-/// Returns what the file at this path says. Faults are checked in this order: the file, the configuration, the limits,
-/// the balancers, the clients that may connect, the control socket, its group.
+impl Settings {
+    /// Returns what a configuration's text says. Faults are checked in this order: the configuration, the limits, the
+    /// balancers, the clients that may connect, the control socket, its group.
+    pub fn read(alloc: Global, text: &str) -> Result<Self, Fault> {
+        let document = document(alloc, text)?;
+        let config = Config::of_document(alloc, &document)?;
+        let limits = Limits::of_document(&document)?;
+        let Some(balancers) = Balancers::of_document(alloc, &document)? else {
+            return Err(Fault::Limit(Limit::Balancers));
+        };
+        let Some(allowed) = AllowedClients::of_document(alloc, &document)? else {
+            return Err(Fault::Limit(Limit::Clients));
+        };
+        let Some(control) = control_path(alloc, &document)? else {
+            return Err(Fault::Limit(Limit::Control));
+        };
+        let Some(control_group) = control_group(&document) else {
+            return Err(Fault::Limit(Limit::ControlGroup));
+        };
+        Ok(Settings {
+            config,
+            limits,
+            balancers,
+            allowed,
+            control,
+            control_group,
+        })
+    }
+}
+
+/// Returns what the file at this path says. Fails first if it can't be read, and then as [`Settings::read`] does.
 pub(crate) fn read_settings<F: Files<File = File>>(
     alloc: Global,
     files: &F,
     path: &str,
 ) -> Result<Settings, Fault> {
     let text = configuration_text(alloc, files, path)?;
-    let document = document(alloc, text.as_str())?;
-    let config = Config::of_document(alloc, &document)?;
-    let limits = Limits::of_document(&document)?;
-    let Some(balancers) = Balancers::of_document(alloc, &document)? else {
-        return Err(Fault::Limit(Limit::Balancers));
-    };
-    let Some(allowed) = AllowedClients::of_document(alloc, &document)? else {
-        return Err(Fault::Limit(Limit::Clients));
-    };
-    let Some(control) = control_path(alloc, &document)? else {
-        return Err(Fault::Limit(Limit::Control));
-    };
-    let Some(control_group) = control_group(&document) else {
-        return Err(Fault::Limit(Limit::ControlGroup));
-    };
-    Ok(Settings {
-        config,
-        limits,
-        balancers,
-        allowed,
-        control,
-        control_group,
-    })
+    Settings::read(alloc, text.as_str())
 }
 
 /// Returns the format of the log; `None` if nothing is logged.
@@ -109,14 +121,25 @@ fn document(alloc: Global, text: &str) -> Result<toml::Table, Fault> {
 }
 
 /// Returns the relay of the spool that the configuration names, whose files are locked for this process, and the room
-/// beside it. If there is little room, the spool's limit is below the configured one.
+/// beside it.
 pub(crate) fn locked_relay<F: Files<File = File>>(
     alloc: Global,
     files: &F,
     config: Config,
 ) -> Result<(Relay<FileDisk>, Room), Fault> {
     let node = locked_node(alloc, files, config)?;
-    let mut room = Room::open(alloc, files, node.config())?;
+    let room = Room::open(alloc, files, node.config())?;
+    relay_beside(alloc, node, room)
+}
+
+/// Returns the relay of a node, and the room beside its spool. If there is little room, the spool's limit is below the
+/// configured one.
+pub(crate) fn relay_beside<D: Device + Drop, F: Ballast + Drop>(
+    alloc: Global,
+    node: Node<D>,
+    room: Room<F>,
+) -> Result<(Relay<D>, Room<F>), Fault> {
+    let mut room = room;
     room.test(node.size());
     let Ok(relay) = Relay::new(alloc, node) else {
         return Err(Fault::NoMemory);

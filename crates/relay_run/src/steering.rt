@@ -1,9 +1,14 @@
 //! What a postmaster asks of a running relay, and how far it has come with it.
-ghost use Rattle.std.specs.Prelude.{◌≡◌, ◌≤◌, ◌↔◌, IfErr, IfOk, IsTrue, MatchOption, MatchResult, false, true};
-ghost use Rattle.std.specs.Prelude.{option_copied};
+ghost use Rattle.std.specs.Prelude.{◌≡◌, ◌≤◌, ◌↔◌, IfErr, IfOk, IsTrue, List, MatchOption, MatchResult, OnOk};
+ghost use Rattle.std.specs.Prelude.{false, option_copied, true};
+ghost use Rattle.relay_book.specs.declared.change.Change.{Change};
+ghost use Rattle.relay_connections.specs.Carried.{Setting};
+ghost use Rattle.relay_connections.specs.Readiness.{clients_of};
+ghost use Rattle.relay_connections.specs.Served.{AreServed};
 ghost use Rattle.relay_run.specs.Answers.{IsText};
 ghost use Rattle.relay_run.specs.Reloading.{ReloadsBy};
 ghost use Rattle.relay_run.specs.Requests.{Flushes, FlushesThere, HoldsThere, Releases, Steers, is_there, missing_text};
+ghost use Rattle.relay_run.specs.Serving.{AreServedOn};
 ghost use Rattle.relay_run.specs.Steering.{DrainsBy, FailsToObey, IsDraining, IsWithdrawn, Obeys, TurnsAway};
 ghost use Rattle.relay_run.specs.Withdrawing.{FailsAmong};
 
@@ -104,8 +109,8 @@ impl Steering {
 }
 
 impl<S: Stream + Drop, D: Disk + Drop, F: Disk + Drop> Shell<S, D, F> {
-    /// Serves the control socket. Does what one caller asks for, if one does, and logs that. Fails only if the device
-    /// has failed.
+    /// Serves the control socket. Does what one caller asks for, if one does, and logs that. Clients are served as
+    /// before, also where their mail was withdrawn. Fails only if the device has failed.
     pub(crate) fn steer<O: Documents>(
         &mut self,
         files: &O,
@@ -115,6 +120,10 @@ impl<S: Stream + Drop, D: Disk + Drop, F: Disk + Drop> Shell<S, D, F> {
     ) -> Result<(), Fault>
         ensures fault { IfErr result (λ fault. fault ≡ Fault.Device) }
         ensures away { TurnsAway self.old.steering self.old.clients → TurnsAway self.new.steering self.new.clients }
+        ensures served { (changes : List Change) (setting : Setting)
+            → AreServed D.honest D.words S.remaining S.contents changes setting (clients_of self.old.clients)
+            self.old.relay → OnOk result (AreServedOn D.honest D.words S.remaining S.contents changes setting
+            (clients_of self.old.clients) (clients_of self.new.clients) self.new.relay) }
     {
         let Some((caller, request)) = self.steering.socket.serve(registry, now) else {
             return Ok(());

@@ -2,6 +2,9 @@
 //! or was full.
 ghost use Rattle.std.specs.Prelude.{◌≡◌, ◌≤◌, ◌⊎◌, IfErr, List, MatchResult, None, Ok, OnOk, Some, false, true};
 ghost use Rattle.relay_book.specs.declared.change.Change.{Change};
+ghost use Rattle.relay_connections.specs.Carried.{Setting};
+ghost use Rattle.relay_connections.specs.Readiness.{clients_of};
+ghost use Rattle.relay_connections.specs.Served.{AreServed};
 ghost use Rattle.relay_records.specs.Records.{Compacts, Halted, Keeps};
 ghost use Rattle.relay_run.specs.Tidying.{FailsToCompact, IsCompacted, KeepsRest, MayBeTrimmed, compacted_size_of};
 
@@ -163,8 +166,8 @@ impl Tidying {
 }
 
 impl<S: Stream + Drop, D: Disk + Drop, F: Disk + Drop> Shell<S, D, F> {
-    /// Compacts the spool after a turn, if that is due and worth it, and there is room for it. A fault means that a
-    /// compaction has failed; its size is known then.
+    /// Compacts the spool after a turn, if that is due and worth it, and there is room for it. Clients are served as
+    /// before. A fault means that a compaction has failed; its size is known then.
     pub(crate) fn tidy(&mut self, now: &Now, log: &mut Log<'_, Vec<u8>>) -> Result<(), Fault>
         ensures tidies { OnOk result ((self.new.relay ≡ self.old.relay)
             ⊎ IsCompacted D.honest D.words self.old.tidying.was_full self.old.relay self.new.relay) }
@@ -176,6 +179,10 @@ impl<S: Stream + Drop, D: Disk + Drop, F: Disk + Drop> Shell<S, D, F> {
         ensures rest { (self.new.clients ≡ self.old.clients) × (self.new.next_hops ≡ self.old.next_hops)
             × (self.new.leaving ≡ self.old.leaving) × (self.new.acceptor ≡ self.old.acceptor)
             × (self.new.steering ≡ self.old.steering) }
+        ensures served { (changes : List Change) (setting : Setting)
+            → AreServed D.honest D.words S.remaining S.contents changes setting (clients_of self.old.clients)
+            self.old.relay → OnOk result (AreServed D.honest D.words S.remaining S.contents changes setting
+            (clients_of self.new.clients) self.new.relay) }
     {
         if !self.tidying.may_be_due(now) {
             return Ok(());
@@ -201,14 +208,18 @@ impl<S: Stream + Drop, D: Disk + Drop, F: Disk + Drop> Shell<S, D, F> {
         Ok(())
     }
 
-    /// Drops some octets of the spool's other file after a turn, if it may have any.
-    pub(crate) fn trim(&mut self) -> Result<(), Fault>
+    /// Drops some octets of the spool's other file after a turn, if it may have any. Clients are served as before.
+    pub fn trim(&mut self) -> Result<(), Fault>
         ensures trimmed { OnOk result ((self.new.relay ≡ self.old.relay)
             ⊎ MayBeTrimmed D.honest D.words self.old.relay self.new.relay) }
         ensures failed { IfErr result (λ fault. (fault ≡ Fault.Device) × KeepsRest self.old.relay self.new.relay) }
         ensures rest { (self.new.clients ≡ self.old.clients) × (self.new.next_hops ≡ self.old.next_hops)
             × (self.new.leaving ≡ self.old.leaving) × (self.new.acceptor ≡ self.old.acceptor)
             × (self.new.known ≡ self.old.known) × (self.new.steering ≡ self.old.steering) }
+        ensures served { (changes : List Change) (setting : Setting)
+            → AreServed D.honest D.words S.remaining S.contents changes setting (clients_of self.old.clients)
+            self.old.relay → OnOk result (AreServed D.honest D.words S.remaining S.contents changes setting
+            (clients_of self.new.clients) self.new.relay) }
     {
         self.tidying.trim(&mut self.relay)
     }

@@ -1,281 +1,275 @@
-//! The turns of a relay: each waits for readiness, and does what can be done at once.
-ghost use Rattle.std.specs.Prelude.{◌≡◌, ◌≤◌, ◌-◌, ℕ, IfOk, IsOk, None};
+//! The turns of a relay, whatever surrounds it: each waits for readiness, and does what can be done at once.
+ghost use Rattle.std.specs.Prelude.{◌≡◌, ◌≤◌, ◌-◌, ℕ, IfOk, IsTrue, List, OnOk};
+ghost use Rattle.relay_book.specs.declared.change.Change.{Change};
+ghost use Rattle.relay_connections.specs.Carried.{Setting};
 ghost use Rattle.relay_connections.specs.Readiness.{IsLeftClient, clients_of};
+ghost use Rattle.relay_connections.specs.Served.{AreServed};
 ghost use Rattle.relay_next_hops.specs.Lanes.{next_due_of};
 ghost use Rattle.relay_next_hops.specs.Readiness.{IsLeftHop, hops_of};
-ghost use Rattle.relay_run.specs.Reloading.{IsReloadable, MayReload};
 ghost use Rattle.relay_run.specs.Room.{next_look};
+ghost use Rattle.relay_run.specs.Serving.{AreServedLater, AreServedLaterOrAgain, AreServedOn, ServesNoneOrOn};
 ghost use Rattle.relay_run.specs.Steering.{HasDrained, MayBegin};
 ghost use Rattle.relay_run.specs.declared.waiting.TheConstants.{LONGEST_WAIT};
 
 use crate::control::ControlSocket;
-use crate::documents::SystemFiles;
-use crate::reopening::Why;
-use crate::reporter::Reporter;
-use crate::shell::SystemShell;
-use crate::start::PAGE_TOKEN;
-use mio::net::TcpListener;
-use mio::{Events, Poll};
-use relay_connections::{Now, Readiness};
+use crate::device::Device;
+use crate::documents::Documents;
+use crate::journal::Journal;
+use crate::listen::Listen;
+use crate::room::Ballast;
+use crate::shell::Shell;
+use mio::Registry;
+use relay_connections::{Now, Readiness, Stream};
+use relay_disk::Disk;
 use relay_files::Fault;
-use relay_log::{Counters, Form, Log};
-use relay_next_hops::Sockets;
-use relay_status::{Connections, StatusPage};
-use std::alloc::Global;
-use std::fs::File;
+use relay_log::Counters;
+use relay_loop::Relay;
+use relay_next_hops::Dial;
+use relay_status::Connections;
 use std::io::Write;
-use std::net::Net;
-use std::rt::{Clock, Files};
-use std::time::Duration;
+use std::rt::Clock;
 
-/// What a relay uses of the system beside files: the clocks, its listener, what opens streams to next hops, what
-/// reports readiness, and the page.
-pub(crate) struct System<'a, R> {
-    pub(crate) clock: &'a R,
-    pub(crate) listener: TcpListener,
-    pub(crate) dial: Sockets<'a, R>,
-    pub(crate) poll: Poll,
-    pub(crate) events: Events,
-    pub(crate) page: StatusPage,
+/// Where callers of the control socket are registered, and the files that their requests read and write.
+pub struct Control<'a, O> {
+    pub registry: &'a Registry,
+    pub files: &'a O,
+}
+
+/// What reports the readiness of a relay's streams, and what shows and steers the relay. Nothing is promised of its
+/// reports.
+pub trait Watch<S: Stream, D: Disk> {
+    ghost use Rattle.std.specs.Prelude.{◌≤◌};
+
+    /// The files of a postmaster's requests.
+    type Files: Documents;
+
+    /// Returns what streams are registered at.
+    fn registry(&self) -> &S::Registry;
+
+    /// Returns how long to wait, in milliseconds, if something else is to be done then.
+    fn shortened(&self, milliseconds: u64, now: &Now) -> u64
+        ensures { result ≤ milliseconds };
+
+    /// Waits until something may be ready, but no longer than this many milliseconds.
+    fn wait(&mut self, milliseconds: u64);
+
+    /// Returns a report of the last wait that wasn't taken yet: a token, and what may be ready under it. `None`: there
+    /// is no other.
+    fn take_report(&mut self) -> Option<(usize, Readiness)>;
+
+    /// Shows the state of the relay.
+    fn show(
+        &mut self,
+        relay: &Relay<D>,
+        connections: Connections<'_>,
+        counters: &Counters,
+        now: &Now,
+    );
+
+    /// Returns where the relay is steered from; `None` if nobody steers it.
+    fn control(&self) -> Option<Control<'_, Self::Files>>;
+}
+
+/// What surrounds a running relay: the clocks, where clients come from, what opens streams to next hops, and what
+/// reports readiness.
+pub struct Surroundings<'a, C, L, N, W> {
+    pub clock: &'a C,
+    pub listener: L,
+    pub dial: N,
+    pub watch: W,
 }
 
 // Written out, so that the proof of a caller that drops it stops at this function.
-impl<R> Drop for System<'_, R> {
+impl<C, L: Drop, N: Drop, W: Drop> Drop for Surroundings<'_, C, L, N, W> {
     fn drop(self) {
-        let System {
+        let Surroundings {
             clock: _,
             listener: _listener,
             dial: _dial,
-            poll: _poll,
-            events: _events,
-            page: _page,
+            watch: _watch,
         } = self;
     }
 }
 
-/// Serves until the relay has drained, and returns it then; or until a fault ends it.
-pub(crate) fn serve<R: Files<File = File> + Clock + Net, E: Write>(
-    alloc: Global,
-    system: System<'_, R>,
-    shell: SystemShell,
-    errors: &mut E,
-) -> Result<SystemShell, Fault>
-    ensures { IfOk result (λ shell. (tick : ℕ) × HasDrained shell.steering shell.next_hops tick) }
-{
-    let mut system = system;
-    let mut shell = shell;
-    let mut lines = Vec::new(alloc);
-    let mut counters = Counters::new();
-    for _ in 0..u64::MAX {
-        let form = shell.form;
-        wait(&mut system, &mut shell);
-        let end = take_turn(
-            alloc,
-            &mut system,
-            &mut shell,
-            form,
-            &mut counters,
-            &mut lines,
-            errors,
-        );
-        let mut reporter = Reporter {
-            alloc,
-            clock: system.clock,
-            form,
-            counters: &mut counters,
-            errors: &mut *errors,
-        };
-        let now = Now::of(system.clock);
-        shell = after_turn(&mut reporter, &mut system.listener, shell, end, &now)?;
-        if shell.has_drained(system.poll.registry(), &Now::of(system.clock)) {
-            return Ok(shell);
+impl<S: Stream + Drop, D: Device + Drop, F: Ballast + Drop> Shell<S, D, F> {
+    /// Serves until the relay has drained, and returns it then; or until a fault ends it. Clients are served all the
+    /// time, as [`turns`](Shell::turns) says.
+    pub fn serve<C: Clock, L: Listen<Stream = S>, N: Dial<Stream = S>, W: Watch<S, D>, E: Write>(
+        self,
+        around: &mut Surroundings<'_, C, L, N, W>,
+        journal: &mut Journal<'_, C, E>,
+    ) -> Result<Self, Fault>
+        ensures drained { IfOk result (λ shell. (tick : ℕ) × HasDrained shell.steering shell.next_hops tick) }
+        ensures served { (changes : List Change) (setting : Setting)
+            → AreServed D.Disk.honest D.Disk.words S.remaining S.contents changes setting (clients_of self.clients)
+            self.relay → IfOk result (λ after. AreServedLaterOrAgain D.Disk.honest D.Disk.words S.remaining S.contents
+            changes setting (clients_of after.clients) after.relay) }
+    {
+        let mut shell = self;
+        for _ in 0..u64::MAX {
+            shell = shell.next_turn(around, journal)?;
+            if shell.has_ended(around) {
+                return Ok(shell);
+            }
+        }
+        // This many turns never pass.
+        Err(Fault::Socket)
+    }
+
+    /// Takes this many turns, each after a wait, and goes on after each. Clients are served all the time: those that
+    /// the relay had, and those that come; if its spool is opened again, those that come after that. Fails if a fault
+    /// ends the relay.
+    pub fn turns<C: Clock, L: Listen<Stream = S>, N: Dial<Stream = S>, W: Watch<S, D>, E: Write>(
+        self,
+        around: &mut Surroundings<'_, C, L, N, W>,
+        journal: &mut Journal<'_, C, E>,
+        count: u64,
+    ) -> Result<Self, Fault>
+        ensures served { (changes : List Change) (setting : Setting)
+            → AreServed D.Disk.honest D.Disk.words S.remaining S.contents changes setting (clients_of self.clients)
+            self.relay → IfOk result (λ after. AreServedLaterOrAgain D.Disk.honest D.Disk.words S.remaining S.contents
+            changes setting (clients_of after.clients) after.relay) }
+    {
+        let mut shell = self;
+        for _ in 0..count {
+            shell = shell.next_turn(around, journal)?;
+        }
+        Ok(shell)
+    }
+
+    /// Waits, takes a turn, and goes on after it.
+    fn next_turn<C: Clock, L: Listen<Stream = S>, N: Dial<Stream = S>, W: Watch<S, D>, E: Write>(
+        self,
+        around: &mut Surroundings<'_, C, L, N, W>,
+        journal: &mut Journal<'_, C, E>,
+    ) -> Result<Self, Fault>
+        ensures served { IfOk result (λ after. ServesNoneOrOn D.Disk.honest D.Disk.words S.remaining S.contents
+            (clients_of self.clients) (clients_of after.clients) self.relay after.relay) }
+    {
+        let mut shell = self;
+        shell.hear_reports(around);
+        let end = shell.take_turn(around, journal);
+        let now = Now::of(around.clock);
+        shell.resumed(&mut around.listener, end, &now, journal)
+    }
+
+    /// Waits until something can be done, and notes what may be ready.
+    fn hear_reports<C: Clock, L, N, W: Watch<S, D>>(
+        &mut self,
+        around: &mut Surroundings<'_, C, L, N, W>,
+    )
+        ensures served { (changes : List Change) (setting : Setting)
+            → AreServed D.Disk.honest D.Disk.words S.remaining S.contents changes setting (clients_of self.old.clients)
+            self.old.relay → AreServed D.Disk.honest D.Disk.words S.remaining S.contents changes setting
+            (clients_of self.new.clients) self.new.relay }
+    {
+        let wait = self.next_wait(&around.watch, &Now::of(around.clock));
+        around.watch.wait(wait);
+        for _ in 0..u64::MAX {
+            match around.watch.take_report() {
+                Some((token, ready)) => self.note_under(token, ready),
+                None => return,
+            }
         }
     }
-    // This many turns never pass.
-    Err(Fault::Socket)
-}
 
-/// Waits until the system reports readiness, but no longer than until there is something else to do.
-fn wait<R: Clock>(system: &mut System<'_, R>, shell: &mut SystemShell) {
-    let wait = next_wait(shell, &system.page, &Now::of(system.clock));
-    // A wait that fails reports nothing, and time goes on.
-    let _ = system
-        .poll
-        .poll(&mut system.events, Some(Duration::from_millis(wait)));
-    for event in system.events.iter() {
-        let (token, ready) = (event.token().0, Readiness::of(event));
-        if token < PAGE_TOKEN {
-            shell.note(token, ready);
-        } else if token < ControlSocket::TOKEN {
-            system.page.note(token - PAGE_TOKEN, ready);
+    /// Returns how many milliseconds to wait, with what else is to be done taken into account.
+    fn next_wait<W: Watch<S, D>>(&self, watch: &W, now: &Now) -> u64
+        ensures client { (number : ℕ) → IsLeftClient (clients_of self.now.clients) self.now.relay number
+            → result ≡ 0 }
+        ensures hop { (number : ℕ) → IsLeftHop (hops_of self.now.next_hops) self.now.relay number → result ≡ 0 }
+        ensures due { MayBegin self.now.steering self.now.room self.now.relay.node.records.spool.size
+            → result ≤ next_due_of self.now.next_hops - now.now.tick }
+        ensures look { result ≤ next_look self.now.room.standing self.now.room - now.now.tick }
+        ensures longest { result ≤ LONGEST_WAIT }
+    {
+        watch.shortened(self.wait(now), now)
+    }
+
+    /// Notes what a stream, the listener, the control socket or one of its callers may be ready for.
+    fn note_under(&mut self, token: usize, ready: Readiness)
+        ensures served { (changes : List Change) (setting : Setting)
+            → AreServed D.Disk.honest D.Disk.words S.remaining S.contents changes setting (clients_of self.old.clients)
+            self.old.relay → AreServed D.Disk.honest D.Disk.words S.remaining S.contents changes setting
+            (clients_of self.new.clients) self.new.relay }
+    {
+        if token < ControlSocket::TOKEN {
+            self.note(token, ready);
         } else {
-            shell
-                .steering
+            self.steering
                 .socket
                 .note(token - ControlSocket::TOKEN, ready);
         }
     }
-}
 
-/// Returns how many milliseconds to wait, with the page's deadlines taken into account.
-fn next_wait(shell: &SystemShell, page: &StatusPage, now: &Now) -> u64
-    ensures client { (number : ℕ) → IsLeftClient (clients_of shell.now.clients) shell.now.relay number
-        → result ≡ 0 }
-    ensures hop { (number : ℕ) → IsLeftHop (hops_of shell.now.next_hops) shell.now.relay number → result ≡ 0 }
-    ensures due { MayBegin shell.now.steering shell.now.room shell.now.relay.node.records.spool.size
-        → result ≤ next_due_of shell.now.next_hops - now.now.tick }
-    ensures look { result ≤ next_look shell.now.room.standing shell.now.room - now.now.tick }
-    ensures longest { result ≤ LONGEST_WAIT }
-{
-    if page.is_ready(now) {
-        return 0;
+    /// Takes a turn, shows the relay, does what a postmaster asks for, and makes the spool's other file shorter.
+    fn take_turn<C: Clock, L: Listen<Stream = S>, N: Dial<Stream = S>, W: Watch<S, D>, E: Write>(
+        &mut self,
+        around: &mut Surroundings<'_, C, L, N, W>,
+        journal: &mut Journal<'_, C, E>,
+    ) -> Result<(), Fault>
+        ensures served { (changes : List Change) (setting : Setting)
+            → AreServed D.Disk.honest D.Disk.words S.remaining S.contents changes setting (clients_of self.old.clients)
+            self.old.relay → OnOk result (AreServedLater D.Disk.honest D.Disk.words S.remaining S.contents changes
+            setting (clients_of self.new.clients) self.new.relay) }
+    {
+        let now = Now::of(around.clock);
+        self.advance(
+            &mut around.listener,
+            &mut around.dial,
+            around.watch.registry(),
+            &now,
+            journal,
+        )?;
+        self.show(&mut around.watch, &journal.counters, &now);
+        self.obey_caller(&around.watch, &now, journal)?;
+        self.note_known();
+        self.trim()
     }
-    let wait = shell.wait(now);
-    wait.min(page.next_deadline(u64::MAX).saturating_sub(now.tick))
-}
 
-/// Returns the relay after a turn with this result. Logs a fault that ends the relay.
-fn after_turn<C: Clock, E: Write>(
-    reporter: &mut Reporter<'_, C, E>,
-    listener: &mut TcpListener,
-    shell: SystemShell,
-    end: Result<(), Fault>,
-    now: &Now,
-) -> Result<SystemShell, Fault>
-    ensures config { IfOk result (λ after. MayReload shell.relay.node.config shell.steering shell.clients
-        shell.next_hops shell.leaving after.relay.node.config) }
-    ensures reloads { IfOk result (λ after. IsOk end → IsReloadable shell.steering shell.clients shell.next_hops
-        shell.leaving now.now.tick → after.steering.reload ≡ None) }
-{
-    let after = kept_or_reopened(reporter, listener, shell, end, now);
-    if let Err(fault) = &after {
-        reporter.stopping(fault);
+    /// Shows the state of the relay.
+    fn show<W: Watch<S, D>>(&self, watch: &mut W, counters: &Counters, now: &Now) {
+        let connections = Connections {
+            sessions: self.clients.count() as u64,
+            attempts: self.next_hops.running() as u64,
+            replies: self.next_hops.last_replies(),
+        };
+        watch.show(&self.relay, connections, counters, now);
     }
-    after
-}
 
-/// Returns the relay after a turn with this result. Opens its spool again if a reload takes effect, if the device has
-/// failed, or if it has room again.
-fn kept_or_reopened<C: Clock, E: Write>(
-    reporter: &mut Reporter<'_, C, E>,
-    listener: &mut TcpListener,
-    shell: SystemShell,
-    end: Result<(), Fault>,
-    now: &Now,
-) -> Result<SystemShell, Fault>
-    ensures config { IfOk result (λ after. MayReload shell.relay.node.config shell.steering shell.clients
-        shell.next_hops shell.leaving after.relay.node.config) }
-    ensures reloads { IfOk result (λ after. IsOk end → IsReloadable shell.steering shell.clients shell.next_hops
-        shell.leaving now.now.tick → after.steering.reload ≡ None) }
-{
-    match end {
-        Ok(()) if shell.may_reload(now) => shell.reloaded(reporter, listener, now),
-        Ok(()) if shell.is_renewed(now) => shell.reopened(reporter, listener, Why::Renewed),
-        Ok(()) => Ok(shell),
-        Err(Fault::Device) => shell.reopened(reporter, listener, Why::Failed),
-        Err(fault) => Err(fault),
+    /// Does what a caller of the control socket asks for, if somebody may steer, and writes the log lines of that.
+    fn obey_caller<C: Clock, W: Watch<S, D>, E: Write>(
+        &mut self,
+        watch: &W,
+        now: &Now,
+        journal: &mut Journal<'_, C, E>,
+    ) -> Result<(), Fault>
+        ensures served { (changes : List Change) (setting : Setting)
+            → AreServed D.Disk.honest D.Disk.words S.remaining S.contents changes setting (clients_of self.old.clients)
+            self.old.relay → OnOk result (AreServedOn D.Disk.honest D.Disk.words S.remaining S.contents changes setting
+            (clients_of self.old.clients) (clients_of self.new.clients) self.new.relay) }
+    {
+        let Some(Control { registry, files }) = watch.control() else {
+            return Ok(());
+        };
+        let end = self.steer(files, registry, now, &mut journal.log(now));
+        journal.write();
+        end
     }
-}
 
-/// Takes a turn, and writes its log lines. Then keeps the spool small, which may take a while, and so comes after those
-/// lines. Serves the page and the control socket last.
-fn take_turn<R: Files<File = File> + Clock + Net, E: Write>(
-    alloc: Global,
-    system: &mut System<'_, R>,
-    shell: &mut SystemShell,
-    form: Option<Form>,
-    counters: &mut Counters,
-    lines: &mut Vec<u8>,
-    errors: &mut E,
-) -> Result<(), Fault> {
-    let now = Now::of(system.clock);
-    let end = serve_all(alloc, system, shell, &now, form, counters, lines);
-    write_lines(lines, errors);
-    end?;
-    shell.note_known();
-    let end = tidy(alloc, shell, &now, form, counters, lines);
-    write_lines(lines, errors);
-    end?;
-    shell.note_known();
-    show(system, shell, counters, &now);
-    let end = steer(alloc, system, shell, &now, form, counters, lines);
-    write_lines(lines, errors);
-    end?;
-    shell.note_known();
-    shell.trim()
-}
-
-/// Serves the page only.
-fn show<R>(system: &mut System<'_, R>, shell: &SystemShell, counters: &Counters, now: &Now) {
-    let connections = Connections {
-        sessions: shell.clients.count() as u64,
-        attempts: shell.next_hops.running() as u64,
-        replies: shell.next_hops.last_replies(),
-    };
-    let registry = system.poll.registry();
-    system
-        .page
-        .turn(registry, &shell.relay, connections, counters, now);
-}
-
-/// Serves all connections once, and collects the log lines.
-fn serve_all<R: Clock + Net>(
-    alloc: Global,
-    system: &mut System<'_, R>,
-    shell: &mut SystemShell,
-    now: &Now,
-    form: Option<Form>,
-    counters: &mut Counters,
-    lines: &mut Vec<u8>,
-) -> Result<(), Fault> {
-    let mut log = Log::stamped(alloc, lines, form, now.moment, counters);
-    shell.turn(
-        system.clock,
-        &mut system.listener,
-        &mut system.dial,
-        system.poll.registry(),
-        now,
-        &mut log,
-    )
-}
-
-/// Serves the control socket, and collects the log lines.
-fn steer<R: Files<File = File>>(
-    alloc: Global,
-    system: &System<'_, R>,
-    shell: &mut SystemShell,
-    now: &Now,
-    form: Option<Form>,
-    counters: &mut Counters,
-    lines: &mut Vec<u8>,
-) -> Result<(), Fault> {
-    let mut log = Log::stamped(alloc, lines, form, now.moment, counters);
-    let files = SystemFiles {
-        files: system.clock,
-    };
-    shell.steer(&files, system.poll.registry(), now, &mut log)
-}
-
-/// Compacts the spool if that is due, and collects the log lines.
-fn tidy(
-    alloc: Global,
-    shell: &mut SystemShell,
-    now: &Now,
-    form: Option<Form>,
-    counters: &mut Counters,
-    lines: &mut Vec<u8>,
-) -> Result<(), Fault> {
-    let mut log = Log::stamped(alloc, lines, form, now.moment, counters);
-    shell.tidy(now, &mut log)
-}
-
-/// Writes the log lines of a turn by one write, if there are any.
-fn write_lines<E: Write>(lines: &mut Vec<u8>, errors: &mut E) {
-    if lines.is_empty() {
-        return;
+    /// Returns whether the relay has drained, and answers the caller that has asked for it then.
+    fn has_ended<C: Clock, L, N, W: Watch<S, D>>(
+        &mut self,
+        around: &Surroundings<'_, C, L, N, W>,
+    ) -> bool
+        ensures drained { IsTrue result → (tick : ℕ) × HasDrained self.new.steering self.new.next_hops tick }
+        ensures rest { (self.new.relay ≡ self.old.relay) × (self.new.clients ≡ self.old.clients) }
+    {
+        match around.watch.control() {
+            Some(Control { registry, files: _ }) => {
+                self.has_drained(registry, &Now::of(around.clock))
+            }
+            None => false,
+        }
     }
-    // If they can't be written, nothing is left to do.
-    let _ = errors.write_all(lines.as_slice());
-    let _ = errors.flush();
-    lines.clear();
 }

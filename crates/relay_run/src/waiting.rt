@@ -1,5 +1,8 @@
 //! For what a relay waits, and for how long.
-ghost use Rattle.std.specs.Prelude.{◌≡◌, ◌≤◌, ◌-◌, ℕ, true};
+ghost use Rattle.std.specs.Prelude.{◌≡◌, ◌≤◌, ◌-◌, ℕ, List, true};
+ghost use Rattle.relay_book.specs.declared.change.Change.{Change};
+ghost use Rattle.relay_connections.specs.Carried.{Setting};
+ghost use Rattle.relay_connections.specs.Served.{AreServed};
 ghost use Rattle.relay_connections.specs.Readiness.{IsLeftClient, clients_of};
 ghost use Rattle.relay_next_hops.specs.Lanes.{next_due_of};
 ghost use Rattle.relay_next_hops.specs.Readiness.{IsLeftHop, hops_of};
@@ -9,6 +12,7 @@ ghost use Rattle.relay_run.specs.declared.waiting.TheConstants.{LONGEST_WAIT};
 
 use crate::acceptor::Acceptor;
 use crate::shell::Shell;
+use relay_connections::laws::noted_are_served;
 use relay_connections::{Arrivals, Leaving, Now, Readiness, Stream};
 use relay_disk::Disk;
 use relay_next_hops::NextHops;
@@ -17,8 +21,16 @@ use relay_next_hops::NextHops;
 const LONGEST_WAIT: u64 = 60_000;
 
 impl<S: Stream + Drop, D: Disk + Drop, F: Disk + Drop> Shell<S, D, F> {
-    /// Notes what the connection of a token, or the listener, may be ready for, as the system reports it.
-    pub(crate) fn note(&mut self, token: usize, ready: Readiness) {
+    /// Notes what the connection of a token, or the listener, may be ready for, as the system reports it. Clients are
+    /// served as before.
+    pub fn note(&mut self, token: usize, ready: Readiness)
+        ensures served { (changes : List Change) (setting : Setting)
+            → AreServed D.honest D.words S.remaining S.contents changes setting (clients_of self.old.clients)
+            self.old.relay → AreServed D.honest D.words S.remaining S.contents changes setting
+            (clients_of self.new.clients) self.new.relay }
+        ensures relay { self.new.relay ≡ self.old.relay }
+    {
+        noted_are_served::<S, D>();
         if token < NextHops::FIRST_TOKEN {
             self.clients.note(token, ready);
         } else if token < Leaving::FIRST_TOKEN {
@@ -67,7 +79,7 @@ impl<S: Stream + Drop, D: Disk + Drop, F: Disk + Drop> Shell<S, D, F> {
     /// Returns how many milliseconds to wait for readiness, at most a minute: 0 while a connection has octets that
     /// weren't read to the end; and no longer than until the node's next work is due, if attempts may begin, and until
     /// the room is looked at again, or a drain or a reload has no time left.
-    pub(crate) fn wait(&self, now: &Now) -> u64
+    pub fn wait(&self, now: &Now) -> u64
         ensures client { (number : ℕ) → IsLeftClient (clients_of self.now.clients) self.now.relay number
             → result ≡ 0 }
         ensures hop { (number : ℕ) → IsLeftHop (hops_of self.now.next_hops) self.now.relay number

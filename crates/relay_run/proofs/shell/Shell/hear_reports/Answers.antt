@@ -1,0 +1,5 @@
+-- One report more was noted.
+use Rattle.relay_run.proofs.shell.Shell.hear_reports.Goals as goal
+
+pub loop-preserved : goal.loop-preserved
+loop-preserved g c = λ changes setting served. c.note_under.ensures.served changes setting (c.loop.invariant changes setting served)
