@@ -2,7 +2,7 @@
 SHELL := bash
 .SHELLFLAGS := -eo pipefail -c
 
-.PHONY: test demo interop hostile bench load instructions relayd relay_rows_tests
+.PHONY: test demo interop hostile bench load instructions relayd relay_rows_tests relay_box_tests
 
 # The whole gate: the sample configuration and a play beside their tested copies; then all proofs, edits that must fail
 # and tests.
@@ -21,10 +21,12 @@ demo:
 interop: relayd
 	tests/interop.sh build/relayd
 
-# Plays a thousand random scripts, and puts stops of every kind before each event of the scripts of docs/plays/.
-hostile: relayd
+# Plays a thousand random scripts, and puts stops of every kind before each event of the scripts of docs/plays/. Then
+# plays random days of a running relay in a box, for ten minutes.
+hostile: relayd relay_box_tests
 	tests/random_plays.py build/relayd 1000
 	tests/stops_in_plays.py build/relayd all
+	tests/days_in_a_box.py build/relay_box_tests 1000000 --seconds 600
 
 # Measures the program and library calls beside `wc` on the same octets (docs/PERFORMANCE.md).
 bench: relayd relay_rows_tests
@@ -61,3 +63,9 @@ relay_rows_tests:
 	mkdir -p build
 	tools/prove.py relay_rows_tests bench
 	cp crates/relay_rows_tests/out/relay_rows_tests build/relay_rows_tests
+
+# Proves and links the program that runs a relay in a box.
+relay_box_tests:
+	mkdir -p build
+	tools/prove.py relay_box_tests
+	cp crates/relay_box_tests/out/relay_box_tests build/relay_box_tests

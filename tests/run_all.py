@@ -2,7 +2,7 @@
 """Runs the test scripts, all or those named, in parallel, and prints a line for each with its seconds. The output of
 each is in build/tests/; that of a script that fails is printed too.
 
-    tests/run_all.py [--lanes N] [--junit FILE] [--list] [--with FILE] [--without FILE] [NAME ..]
+    tests/run_all.py [--lanes N] [--junit FILE] [--list] [--with FILE] [--without FILE] .. [NAME ..]
 
 A NAME is a script's name without its suffix, with or without its arguments, as --list prints them; --with and --without
 choose the scripts that run a program, as build/relayd, or don't. Each script listens at a free port, and works in a
@@ -25,6 +25,7 @@ TOP = pathlib.Path(__file__).resolve().parent.parent
 LOGS = TOP / "build/tests"
 RELAYD = "build/relayd"
 ROWS = "build/relay_rows_tests"
+BOX = "build/relay_box_tests"
 # How long a script may run, in seconds.
 LONGEST = 3600
 
@@ -77,6 +78,9 @@ SCRIPTS = [
     Script(["tests/without_memory.py", "nodes", RELAYD]),
     Script(["tests/spool_on_a_file.py", RELAYD]),
     Script(["tests/reports_read_by_python.py", ROWS]),
+    Script(["tests/days_in_a_box.py", "--selftest"]),
+    Script(["tests/days_in_a_box.py", BOX]),
+    Script(["tests/networks_in_a_box.py", BOX]),
 ]
 
 Result = collections.namedtuple("Result", "name seconds fault output")
@@ -98,7 +102,7 @@ def is_named(script, names):
 def is_chosen(script, told):
     """Returns whether the words that this program was started with choose a script."""
     by_program = not told.program or told.program in script.words
-    return is_named(script, told.names) and by_program and told.no_program not in script.words
+    return is_named(script, told.names) and by_program and not set(told.no_programs) & set(script.words)
 
 
 class Running:
@@ -224,7 +228,8 @@ def main():
     parser.add_argument("--junit", metavar="FILE", help="write the results there, as JUnit's XML")
     parser.add_argument("--list", action="store_true", help="print the names, and run nothing")
     parser.add_argument("--with", dest="program", metavar="FILE", help="run only the scripts that run this program")
-    parser.add_argument("--without", dest="no_program", metavar="FILE", help="run only the scripts that don't")
+    parser.add_argument("--without", dest="no_programs", action="append", default=[], metavar="FILE",
+                        help="run none that runs this one")
     parser.add_argument("names", nargs="*", metavar="NAME")
     told = parser.parse_args()
     unknown = [name for name in told.names if not any(is_named(script, [name]) for script in SCRIPTS)]

@@ -2,9 +2,10 @@
 # The whole gate, at the top of the repository: every proof from nothing and the edits that must fail, as many side by
 # side as tools/lanes.sh says (RT_JOBS, where it is given), and the scripts of tests/run_all.py. These begin as soon as
 # the programs that they run are proved and built, beside what is left: first those that run the program of rows, or
-# none, then those that run relayd. They mostly wait, and have limits on time, so the prover yields to them: by its nice
-# value, and, where the system shares processors between sessions (sched(7), autogroup), by that of its session. Last
-# come what each crate has cost, and the last line of the proofs. Exits with 1 if any part fails.
+# none, then those that run a relay in a box, and then those that run relayd. They mostly wait, and have limits on time,
+# so the prover yields to them: by its nice value, and, where the system shares processors between sessions (sched(7),
+# autogroup), by that of its session. Last come what each crate has cost, and the last line of the proofs. Exits with 1
+# if any part fails.
 set -euo pipefail
 
 mkdir -p build
@@ -32,7 +33,9 @@ take() {
 
 status=0
 take relay_rows_tests
-tests/run_all.py --without build/relayd --junit build/tests-without-relayd.xml || status=1
+tests/run_all.py --without build/relayd --without build/relay_box_tests --junit build/tests-of-rows.xml || status=1
+take relay_box_tests
+tests/run_all.py --with build/relay_box_tests --junit build/tests-of-the-box.xml || status=1
 take relayd
 tests/run_all.py --with build/relayd --junit build/tests-with-relayd.xml || status=1
 wait "$proofs" || status=1
