@@ -1,0 +1,297 @@
+"""What an attempt must write to a next hop after which replies, and the verdict of each recipient: the course and the
+verdict table of the definitions (relay_course/specs), written again from these.
+
+A course learns from what is written which message it is for, and to which recipients: it asks a `Finder` for them.
+"""
+import collections
+
+from relay_program import Difference
+
+CRLF = b"\r\n"
+QUIT = b"QUIT\r\n"
+# The most octets of a reply's line without its CR LF, and the most lines of a reply.
+LONGEST_LINE, MOST_LINES = 2046, 100
+GREETING, EHLO, HELO, MAIL, RCPT, DATA, CONTENT = "greeting EHLO HELO MAIL RCPT DATA content".split()
+
+
+class Replies:
+    """Cuts replies from octets in any pieces, up to the first line that is none."""
+
+    def __init__(self):
+        self.rest, self.code, self.lines, self.is_faulty = b"", 0, [], False
+
+    def feed(self, octets):
+        """Returns the replies that become whole, each a code and the texts of its lines."""
+        text, at, found = self.rest + octets, 0, []
+        while not self.is_faulty:
+            end = text.find(CRLF, at)
+            if end < 0:
+                self.is_faulty = len(text) - at >= LONGEST_LINE + 2
+                break
+            self.take_line(text[at:end], found)
+            at = end + 2
+        self.rest = text[at:]
+        return found
+
+    def take_line(self, line, found):
+        """Takes a line, and adds its reply to those found if it is the last one."""
+        code, mark = line[:3], line[3:4]
+        if len(code) < 3 or code[0] not in b"2345" or not code.isdigit() or mark not in (b"", b" ", b"-"):
+            self.is_faulty = True
+        elif self.lines and int(code) != self.code or len(line) > LONGEST_LINE or len(self.lines) >= MOST_LINES:
+            self.is_faulty = True
+        else:
+            self.code = int(code)
+            self.lines.append(line[4:])
+            if mark != b"-":
+                found.append((self.code, self.lines))
+                self.lines = []
+
+
+def with_dots(text):
+    """Returns a text of lines as it is sent after DATA."""
+    return (CRLF + text).replace(b"\r\n.", b"\r\n..")[2:] + b".\r\n"
+
+
+class Verdict:
+    """What a reply, or the lack of one, says of a recipient: `sent`, with whether the next hop offers DSN, `failed`, or
+    `later`."""
+
+    def __init__(self, kind, has_dsn=False):
+        self.kind, self.has_dsn = kind, has_dsn
+
+
+LATER, FAILED = Verdict("later"), Verdict("failed")
+
+
+def verdict_of_rcpt(code, last):
+    """Returns the verdict of a recipient whose RCPT has this reply, where `last` is that of the end."""
+    if code < 300:
+        return last
+    return FAILED if code >= 500 and code != 552 else LATER
+
+
+class Course:
+    """The course of an attempt at a next hop. `finder` has `mail(line)`, which refuses a line of MAIL that no message
+    has; `recipient(course, line)`, which returns the place of a recipient; and `asked_all(course)`, which is told that
+    no recipient follows. It sets `message`, whose `text` is known or None."""
+
+    def __init__(self, host, finder):
+        self.host, self.finder = host, finder
+        self.replies, self.waits, self.queue = Replies(), collections.deque([GREETING]), collections.deque()
+        self.expected, self.out, self.question = b"", b"", None
+        self.has_pipelining = self.has_chunking = self.has_dsn = False
+        self.in_group = self.has_asked_all = self.is_turned_away = False
+        self.mail_line, self.message, self.text, self.places, self.rcpt_codes = b"", None, None, [], []
+        self.has_ended, self.last, self.content_code, self.has_content = False, None, None, False
+
+    def read(self, octets):
+        """Takes octets that were read from the next hop."""
+        if not self.has_ended:
+            self.queue.extend(self.replies.feed(octets))
+
+    def wrote(self, octets):
+        """Takes octets that were written to the next hop."""
+        self.out += octets
+
+    def is_lost(self):
+        """Returns whether it ends without a reply to what waits, since octets were read that are none."""
+        return self.replies.is_faulty and not self.queue and not self.has_ended
+
+    def go_on(self):
+        """Goes on as far as the replies and what was written lead, and compares."""
+        while True:
+            self.compare()
+            while self.in_group and self.ask_recipient():
+                self.question = None
+            if self.question:
+                if self.expected or not self.question():
+                    break
+            elif self.queue and self.waits and not self.has_ended:
+                self.take_reply(*self.queue.popleft())
+            else:
+                break
+        if self.out and not self.question and not (self.in_group and b"RCPT".startswith(self.out[:4])):
+            raise Difference(f"it wrote {self.out[:80]!r} to a next hop that "
+                             + ("got QUIT" if self.has_ended else f"owes a reply to {self.waits[0]}"))
+
+    def compare(self):
+        """Compares what was written with what is expected, as far as both are there."""
+        count = min(len(self.out), len(self.expected))
+        if self.out[:count] != self.expected[:count]:
+            raise Difference(f"it wrote {self.out[:80]!r} to a next hop, and not {self.expected[:80]!r}")
+        self.out, self.expected = self.out[count:], self.expected[count:]
+
+    def command(self, octets, waited):
+        self.expected += octets
+        self.waits.append(waited)
+
+    def end(self, last):
+        """Ends with QUIT; recipients whose RCPT doesn't decide have the last verdict."""
+        self.expected += QUIT
+        self.has_ended, self.in_group, self.last = True, False, last
+
+    def verdicts(self):
+        """Returns the place and the verdict of each recipient, after the end."""
+        codes = self.rcpt_codes + [200] * (len(self.places) - len(self.rcpt_codes))
+        return [(place, verdict_of_rcpt(code, self.last)) for place, code in zip(self.places, codes)]
+
+    def take_reply(self, code, lines):
+        """Does what the table says of a reply to what waits first."""
+        waited, kind = self.waits.popleft(), code // 100
+        self.is_turned_away = waited == GREETING and kind == 4
+        last = FAILED if kind == 5 else LATER
+        if waited == GREETING and kind == 2:
+            self.command(b"EHLO " + self.host + CRLF, EHLO)
+        elif waited == EHLO and kind == 5:
+            self.command(b"HELO " + self.host + CRLF, HELO)
+        elif waited in (EHLO, HELO) and kind == 2:
+            if waited == EHLO:
+                self.read_extensions(lines[1:])
+            self.question = self.ask_mail
+        elif waited == MAIL and kind == 2:
+            self.next_recipient()
+        elif waited == RCPT:
+            self.rcpt_codes.append(code)
+            self.next_recipient()
+        elif waited == DATA and kind == 3:
+            self.waits.append(CONTENT)
+            self.write_content()
+        elif waited == CONTENT:
+            self.content_code = code
+            self.end(Verdict("sent", self.has_dsn) if kind == 2 else last)
+        else:
+            self.end(last)
+
+    def read_extensions(self, lines):
+        words = {line.partition(b" ")[0].upper() for line in lines}
+        self.has_pipelining, self.has_chunking = b"PIPELINING" in words, b"CHUNKING" in words
+        self.has_dsn = b"DSN" in words
+
+    def next_recipient(self):
+        if not self.waits:
+            self.question = self.ask_next
+
+    def ask_mail(self):
+        """Reads the line of MAIL, and in the same group those of RCPT; or QUIT, where the text can't be sent."""
+        if self.out and QUIT.startswith(self.out[:6]):
+            self.end_unseen()
+            return True
+        line = self.cut_line()
+        if line is None:
+            return False
+        self.finder.mail(self, line)
+        self.mail_line, self.question, self.in_group = line, None, self.has_pipelining
+        self.waits.append(MAIL)
+        return True
+
+    def ask_recipient(self):
+        """Reads a line of RCPT, if it is the next one and whole."""
+        if not self.out.startswith(b"RCPT") or CRLF not in self.out:
+            return False
+        self.places.append(self.finder.recipient(self, self.cut_line()))
+        self.waits.append(RCPT)
+        return True
+
+    def ask_next(self):
+        """Reads the next RCPT, or begins the content, or ends."""
+        if not self.out or b"RCPT".startswith(self.out[:4]) and CRLF not in self.out:
+            return False
+        self.question = None
+        if self.ask_recipient():
+            return True
+        if not self.places:
+            raise Difference(f"it wrote {self.out[:80]!r} to a next hop before any RCPT")
+        self.begin_content()
+        return True
+
+    def begin_content(self):
+        """Begins the content, or ends if all recipients were refused."""
+        self.in_group, self.has_asked_all = False, True
+        self.text = self.finder.asked_all(self)
+        if all(code >= 300 for code in self.rcpt_codes):
+            self.end(LATER)
+        elif self.text is None:
+            self.question = self.ask_unknown_content
+        elif self.text.endswith(CRLF) or not self.text:
+            self.command(b"DATA\r\n", DATA)
+        else:
+            self.command(b"BDAT %d LAST\r\n" % len(self.text) + self.text, CONTENT)
+            self.has_content = True
+
+    def ask_unknown_content(self):
+        """Reads how a report's text is begun."""
+        if self.out and b"DATA\r\n".startswith(self.out[:6]):
+            self.question = None
+            self.command(b"DATA\r\n", DATA)
+            return True
+        head, _, text = self.out.partition(CRLF)
+        if head.startswith(b"BDAT ") and CRLF in self.out:
+            size = int(head.split(b" ")[1])
+            if len(text) < size:
+                return False
+            self.question = None
+            self.finder.content(self, text[:size])
+            self.command(b"BDAT %d LAST\r\n" % size + text[:size], CONTENT)
+            self.has_content = True
+            return True
+        if b"BDAT".startswith(self.out[:4]):
+            return False
+        raise Difference(f"it wrote {self.out[:80]!r} to a next hop, and not a content")
+
+    def write_content(self):
+        """Expects the mail data, or reads that of a report."""
+        if self.text is not None:
+            self.expected += with_dots(self.text)
+            self.has_content = True
+        else:
+            self.question = self.ask_mail_data
+
+    def ask_mail_data(self):
+        end = -2 if self.out.startswith(b".\r\n") else self.out.find(b"\r\n.\r\n")
+        if end == -1:
+            return False
+        self.question = None
+        self.text = (CRLF + self.out[:end + 2]).replace(b"\r\n.", CRLF)[2:]
+        self.finder.content(self, self.text)
+        self.write_content()
+        return True
+
+    def owes(self):
+        """Returns whether something must be written before anything else is read."""
+        return bool(self.expected or self.question)
+
+    def are_all_refused(self):
+        """Returns whether each recipient that was asked for is refused, and the next command is still to be seen."""
+        return self.question == self.ask_next and bool(self.rcpt_codes) and min(self.rcpt_codes) >= 300
+
+    def is_asking(self):
+        """Returns whether it depends on what is written next whether it ends with QUIT."""
+        return self.question in (self.ask_mail, self.ask_next, self.ask_unknown_content) and not self.expected
+
+    def end_unseen(self):
+        """Ends with a QUIT that isn't written yet."""
+        if self.question == self.ask_mail:
+            self.finder.cannot_send(self)
+            self.end(FAILED)
+            self.question = None
+            return
+        if self.question == self.ask_next:
+            self.question = None
+            self.begin_content()
+        if self.question:
+            # A report is begun by DATA, or else its text would end without a line end.
+            self.question = None
+            self.waits.append(DATA)
+        while self.queue and self.waits and not self.has_ended:
+            self.take_reply(*self.queue.popleft())
+        if not self.has_ended:
+            raise Difference("an attempt has ended whose recipients were accepted, without their content")
+
+    def cut_line(self):
+        """Takes a whole line of what was written, or returns None."""
+        end = self.out.find(CRLF)
+        if end < 0:
+            return None
+        line, self.out = self.out[:end + 2], self.out[end + 2:]
+        return line

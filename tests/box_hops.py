@@ -1,0 +1,296 @@
+"""A next hop's stream of a relay in a box: whether what the relay writes is the course of an attempt for queued mail,
+and what its outcome is."""
+from box_answer import require
+from box_clients import ClientMessage, Stream
+from box_course import CONTENT, DATA, GREETING, LATER, Course
+from relay_program import Difference
+
+# How long the relay waits for a next hop, in milliseconds (RFC 5321, 4.5.3.2, and relayd(8)).
+# However its octets come, a reply must be whole within half an hour.
+WHOLE_ANSWER = 1_800_000
+CONNECTING, COMMAND, DATA_REPLY, CONTENT_ROOM, CONTENT_REPLY = 30_000, 300_000, 120_000, 180_000, 600_000
+
+
+class Link(Stream):
+    """A connection to a next hop, and its attempt."""
+
+    def __init__(self, number, address, judge, is_pending):
+        super().__init__(number, address, judge.now)
+        self.judge, self.custody, self.setup = judge, judge.custody, judge.setup
+        self.course = Course(judge.setup.host, self)
+        self.is_pending, self.is_settled, self.was_shared = is_pending, False, False
+        # The wall clock when it was dialled and when the first octet of the greeting was read, and its latest.
+        self.dialled, self.began, self.dialled_in = judge.wall, None, judge.counts["turns"]
+        self.hop = None
+
+    def read(self, octets, wall):
+        self.began = wall if self.began is None else self.began
+        self.course.read(octets)
+
+    def wrote(self, octets):
+        self.course.wrote(octets)
+
+    def go_on(self):
+        """Compares what was written with the course, as far as it is known."""
+        try:
+            self.course.go_on()
+        except Difference as difference:
+            self.require(False, str(difference))
+
+    def is_known(self, turn):
+        """Returns whether the relay knew it before this turn."""
+        return self.dialled_in < turn - 1
+
+    def has_ended(self):
+        """Returns whether its replies have decided, or are none."""
+        return self.course.has_ended or self.course.is_lost()
+
+    def is_unseen(self):
+        """Returns whether it may have ended by a QUIT for which there was no room."""
+        has_no_room = self.room is not None or self.judge.has_failed
+        return has_no_room and self.course.is_asking() and not self.course.out
+
+    def may_be_unable(self):
+        """Returns whether the next hop may be unable to take the text."""
+        return self.course.question == self.course.ask_mail and not self.course.has_chunking
+
+    def end_unseen(self):
+        """Ends by such a QUIT."""
+        try:
+            self.course.end_unseen()
+        except Difference as difference:
+            self.require(False, str(difference))
+
+    def verdicts(self):
+        """Returns the verdicts of the recipients that were asked for, and the one of those that weren't."""
+        if self.course.has_ended:
+            return self.course.verdicts(), self.course.last
+        return [(place, LATER) for place in self.course.places], LATER
+
+    # What the course asks.
+
+    def is_due(self, message, place):
+        """Returns whether a place may be tried on this connection."""
+        one = message.places[place]
+        return (one.hop is not None and one.hop[1] == self.address and one.has_left is None
+                and one.due <= max(self.began, self.dialled))
+
+    def mail(self, course, line):
+        """Requires that a message that is due here has this line of MAIL."""
+        for message, place in self.custody.queued:
+            if self.is_due(message, place) and message.mail.line(course.has_dsn) == line:
+                return
+        for message in self.custody.nameless:
+            if message.doubt and message.mail.line(course.has_dsn) == line:
+                return
+        if line == b"MAIL FROM:<>\r\n" and any(one.places[place].doubt for one, place in self.custody.queued):
+            return
+        self.require(False, f"{line!r} is of no message that is due there")
+
+    def recipient(self, course, line):
+        """Returns the place of a line of RCPT, and decides at the first one which message it is of."""
+        if course.message is None:
+            found = self.custody.find(line, lambda message, place: self.fits(course, message, place, line))
+            if not found:
+                self.custody.settle_reports(line[8:line.find(b">") + 1])
+                found = self.custody.find(line, lambda message, place: self.fits(course, message, place, line))
+            found = found or self.freed(course, line)
+            self.require(found, f"{line!r} is of no recipient that is due there: {self.why_not(course, line)}")
+            course.message, place = self.judge.outcomes.chosen(found)
+            course.message.running.add(course.message.places[place].hop[0])
+            self.hop = course.message.places[place].hop[0]
+        else:
+            found = self.custody.find(line, lambda message, place: message is course.message
+                                      and place not in course.places and self.is_due(message, place)
+                                      and message.places[place].recipient.line(course.has_dsn) == line)
+            self.require(found, f"{line!r} is of no recipient of {course.message} that is due there")
+            place = found[0][1]
+        self.require(course.message.places[place].hop[0] == self.hop, f"{line!r} is of another next hop")
+        if len(self.judge.outcomes.alike(course.message)) == 1:
+            self.custody.settle_queued(course.message, place)
+        return place
+
+    def freed(self, course, line):
+        """Returns a report that another attempt was taken for, which may be for another report to the same sender."""
+        for message, place in self.custody.find(line, lambda message, _: message.is_report() and message.running):
+            if message.mail.line(course.has_dsn) == course.mail_line and self.is_due(message, place):
+                if self.judge.outcomes.free(message):
+                    return [(message, place)]
+        return []
+
+    def fits(self, course, message, place, line):
+        return (message.mail.line(course.has_dsn) == course.mail_line and self.is_due(message, place)
+                and message.places[place].recipient.line(course.has_dsn) == line
+                and message.places[place].hop[0] not in message.running)
+
+    def why_not(self, course, line):
+        """Returns what is known of the recipients with a line of RCPT."""
+        found = self.custody.find(line, lambda message, place: True)
+        states = [f"{message} is {one.has_left or 'queued'}, due at {one.due}, now {self.began}, "
+                  f"{'tried' if message.running else 'not tried'}"
+                  for message, place in found for one in [message.places[place]]]
+        return "; ".join(states) or "nobody sent it"
+
+    def due_places(self, message, hop):
+        """Returns the places of a message that were surely due when the attempt began."""
+        began = self.judge.wall if self.began is None else self.began
+        surely = [place for place, one in enumerate(message.places)
+                  if one.hop and one.hop[0] == hop and one.has_left is None and one.due_surely <= began]
+        return surely
+
+    def portions(self, message):
+        """Returns how many recipients of a message an attempt may have."""
+        most, found = self.setup.keys["recipients_per_attempt"], set()
+        for _ in range(message.cuts + 1):
+            found.add(most)
+            most = max(most // 2, 1)
+        return found
+
+    def asked_all(self, course):
+        """Requires that the recipients are the first ones that are due there, and as many as there may be. Returns the
+        text that follows, if it is known which message it is."""
+        self.check_places(course.message, course.places)
+        return course.message.text if len(self.judge.outcomes.alike(course.message)) == 1 else None
+
+    def check_places(self, message, places):
+        self.require(places == sorted(places), f"the recipients of {message} aren't in order: {places}")
+        due = self.due_places(message, self.hop)
+        if any(message.places[place].doubt or message.places[place].due != message.places[place].due_surely
+               for place in {*due, *places}) or self.judge.went_back or len(self.judge.outcomes.alike(message)) > 1:
+            return
+        portions = self.portions(message)
+        self.require(places == due[:len(places)] and (len(places) in portions or
+                                                      len(places) == len(due) and len(due) < max(portions)),
+                     f"the recipients {places} of {message} were tried, and {due} were due, "
+                     f"{sorted(portions)} at a time")
+
+    def cannot_send(self, course):
+        """Notes QUIT after EHLO or HELO: the text needs CHUNKING, which isn't offered."""
+        self.require(not course.has_chunking, "it wrote QUIT before MAIL to a next hop that offers CHUNKING")
+
+    def content(self, course, text):
+        """Takes the text of a report, which isn't known before it is first sent."""
+        message = course.message
+        if isinstance(message, ClientMessage):
+            self.number_by(message, text)
+            return
+        fits = [one for one in self.judge.outcomes.alike(message)
+                if one.text == text or one.text is None and tells(one, text)]
+        self.require(fits, f"{message} is sent as {text[:2000]!r}, and must tell of {message.told}")
+        if message not in fits:
+            self.judge.outcomes.exchange(self, fits[0])
+        course.message.text = text
+        self.custody.settle_queued(course.message, course.places[0])
+
+    def number_by(self, message, text):
+        """Numbers a client's message by its time stamp line, which nothing else has told of yet."""
+        number = text.partition(b" id ")[2].partition(b";")[0]
+        self.require(number.isdigit(), f"{text[:300]!r} has no number")
+        self.custody.name(message, int(number))
+        self.require(message.text == text, f"{text[:600]!r} is sent, and not {message.text[:600]!r}")
+
+    # How long it may wait.
+
+    def patience(self, otherwise):
+        """Returns how long the relay waits for what it waits for now, where `otherwise` is for what isn't known, since
+        there is no room for it."""
+        if self.is_pending:
+            return CONNECTING
+        waits = self.course.waits
+        if self.course.has_content:
+            return CONTENT_ROOM if self.course.expected else CONTENT_REPLY
+        if not waits:
+            return otherwise
+        return DATA_REPLY if waits[0] == DATA else COMMAND
+
+    def is_overdue(self, now):
+        """Returns whether the relay has waited for so long that it must have given up before."""
+        return not self.is_closed and not self.is_settled and now >= self.active + self.patience(COMMAND)
+
+    def closed(self, now, has_failed):
+        """Requires a cause for the end of a connection whose attempt hasn't ended."""
+        self.is_closed = True
+        # A next hop that takes no more connections says so by the first digit of its greeting.
+        course = self.course
+        is_turned_away = course.is_turned_away or (course.waits and course.waits[0] == GREETING
+                                                   and course.replies.rest[:1] == b"4")
+        is_void = self.address in self.judge.unrecorded and not course.mail_line
+        may_leave_out = has_failed or self.is_reset or is_turned_away or is_void or self.room is not None
+        self.require(not course.has_ended or not course.expected or may_leave_out,
+                     f"it was closed, and {course.expected!r} isn't written")
+        if not (has_failed or self.has_ended() or self.is_at_end() or is_turned_away or is_void):
+            self.begin_turn(self.judge.counts["turns"])
+            # One that takes no octet isn't known to be connected before it has greeted.
+            patience = CONNECTING if self.began is None else self.patience(DATA_REPLY)
+            self.require(now >= self.quiet_since + patience or now >= self.written + WHOLE_ANSWER,
+                         f"it was closed after {now - self.quiet_since} ms, while {[*course.waits]} is awaited")
+
+
+class Paces:
+    """Which next hops have answered since the relay began, and how long each is left alone (relay_limits/specs)."""
+
+    def __init__(self):
+        self.answered, self.answered_now, self.holds = set(), set(), {}
+
+    def has_answered(self, address):
+        return address in self.answered
+
+    def answer(self, address):
+        """Notes that a next hop has said something: it isn't on hold any more."""
+        self.answered.add(address)
+        self.answered_now.add(address)
+        if address in self.holds:
+            self.holds[address] = 0, self.holds[address][1]
+
+    def hold(self, address, seconds, now):
+        """Requires that a next hop is left alone for a minute first, and then twice as long each time, up to half an
+        hour."""
+        before = self.holds.get(address, (0, 0))
+        wanted = {min(2 * before[1], 1_800)}
+        if before[0] == 0 or address in self.answered_now:
+            wanted.add(60)
+        require(seconds in wanted, f"{address} is left alone for {seconds} s, after {before[1]} s")
+        self.holds[address] = now + seconds * 1_000, seconds
+
+    def is_held(self, address, now):
+        return self.holds.get(address, (0, 0))[0] > now
+
+    def check_dial(self, address, now):
+        until = self.holds.get(address, (0, 0))[0]
+        require(now >= until, f"it connects to {address}, which is left alone for {until - now} ms more")
+
+
+def actions_of(text):
+    """Returns the actions that a report names for each path, in order; None if the text isn't a report of three parts
+    (RFC 3462 and 3464)."""
+    header, _, body = text.partition(b"\r\n\r\n")
+    _, found, rest = header.replace(b"\r\n ", b" ").partition(
+        b'\r\nContent-Type: multipart/report; report-type=delivery-status; boundary="')
+    boundary = rest.partition(b'"')[0]
+    parts = (b"\r\n" + body).split(b"\r\n--" + boundary) if found and boundary else []
+    if len(parts) != 5 or parts[4] != b"--\r\n":
+        return None
+    kinds = [b"text/plain", b"message/delivery-status", (b"message/rfc822", b"text/rfc822-headers")]
+    if not all(part.startswith(b"\r\nContent-Type: ") and part[16:].startswith(kind)
+               for part, kind in zip(parts[1:4], kinds)):
+        return None
+    actions = {}
+    for block in parts[2].split(b"\r\n\r\n")[2:]:
+        fields = dict(line.partition(b": ")[::2] for line in block.split(b"\r\n"))
+        path = b"<" + fields.get(b"Final-Recipient", b"").partition(b"; ")[2] + b">"
+        actions.setdefault(path, []).append(fields.get(b"Action", b"").decode("latin-1"))
+    return actions
+
+
+def tells(message, text):
+    """Returns whether a text is a report to the message's sender that tells of just these recipients."""
+    found = actions_of(text)
+    if not found:
+        return False
+    for told, of in [(message.told, message.of), *message.may_tell]:
+        numbers = (b"message %d." % of.number, b"as number %d," % of.number) if of.number else (b"",)
+        # Where it isn't known which recipients have failed, a report may tell of any of them.
+        is_vague = [] in told.values() and set(found) <= set(told)
+        if (found == told or is_vague) and any(number in text for number in numbers):
+            return True
+    return False

@@ -1,0 +1,365 @@
+"""Judges a day of a relay in a box by its script and by what the relay answered: dialogues by the reply table, courses
+by the verdict table, and custody by the list of changes. It knows nothing else, so it judges a saved script again.
+
+A line of the script that begins with `#!` asks for a check: `#! drained` requires an empty queue.
+"""
+from box_answer import Answer, octets_of, require
+from box_clients import CROWD, CROWDED_TIMEOUT, LONGEST_SESSION, MOST_SESSIONS, Talk
+from box_custody import Custody
+from box_hops import Link, Paces
+from box_outcomes import Outcomes
+from box_setup import Setup
+
+# The longest wait between two turns, in milliseconds, and how often a relay may say that it has more to do and do
+# nothing.
+LONGEST_WAIT, MOST_IDLE = 60_000, 200
+# What is counted, to show that days have all of it.
+COUNTS = ["turns", "accepted", "full", "sent", "deferred", "delayed", "failed", "expired", "reports", "turned away",
+          "cut off", "failures", "stops"]
+
+
+class Judge:
+    """Takes the lines of a script and the answers to them, in order."""
+
+    def __init__(self):
+        self.setup = self.custody = self.outcomes = self.paces = None
+        self.streams, self.talks, self.links, self.peers = [], {}, {}, {}
+        self.wall, self.now, self.highest, self.went_back = 0, 0, 0, False
+        self.modes, self.may_fail, self.is_running, self.idle, self.has_failed = {}, False, False, 0, False
+        # Of the turn that is judged.
+        self.touched, self.unrecorded, self.ends_all = set(), set(), False
+        self.counts = dict.fromkeys(COUNTS, 0)
+
+    # Lines of the script.
+
+    def sent(self, line):
+        """Takes a line that has no answer."""
+        words = line.split(" ")
+        if words[0] == "#!":
+            require(words[1] == "drained", f"no such check: {line}")
+            require(not self.custody.queued, f"{len(self.custody.queued)} recipients are still queued at the end, "
+                                             "though all next hops accept mail")
+        elif words[0] and words[0][0] != "#":
+            getattr(self, "take_" + words[0])(*words[1:])
+
+    def answered(self, line, lines):
+        """Takes a line and the lines of its answer."""
+        command, *words = line.split(" ")
+        return getattr(self, "after_" + command)(lines, *words)
+
+    def take_clock(self, seconds, milliseconds):
+        self.set_clock(int(seconds), int(milliseconds))
+
+    def set_clock(self, wall, now):
+        self.went_back = self.went_back or wall < self.wall
+        self.wall, self.now, self.highest = wall, now, max(wall, self.highest)
+
+    def take_client(self, address):
+        talk = Talk(len(self.streams), address, self.setup, self.now)
+        self.streams.append(talk)
+        self.talks[talk.number] = talk
+        self.peers[address] = talk
+
+    def take_input(self, number, octets):
+        stream = self.stream(int(number))
+        if not stream.is_reset and not stream.has_end:
+            stream.unread += octets_of(octets)
+
+    def take_end(self, number):
+        self.stream(int(number)).has_end = True
+
+    def take_reset(self, number):
+        stream = self.stream(int(number))
+        stream.is_reset, stream.unread = True, b""
+
+    def take_room(self, number, count):
+        self.stream(int(number)).room = None if count == "-" else int(count)
+
+    def take_hop(self, address, word):
+        self.modes[address] = word
+
+    def take_connected(self, number):
+        link = self.stream(int(number))
+        link.is_pending, link.active = False, self.now
+
+    def take_fail(self, calls):
+        self.may_fail = True
+
+    def take_ballast(self, count):
+        pass
+
+    # Answers.
+
+    def after_begin(self, lines, config):
+        self.setup = Setup(octets_of(config).decode())
+        self.custody = Custody(self.setup)
+        self.outcomes, self.paces = Outcomes(self), Paces()
+        self.streams, self.talks, self.links, self.peers = [], {}, {}, {}
+        self.may_fail, self.is_running, self.went_back = False, len(lines) == 1, False
+        require(lines == ["done 1"], f"a relay isn't begun: {lines}")
+
+    def after_stop(self, lines, pick):
+        self.end_all()
+        self.may_fail = False
+        self.counts["stops"] += 1
+        require(len(lines) == 1 and lines[0].startswith("done "), f"a relay isn't started again: {lines}")
+        self.is_running = True
+        following = int(lines[0][5:])
+        known = max(self.custody.numbered, default=0)
+        require(known < following and self.custody.next <= following,
+                f"after a stop the next number is {following}, after {known} and {self.custody.next}")
+
+    def after_queue(self, lines):
+        if not self.is_running:
+            return
+        listed = []
+        for line in lines[:-1]:
+            word, number, place, path = line.split(" ")
+            require(word == "queued", f"the queue has a line `{line}`")
+            octets = octets_of(path)
+            listed.append((int(number), int(place), octets if octets[:1] == b"<" else b"<" + octets + b">"))
+        self.custody.listed(listed, int(lines[-1].split(" ")[1]))
+
+    def end_all(self):
+        """Ends all connections, since the relay is stopped or its device has failed."""
+        for talk in self.talks.values():
+            for message in talk.offers:
+                if not message.is_logged and self.has_failed:
+                    self.custody.add(message, doubt=True)
+            talk.offers.clear()
+            talk.is_closed = talk.is_ended = True
+        for link in self.links.values():
+            if link.course.message:
+                link.course.message.running.discard(link.hop)
+            link.is_closed = link.is_settled = link.is_ended = True
+        self.talks, self.links, self.peers = {}, {}, {}
+        self.paces = Paces()
+
+    def after_turn(self, lines):
+        answer = Answer(lines)
+        self.counts["turns"] += 1
+        events = {event for event, _ in answer.log}
+        self.has_failed = bool(answer.fault) or "device-failed" in events
+        # After a failure, and when there is room again, all connections are closed.
+        self.ends_all = self.has_failed or "shortage-ended" in events
+        self.counts["failures"] += self.has_failed
+        require(not self.has_failed or self.may_fail, f"the device failed, where none of its calls did: {lines}")
+        require(answer.fault is not None or answer.wait is not None and answer.wait <= LONGEST_WAIT,
+                f"it waits {answer.wait} ms")
+        self.watch_progress(answer)
+        self.touched, self.paces.answered_now = set(), set()
+        early = {address for address in {*(one for _, one in answer.dials), *answer.refused}
+                 if not self.has_due(address)}
+        self.take_reads(answer)
+        for address in [*(address for _, address in answer.dials), *answer.refused]:
+            self.paces.check_dial(address, self.now)
+        self.take_accepted(answer)
+        self.take_writes(answer)
+        self.take_events(answer)
+        for talk in self.talks.values():
+            if not talk.is_greeted and not talk.own_line:
+                self.note_crowd(talk)
+        self.outcomes.settle_attempts(answer)
+        for address in early:
+            require(self.has_due(address) or address in answer.refused or self.has_failed,
+                    f"it connects to {address}, for which no mail is due")
+        self.take_closes(answer)
+        if not self.has_failed:
+            for _, address in answer.dials:
+                self.check_attempts(address)
+            self.after_good_turn(answer)
+        if self.has_failed or answer.fault:
+            self.end_all()
+        self.is_running = answer.fault is None
+        if answer.clock:
+            self.set_clock(*answer.clock)
+        return answer
+
+    def watch_progress(self, answer):
+        """Requires that a relay that says it has more to do does something now and then."""
+        has_done = any((answer.dials, answer.refused, answer.reads, answer.writes, answer.closes, answer.log))
+        self.idle = 0 if has_done or answer.wait else self.idle + 1
+        require(self.idle < MOST_IDLE, f"it had more to do {MOST_IDLE} times, and did nothing")
+
+    def take_reads(self, answer):
+        """Takes new connections, and what was read of all."""
+        for number, address in answer.dials:
+            require(number == len(self.streams), f"the connection to {address} has the number {number}")
+            link = Link(number, address, self, self.modes.get(address) == "wait")
+            self.streams.append(link)
+            self.links[number] = link
+        for number, count in answer.reads:
+            stream = self.stream(number)
+            stream.begin_turn(self.counts["turns"])
+            octets = stream.take(count, self.now)
+            self.touched.add(stream)
+            stream.read(octets, self.wall)
+            if isinstance(stream, Link):
+                self.paces.answer(stream.address)
+
+    def stream(self, number):
+        require(number < len(self.streams), f"it has no connection {number}")
+        return self.streams[number]
+
+    def has_due(self, address):
+        """Returns whether mail is due for an address, or may be."""
+        for message, place in self.custody.queued:
+            one = message.places[place]
+            if one.doubt or one.hop and one.hop[1] == address and one.due <= self.highest:
+                return True
+        return any(one.doubt for one in self.custody.nameless)
+
+    def check_attempts(self, address):
+        """Requires that few attempts run."""
+        running = [link for link in self.links.values() if not link.is_settled]
+        require(len(running) <= 64, "more than 64 attempts run")
+        most = self.setup.keys["attempts_per_hop"] if self.paces.has_answered(address) else 1
+        require(sum(link.address == address for link in running) <= most, f"more than {most} attempts run at {address}")
+
+    def take_accepted(self, answer):
+        """Numbers the messages that the log has as accepted, each the next one of its client."""
+        for event, fields in answer.log:
+            if event != "accepted" or "client" not in fields:
+                continue
+            talk, number = self.peers.get(fields["client"]), int(fields["message"])
+            shape = int(fields["size"]), int(fields["recipients"])
+            # Those before it that have another shape must be answered by 452.
+            message = next((one for one in talk.offers if one.shape(number, self.wall) == shape and not one.is_logged),
+                           None) if talk else None
+            require(message, f"message {number} was accepted as {fields}, and the client has sent none that is so")
+            message.is_logged = True
+            talk.accepted += 1
+            message.set_time(self.wall)
+            self.accept(message, number)
+
+    def accept(self, message, number):
+        self.custody.add(message)
+        self.custody.name(message, number)
+        self.counts["accepted"] += 1
+
+    def acknowledged(self, message, number):
+        """Takes `250 queued as N`."""
+        require(message.is_logged or self.has_failed, f"message {number} was acknowledged, and not logged as accepted")
+        if message.number is None:
+            self.accept(message, number)
+        require(message.number == number, f"{message} was acknowledged as {number}")
+        message.talk.offers.remove(message)
+
+    def take_writes(self, answer):
+        for number, octets in answer.writes:
+            stream = self.stream(number)
+            stream.begin_turn(self.counts["turns"])
+            stream.give(octets, self.now)
+            self.touched.add(stream)
+            if isinstance(stream, Talk):
+                was_greeted = stream.is_greeted
+                stream.wrote(octets, self)
+                if stream.is_greeted and not was_greeted:
+                    stream.greeted_in = self.counts["turns"]
+                    self.check_welcome(stream)
+            else:
+                stream.wrote(octets)
+        for stream in self.touched:
+            if isinstance(stream, Link):
+                stream.go_on()
+        for number in answer.shuts:
+            self.stream(number).shut(self.now)
+
+    def take_events(self, answer):
+        """Compares the other lines of the log with what is known: the end of a client, and next hops on hold."""
+        self.unrecorded = set()
+        for event, fields in answer.log:
+            if event == "client-end" and "messages" in fields and fields["client"] in self.peers:
+                self.peers[fields["client"]].check_end(fields)
+            elif event == "unrecorded":
+                # Memory doesn't run out here, so only a message that isn't due any more has no outcome.
+                require(self.went_back, f"an outcome wasn't recorded: {fields}")
+                self.unrecorded.add(fields["addr"])
+            elif event == "hop-back":
+                self.paces.answer(fields["addr"])
+            elif event == "hop-held":
+                self.paces.hold(fields["addr"], int(fields["retry_in"].rstrip("s")), self.now)
+
+    def served(self, before):
+        """Returns the clients that surely have a session, and came before this one."""
+        return [talk for talk in self.talks.values() if talk.number < before and talk.is_served()]
+
+    def check_welcome(self, talk):
+        """Requires that a client that is greeted may connect, and that there was room."""
+        talk.require(self.setup.may_connect(talk.client), "it may not connect, and was greeted")
+        served = self.served(talk.number)
+        same = sum(other.client == talk.client for other in served)
+        talk.require(len(served) < MOST_SESSIONS and same < self.setup.keys["sessions_per_client"],
+                     f"it was greeted beside {len(served)} sessions, {same} of its own address")
+
+    def own_line(self, talk, cause):
+        """Requires the cause of a line of the relay's own."""
+        talk.cut_in = self.counts["turns"]
+        self.counts["cut off" if cause == "timeout" else "turned away"] += 1
+        if cause == "no service":
+            talk.require(not self.setup.may_connect(talk.client), "it may connect, and got no service")
+        elif cause == "too many":
+            self.note_crowd(talk)
+            total, same = talk.crowd
+            talk.require(total >= MOST_SESSIONS or same >= self.setup.keys["sessions_per_client"],
+                         f"it was turned away beside {total} sessions, {same} of its own address")
+        elif cause == "storage":
+            talk.require(self.has_failed, "it got 421 for storage, and the device hasn't failed")
+        else:
+            self.check_timeout(talk)
+
+    def note_crowd(self, talk):
+        """Notes how many sessions there are at most beside a client that isn't greeted yet, or was cut off."""
+        others = [other for other in self.talks.values() if other is not talk
+                  and (not other.own_line or other.is_greeted and other.cut_in == self.counts["turns"])]
+        same = sum(other.client == talk.client for other in others)
+        talk.crowd = max(talk.crowd[0], len(others)), max(talk.crowd[1], same)
+
+    def check_timeout(self, talk):
+        """Requires that a client that was cut off was idle for long enough."""
+        sessions = sum(not other.own_line for other in self.talks.values())
+        idle = self.now - talk.tail_since
+        talk.require(idle >= self.setup.timeout or sessions > CROWD and idle >= CROWDED_TIMEOUT
+                     or self.now >= talk.has_accepted + LONGEST_SESSION, f"it was cut off after {idle} ms")
+
+    # The end of a turn.
+
+    def take_closes(self, answer):
+        for number in answer.closes:
+            stream = self.stream(number)
+            if stream.is_ended:
+                continue
+            stream.require(not stream.is_closed, "it was closed twice")
+            stream.closed(self.now, self.ends_all)
+            if isinstance(stream, Talk):
+                stream.require(self.ends_all or not stream.is_greeted or stream.is_logged,
+                               "it was closed, and the log has no line for its end")
+                for message in stream.offers:
+                    if self.ends_all and not message.is_logged:
+                        self.custody.add(message, doubt=True)
+                self.talks.pop(number, None)
+                self.peers.pop(stream.address, None)
+            else:
+                self.links.pop(number, None)
+
+    def after_good_turn(self, answer):
+        """Requires that what could be done was done, if the relay waits now."""
+        for link in self.links.values():
+            if link.dialled_in >= self.counts["turns"] - 1 and not link.is_pending:
+                # The relay learns in this turn that it is connected.
+                link.active = self.now
+        if not answer.wait:
+            return
+        for talk in self.talks.values():
+            if talk.room is None and not talk.is_reset:
+                talk.require(not talk.owes(), f"it is owed {talk.expected and talk.expected[0]!r}, and the relay waits")
+                # What was there when it was greeted makes it ready for the next turn.
+                talk.require(not (talk.unread and talk.is_served() and talk.greeted_in < self.counts["turns"]),
+                             "what it has sent isn't read, and the relay waits")
+            talk.require(not talk.is_overdue(self.now), f"it is idle since {talk.active}, and still there")
+            talk.require(not talk.is_left(self.now, self.counts["turns"]), "it is over, and still there")
+        for link in self.links.values():
+            link.require(link.room is not None or link.is_reset or not link.course.owes(),
+                         f"it waits, and must write {link.course.expected[:80]!r} or a command to a next hop")
+            link.require(not link.is_left(self.now, self.counts["turns"]), "it is over, and still there")
+            link.require(not link.is_overdue(self.now), f"it is silent since {link.active}, and still there")
