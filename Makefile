@@ -22,11 +22,11 @@ interop: relayd
 	tests/interop.sh build/relayd
 
 # Plays a thousand random scripts, and puts stops of every kind before each event of the scripts of docs/plays/. Then
-# plays random days of a running relay in a box, for ten minutes.
+# plays ten thousand networks of running relays in boxes.
 hostile: relayd relay_box_tests
 	tests/random_plays.py build/relayd 1000
 	tests/stops_in_plays.py build/relayd all
-	tests/days_in_a_box.py build/relay_box_tests 1000000 --seconds 600
+	tests/networks_in_a_box.py build/relay_box_tests 10000
 
 # Measures the program and library calls beside `wc` on the same octets (docs/PERFORMANCE.md).
 bench: relayd relay_rows_tests

@@ -1,8 +1,8 @@
 #!/usr/bin/env python3
 """Plays networks of relays, each a whole relay in a box: 2 to 16 of them with connections among them, clients and a next
-hop outside, lost connections, disks that fail, and relays that are stopped. Judges each relay as tests/days_in_a_box.py
-does, and the network by the promise alone: mail that was acknowledged arrives, or its sender gets the report; nothing
-arrives but what was sent; and there are no more copies than lost replies allow.
+hop outside, lost connections, disks that fail, and relays that are stopped. Judges the network by the promise alone: mail
+that was acknowledged arrives, or its sender gets the report; nothing arrives but what was sent; and there are no more
+copies than lost replies allow.
 
     tests/networks_in_a_box.py build/relay_box_tests [COUNT [FIRST]] [--lanes N]
 
@@ -20,6 +20,7 @@ import time
 
 sys.dont_write_bytecode = True
 
+from box_answer import Answer
 from box_setup import text_of
 from days_in_a_box import Box, save
 from relay_program import Difference
@@ -39,6 +40,32 @@ FAILED = re.compile(rb"Final-Recipient: rfc822; ([^\r]+)\r\nAction: failed\r\n")
 def require(holds, what):
     if not holds:
         raise Difference(what)
+
+
+class Reader:
+    """Reads the answers of a relay, and judges nothing. It knows how many streams the relay has had."""
+
+    def __init__(self):
+        self.streams = 0
+
+    def sent(self, line):
+        self.streams += line.startswith("client ")
+
+    def answered(self, line, lines):
+        """Returns what a turn printed, or the lines of another answer but the last."""
+        if line != "turn":
+            return lines[:-1]
+        answer = Answer(lines)
+        self.streams += len(answer.dials)
+        return answer
+
+
+class RelayInBox(Box):
+    """A relay of a network, which isn't judged by itself."""
+
+    def begin(self):
+        super().begin()
+        self.judge = Reader()
 
 
 class Sent:
@@ -220,7 +247,7 @@ class Network:
     def connect(self, client, box, address):
         """Opens a link from an end to a relay."""
         self.port += 1
-        server = End(box, len(box.judge.streams))
+        server = End(box, box.judge.streams)
         box.tell(f"client {address}:{self.port}")
         self.add(Link(client, server))
 
@@ -349,7 +376,7 @@ def address_of(at):
 
 def lane(told, first, results):
     """Plays every so many networks, from a seed on."""
-    boxes, count, messages = [Box(told.program) for _ in range(16)], 0, 0
+    boxes, count, messages = [RelayInBox(told.program) for _ in range(16)], 0, 0
     for seed in range(first, told.first + told.count, told.lanes):
         network = Network(seed, boxes)
         try:
@@ -361,7 +388,7 @@ def lane(told, first, results):
             results.put(f"seed {seed}: {difference}\n    its scripts are {' '.join(files)}")
             for box in boxes:
                 box.close()
-            boxes = [Box(told.program) for _ in range(16)]
+            boxes = [RelayInBox(told.program) for _ in range(16)]
     for box in boxes:
         box.close()
     results.put((count, messages))
