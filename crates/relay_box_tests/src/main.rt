@@ -1,6 +1,6 @@
-//! A whole relay in a box: what `relayd run` runs, over streams, disks, a ballast file and clocks in memory. A script on
-//! standard input says what happens to it, and standard output says what it did; the same script always gives the same
-//! output. It knows nothing of mail: tests/days_in_a_box.py plays clients and next hops, and judges.
+//! A whole relay in a box: what `relayd run` runs, over streams, disks, a ballast file and clocks in memory. A script
+//! on standard input says what happens to it, and standard output says what it did; the same script always gives the
+//! same output. It knows nothing of mail: tests/days_in_a_box.py plays clients and next hops, and judges.
 //!
 //! A line of the script is words with one space between each two. Octets are in hexadecimal, `-` for none. Lines that
 //! are empty or begin with `#` are passed over. Streams have numbers from 0, in the order in which clients come and the
@@ -10,10 +10,10 @@
 //! - `clock SECONDS MILLISECONDS`: the wall clock since 1970, and the monotonic clock. They stand still otherwise.
 //! - `client ADDRESS:PORT`: a client waits at the listener.
 //! - `input N OCTETS`, `end N`, `reset N`: what a stream yields next; the end of its input; its connection breaks.
-//! - `room N COUNT`: a stream takes so many octets more; `room N -`: any number, as at first.
+//! - `room N COUNT`: a stream takes COUNT octets more; `room N -`: any number, as at first.
 //! - `hop ADDRESS:PORT WORD`: what happens to connections to an address: `accept`; `refuse`, as at first; or `wait`:
 //!   they are pending until `connected N` or `reset N`.
-//! - `fail CALLS`: so many more calls on the disks pass, and the next one fails.
+//! - `fail CALLS`: CALLS more calls on the disks pass, and the next one fails.
 //! - `ballast COUNT`: how many octets the ballast file has room for.
 //! - `turn`*: the relay is told what its streams may be ready for, and takes one turn.
 //! - `stop PICK`*: the process is killed, the disks become images that the pick chooses, and a relay starts over them.
