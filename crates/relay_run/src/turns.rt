@@ -46,7 +46,7 @@ pub trait Watch<S: Stream, D: Disk> {
     /// Returns what streams are registered at.
     fn registry(&self) -> &S::Registry;
 
-    /// Returns how long to wait, in milliseconds, if something else is to be done then.
+    /// Returns this wait, in milliseconds, or a shorter one if something else must be done before its end.
     fn shortened(&self, milliseconds: u64, now: &Now) -> u64
         ensures { result ≤ milliseconds };
 
@@ -173,7 +173,7 @@ impl<S: Stream + Drop, D: Device + Drop, F: Ballast + Drop> Shell<S, D, F> {
         }
     }
 
-    /// Returns how many milliseconds to wait, with what else is to be done taken into account.
+    /// Returns how many milliseconds to wait, at most as long as both the relay and its watch allow.
     fn next_wait<W: Watch<S, D>>(&self, watch: &W, now: &Now) -> u64
         ensures client { (number : ℕ) → IsLeftClient (clients_of self.now.clients) self.now.relay number
             → result ≡ 0 }
