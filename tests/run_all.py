@@ -56,6 +56,7 @@ SCRIPTS = [
     Script(["tests/run_groups.py", RELAYD]),
     Script(["tests/unit_file.sh", RELAYD]),
     Script(["tests/documents.py"]),
+    Script(["tests/edits_that_must_fail.py"]),
     Script(["tests/links.py", RELAYD]),
     Script(["tests/failing_calls.py", RELAYD]),
     Script(["tests/workers.py", RELAYD]),

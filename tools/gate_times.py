@@ -2,15 +2,15 @@
 """Measures the cost of a gate (a full run of proofs and tests) while it runs. At its end prints the minutes and units
 of each crate, for the table of docs/GATE.md.
 
-    RT_JOBS=4 rt ci > build/gate.log & tools/gate_times.py $!
-    RT_JOBS=4 rt ci > build/gate.log & tools/gate_times.py --short $!
+    RT_JOBS=4 tools/proofs.py > build/gate.log & tools/gate_times.py $!
+    RT_JOBS=4 tools/proofs.py > build/gate.log & tools/gate_times.py --short $!
 
 With --short it takes no units, and prints few lines: the minutes of each crate, and the seconds of the runs for its
-edits, in their order: the check that they begin with, each edit, and the check after them. `make test` prints those.
+edits, in their order. `make test` prints those.
 
 It adds up the processor time of each run of the prover, by crate, with the must-fail edits apart: those are the runs in
-a folder of rt's edits, including the check that they begin with and the check after them. It looks only at descendants
-of the given process. What a run takes between the last look and its end is missed, half a second at most.
+a folder of edits, of tools/proofs.py or of `rt ci`. It looks only at descendants of the given process. What a run takes
+between the last look and its end is missed, half a second at most.
 
 A unit is the processor time of one `rt lib --jobs 1` of relay_octets from nothing. It is taken every ten minutes in the
 place of one lane, whose prover stands still meanwhile, since machines differ by more than two and drift within minutes.
@@ -31,6 +31,8 @@ import time
 TOP = pathlib.Path(__file__).resolve().parent.parent
 TICKS = os.sysconf("SC_CLK_TCK")
 CRATE = re.compile(r"--crate-name\0([^\0]+)\0")
+# The folders in which edits are tried.
+EDITS = re.compile(r"/(?:edits|rt-edit)-")
 # How many seconds pass between two looks, and between two units.
 LOOK, UNIT = 0.5, 600
 # The unit of the machine by which docs/GATE.md says what the whole takes, in seconds.
@@ -64,7 +66,7 @@ def look(process, number):
     crate, fields = crate_of(process), fields_of(process)
     if not crate or crate_of(pathlib.Path("/proc") / fields[1]) or not is_below(process, number):
         return None
-    is_edit = os.readlink(process / "cwd").startswith("/tmp/rt-edit-")
+    is_edit = bool(EDITS.search(os.readlink(process / "cwd")))
     return (process.name, fields[19]), crate, int(fields[19]), is_edit, sum(map(int, fields[11:15])) / TICKS
 
 
