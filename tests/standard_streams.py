@@ -106,8 +106,16 @@ def help_is_written_and_done(program):
         same(f"{word} on a full device", (ended.returncode, ended.stderr), (1, b"relayd: output\n"))
 
 
+SUBCOMMANDS = [
+    "session", "play", "init", "list", "show", "status", "compact", "check", "run", "serve", "push", "flush", "hold",
+    "release", "drain", "reload", "return", "discard", "save",
+]
+
+
 def each_subcommand_has_help_with_an_example(program):
-    for word in ("session", "play", "init", "list", "compact", "check", "run", "serve", "push"):
+    commands = program.run(["--help"], b"")[1].decode().split("Commands:\n")[1].split("\n\n")[0]
+    same("subcommands", [line.split()[0] for line in commands.splitlines() if line[2] != " "], SUBCOMMANDS)
+    for word in SUBCOMMANDS:
         status, written, errors, _ = program.run([word, "--help"], b"")
         same(f"{word} --help", (status, errors), (0, b""))
         same(f"the example of {word}", f" relayd {word}".encode() in written.split(b"\n\nExample:")[1], True)
