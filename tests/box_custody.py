@@ -70,8 +70,8 @@ class Custody:
 
     def __init__(self, setup):
         self.setup, self.numbered, self.nameless, self.by_line, self.next = setup, {}, [], {}, 1
-        # What is surely queued, as messages and places; the reports that the outcomes of this turn owe.
-        self.queued, self.owed = set(), []
+        # What is surely queued, as messages and places.
+        self.queued = set()
 
     def add(self, message, doubt=False):
         """Adds a message, which is queued, or may be."""
@@ -110,8 +110,9 @@ class Custody:
         self.nameless.remove(message)
 
     def outcome(self, message, verdicts, at, doubt, logged=()):
-        """Records the verdicts of an attempt that has ended: a place and a verdict each. Returns the event of each.
-        Where it isn't known whether a place was reported as delayed, the events that were logged tell."""
+        """Records the verdicts of an attempt that has ended: a place and a verdict each. Returns the event of each, and
+        the report that is surely owed. Where it isn't known whether a place was reported as delayed, the events that
+        were logged tell."""
         effects, told, events = [], {}, []
         for index, (place, verdict) in enumerate(verdicts):
             one = message.places[place]
@@ -128,10 +129,8 @@ class Custody:
                 one.due_surely = max(one.due_surely, at + LONGEST_WAIT)
             if not any(leaves for _, _, leaves in effects) and told:
                 self.report(message, told, at, True)
-        else:
-            self.happen(message, effects, told, at)
-            self.owed += self.nameless[-1:] if told else []
-        return events
+            return events, None
+        return events, self.happen(message, effects, told, at)
 
     def doubt_each(self, message, places, at):
         """Notes that some of these places may have failed, and that a report may tell of these."""
@@ -168,7 +167,7 @@ class Custody:
         return leaves
 
     def happen(self, message, effects, told, at):
-        """Lets recipients leave, or be due again later, and queues the report that is owed."""
+        """Lets recipients leave, or be due again later, and queues the report that is owed. Returns it, or None."""
         for place, _, leaves in effects:
             one = message.places[place]
             one.doubt = None
@@ -178,20 +177,20 @@ class Custody:
                 one.laters += 1
                 one.due = one.due_surely = at + min(FIRST_WAIT << (one.laters - 1), LONGEST_WAIT)
                 one.is_delayed = one.is_delayed or "delayed" in told.get(one.recipient.path, ())
-        if told:
-            self.report(message, told, at, False)
+        return self.report(message, told, at, False) if told else None
 
     def stay(self, message, effects):
         for place, _, _ in effects:
             message.places[place].doubt = None
 
     def report(self, message, told, at, doubt):
-        """Queues the report of an outcome."""
+        """Queues the report of an outcome, and returns it."""
         report = Message(self.setup, Mail(b"<>", None, None), [Recipient(message.mail.path)], at)
         report.told, report.of = told, message
         self.add(report, doubt)
         if report.places[0].hop is None:
             self.queued.discard((report, 0))
+        return report
 
     def find(self, line, fits):
         """Returns the messages and places with this line of RCPT that fit."""

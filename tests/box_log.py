@@ -1,4 +1,4 @@
-"""Reads lines of a relay's log, of both forms: an event and its fields."""
+"""Reads lines of a relay's log, of both forms: an event and its fields; and which of them are of one attempt."""
 import json
 
 from relay_program import Difference
@@ -8,6 +8,9 @@ RECIPIENT_EVENTS = {"sent", "deferred", "delayed", "failed", "expired", "no-rout
 OTHER_EVENTS = {"accepted", "rejected", "client-end", "report", "unrecorded", "hop-held", "hop-back", "spool-full",
                 "compacted", "device-failed", "reopened", "shortage-ended", "stopping", "address-awaited"}
 LONGEST = 1_000
+# Why no connection was made: an attempt that has heard its next hop has none of these reasons. Why a connection ended.
+UNMADE = {"connection refused", "unreachable"}
+LOSSES = UNMADE | {"timeout", "connection closed"}
 
 
 def read_value(text, at):
@@ -57,3 +60,48 @@ def read_line(line):
     if event not in RECIPIENT_EVENTS and event not in OTHER_EVENTS:
         raise Difference(f"a line of the log has no event of relayd(8): {line!r}")
     return event, fields
+
+
+class Told:
+    """What the log tells of one attempt: its message, next hop and address, whether no connection was made, the event and
+    the path of each recipient, the reasons, and the line of the report that it owes."""
+
+    def __init__(self, fields):
+        self.key = key_of(fields)
+        self.number, self.hop, self.address, self.is_unmade = self.key
+        self.lines, self.reasons, self.report, self.is_taken = [], set(), None, False
+
+    def add(self, event, fields):
+        """Adds the line of a recipient."""
+        self.lines.append((event, fields.get("to", "").encode("latin-1")))
+        if "reason" in fields:
+            self.reasons.add(fields["reason"])
+
+    def is_lost(self):
+        """Returns whether its connection failed."""
+        return bool(self.reasons & LOSSES)
+
+
+def key_of(fields):
+    """Returns the message, the next hop and the address of a line, and whether no connection was made."""
+    return int(fields["message"]), fields.get("hop", ""), fields.get("addr", ""), fields.get("reason") in UNMADE
+
+
+def attempts_of(log):
+    """Returns what the log tells of each attempt, in its order: the lines of an attempt follow one another, and then
+    comes the line of its report (relay_log)."""
+    found, last = [], None
+    for event, fields in log:
+        if event in RECIPIENT_EVENTS:
+            if last is None or last.key != key_of(fields):
+                last = Told(fields)
+                found.append(last)
+            last.add(event, fields)
+        elif event == "report":
+            if last is None or int(fields["of"]) != last.number:
+                raise Difference(f"message {fields['message']} is a report of message {fields['of']}, and no line of its "
+                                 "recipients stands before it")
+            last.report, last = fields, None
+        else:
+            last = None
+    return found

@@ -6,11 +6,9 @@ A line of the log names its message, so an attempt that has ended before its mes
 from box_answer import require
 from box_clients import ClientMessage
 from box_course import FAILED, LATER
-from box_log import RECIPIENT_EVENTS
+from box_log import attempts_of
 
 EVENT_KINDS = {"sent": "sent", "failed": "failed", "deferred": "later", "delayed": "later", "expired": "later"}
-# Why an attempt is lost without a reply that ends it.
-LOSSES = {"connection refused", "unreachable", "timeout", "connection closed"}
 # Mail on hold is recorded as tried after so many seconds.
 OVERDUE = 14_400
 
@@ -25,67 +23,48 @@ class Outcomes:
     """Records the outcomes of a judge's links in its custody."""
 
     def __init__(self, judge):
-        self.judge, self.custody, self.closed, self.losses = judge, judge.custody, set(), set()
+        self.judge, self.custody, self.closed = judge, judge.custody, set()
 
     def settle_attempts(self, answer):
         """Ends the attempts that have ended in this turn, by their replies and by the lines of the log."""
-        groups, self.losses, self.refusing, self.custody.owed = {}, set(), set(), []
-        for event, fields in answer.log:
-            if event in RECIPIENT_EVENTS:
-                key = int(fields["message"]), fields.get("hop", ""), fields.get("addr", "")
-                groups.setdefault(key, []).append((event, fields.get("to", "").encode("latin-1")))
-                if fields.get("reason") in LOSSES:
-                    self.losses.add(key)
-                if fields.get("reason") == "connection refused":
-                    self.refusing.add(key[2])
-            elif event == "report":
-                groups[fields["message"]] = fields
+        told = attempts_of(answer.log)
         if not self.judge.ends_all:
-            self.check_refused(answer, groups)
+            self.check_refused(answer, told)
         closed = self.closed = set(answer.closes)
         ended = [link for link in self.judge.links.values() if not link.is_settled
                  and (link.has_ended() or link.number in closed or link.is_at_end() or link.is_unseen())]
         # Lines that may be of several attempts are of one whose message is known, or that has surely ended.
         for link in sorted(ended, key=lambda link: (link.course.message is None,
                                                     not link.has_ended() and link.number not in closed)):
-            self.settle(link, groups, link.number in closed)
-        for key, lines in groups.items():
-            if isinstance(key, str):
-                self.take_report(lines)
-            elif key[2]:
-                self.settle_rest(key[0], key[2], lines, answer)
-            else:
-                self.settle_unroutable(self.known(key[0], lines), lines)
+            self.settle(link, told, link.number in closed)
+        for one in told:
+            if not one.is_taken and one.address:
+                self.settle_unmade(one, answer)
+            elif not one.is_taken:
+                self.settle_unroutable(self.known(one), one)
         if self.judge.has_failed:
             for address in answer.refused:
                 self.doubt_all(address, LATER)
-        for report in self.custody.owed:
-            require(report.is_logged or self.judge.has_failed,
-                    f"{report.of} owes a report of {report.told}, and none is logged")
 
-    def settle(self, link, groups, is_closed):
+    def settle(self, link, told, is_closed):
         """Ends an attempt, if it has ended."""
-        key = self.group_of(link, groups)
-        if key is None and not link.has_ended() and not is_closed:
+        one = self.told_of(link, told)
+        if one is None and not link.has_ended() and not is_closed:
             return
         message = link.course.message
         link.is_settled = True
         if message:
             message.running.discard(link.hop)
-        if key is not None:
+        if one is not None:
             if not link.has_ended() and not link.is_at_end() and (not is_closed or self.judge.has_failed
                                                                   and link.is_unseen()):
                 link.end_unseen()
-            number = key[0]
-            message = message or self.known(number, groups[key])
+            message = message or self.known(one)
             if message.number is None:
-                self.custody.name(message, number)
-            is_sure = sum(other[2] == link.address for other in groups if isinstance(other, tuple)) == 1
-            lines = groups.pop(key)
-            if link.course.has_asked_all and len(lines) > len(link.course.places):
-                # The others of them have had an outcome of their own in this turn.
-                groups[key] = lines[len(link.course.places):]
-            self.conclude(message, link, lines[:len(lines) - len(groups.get(key, ()))], link.address, is_sure)
+                self.custody.name(message, one.number)
+            is_sure = sum(other.address == link.address for other in told if not other.is_taken) == 1
+            one.is_taken = True
+            self.conclude(message, link, one, is_sure)
         elif self.judge.has_failed:
             if link.is_unseen() and link.course.are_all_refused():
                 link.end_unseen()
@@ -105,56 +84,57 @@ class Outcomes:
         """Returns whether there may be another connection to an address."""
         return any(one.address == address and one is not link for one in self.judge.links.values())
 
-    def check_refused(self, answer, groups):
+    def check_refused(self, answer, told):
         """Requires that a connection that was refused has an outcome, and that its next hop is left alone then, unless
         there are others."""
         held = {fields["addr"] for event, fields in answer.log if event == "hop-held"}
-        logged = {key[2] for key in groups if isinstance(key, tuple)}
+        logged = {one.address for one in told}
         for address in answer.refused:
             require(address in logged or self.is_shared(address),
                     f"{address} refused a connection, and no line says so")
-        for address in self.refusing:
-            require(address in held, f"{address} refused a connection, and isn't left alone")
+        for one in told:
+            require("connection refused" not in one.reasons or one.address in held,
+                    f"{one.address} refused a connection, and isn't left alone")
 
-    def group_of(self, link, groups):
-        """Returns the lines of the log that are of an attempt, by their message and address."""
+    def told_of(self, link, told):
+        """Returns what the log tells of an attempt, by its message and address."""
         message = link.course.message
+        rest = [one for one in told if one.address == link.address and not one.is_taken
+                and not (one.is_unmade and link.began is not None)]
         if message and message.number is not None:
-            for one in self.alike(message):
-                key = one.number, link.hop.decode(), link.address
-                if key in groups and (one is message or not link.course.has_content):
-                    if one is not message:
-                        self.exchange(link, one)
-                    return key
+            for other in self.alike(message):
+                one = next((one for one in rest if (one.number, one.hop) == (other.number, link.hop.decode())), None)
+                if one and (other is message or not link.course.has_content):
+                    if other is not message:
+                        self.exchange(link, other)
+                    return one
             return None
         kinds = {link.verdicts()[1].kind} if not message else {"sent", "failed", "later"}
         is_lost = link.is_at_end() or link.number in self.closed and not self.judge.has_failed
         if link.is_unseen() and not is_lost:
             kinds = {"failed"} if link.may_be_unable() else set()
-        for key, lines in groups.items():
-            if (isinstance(key, tuple) and key[2] == link.address
-                    and all(EVENT_KINDS.get(event) in kinds for event, _ in lines)
-                    and (not message or key[0] not in self.custody.numbered)
-                    and not (key in self.losses and link.has_ended())):
-                return key
-        return None
+        return next((one for one in rest if all(EVENT_KINDS.get(event) in kinds for event, _ in one.lines)
+                     and (not message or one.number not in self.custody.numbered)
+                     and not (one.is_lost() and link.has_ended())), None)
 
-    def known(self, number, lines):
+    def known(self, told):
         """Returns the message of a number. One that is in doubt is known by the recipient that the log names."""
-        message = self.custody.numbered.get(number)
+        message = self.custody.numbered.get(told.number)
         if message is None:
-            path = lines[0][1]
+            path = told.lines[0][1]
             self.custody.settle_reports(path)
             fits = [one for one in self.custody.nameless if any(place.recipient.path == path for place in one.places)]
-            require(fits, f"the log names message {number} for {path!r}, which isn't known")
+            require(fits, f"the log names message {told.number} for {path!r}, which isn't known")
             message = fits[0]
-            self.custody.name(message, number)
+            self.custody.name(message, told.number)
         return message
 
-    def conclude(self, message, link, lines, address, is_sure=False):
-        """Records the outcome of an attempt with these lines of the log, which are surely of that link or may be."""
+    def conclude(self, message, link, told, is_sure=False):
+        """Records the outcome of an attempt by its lines of the log, which are surely of that link or may be."""
         verdicts, last = link.verdicts() if link else ([], LATER)
-        places = self.places_of(message, [place for place, _ in verdicts], [path for _, path in lines], address)
+        places = self.places_of(message, [place for place, _ in verdicts], told)
+        require(not (link and link.course.has_asked_all) or len(places) == len(verdicts),
+                f"the log has {len(places)} recipients of {message}, and just {len(verdicts)} were asked for")
         if link and not link.course.places and places:
             link.hop = message.places[places[0]].hop[0]
             if link.began is not None and is_sure:
@@ -166,8 +146,7 @@ class Outcomes:
                     f"{message.places[place].recipient.path!r} of {message} isn't due before "
                     f"{message.places[place].due}, and was tried")
             self.custody.settle_queued(message, place)
-        verdicts = verdicts + [(place, last) for place in places[len(verdicts):]]
-        self.record(message, verdicts, lines)
+        self.record(message, verdicts + [(place, last) for place in places[len(verdicts):]], told)
 
     def require_all(self, message, places):
         """Requires that all recipients that are due at a next hop share the outcome of a connection that failed."""
@@ -178,18 +157,31 @@ class Outcomes:
         require(places == due or not is_sure or self.judge.went_back or hop[0] in message.running,
                 f"the recipients {due} of {message} were due, and the log has {places}")
 
-    def record(self, message, verdicts, lines):
-        found = [event for event, _ in lines]
-        events = self.custody.outcome(message, verdicts, self.judge.wall, False, found)
+    def record(self, message, verdicts, told):
+        """Records verdicts, which must be those of the log."""
+        found = [event for event, _ in told.lines]
+        events, report = self.custody.outcome(message, verdicts, self.judge.wall, False, found)
         wanted = [event for _, event in events]
         require(found == wanted, f"the log says {found} of {message}, whose attempt gives {wanted}")
         for event in wanted:
             self.judge.counts[event] += 1
+        self.take_report(message, report, told.report)
 
-    def places_of(self, message, asked, paths, address):
+    def take_report(self, message, report, fields):
+        """Numbers the report that an outcome owes, which is the one that the log has after its lines."""
+        if report is None:
+            require(fields is None, f"the log has a report of {message}, which owes none")
+            return
+        require(fields, f"{message} owes a report of {report.told}, and none is logged")
+        require(fields["kind"] == kind_of(report),
+                f"the report of {message} is {fields['kind']}, and not {kind_of(report)}")
+        self.custody.name(report, int(fields["message"]))
+        self.judge.counts["reports"] += 1
+
+    def places_of(self, message, asked, told):
         """Returns the places of an outcome: those that were asked for, and after them those that the log names."""
-        places = []
-        for index, path in enumerate(paths):
+        places, address = [], told.address
+        for index, (_, path) in enumerate(told.lines):
             if index < len(asked):
                 place = asked[index]
             else:
@@ -200,25 +192,27 @@ class Outcomes:
             require(place is not None and message.places[place].recipient.path == path,
                     f"the log has {path!r} of {message}, which isn't tried at {address or 'no address'}")
             places.append(place)
-        require(len(places) >= len(asked), f"the log has {len(paths)} recipients of {message}, and {len(asked)} were "
+        require(len(places) >= len(asked), f"the log has {len(places)} recipients of {message}, and {len(asked)} were "
                                            f"asked for at {address}")
         return places
 
-    def settle_rest(self, number, address, lines, answer):
-        """Records an outcome of no connection: a refused one, mail on hold for long, or without a route."""
-        message = self.known(number, lines)
-        refused = address in answer.refused
+    def settle_unmade(self, told, answer):
+        """Records an outcome of no connection: a refused one, or mail whose next hop has been left alone for long."""
+        message = self.known(told)
+        refused = told.reasons == {"connection refused"} and told.address in answer.refused
         # Of a message of which a place has been due for so long, each hop on hold is recorded as tried.
-        late = any(one.has_left is None and one.due + OVERDUE < self.judge.wall for one in message.places)
-        require((refused or late) and all(EVENT_KINDS[event] == "later" for event, _ in lines),
-                f"the log says {lines} of {message} at {address}, where no attempt has ended")
-        self.conclude(message, None, lines, address)
+        late = told.reasons == {"unreachable"} and any(one.has_left is None and one.due + OVERDUE < self.judge.wall
+                                                       for one in message.places)
+        require((refused or late) and all(EVENT_KINDS[event] == "later" for event, _ in told.lines),
+                f"the log says {told.lines} of {message} at {told.address}, where no attempt has ended")
+        self.conclude(message, None, told)
 
-    def settle_unroutable(self, message, lines):
+    def settle_unroutable(self, message, told):
         """Records that recipients without a route were given up."""
-        places = self.places_of(message, [], [path for _, path in lines], "")
-        require({event for event, _ in lines} == {"no-route"}, f"{message} without an address: {lines}")
-        self.custody.outcome(message, [(place, FAILED) for place in places], self.judge.wall, False)
+        places = self.places_of(message, [], told)
+        require({event for event, _ in told.lines} == {"no-route"}, f"{message} without an address: {told.lines}")
+        _, report = self.custody.outcome(message, [(place, FAILED) for place in places], self.judge.wall, False)
+        self.take_report(message, report, told.report)
 
     def doubt(self, link):
         """Notes an attempt that has ended while the device failed: nobody knows whether its outcome was recorded."""
@@ -280,15 +274,3 @@ class Outcomes:
                         self.exchange(link, other)
                         return True
         return False
-
-    def take_report(self, fields):
-        """Numbers a report that the log names, which must be owed."""
-        number, of = int(fields["message"]), int(fields["of"])
-        owed = [one for one in self.custody.nameless if one.is_report() and one.of.number == of]
-        require(owed, f"message {number} is a report of message {of}, of which none is owed")
-        kinds = [kind_of(one) for one in owed]
-        require(fields["kind"] in kinds, f"the report of message {of} is {fields['kind']}, and not {kinds}")
-        report = owed[kinds.index(fields["kind"])]
-        self.custody.name(report, number)
-        report.is_logged = True
-        self.judge.counts["reports"] += 1
