@@ -2,6 +2,7 @@
 import collections
 import datetime
 import functools
+import itertools
 
 from box_custody import Message
 from box_dialogue import Dialogue, Offer
@@ -11,6 +12,12 @@ CRLF = b"\r\n"
 # The sessions at a time; more than these, and a client that is idle has less time; how long a session lasts without
 # accepted mail; how long a connection is read after the last reply.
 MOST_SESSIONS, CROWD, CROWDED_TIMEOUT, LONGEST_SESSION, LEAVING = 64, 48, 10_000, 1_800_000, 1_000
+# How many lines about refusals a client has in the log, in how many milliseconds.
+MOST_LINES, MINUTE = 10, 60_000
+FULL = b"452 spool full\r\n"
+# Replies that show which command they answer (relayd(8), The log).
+REFUSED = {b"550 no route": "rcpt", b"553 routed address refused": "rcpt", b"452 too many recipients": "rcpt",
+           b"500 unknown command": "unknown"}
 
 
 class Stream:
@@ -85,7 +92,7 @@ class ClientMessage(Message):
 
     def __init__(self, setup, offer, talk, at):
         super().__init__(setup, offer.mail, offer.recipients, at)
-        self.offer, self.talk, self.is_answered = offer, talk, False
+        self.offer, self.talk = offer, talk
 
     def text_as(self, number, at):
         """Returns its text, if it was accepted under this number at this time."""
@@ -111,9 +118,14 @@ class Talk(Stream):
         self.expected = collections.deque([self.dialogue.greeting()])
         # What was written since the last whole reply; messages that aren't accepted yet.
         self.tail, self.is_greeted, self.own_line, self.offers = b"", False, None, collections.deque()
-        self.is_cut, self.is_logged, self.crowd = False, False, (0, 0)
-        self.total = self.last_count = self.accepted = self.rejected = 0
+        self.is_cut, self.crowd, self.ended = False, (0, 0), None
+        self.total = self.last_count = self.accepted = 0
         self.has_accepted, self.greeted_in, self.tail_since = now, 0, now
+        # How many replies were written whole, and how many of them refuse something.
+        self.answered = self.refused = 0
+        # What may refuse something and isn't in the log yet, each with its place among the replies; how many refusals
+        # the log has; how many lines it has for them in this minute, and when that ends.
+        self.untold, self.told, self.lines, self.minute_end = collections.deque(), 0, 0, None
 
     def own_lines(self):
         """Returns the lines of the relay's own, each with its cause (RFC 5321, 3.1 and 3.8)."""
@@ -125,34 +137,73 @@ class Talk(Stream):
         return [(b"421 %b timeout, closing\r\n" % self.host, "timeout")]
 
     def read(self, octets, at):
-        """Takes what the relay has read. Returns the messages that are whole with it."""
-        messages = []
+        """Takes what the relay has read."""
         self.total += len(octets)
         self.last_count = len(octets)
         if self.own_line:
-            return messages
+            return
         for reply in self.dialogue.feed(octets):
             if isinstance(reply, Offer):
                 reply = ClientMessage(self.setup, reply, self, at)
-                messages.append(reply)
                 self.offers.append(reply)
-            elif reply[:1] in b"45":
-                self.rejected += 1
+            if isinstance(reply, ClientMessage) or reply[:1] in b"45":
+                self.untold.append((self.answered + len(self.expected), reply))
             self.expected.append(reply)
-        return messages
 
-    def check_end(self, fields):
+    # What the log has of it.
+
+    def tell(self, fields, now):
+        """Compares a line of the log with the next refusals that it hasn't told of: one, or so many more as it counts,
+        since a client has ten lines a minute. That begins when it comes, and later with a refusal."""
+        if "count" in fields:
+            self.require(self.lines == MOST_LINES, f"the log counts refusals after {self.lines} lines in a minute")
+            for _ in range(int(fields["count"])):
+                self.next_refusal()
+            return
+        if now >= self.minute_end:
+            self.lines, self.minute_end = 0, now + MINUTE
+        self.lines += 1
+        self.require(self.lines <= MOST_LINES, f"the log has more than {MOST_LINES} lines for it in a minute")
+        wanted = self.next_refusal()
+        command = "bdat" if wanted.endswith(b" bad chunk size, closing") else REFUSED.get(wanted)
+        self.require((fields["reply"].encode("latin-1"), fields.get("command")) == (wanted, command),
+                     f"the log says that it got {fields['reply']!r} to {fields.get('command')}, and the next refusal is "
+                     f"{wanted!r} to {command}")
+
+    def next_refusal(self):
+        """Returns the next refusal that the log hasn't told of."""
+        self.drop_accepted()
+        self.require(self.untold, "the log tells of more refusals than there are")
+        _, reply = self.untold.popleft()
+        self.told += 1
+        return (FULL if isinstance(reply, ClientMessage) else reply).strip()
+
+    def drop_accepted(self):
+        """Drops messages that were accepted from those that may be refused."""
+        while self.untold and isinstance(self.untold[0][1], ClientMessage) and self.untold[0][1].is_logged:
+            self.untold.popleft()
+
+    def check_end(self, fields, now):
         """Compares the line of the log for its end with what was read, accepted and refused."""
-        self.is_logged = True
+        self.ended = now
         octets, messages, rejected = (int(fields[key]) for key in ("octets", "messages", "rejected"))
         self.require(self.total - self.last_count <= octets <= self.total,
                      f"{octets} octets were read by the log, and {self.total} were")
         self.require(messages == self.accepted,
                      f"{messages} messages were accepted by the log, and {self.accepted} were")
-        # Of mail data that is refused for lack of room, nobody sees the answer if there is no room for it.
-        unseen = sum(not message.is_logged for message in self.offers)
-        self.require(self.rejected <= rejected <= self.rejected + unseen,
-                     f"{rejected} replies refuse something by the log, and {self.rejected} do")
+        self.require(rejected == self.told and rejected >= self.refused,
+                     f"{rejected} replies refuse something by the log, which has told of {self.told}, and "
+                     f"{self.refused} were given")
+        self.drop_accepted()
+        self.require(not self.untold or self.may_be_unheard(self.untold[0][0]),
+                     f"the log hasn't told what became of {self.untold and self.untold[0][1]}")
+
+    def may_be_unheard(self, place):
+        """Returns whether the relay may not have used what the reply of a place is for, though it has read it: while
+        replies wait it reads nothing, and of a block it uses what comes up to a message, and up to the next one in the
+        same turn."""
+        return any(isinstance(reply, ClientMessage)
+                   for reply in itertools.islice(self.expected, place - self.answered))
 
     def wrote(self, octets, judge):
         """Compares what was written with the replies that are owed, in order."""
@@ -173,24 +224,25 @@ class Talk(Stream):
                 return False
         elif self.tail.startswith(reply):
             end, self.is_greeted = len(reply), True
+            self.refused += reply[:1] in b"45"
         else:
             return False
         self.expected.popleft()
+        self.answered += 1
         self.tail, self.tail_since = self.tail[end:], self.idle_since
         return True
 
     def take_answer(self, line, message, judge):
         """Takes the answer to a message: its number, or that the spool is full."""
-        if line == b"452 spool full\r\n":
+        if line == FULL:
             self.require(message.number is None, f"452 spool full answers {message}, which the log has as accepted")
             self.offers.remove(message)
             judge.counts["full"] += 1
-            self.rejected += 1
+            self.refused += 1
         elif line.startswith(b"250 queued as ") and line[14:-2].isdigit():
             judge.acknowledged(message, int(line[14:-2]))
         else:
             return False
-        message.is_answered = True
         return True
 
     def is_known(self, turn):
@@ -240,5 +292,8 @@ class Talk(Stream):
             self.require(late and self.room is not None, "it was closed without a cause")
 
     def is_overdue(self, now):
-        """Returns whether it has been idle for so long that it must have been cut off before."""
-        return not self.is_closed and self.is_greeted and now >= self.active + self.setup.timeout + LEAVING
+        """Returns whether it must have been cut off before, since it was idle, or closed, since it didn't take its last
+        octets."""
+        since = self.active if self.ended is None else self.ended
+        is_late = now >= since + self.setup.timeout or self.ended is None and now >= self.has_accepted + LONGEST_SESSION
+        return not self.is_closed and self.is_greeted and is_late

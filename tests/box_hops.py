@@ -18,10 +18,16 @@ class Link(Stream):
         super().__init__(number, address, judge.now)
         self.judge, self.custody, self.setup = judge, judge.custody, judge.setup
         self.course = Course(judge.setup.host, self)
-        self.is_pending, self.is_settled, self.was_shared = is_pending, False, False
+        # Whether it is to be made still, and whether the relay knows that it was.
+        self.is_pending, self.is_connected, self.is_settled = is_pending, False, False
         # The wall clock when it was dialled and when the first octet of the greeting was read, and its latest.
         self.dialled, self.began, self.dialled_in = judge.wall, None, judge.counts["turns"]
         self.hop = None
+
+    def note_connected(self, now):
+        """Notes that the relay learns in this turn that it was made: it takes octets now."""
+        if not self.is_connected and not self.is_pending and self.room != 0:
+            self.is_connected, self.active = True, now
 
     def read(self, octets, wall):
         self.began = wall if self.began is None else self.began
@@ -194,7 +200,7 @@ class Link(Stream):
     def patience(self, otherwise):
         """Returns how long the relay waits for what it waits for now, where `otherwise` is for what isn't known, since
         there is no room for it."""
-        if self.is_pending:
+        if not self.is_connected:
             return CONNECTING
         waits = self.course.waits
         if self.course.has_content:
@@ -220,9 +226,7 @@ class Link(Stream):
                      f"it was closed, and {course.expected!r} isn't written")
         if not (has_failed or self.has_ended() or self.is_at_end() or is_turned_away or is_void):
             self.begin_turn(self.judge.counts["turns"])
-            # One that takes no octet isn't known to be connected before it has greeted.
-            patience = CONNECTING if self.began is None else self.patience(DATA_REPLY)
-            self.require(now >= self.quiet_since + patience or now >= self.written + WHOLE_ANSWER,
+            self.require(now >= self.quiet_since + self.patience(DATA_REPLY) or now >= self.written + WHOLE_ANSWER,
                          f"it was closed after {now - self.quiet_since} ms, while {[*course.waits]} is awaited")
 
 

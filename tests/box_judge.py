@@ -4,7 +4,7 @@ by the verdict table, and custody by the list of changes. It knows nothing else,
 A line of the script that begins with `#!` asks for a check: `#! drained` requires an empty queue.
 """
 from box_answer import Answer, octets_of, require
-from box_clients import CROWD, CROWDED_TIMEOUT, LONGEST_SESSION, MOST_SESSIONS, Talk
+from box_clients import CROWD, CROWDED_TIMEOUT, LONGEST_SESSION, MINUTE, MOST_SESSIONS, Talk
 from box_custody import Custody
 from box_hops import Link, Paces
 from box_outcomes import Outcomes
@@ -79,8 +79,7 @@ class Judge:
         self.modes[address] = word
 
     def take_connected(self, number):
-        link = self.stream(int(number))
-        link.is_pending, link.active = False, self.now
+        self.stream(int(number)).is_pending = False
 
     def take_fail(self, calls):
         self.may_fail = True
@@ -148,6 +147,7 @@ class Judge:
                 f"it waits {answer.wait} ms")
         self.watch_progress(answer)
         self.touched, self.paces.answered_now = set(), set()
+        self.note_beginnings()
         early = {address for address in {*(one for _, one in answer.dials), *answer.refused}
                  if not self.has_due(address)}
         self.take_reads(answer)
@@ -174,6 +174,14 @@ class Judge:
         if answer.clock:
             self.set_clock(*answer.clock)
         return answer
+
+    def note_beginnings(self):
+        """Notes which clients come in this turn, and which connections the relay now knows to be made."""
+        for talk in self.talks.values():
+            if talk.minute_end is None:
+                talk.minute_end, talk.has_accepted = self.now + MINUTE, self.now
+        for link in self.links.values():
+            link.note_connected(self.now)
 
     def watch_progress(self, answer):
         """Requires that a relay that says it has more to do does something now and then."""
@@ -228,7 +236,7 @@ class Judge:
                            None) if talk else None
             require(message, f"message {number} was accepted as {fields}, and the client has sent none that is so")
             message.is_logged = True
-            talk.accepted += 1
+            talk.accepted, talk.has_accepted = talk.accepted + 1, self.now
             message.set_time(self.wall)
             self.accept(message, number)
 
@@ -270,7 +278,10 @@ class Judge:
         self.unrecorded = set()
         for event, fields in answer.log:
             if event == "client-end" and "messages" in fields and fields["client"] in self.peers:
-                self.peers[fields["client"]].check_end(fields)
+                self.peers[fields["client"]].check_end(fields, self.now)
+            elif event == "rejected":
+                require(fields["client"] in self.peers, f"the log tells of a client that isn't there: {fields}")
+                self.peers[fields["client"]].tell(fields, self.now)
             elif event == "unrecorded":
                 # Memory doesn't run out here, so only a message that isn't due any more has no outcome.
                 require(self.went_back, f"an outcome wasn't recorded: {fields}")
@@ -308,18 +319,23 @@ class Judge:
         else:
             self.check_timeout(talk)
 
+    def others(self, talk):
+        """Returns the clients that may have had a session beside this one in this turn."""
+        return [other for other in self.talks.values() if other is not talk
+                and (not other.own_line or other.is_greeted and other.cut_in == self.counts["turns"])]
+
     def note_crowd(self, talk):
         """Notes how many sessions there are at most beside a client that isn't greeted yet, or was cut off."""
-        others = [other for other in self.talks.values() if other is not talk
-                  and (not other.own_line or other.is_greeted and other.cut_in == self.counts["turns"])]
+        others = self.others(talk)
         same = sum(other.client == talk.client for other in others)
         talk.crowd = max(talk.crowd[0], len(others)), max(talk.crowd[1], same)
 
     def check_timeout(self, talk):
         """Requires that a client that was cut off was idle for long enough."""
-        sessions = sum(not other.own_line for other in self.talks.values())
+        # Whether there is a crowd is counted once in a turn, before any client is cut off.
+        is_crowded = len(self.others(talk)) + 1 > CROWD and not talk.accepted
         idle = self.now - talk.tail_since
-        talk.require(idle >= self.setup.timeout or sessions > CROWD and idle >= CROWDED_TIMEOUT
+        talk.require(idle >= self.setup.timeout or is_crowded and idle >= CROWDED_TIMEOUT
                      or self.now >= talk.has_accepted + LONGEST_SESSION, f"it was cut off after {idle} ms")
 
     # The end of a turn.
@@ -332,7 +348,7 @@ class Judge:
             stream.require(not stream.is_closed, "it was closed twice")
             stream.closed(self.now, self.ends_all)
             if isinstance(stream, Talk):
-                stream.require(self.ends_all or not stream.is_greeted or stream.is_logged,
+                stream.require(self.ends_all or not stream.is_greeted or stream.ended is not None,
                                "it was closed, and the log has no line for its end")
                 for message in stream.offers:
                     if self.ends_all and not message.is_logged:
@@ -344,10 +360,6 @@ class Judge:
 
     def after_good_turn(self, answer):
         """Requires that what could be done was done, if the relay waits now."""
-        for link in self.links.values():
-            if link.dialled_in >= self.counts["turns"] - 1 and not link.is_pending:
-                # The relay learns in this turn that it is connected.
-                link.active = self.now
         if not answer.wait:
             return
         for talk in self.talks.values():
