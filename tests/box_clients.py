@@ -167,8 +167,8 @@ class Talk(Stream):
         wanted = self.next_refusal()
         command = "bdat" if wanted.endswith(b" bad chunk size, closing") else REFUSED.get(wanted)
         self.require((fields["reply"].encode("latin-1"), fields.get("command")) == (wanted, command),
-                     f"the log says that it got {fields['reply']!r} to {fields.get('command')}, and the next refusal is "
-                     f"{wanted!r} to {command}")
+                     f"the log says that it got {fields['reply']!r} to {fields.get('command')}, and the next refusal "
+                     f"is {wanted!r} to {command}")
 
     def next_refusal(self):
         """Returns the next refusal that the log hasn't told of."""
@@ -295,5 +295,5 @@ class Talk(Stream):
         """Returns whether it must have been cut off before, since it was idle, or closed, since it didn't take its last
         octets."""
         since = self.active if self.ended is None else self.ended
-        is_late = now >= since + self.setup.timeout or self.ended is None and now >= self.has_accepted + LONGEST_SESSION
-        return not self.is_closed and self.is_greeted and is_late
+        is_over = self.ended is None and now >= self.has_accepted + LONGEST_SESSION
+        return not self.is_closed and self.is_greeted and (is_over or now >= since + self.setup.timeout)

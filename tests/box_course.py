@@ -73,8 +73,8 @@ def verdict_of_rcpt(code, last):
 
 class Course:
     """The course of an attempt at a next hop. `finder` has `mail(line)`, which refuses a line of MAIL that no message
-    has; `recipient(course, line)`, which returns the place of a recipient; and `asked_all(course)`, which is told that
-    no recipient follows. It sets `message`, whose `text` is known or None."""
+    has; `recipient(course)`, which finds the place of the last line of RCPT; and `asked_all(course)`, which is told that
+    no recipient follows. It sets `message`, whose `text` is known or None, and `places`."""
 
     def __init__(self, host, finder):
         self.host, self.finder = host, finder
@@ -82,7 +82,9 @@ class Course:
         self.expected, self.out, self.question = b"", b"", None
         self.has_pipelining = self.has_chunking = self.has_dsn = False
         self.in_group = self.has_asked_all = self.is_turned_away = False
-        self.mail_line, self.message, self.text, self.places, self.rcpt_codes = b"", None, None, [], []
+        self.mail_line, self.message, self.text = b"", None, None
+        # The lines of RCPT, the places that they are for, and the codes of their replies.
+        self.lines, self.places, self.rcpt_codes = [], [], []
         self.has_ended, self.last, self.content_code, self.has_content = False, None, None, False
 
     def read(self, octets):
@@ -189,7 +191,8 @@ class Course:
         """Reads a line of RCPT, if it is the next one and whole."""
         if not self.out.startswith(b"RCPT") or CRLF not in self.out:
             return False
-        self.places.append(self.finder.recipient(self, self.cut_line()))
+        self.lines.append(self.cut_line())
+        self.finder.recipient(self)
         self.waits.append(RCPT)
         return True
 
@@ -220,7 +223,7 @@ class Course:
             self.has_content = True
 
     def ask_unknown_content(self):
-        """Reads how a report's text is begun."""
+        """Reads how a text is begun that isn't known."""
         if self.out and b"DATA\r\n".startswith(self.out[:6]):
             self.question = None
             self.command(b"DATA\r\n", DATA)
@@ -240,7 +243,7 @@ class Course:
         raise Difference(f"it wrote {self.out[:80]!r} to a next hop, and not a content")
 
     def write_content(self):
-        """Expects the mail data, or reads that of a report."""
+        """Expects the mail data, or reads it if it isn't known."""
         if self.text is not None:
             self.expected += with_dots(self.text)
             self.has_content = True
@@ -280,9 +283,9 @@ class Course:
             self.question = None
             self.begin_content()
         if self.question:
-            # A report is begun by DATA, or else its text would end without a line end.
+            # The text of a report ends with a line end.
             self.question = None
-            self.waits.append(DATA)
+            self.waits.append(CONTENT if self.message.text and not self.message.text.endswith(CRLF) else DATA)
         while self.queue and self.waits and not self.has_ended:
             self.take_reply(*self.queue.popleft())
         if not self.has_ended:

@@ -1,7 +1,7 @@
 """A next hop's stream of a relay in a box: whether what the relay writes is the course of an attempt for queued mail,
 and what its outcome is."""
 from box_answer import require
-from box_clients import ClientMessage, Stream
+from box_clients import Stream
 from box_course import CONTENT, DATA, GREETING, LATER, Course
 from relay_program import Difference
 
@@ -93,41 +93,70 @@ class Link(Stream):
             return
         self.require(False, f"{line!r} is of no message that is due there")
 
-    def recipient(self, course, line):
-        """Returns the place of a line of RCPT, and decides at the first one which message it is of."""
+    def recipient(self, course):
+        """Finds the place of the last line of RCPT, and decides at the first one which message it is of. A later one
+        may show that it is of another."""
+        line, outcomes = course.lines[-1], self.judge.outcomes
         if course.message is None:
-            found = self.custody.find(line, lambda message, place: self.fits(course, message, place, line))
+            found = self.custody.find(line, lambda message, place: self.is_free(message, place, line))
             if not found:
                 self.custody.settle_reports(line[8:line.find(b">") + 1])
-                found = self.custody.find(line, lambda message, place: self.fits(course, message, place, line))
-            found = found or self.freed(course, line)
+                found = self.custody.find(line, lambda message, place: self.is_free(message, place, line))
+            found = found or self.freed(line)
             self.require(found, f"{line!r} is of no recipient that is due there: {self.why_not(course, line)}")
-            course.message, place = self.judge.outcomes.chosen(found)
-            course.message.running.add(course.message.places[place].hop[0])
+            course.message, place = outcomes.chosen(found)
             self.hop = course.message.places[place].hop[0]
+            course.message.running.add(self.hop)
         else:
-            found = self.custody.find(line, lambda message, place: message is course.message
-                                      and place not in course.places and self.is_due(message, place)
-                                      and message.places[place].recipient.line(course.has_dsn) == line)
-            self.require(found, f"{line!r} is of no recipient of {course.message} that is due there")
-            place = found[0][1]
-        self.require(course.message.places[place].hop[0] == self.hop, f"{line!r} is of another next hop")
-        if len(self.judge.outcomes.alike(course.message)) == 1:
-            self.custody.settle_queued(course.message, place)
-        return place
+            place = self.next_place(course.message, course.places, line)
+        if place is not None:
+            course.places.append(place)
+        else:
+            self.require(outcomes.choose_again(self),
+                         f"{line!r} is of no recipient of {course.message} that is due there")
+        if len(outcomes.alike(self)) == 1:
+            self.settle_queued()
 
-    def freed(self, course, line):
-        """Returns a report that another attempt was taken for, which may be for another report to the same sender."""
-        for message, place in self.custody.find(line, lambda message, _: message.is_report() and message.running):
-            if message.mail.line(course.has_dsn) == course.mail_line and self.is_due(message, place):
-                if self.judge.outcomes.free(message):
-                    return [(message, place)]
+    def settle_queued(self):
+        """Notes that its recipients are queued."""
+        for place in self.course.places:
+            self.custody.settle_queued(self.course.message, place)
+
+    def freed(self, line):
+        """Returns a recipient that another attempt was taken to be for, which may be for another message."""
+        for message, place in self.custody.find(line, lambda message, place: self.fits(message, place, line)):
+            if self.judge.outcomes.free(message, message.places[place].hop[0]):
+                return [(message, place)]
         return []
 
-    def fits(self, course, message, place, line):
+    def fits(self, message, place, line):
+        """Returns whether a place of a message may be the first one here, and a line of RCPT is for it."""
+        course = self.course
         return (message.mail.line(course.has_dsn) == course.mail_line and self.is_due(message, place)
-                and message.places[place].recipient.line(course.has_dsn) == line
-                and message.places[place].hop[0] not in message.running)
+                and message.places[place].recipient.line(course.has_dsn) == line)
+
+    def is_free(self, message, place, line):
+        """Returns whether it fits, and no other attempt for it runs."""
+        return self.fits(message, place, line) and message.places[place].hop[0] not in message.running
+
+    def next_place(self, message, places, line):
+        """Returns the place of a message that a line of RCPT is for after these, or None."""
+        return next((place for place, one in enumerate(message.places)
+                     if place not in places and self.is_due(message, place) and one.hop[0] == self.hop
+                     and one.recipient.line(self.course.has_dsn) == line), None)
+
+    def places_in(self, message):
+        """Returns the places of a message that the lines so far may be for, or None."""
+        places = []
+        if message.mail.line(self.course.has_dsn) != self.course.mail_line:
+            return None
+        for line in self.course.lines:
+            places.append(self.next_place(message, places, line))
+        return None if None in places else places
+
+    def take_message(self, message):
+        """Goes on as an attempt for another message that has the lines so far."""
+        self.course.message, self.course.places = message, self.places_in(message)
 
     def why_not(self, course, line):
         """Returns what is known of the recipients with a line of RCPT."""
@@ -155,14 +184,17 @@ class Link(Stream):
     def asked_all(self, course):
         """Requires that the recipients are the first ones that are due there, and as many as there may be. Returns the
         text that follows, if it is known which message it is."""
-        self.check_places(course.message, course.places)
-        return course.message.text if len(self.judge.outcomes.alike(course.message)) == 1 else None
+        is_known = len(self.judge.outcomes.alike(self)) == 1
+        self.check_places(course.message, course.places, is_known)
+        return course.message.text if is_known else None
 
-    def check_places(self, message, places):
+    def check_places(self, message, places, is_known):
+        """Requires that places are the first ones that are due, and as many as there may be, where it is known that
+        they are the message's."""
         self.require(places == sorted(places), f"the recipients of {message} aren't in order: {places}")
         due = self.due_places(message, self.hop)
         if any(message.places[place].doubt or message.places[place].due != message.places[place].due_surely
-               for place in {*due, *places}) or self.judge.went_back or len(self.judge.outcomes.alike(message)) > 1:
+               for place in {*due, *places}) or self.judge.went_back or not is_known:
             return
         portions = self.portions(message)
         self.require(places == due[:len(places)] and (len(places) in portions or
@@ -175,25 +207,27 @@ class Link(Stream):
         self.require(not course.has_chunking, "it wrote QUIT before MAIL to a next hop that offers CHUNKING")
 
     def content(self, course, text):
-        """Takes the text of a report, which isn't known before it is first sent."""
+        """Takes a text that isn't known before it is sent: that of a report, or of one of several messages."""
         message = course.message
-        if isinstance(message, ClientMessage):
-            self.number_by(message, text)
-            return
-        fits = [one for one in self.judge.outcomes.alike(message)
-                if one.text == text or one.text is None and tells(one, text)]
-        self.require(fits, f"{message} is sent as {text[:2000]!r}, and must tell of {message.told}")
+        fits = [one for one in self.judge.outcomes.alike(self) if self.is_text(one, text)]
+        self.require(fits, f"{message} is sent as {text[:2000]!r}, and must "
+                           + (f"tell of {message.told}" if message.is_report() else f"be {message.text!r}"))
         if message not in fits:
             self.judge.outcomes.exchange(self, fits[0])
-        course.message.text = text
-        self.custody.settle_queued(course.message, course.places[0])
+        if course.message.is_report():
+            course.message.text = text
+        else:
+            self.custody.name(course.message, number_in(text))
+        self.settle_queued()
 
-    def number_by(self, message, text):
-        """Numbers a client's message by its time stamp line, which nothing else has told of yet."""
-        number = text.partition(b" id ")[2].partition(b";")[0]
-        self.require(number.isdigit(), f"{text[:300]!r} has no number")
-        self.custody.name(message, int(number))
-        self.require(message.text == text, f"{text[:600]!r} is sent, and not {message.text[:600]!r}")
+    def is_text(self, message, text):
+        """Returns whether a text is a message's. A client's message without a number may have any."""
+        if message.text is not None:
+            return message.text == text
+        if message.is_report():
+            return tells(message, text)
+        number = number_in(text)
+        return number is not None and message.text_as(number, message.at) == text
 
     # How long it may wait.
 
@@ -262,6 +296,12 @@ class Paces:
     def check_dial(self, address, now):
         until = self.holds.get(address, (0, 0))[0]
         require(now >= until, f"it connects to {address}, which is left alone for {until - now} ms more")
+
+
+def number_in(text):
+    """Returns the number in the time stamp line of a client's message, or None."""
+    number = text.partition(b" id ")[2].partition(b";")[0]
+    return int(number) if number.isdigit() else None
 
 
 def actions_of(text):

@@ -63,8 +63,8 @@ def read_line(line):
 
 
 class Told:
-    """What the log tells of one attempt: its message, next hop and address, whether no connection was made, the event and
-    the path of each recipient, the reasons, and the line of the report that it owes."""
+    """What the log tells of one attempt: its message, next hop and address, whether no connection was made, the event
+    and the path of each recipient, the reasons, and the line of the report that it owes."""
 
     def __init__(self, fields):
         self.key = key_of(fields)
@@ -99,8 +99,8 @@ def attempts_of(log):
             last.add(event, fields)
         elif event == "report":
             if last is None or int(fields["of"]) != last.number:
-                raise Difference(f"message {fields['message']} is a report of message {fields['of']}, and no line of its "
-                                 "recipients stands before it")
+                raise Difference(f"message {fields['message']} is a report of message {fields['of']}, and no line of "
+                                 "its recipients stands before it")
             last.report, last = fields, None
         else:
             last = None

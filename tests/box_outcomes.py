@@ -4,7 +4,6 @@ connection, and which lines of the log it must have.
 A line of the log names its message, so an attempt that has ended before its message showed is known by its lines.
 """
 from box_answer import require
-from box_clients import ClientMessage
 from box_course import FAILED, LATER
 from box_log import attempts_of
 
@@ -102,7 +101,7 @@ class Outcomes:
         rest = [one for one in told if one.address == link.address and not one.is_taken
                 and not (one.is_unmade and link.began is not None)]
         if message and message.number is not None:
-            for other in self.alike(message):
+            for other in self.alike(link):
                 one = next((one for one in rest if (one.number, one.hop) == (other.number, link.hop.decode())), None)
                 if one and (other is message or not link.course.has_content):
                     if other is not message:
@@ -138,7 +137,7 @@ class Outcomes:
         if link and not link.course.places and places:
             link.hop = message.places[places[0]].hop[0]
             if link.began is not None and is_sure:
-                link.check_places(message, places)
+                link.check_places(message, places, True)
         if (link is None or link.began is None) and places:
             self.require_all(message, places)
         for place in places:
@@ -219,12 +218,16 @@ class Outcomes:
         message, (verdicts, last) = link.course.message, link.verdicts()
         if message is None:
             self.doubt_all(link.address, FAILED if link.is_unseen() and link.may_be_unable() else last)
-        else:
-            rest = [place for place in link.due_places(message, link.hop) if place not in dict(verdicts)]
+            return
+        others = [] if link.course.has_content else self.alike(link)[1:]
+        for one in [message] + [other for other in others if link.hop not in other.running]:
+            places = link.course.places if one is message else link.places_in(one)
+            rest = [place for place in link.due_places(one, link.hop) if place not in places]
             if last is FAILED and rest:
-                self.custody.doubt_each(message, [place for place, _ in verdicts] + rest, self.judge.wall)
+                self.custody.doubt_each(one, places + rest, self.judge.wall)
             else:
-                self.custody.outcome(message, verdicts, self.judge.wall, True)
+                found = [(place, verdict) for place, (_, verdict) in zip(places, verdicts)]
+                self.custody.outcome(one, found, self.judge.wall, True)
 
     def doubt_all(self, address, last):
         """Notes that an attempt for any of the mail at an address may have ended with this verdict."""
@@ -244,33 +247,50 @@ class Outcomes:
         return min(found, key=lambda one: (one[0].doubt is not None or one[0].places[one[1]].doubt is not None,
                                            one[0].number or 1 << 63, one[1]))
 
-    def alike(self, message):
-        """Returns the messages that a message can't be told from before its text is known: reports to one sender."""
-        if isinstance(message, ClientMessage):
-            return [message]
-        line = message.places[0].recipient.line(False)
-        return [message] + [other for other, _ in self.custody.find(line, lambda one, _: one is not message
-                            and one.is_report() and one.places[0].has_left is None)]
+    def holder(self, message, hop):
+        """Returns the attempt that runs for a message at a next hop, or None."""
+        return next((link for link in self.judge.links.values() if link.course.message is message and link.hop == hop
+                     and not link.is_settled), None)
+
+    def may_be(self, link, other):
+        """Returns whether an attempt may be for another message, and the attempt for that one for its own."""
+        if link.places_in(other) is None:
+            return False
+        holder = self.holder(other, link.hop)
+        return holder is None or holder.places_in(link.course.message) is not None
+
+    def alike(self, link):
+        """Returns the message of an attempt, and those that it may be for as well by the lines so far, before its text
+        is known: reports to one sender, or messages with the same paths."""
+        message = link.course.message
+        found = self.custody.find(link.course.lines[0], lambda other, _: other is not message
+                                  and self.may_be(link, other))
+        return [message, *dict.fromkeys(other for other, _ in found)]
 
     def exchange(self, link, other):
-        """Notes that an attempt is for another report than it seemed, and one that was taken for that one isn't."""
-        message = link.course.message
-        for one in self.judge.links.values():
-            if one.course.message is other and not one.is_settled:
-                one.course.message = message
-                break
+        """Notes that an attempt is for another message than it seemed, and one that was taken for that one isn't."""
+        message, holder = link.course.message, self.holder(other, link.hop)
+        if holder:
+            holder.take_message(message)
         else:
             message.running.discard(link.hop)
             other.running.add(link.hop)
-        link.course.message = other
+        link.take_message(other)
 
-    def free(self, message):
-        """Takes another report for that of an attempt which was taken for this one, if it may be. Returns whether it
+    def free(self, message, hop):
+        """Takes another message for that of the attempt which was taken for this one, if it may be. Returns whether it
         may."""
-        for link in self.judge.links.values():
-            if link.course.message is message and not link.is_settled and not link.course.has_content:
-                for other in self.alike(message)[1:]:
-                    if not other.running and link.is_due(other, 0):
-                        self.exchange(link, other)
-                        return True
+        link = self.holder(message, hop)
+        if link and not link.course.has_content:
+            for other in self.alike(link)[1:]:
+                if hop not in other.running:
+                    self.exchange(link, other)
+                    return True
         return False
+
+    def choose_again(self, link):
+        """Takes another message for that of an attempt, if one has its lines so far. Returns whether one has."""
+        others = self.alike(link)[1:]
+        if others:
+            self.exchange(link, others[0])
+        return bool(others)
