@@ -119,7 +119,7 @@ class Talk(Stream):
         # What was written since the last whole reply; messages that aren't accepted yet.
         self.tail, self.is_greeted, self.own_line, self.offers = b"", False, None, collections.deque()
         self.is_cut, self.crowd, self.ended = False, (0, 0), None
-        self.total = self.last_count = self.accepted = 0
+        self.total = self.last_count = self.last_place = self.accepted = 0
         self.has_accepted, self.greeted_in, self.tail_since = now, 0, now
         # How many replies were written whole, and how many of them refuse something.
         self.answered = self.refused = 0
@@ -139,7 +139,7 @@ class Talk(Stream):
     def read(self, octets, at):
         """Takes what the relay has read."""
         self.total += len(octets)
-        self.last_count = len(octets)
+        self.last_count, self.last_place = len(octets), self.answered + len(self.expected)
         if self.own_line:
             return
         for reply in self.dialogue.feed(octets):
@@ -194,6 +194,9 @@ class Talk(Stream):
         self.require(rejected == self.told and rejected >= self.refused,
                      f"{rejected} replies refuse something by the log, which has told of {self.told}, and "
                      f"{self.refused} were given")
+        if octets < self.total:
+            # What was read last was read and dropped after the end, or some of it.
+            self.untold = collections.deque(one for one in self.untold if one[0] < self.last_place)
         self.drop_accepted()
         self.require(not self.untold or self.may_be_unheard(self.untold[0][0]),
                      f"the log hasn't told what became of {self.untold and self.untold[0][1]}")
