@@ -153,8 +153,8 @@ class Talk(Stream):
     # What the log has of it.
 
     def tell(self, fields, now):
-        """Compares a line of the log with the next refusals that it hasn't told of: one, or so many more as it counts,
-        since a client has ten lines a minute. That begins when it comes, and later with a refusal."""
+        """Compares a line of the log with the next refusal that it hasn't told of, or with as many as it counts, since a
+        client has ten lines a minute. A minute begins when the client comes, and later with a refusal."""
         if "count" in fields:
             self.require(self.lines == MOST_LINES, f"the log counts refusals after {self.lines} lines in a minute")
             for _ in range(int(fields["count"])):
@@ -202,9 +202,8 @@ class Talk(Stream):
                      f"the log hasn't told what became of {self.untold and self.untold[0][1]}")
 
     def may_be_unheard(self, place):
-        """Returns whether the relay may not have used what the reply of a place is for, though it has read it: while
-        replies wait it reads nothing, and of a block it uses what comes up to a message, and up to the next one in the
-        same turn."""
+        """Returns whether the relay may have read what the reply of a place is for, and not used it. In a turn it uses
+        a block up to its second message, and nothing while replies wait."""
         return any(isinstance(reply, ClientMessage)
                    for reply in itertools.islice(self.expected, place - self.answered))
 

@@ -257,7 +257,7 @@ class Outcomes:
         if link.places_in(other) is None:
             return False
         holder = self.holder(other, link.hop)
-        return holder is None or holder.places_in(link.course.message) is not None
+        return holder is None or not holder.course.has_content and holder.places_in(link.course.message) is not None
 
     def alike(self, link):
         """Returns the message of an attempt, and those that it may be for as well by the lines so far, before its text
