@@ -2,7 +2,7 @@
 and what its outcome is."""
 from box_answer import require
 from box_clients import Stream
-from box_course import CONTENT, DATA, GREETING, LATER, Course
+from box_course import DATA, GREETING, LATER, Course
 from relay_program import Difference
 
 # How long the relay waits for a next hop, in milliseconds (RFC 5321, 4.5.3.2, and relayd(8)).
