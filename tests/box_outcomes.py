@@ -112,9 +112,23 @@ class Outcomes:
         is_lost = link.is_at_end() or link.number in self.closed and not self.judge.has_failed
         if link.is_unseen() and not is_lost:
             kinds = {"failed"} if link.may_be_unable() else set()
-        return next((one for one in rest if all(EVENT_KINDS.get(event) in kinds for event, _ in one.lines)
-                     and (not message or one.number not in self.custody.numbered)
-                     and not (one.is_lost() and link.has_ended())), None)
+        found = [one for one in rest if all(EVENT_KINDS.get(event) in kinds for event, _ in one.lines)
+                 and (not message or one.number not in self.custody.numbered)
+                 and not (one.is_lost() and link.has_ended())]
+        # Of several the first that can't be of an attempt of the other kind, which may be another link's otherwise.
+        has_begun = link.began is not None
+        return min(found, key=lambda one: (not self.may_have(one, has_begun), self.may_have(one, not has_begun)),
+                   default=None)
+
+    def may_have(self, told, has_begun):
+        """Returns whether an attempt may have these recipients: one that has begun is for a few of those that are due,
+        and one that hasn't for all."""
+        message = self.custody.numbered.get(told.number)
+        if message is None or self.judge.went_back:
+            return True
+        there = [one for one in message.places if one.hop and one.hop[0] == told.hop.encode() and one.has_left is None]
+        surely, count = sum(one.due_surely <= self.judge.wall for one in there), len(told.lines)
+        return count <= self.judge.setup.keys["recipients_per_attempt"] if has_begun else count >= surely
 
     def known(self, told):
         """Returns the message of a number. One that is in doubt is known by the recipient that the log names."""
