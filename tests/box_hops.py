@@ -214,20 +214,20 @@ class Link(Stream):
                            + (f"tell of {message.told}" if message.is_report() else f"be {message.text!r}"))
         if message not in fits:
             self.judge.outcomes.exchange(self, fits[0])
-        if course.message.is_report():
-            course.message.text = text
-        else:
-            self.custody.name(course.message, number_in(text))
+        self.custody.name(course.message, number_in(course.message, text))
+        course.message.text = text
         self.settle_queued()
 
     def is_text(self, message, text):
-        """Returns whether a text is a message's. A client's message without a number may have any."""
+        """Returns whether a text is a message's. One without a number may have any that no other has."""
+        number = number_in(message, text)
         if message.text is not None:
             return message.text == text
+        if number is None or self.custody.numbered.get(number, message) is not message:
+            return False
         if message.is_report():
-            return tells(message, text)
-        number = number_in(text)
-        return number is not None and message.text_as(number, message.at) == text
+            return message.number in (None, number) and tells(message, text)
+        return message.text_as(number, message.at) == text
 
     # How long it may wait.
 
@@ -298,9 +298,13 @@ class Paces:
         require(now >= until, f"it connects to {address}, which is left alone for {until - now} ms more")
 
 
-def number_in(text):
-    """Returns the number in the time stamp line of a client's message, or None."""
-    number = text.partition(b" id ")[2].partition(b";")[0]
+def number_in(message, text):
+    """Returns the number in the text of a message, or None: that in its Message-ID, after the time in a rich report
+    (relay_report/specs), or that in the time stamp line of a client's."""
+    if message.is_report():
+        number = text.partition(b"\r\nMessage-ID: <")[2].partition(b"@")[0].rpartition(b".")[2]
+    else:
+        number = text.partition(b" id ")[2].partition(b";")[0]
     return int(number) if number.isdigit() else None
 
 
