@@ -153,8 +153,8 @@ class Talk(Stream):
     # What the log has of it.
 
     def tell(self, fields, now):
-        """Compares a line of the log with the next refusal that it hasn't told of, or with as many as it counts, since a
-        client has ten lines a minute. A minute begins when the client comes, and later with a refusal."""
+        """Compares a line of the log with the next refusal that it hasn't told of, or with as many as it counts, since
+        a client has ten lines a minute. A minute begins when the client comes, and later with a refusal."""
         if "count" in fields:
             self.require(self.lines == MOST_LINES, f"the log counts refusals after {self.lines} lines in a minute")
             for _ in range(int(fields["count"])):

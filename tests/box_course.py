@@ -73,8 +73,8 @@ def verdict_of_rcpt(code, last):
 
 class Course:
     """The course of an attempt at a next hop. `finder` has `mail(line)`, which refuses a line of MAIL that no message
-    has; `recipient(course)`, which finds the place of the last line of RCPT; and `asked_all(course)`, which is told that
-    no recipient follows. It sets `message`, whose `text` is known or None, and `places`."""
+    has; `recipient(course)`, which finds the place of the last line of RCPT; and `asked_all(course)`, which is told
+    that no recipient follows. It sets `message`, whose `text` is known or None, and `places`."""
 
     def __init__(self, host, finder):
         self.host, self.finder = host, finder
