@@ -10,6 +10,7 @@ import email.policy
 import itertools
 import os
 import pathlib
+import re
 import smtplib
 import socket
 import subprocess
@@ -20,7 +21,7 @@ import time
 sys.dont_write_bytecode = True
 
 from mail_servers import Exim, HaProxy, OpenSmtpd, Postfix, can_make_rooms
-from relay_program import Difference, Relay, free_port, same
+from relay_program import Difference, Relay, free_port, same, until
 from smtp_sink import Sink
 
 # How long a message may take through another server, in seconds.
@@ -83,10 +84,13 @@ class Field:
         same("breaches at the sink", self.sink.breaches, [])
 
     @contextlib.contextmanager
-    def serving(self):
+    def serving(self, logs=False):
         """Runs the relay for as many connections as a client makes, until everything is relayed. Stopping it between
-        the sink's reply and its own record of it would send a message twice."""
-        if self.runs:
+        the sink's reply and its own record of it would send a message twice. If `run` is to log, it does so in the
+        relay's file."""
+        if logs:
+            process = self.relay.begin()
+        elif self.runs:
             process = self.relay.begin("--quiet", stderr=subprocess.PIPE)
         else:
             process = self.relay.start("--rounds", "1000")
@@ -98,7 +102,7 @@ class Field:
         finally:
             process.terminate()
             out, errors = process.communicate(timeout=PATIENCE)
-        same("relayd says", errors, b"")
+        same("relayd says", errors or b"", b"")
         same("list", self.relay.held(), [])
 
     @contextlib.contextmanager
@@ -122,6 +126,17 @@ class Field:
         damage (docs/relayd.8)."""
         ended = self.relay.ended(PATIENCE, "list")
         return ended.returncode == 0 and not ended.stdout
+
+
+def told_to_sender(message, sender, recipient):
+    """Checks that a message is the report to a sender of a recipient that a next hop has refused by 550."""
+    same("from and to", (message.mail.split(b" ")[0], recipients_alone(message)), (b"<>", [b"<%b>" % sender]))
+    report = list(email.message_from_bytes(message.content, policy=email.policy.default).iter_parts())
+    told = dict(report[1].get_payload()[1].items())
+    same("the recipient", told["Final-Recipient"], f"rfc822; {recipient}")
+    same("the action", told["Action"], "failed")
+    if not told["Diagnostic-Code"].startswith("smtp; 550 "):
+        raise Difference(f"the report says: {told}")
 
 
 def hand_in(port, recipients, content, mail=(), rcpt=()):
@@ -159,21 +174,65 @@ def through_a_hop(field, server):
         same(f"{what}: list", field.relay.held(), [])
 
 
-def a_stranger(field, server):
-    """A client that isn't trusted may send to a domain with a line of its own, but not by a routed address, nor by the
-    route of all other domains. Neither key is set in the configuration of later rows."""
+@contextlib.contextmanager
+def trusting_nobody(field, server):
+    """Within the block the relay trusts no client of this machine, and mail for domains without a line of their own goes
+    to the sink. Neither key is set in the configuration of later rows."""
     rules = {"trusted_clients": '["192.0.2.0/24"]', "routed_paths": '"refuse"'}
-    wanted = {"b@elsewhere.example": 550, "b%elsewhere.example@in.example": 553, "elsewhere.example!b@in.example": 553,
-              '"b@elsewhere.example"@in.example': 553}
     field.relay.limits.update(rules)
     field.relay.route({"in.example": ("next.example", server.port), "*": ("sink.example", field.sink.port)})
-    with field.serving_one("next.example ended"):
-        with smtplib.SMTP("127.0.0.1", field.relay.port, local_hostname="client.example", timeout=PATIENCE) as client:
-            refused = client.sendmail("a@out.example", ["b@in.example", *wanted], SMALL)
-    same("refused", {path: code for path, (code, _text) in refused.items()}, wanted)
-    all_taken(field.sink, ["b@in.example"], SMALL)
+    yield
     for key in rules:
         del field.relay.limits[key]
+
+
+def refused_to_a_stranger(field, recipients):
+    """Returns the codes by which a client that isn't trusted is refused recipients. The next hop answers for the others
+    in one attempt."""
+    with field.serving_one("next.example ended"):
+        with smtplib.SMTP("127.0.0.1", field.relay.port, local_hostname="client.example", timeout=PATIENCE) as client:
+            refused = client.sendmail("a@stranger.example", recipients, SMALL)
+    return {path: code for path, (code, _text) in refused.items()}
+
+
+def a_stranger(field, server):
+    """A client that isn't trusted may send to a domain with a line of its own, but not by a routed address, nor by the
+    route of all other domains."""
+    wanted = {"b@elsewhere.example": 550, "b%elsewhere.example@in.example": 553, "elsewhere.example!b@in.example": 553,
+              '"b@elsewhere.example"@in.example': 553}
+    with trusting_nobody(field, server):
+        same("refused", refused_to_a_stranger(field, ["b@in.example", *wanted]), wanted)
+    all_taken(field.sink, ["b@in.example"], SMALL)
+
+
+def a_report_to_a_stranger(field, server):
+    """A report leaves by the route of all other domains, by which its reader may send nothing."""
+    with trusting_nobody(field, server):
+        same("refused", refused_to_a_stranger(field, ["refused@in.example", "b@stranger.example"]),
+             {"b@stranger.example": 550})
+        field.hand_on("sink.example ended")
+    field.sink.wait_for(1, PATIENCE)
+    [report] = field.sink.take_all()
+    told_to_sender(report, b"a@stranger.example", "refused@in.example")
+    same("list", field.relay.held(), [])
+
+
+def in_the_log_of_a_hop(field, server):
+    """A message is found in the relay's log by its number there, and then in Postfix's by the one in its reply."""
+    with field.serving(logs=True):
+        hand_in(field.relay.port, ["b@in.example"], SMALL)
+    all_taken(field.sink, ["b@in.example"], SMALL)
+    log = field.relay.log.read_text()
+    accepted = re.search(r" relayd: accepted message=(\d+) client=127\.0\.0\.1:\d+ .* to=<b@in\.example>\n", log)
+    if not accepted:
+        raise Difference(f"no line of the message that was accepted: {log}")
+    sent = re.compile(rf' relayd: sent message={accepted[1]} hop=next\.example addr=127\.0\.0\.1:{server.port} .*'
+                      r' to=<b@in\.example> status=sent reply="250 2\.0\.0 Ok: queued as (\w+)"\n')
+    told = sent.search(log, accepted.end())
+    if not told:
+        raise Difference(f"no line of message {accepted[1]} with Postfix's reply: {log}")
+    taken = re.compile(rf"\]: {told[1]}: to=<b@in\.example>, .* status=sent ")
+    until(f"{told[1]} in Postfix's log", lambda: taken.search(server.said()), PATIENCE)
 
 
 def a_recipient_refused_by_a_hop(field, server):
@@ -184,12 +243,7 @@ def a_recipient_refused_by_a_hop(field, server):
     messages = sorted(field.sink.take_all(), key=lambda message: message.recipients)
     same("recipients", [recipients_alone(message) for message in messages], [[b"<a@out.example>"], [b"<b@in.example>"]])
     same("the body", body_of(messages[1].content), body_of(SMALL))
-    report = list(email.message_from_bytes(messages[0].content, policy=email.policy.default).iter_parts())
-    told = dict(report[1].get_payload()[1].items())
-    same("the recipient", told["Final-Recipient"], "rfc822; refused@in.example")
-    same("the action", told["Action"], "failed")
-    if not told["Diagnostic-Code"].startswith("smtp; 550 "):
-        raise Difference(f"the report says: {told}")
+    told_to_sender(messages[0], b"a@out.example", "refused@in.example")
     same("list", field.relay.held(), [])
 
 
@@ -270,17 +324,20 @@ def python(field, packages):
             all_taken(field.sink, recipients, content)
 
 
-# Rows of which `push` and `serve` have nothing: an attempt of theirs is for all recipients of a message.
-OF_RUN = [many_recipients_refused_by_a_hop]
+# Rows of which `push` and `serve` have nothing: an attempt of theirs is for all recipients of a message, and the log is
+# that of `run`.
+OF_RUN = [many_recipients_refused_by_a_hop, in_the_log_of_a_hop]
 SERVERS = {
     "postfix": (Postfix, [
-        through_a_client, a_stranger, through_a_hop, a_recipient_refused_by_a_hop, parameters_through_a_hop,
-        many_recipients_refused_by_a_hop]),
+        through_a_client, a_stranger, a_report_to_a_stranger, through_a_hop, in_the_log_of_a_hop,
+        a_recipient_refused_by_a_hop, parameters_through_a_hop, many_recipients_refused_by_a_hop]),
     "exim4-daemon-light": (Exim, [
-        through_a_client, chunks_of_exim, a_stranger, through_a_hop, a_recipient_refused_by_a_hop,
-        parameters_through_a_hop, a_chunk_through_exim, many_recipients_refused_by_a_hop]),
+        through_a_client, chunks_of_exim, a_stranger, a_report_to_a_stranger, through_a_hop,
+        a_recipient_refused_by_a_hop, parameters_through_a_hop, a_chunk_through_exim,
+        many_recipients_refused_by_a_hop]),
     "opensmtpd": (OpenSmtpd, [
-        through_a_client, a_stranger, through_a_hop, a_recipient_refused_by_a_hop, many_recipients_refused_by_a_hop]),
+        through_a_client, a_stranger, a_report_to_a_stranger, through_a_hop, a_recipient_refused_by_a_hop,
+        many_recipients_refused_by_a_hop]),
 }
 
 
@@ -319,18 +376,27 @@ def run_balanced(program, packages, _balancer, folder, runs):
 
 
 def run_proxied(program, packages, header, folder, runs):
-    """A relay behind a balancer that names each connection's client in this header, and that checks with a header of
-    its own whether the relay answers."""
+    """A relay behind a balancer that names each connection's client in this header, and that checks whether the relay
+    answers, with a header that says that it speaks for itself (LOCAL, in version 1 UNKNOWN). These checks are sessions
+    of the balancer, which has the only client's address that is 127.0.0.1."""
+    checked = re.compile(r" relayd: client-end client=127\.0\.0\.1:\d+ messages=0 rejected=0 .* reason=quit\n")
     with contextlib.ExitStack() as stack:
         field = stack.enter_context(contextlib.closing(Field(program, packages, folder, runs, balancers='["127.0.0.1"]')))
-        stack.enter_context(field.serving())
-        balancer = stack.enter_context(contextlib.closing(HaProxy(packages, field.relay.port, field.relay.port, header)))
+        stack.enter_context(field.serving(logs=True))
+        balancer = stack.enter_context(contextlib.closing(
+            HaProxy(packages, field.relay.port, field.relay.port, header, interval="200ms")))
         for number in range(7, 11):
             client = f"127.0.0.{number}"
             with smtplib.SMTP("127.0.0.1", balancer.port, "client.example", PATIENCE, (client, 0)) as link:
                 same("refused", link.sendmail("a@out.example", [f"b{number}@out.example"], SMALL), {})
             [message] = all_taken(field.sink, [f"b{number}@out.example"], SMALL)
             same("the client in the trace header", f"[{client}]".encode() in message.content.split(b"\r\n")[0], True)
+        until("ten checks", lambda: len(checked.findall(field.relay.log.read_text())) >= 10, PATIENCE)
+        said, log = balancer.said(), field.relay.log.read_text()
+        for server in ("one", "two"):
+            same(f"a check of {server} succeeded", f"Health check for server relays/{server} succeeded" in said, True)
+        same("a relay is DOWN for HAProxy", "DOWN" in said, False)
+        same("a connection of the balancer without a client", "balancer=" in log, False)
     return f"{HaProxy.name}: {header}"
 
 

@@ -231,13 +231,13 @@ exec smtpd -d
 
 
 class HaProxy(Server):
-    """A balancer before two relays: it forwards connections in turn, and knows nothing of mail but the greeting. It may
-    begin each connection with a PROXY protocol header."""
+    """A balancer before two relays: it forwards connections in turn, and checks now and then whether each relay
+    greets it; it says what it finds. It may begin each connection with a PROXY protocol header."""
 
     name, package, users = "HAProxy", "haproxy", ("haproxy",)
 
-    def __init__(self, packages, one, two, header=""):
-        self.header = header
+    def __init__(self, packages, one, two, header="", interval="10s"):
+        self.header, self.interval = header, interval
         super().__init__(packages, one, two)
 
     def files(self):
@@ -252,9 +252,11 @@ backend relays
     mode tcp
     timeout connect 5s
     timeout server 400s
+    timeout check 10s
     option smtpchk EHLO balancer.example
-    server one 127.0.0.1:{self.to_out} check inter 10s {self.header}
-    server two 127.0.0.1:{self.to_in} check inter 10s {self.header}
+    option log-health-checks
+    server one 127.0.0.1:{self.to_out} check inter {self.interval} {self.header}
+    server two 127.0.0.1:{self.to_in} check inter {self.interval} {self.header}
 """,
             "start": """
 exec haproxy -db -f /etc/balancer.cfg
