@@ -212,8 +212,9 @@ def a_report_to_a_stranger(field, server):
              {"b@stranger.example": 550})
         field.hand_on("sink.example ended")
     field.sink.wait_for(1, PATIENCE)
-    [report] = field.sink.take_all()
-    told_to_sender(report, b"a@stranger.example", "refused@in.example")
+    reports = field.sink.take_all()
+    same("messages at the sink", len(reports), 1)
+    told_to_sender(reports[0], b"a@stranger.example", "refused@in.example")
     same("list", field.relay.held(), [])
 
 
