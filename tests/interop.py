@@ -206,7 +206,7 @@ def a_stranger(field, server):
 
 
 def a_report_to_a_stranger(field, server):
-    """A report leaves by the route of all other domains, by which its reader may send nothing."""
+    """A report leaves by the route of all other domains, by which the client itself may not send."""
     with trusting_nobody(field, server):
         same("refused", refused_to_a_stranger(field, ["refused@in.example", "b@stranger.example"]),
              {"b@stranger.example": 550})
