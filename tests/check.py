@@ -5,6 +5,7 @@ difference.
 
     tests/check.py build/relayd
 """
+import fcntl
 import os
 import pathlib
 import subprocess
@@ -26,11 +27,14 @@ OWNER = "relayd init makes both files, and the user that runs relayd has to own 
 MISSING = f"No such file or directory (os error 2); {OWNER}"
 UNREAD = [f"3:1: warning: spool file relay.spool: {MISSING}", f"3:1: warning: spool file relay.spool.2: {MISSING}"]
 NO_ROUTES = "warning: no routes: each recipient is refused; add a line for each domain"
-NO_POSTMASTER = ("warning: no route for the relay's own name: mail to its postmaster is refused (RFC 5321, 4.5.1); "
-                "add a route for host")
-
+STRANGERS = " from clients outside of trusted_clients"
 ROUTED = ("warning: user%b.example@a.example is taken for a.example: a hop that trusts this relay may send it on to "
           'b.example; write routed_paths = "refuse"')
+
+
+def no_postmaster(whose=""):
+    return ('warning: no route for the relay\'s own name, host = "relay.example": mail to its postmaster is refused'
+            f"{whose} (RFC 5321, 4.5.1); add a route for host")
 
 
 def run(program, *words):
@@ -77,7 +81,10 @@ def a_good_configuration_has_no_findings(program):
 def what_is_no_toml_is_told_with_its_place(program):
     refused(program, "host = \n", [
         "1:8: error: not TOML: invalid value, expected a string, number, boolean, date-time, array or inline table"])
-    refused(program, HEAD + 'max_content = 1\nhost = "x"\n', ["5:1: error: not TOML: duplicate key"])
+    refused(program, HEAD + 'max_content = 1\nhost = "x"\n', [
+        '5:1: error: not TOML: duplicate key, host = "x": remove one of its lines'])
+    refused(program, HEAD + 'routes = { "a.example" = {}, \'a.example\' = "\u009b2J" }\n', [
+        "4:30: error: not TOML: duplicate key, 'a.example' = \"?2J\" }: remove one of its lines"])
 
 
 def each_missing_key_is_told(program):
@@ -122,7 +129,7 @@ control_group = "postmasters"
         "7:1: error: sessions_per_client = 65: write a number from 1 to 64, such as sessions_per_client = 32",
         '8:1: error: attempts_per_hop = "many\\n": write a number from 1 to 64, such as attempts_per_hop = 20',
         "9:1: error: recipients_per_attempt = 101: write a number from 1 to 100, such as recipients_per_attempt = 15",
-        "10:1: error: client_timeout = (array): write a number of seconds from 1 to 3600, such as client_timeout = 300",
+        "10:1: error: client_timeout = [1]: write a number of seconds from 1 to 3600, such as client_timeout = 300",
         '11:1: error: status_listen = "0.0.0.0:9925": write this machine\'s own address 127.0.0.1 and a port from 1 to '
         '65535, such as status_listen = "127.0.0.1:9925"',
         '12:1: error: log = "xml": write "text" or "json", such as log = "json"',
@@ -147,14 +154,14 @@ def each_network_is_judged_on_its_own(program):
                f'4:1: error: trusted_clients: "192.0.2.9/24" {no_network}',
                f'4:1: error: trusted_clients: "10.0.0.0/33" {no_network}',
                f'4:1: error: trusted_clients: "10.0.0.0/08" {no_network}',
-               '4:1: error: trusted_clients: (integer) is no network: write a text such as "192.0.2.0/24"'])
+               '4:1: error: trusted_clients: 5 is no network: write a text such as "192.0.2.0/24"'])
     # A key of `run` alone: the rest is a configuration, so what is risky in it is told too.
     check(program, HEAD + 'balancers = ["192.0.2.5", "192.0.2.5/24"]\n' + ROUTES, [
         *UNREAD, f'4:1: error: balancers: "192.0.2.5/24" {no_network}'], 1)
     passed(program, HEAD + 'balancers = ["192.0.2.5", "192.0.2.64/26"]\n' + ROUTES, UNREAD)
     check(program, HEAD + 'clients = ["192.0.2.0/24", "192.0.2.9/24", 5]\n' + ROUTES, [
         *UNREAD, f'4:1: error: clients: "192.0.2.9/24" {no_network}',
-        '4:1: error: clients: (integer) is no network: write a text such as "192.0.2.0/24"'], 1)
+        '4:1: error: clients: 5 is no network: write a text such as "192.0.2.0/24"'], 1)
     check(program, HEAD + 'clients = "192.0.2.0/24"\n' + ROUTES, [
         *UNREAD, '4:1: error: clients = "192.0.2.0/24": write an array of IPv4 networks, such as '
         'clients = ["192.0.2.0/24"]'], 1)
@@ -179,13 +186,49 @@ def unknown_keys_are_errors_though_a_relay_ignores_them(program):
     text = HEAD + 'max_contents = 5\ntls = true\n"spool\\u0007" = 1\n' + ROUTES.replace(
         '"127.0.0.1:2526" }', '"127.0.0.1:2526", tls = true, nam = 1 }', 1)
     passed(program, text, [
-        "1:1: error: unknown key spool\\u{7}; did you mean spool?",
+        "1:1: error: unknown key spool\\u{7} = 1; did you mean spool?",
         *UNREAD,
-        "4:1: error: unknown key max_contents; did you mean max_content?",
-        "5:1: error: unknown key tls: it has no effect; remove it",
-        "8:1: error: route example.org: unknown key nam; did you mean name?",
-        "8:1: error: route example.org: unknown key tls: a route has name and at alone, so it has no effect; remove it",
+        "4:1: error: unknown key max_contents = 5; did you mean max_content?",
+        "5:1: error: unknown key tls = true: it has no effect; remove it",
+        "8:1: error: route example.org: unknown key nam = 1; did you mean name?",
+        "8:1: error: route example.org: unknown key tls = true: a route has name and at alone, so it has no effect; "
+        "remove it",
     ], status=1)
+
+
+def values_are_shown_in_short(program):
+    """On one line, in printable characters, and cut where they are long."""
+    word = "a" * 70
+    for value, shown in (
+            ('"a\\tb\\u001b[2J\u00e9"', '"a\\tb\\u{1b}[2J\\u{e9}"'), ('""', '""'), ("'''\na\n'''", '"a\\n"'),
+            (f'"{2 * word}"', f'"{(2 * word)[:119]}"..'), (f'"{word}"', f'"{word}"'),
+            ("1.5", "1.5"), ("-7", "-7"), ("false", "false"), ("1979-05-27T07:32:00Z", "1979-05-27T07:32:00Z"),
+            ("[]", "[]"), ("{}", "{}"), ("[\n1,\n2,\n]", "[1, 2]"), ("[1, [2]]", "[1, [..]]"), (f'["{word}", 1]', f'["{word[:29]}".., 1]'),
+            ('["a.example", 5, { b = 1, "c\\u001b" = 2 }, true]', '["a.example", 5, { b = .., c\\u{1b} = .. }, true]'),
+            ('["192.0.2.0/24", "198.51.100.0/24", "203.0.113.0/24", "10.0.0.0/8"]',
+             '["192.0.2.0/24", "198.51.100.0/24", "203.0.113.0/24", ..]'),
+            ('{ cert = "x", key = { a = 1 } }', "{ cert = .., key = .. }"),
+            ("{ a234567890 = 1, b234567890 = 1, c234567890 = 1, d234567890 = 1 }",
+             "{ a234567890 = .., b234567890 = .., c234567890 = .., .. }"),
+            (f"{{ {word} = 1 }}", f"{{ {word[:30]}.. = .. }}")):
+        check(program, f"secret = {value}\n" + HEAD + ROUTES, [
+            f"1:1: error: unknown key secret = {shown}: it has no effect; remove it",
+            *(it.replace("3:1:", f"{4 + value.count(chr(10))}:1:") for it in UNREAD)], 1)
+    check(program, HEAD + ROUTES + "[tls]\ncert = 1\n", [
+        *UNREAD, "7:1: error: unknown key tls = { cert = .. }: it has no effect; remove it"], 1)
+    refused(program, "max_content = [[1], 2]\n" + HEAD + ROUTES + "[log]\nlevel = 5\n", [
+        "1:1: error: max_content = [[..], 2]: write a number from 1 to 16777216, such as max_content = 1048576",
+        '8:1: error: log = { level = .. }: write "text" or "json", such as log = "json"'])
+    refused(program, HEAD + """trusted_clients = [["192.0.2.0/24"]]
+[routes]
+"a.example" = 5
+"b.example" = { name = 5, at = ["127.0.0.1:2526"] }
+""", [
+        '4:1: error: trusted_clients: ["192.0.2.0/24"] is no network: write a text such as "192.0.2.0/24"',
+        f"6:1: error: route a.example = 5 is no table: {WRITE_HOP}",
+        "7:1: error: route b.example: name = 5 is no host name: write letters, digits, hyphens and periods",
+        '7:1: error: route b.example: at = ["127.0.0.1:2526"] is no address: write an IPv4 address and a port, such as '
+        '"192.0.2.1:25"'])
 
 
 def each_route_is_judged_on_its_own(program):
@@ -202,22 +245,22 @@ name = "next.example"
 at = "127.0.0.1:0"
 """, [
         '5:1: error: route a..b c is no domain: write one such as "example.org", or "*" for all that have no route',
-        f"6:1: error: route relay.example is no table: {WRITE_HOP}",
+        f'6:1: error: route relay.example = "next.example" is no table: {WRITE_HOP}',
         '7:1: error: route example.org: name = "a b" is no host name: write letters, digits, hyphens and periods',
         '7:1: error: route example.org: at = "127.0.0.1" is no address: write an IPv4 address and a port, such as '
         '"192.0.2.1:25"',
         '8:1: error: route example.net: name is missing: write name = "mx.example.org"',
         '8:1: error: route example.net: at is missing: write at = "192.0.2.1:25"',
-        "9:1: error: route example.edu stands twice: letter case makes no difference in a domain; remove one",
-        "11:3: error: route example.com: its hop's name has another address in another route; give each address a name "
-        "of its own",
+        f"9:1: error: route example.edu = {HOP} stands twice: letter case makes no difference in a domain; remove one",
+        f"11:3: error: route example.com = {HOP.replace('2526', '2527')}: its hop's name has another address in another "
+        "route; give each address a name of its own",
         '12:1: error: route example.int: at = "127.0.0.1:0" is no address: write an IPv4 address and a port, such as '
         '"192.0.2.1:25"'])
 
 
 def what_is_risky_is_a_warning(program):
     passed(program, HEAD + "[routes]\n", [*UNREAD, f"4:1: {NO_ROUTES}"])
-    passed(program, HEAD + f'[routes]\n"example.org" = {HOP}\n', [*UNREAD, f"4:1: {NO_POSTMASTER}"])
+    passed(program, HEAD + f'[routes]\n"example.org" = {HOP}\n', [*UNREAD, f"4:1: {no_postmaster()}"])
     passed(program, HEAD + "max_content = 2000\nspool_limit = 1000\n" + ROUTES, [
         *UNREAD, "5:1: warning: spool_limit = 1000 is below max_content = 2000: a message of that size never fits; "
         "raise spool_limit"])
@@ -226,7 +269,8 @@ def what_is_risky_is_a_warning(program):
         *UNREAD, "5:1: warning: route * takes mail for every domain from everybody who can reach 0.0.0.0:2525: name "
         "your hosts in trusted_clients"])
     far = HEAD.replace("127.0.0.1:2525", "0.0.0.0:2525")
-    passed(program, far + f'trusted_clients = ["192.0.2.0/24"]\n[routes]\n"*" = {HOP}\n', UNREAD)
+    passed(program, far + f'trusted_clients = ["192.0.2.0/24"]\n[routes]\n"*" = {HOP}\n', [
+        *UNREAD, f"5:1: {no_postmaster(STRANGERS)}"])
     passed(program, far + f'clients = ["192.0.2.0/24"]\n[routes]\n"*" = {HOP}\n', UNREAD)
     passed(program, far + f'trusted_clients = ["0.0.0.0/0"]\n[routes]\n"*" = {HOP}\n', [
         *UNREAD, "6:1: warning: route * takes mail for every domain from everybody who can reach 0.0.0.0:2525: name "
@@ -240,6 +284,20 @@ def what_is_risky_is_a_warning(program):
         "it; write each of them"])
 
 
+def a_postmaster_whom_strangers_can_not_reach_is_a_warning(program):
+    """With a route "*" and without one for `host`, if a client may connect that isn't trusted."""
+    own, other = f'"relay.example" = {HOP}\n', f'"EXAMPLE.org" = {HOP}\n'
+    every, some = 'trusted_clients = ["192.0.2.0/24", "0.0.0.0/0"]\n', 'trusted_clients = ["192.0.2.0/24"]\n'
+    for keys, routes, line in (
+            ("", "", 0), ("", own, 0), (every, "", 0), (every, own, 0), (some, own, 0),
+            (some, own.replace("relay.example", "RELAY.example"), 0), (some, "", 5), (some, other, 5),
+            ("trusted_clients = []\n", "", 5), (some + 'clients = ["192.0.2.0/24", "192.0.2.9"]\n', "", 0),
+            (some + 'clients = ["192.0.2.0/23"]\n', "", 6), (some + 'clients = ["192.0.2.9", "198.51.100.9"]\n', "", 6),
+            (some + 'clients = ["0.0.0.0/0"]\n', "", 6), (every + 'clients = ["0.0.0.0/0"]\n', "", 0)):
+        text = HEAD + keys + "[routes]\n" + routes + f'"*" = {HOP}\n'
+        passed(program, text, UNREAD + ([f"{line}:1: {no_postmaster(STRANGERS)}"] if line else []))
+
+
 def a_route_to_the_relay_itself_is_a_warning(program):
     for listen, at in (("127.0.0.1:2525", "127.0.0.1:2525"), ("0.0.0.0:2525", "127.0.0.2:2525")):
         route = f'"a.example" = {{ name = "a", at = "{at}" }}\n'
@@ -251,15 +309,32 @@ def a_route_to_the_relay_itself_is_a_warning(program):
           + '"a.example" = { name = "a", at = "127.0.0.1:2525" }\n', UNREAD)
 
 
-def files_that_can_not_be_read_are_told_with_the_reason(program):
-    pathlib.Path("relay.spool").touch()
-    check(program, HEAD + ROUTES, UNREAD[1:], 0)
-    pathlib.Path("relay.spool").unlink()
+def files_that_can_not_be_opened_are_told_with_the_reason(program):
+    """For reading and for writing, though nothing is written: a file, which is locked here, stays as it was."""
+    spool = pathlib.Path("relay.spool")
+    spool.write_bytes(b"kept")
+    os.utime(spool, ns=(10 ** 18, 10 ** 18))
+    before = spool.stat()
+    with spool.open("rb") as held:
+        fcntl.flock(held, fcntl.LOCK_EX)
+        check(program, HEAD + ROUTES, UNREAD[1:], 0)
+    after = spool.stat()
+    same("the file", (spool.read_bytes(), after.st_mtime_ns, after.st_ctime_ns),
+         (b"kept", before.st_mtime_ns, before.st_ctime_ns))
+    same("a second file", pathlib.Path("relay.spool.2").exists(), False)
+    spool.unlink()
+    # A directory opens for reading alone, for root too.
+    spool.mkdir()
+    check(program, HEAD + ROUTES, [
+        f"3:1: warning: spool file relay.spool: Is a directory (os error 21); {OWNER}", UNREAD[1]], 0)
+    spool.rmdir()
     if os.geteuid() != 0:
-        pathlib.Path("relay.spool").touch(mode=0)
-        check(program, HEAD + ROUTES, [
-           f"3:1: warning: spool file relay.spool: Permission denied (os error 13); {OWNER}", UNREAD[1]], 0)
-        pathlib.Path("relay.spool").unlink()
+        for mode in (0, 0o222, 0o444):
+            spool.touch()
+            spool.chmod(mode)
+            check(program, HEAD + ROUTES, [
+                f"3:1: warning: spool file relay.spool: Permission denied (os error 13); {OWNER}", UNREAD[1]], 0)
+            spool.unlink()
 
 
 def the_next_hop_of_an_address_is_told(program):
@@ -292,9 +367,11 @@ def main(program):
     rows = [
         a_good_configuration_has_no_findings, what_is_no_toml_is_told_with_its_place, each_missing_key_is_told,
         each_bad_value_is_told_with_what_to_write, unknown_keys_are_errors_though_a_relay_ignores_them,
-        each_network_is_judged_on_its_own, clients_that_may_not_connect_are_risky_where_they_are_trusted,
-        each_route_is_judged_on_its_own, what_is_risky_is_a_warning, a_route_to_the_relay_itself_is_a_warning,
-        files_that_can_not_be_read_are_told_with_the_reason, the_next_hop_of_an_address_is_told, faults_have_their_line]
+        values_are_shown_in_short, each_network_is_judged_on_its_own,
+        clients_that_may_not_connect_are_risky_where_they_are_trusted, each_route_is_judged_on_its_own,
+        what_is_risky_is_a_warning, a_postmaster_whom_strangers_can_not_reach_is_a_warning,
+        a_route_to_the_relay_itself_is_a_warning, files_that_can_not_be_opened_are_told_with_the_reason,
+        the_next_hop_of_an_address_is_told, faults_have_their_line]
     for row in rows:
         with tempfile.TemporaryDirectory() as folder:
            os.chdir(folder)

@@ -528,9 +528,9 @@ def its_faults_end_it_before_it_is_ready(field):
 def what_is_risky_is_told_before_it_is_ready(field):
     """With the lines of `check`, where parts that `run` ignores are warnings. Errors follow the fault's line."""
     relay = field.relay(tls="true")
-    findings = ["4:1: warning: unknown key tls: it has no effect; remove it",
-                "5:1: warning: no route for the relay's own name: mail to its postmaster is refused "
-                "(RFC 5321, 4.5.1); add a route for host"]
+    findings = ["4:1: warning: unknown key tls = true: it has no effect; remove it",
+                '5:1: warning: no route for the relay\'s own name, host = "relay.example": mail to its postmaster is '
+                "refused (RFC 5321, 4.5.1); add a route for host"]
     with relay.running():
         same("findings", relay.log.read_text().splitlines(), [f"{relay.file}:{it}" for it in findings])
     bad = field.relay("bad")

@@ -1,2 +1,3 @@
 mod FindingLemmas
 mod RefusalLemmas
+mod ShownLemmas

@@ -9,6 +9,7 @@ use crate::networks::{BALANCERS, CLIENTS, TRUSTED_CLIENTS, check_networks};
 use crate::position::Place;
 use crate::risks::check_risks;
 use crate::routes::check_routes;
+use crate::shown::printable;
 use crate::values::check_values;
 use relay_files::{Fault, configuration_text, write_out};
 use relay_routes::{Config, ConfigFault};
@@ -123,6 +124,16 @@ fn check_syntax(
     let Some(span) = error.span() else {
         return Err(AllocError);
     };
-    let message = format!(in alloc; "not TOML: {}", error.message())?;
+    let message = syntax_message(alloc, error.message(), findings.line_from(span.start))?;
     findings.error(Place::Octet(span.start), message)
+}
+
+/// Returns the message for a text that isn't TOML, given what the reader says and the line from that place on, which
+/// shows a key that stands twice.
+fn syntax_message(alloc: Global, reason: &str, line: &str) -> Result<String, AllocError> {
+    if reason != "duplicate key" {
+        return format!(in alloc; "not TOML: {reason}");
+    }
+    let shown = printable(alloc, line)?;
+    format!(in alloc; "not TOML: {reason}, {shown}: remove one of its lines")
 }

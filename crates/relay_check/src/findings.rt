@@ -82,6 +82,12 @@ impl<'t> Findings<'t> {
         }
     }
 
+    /// Returns the text from this octet up to the end of its line.
+    pub fn line_from(&self, index: usize) -> &'t str {
+        let rest = self.text.get(index..).unwrap_or("");
+        rest.lines().next().unwrap_or("")
+    }
+
     /// Adds an error. Fails if memory runs out.
     pub fn error(&mut self, place: Place<'_>, message: String) -> Result<(), AllocError>
         ensures { OnOk result (HasError self.new.found.items) }

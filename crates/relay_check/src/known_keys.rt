@@ -1,6 +1,7 @@
 //! Unknown keys. A relay ignores them, so that their author relies on something that has no effect.
 use crate::findings::Findings;
 use crate::position::Place;
+use crate::shown::shown;
 use std::alloc::{AllocError, Global};
 use strsim::levenshtein;
 use toml::Table;
@@ -47,15 +48,20 @@ pub(crate) fn check_keys(
     document: &Table,
     findings: &mut Findings<'_>,
 ) -> Result<(), AllocError> {
-    for key in document.keys() {
+    for (key, value) in document.iter() {
         let key = key.as_str();
         if KEYS.contains(&key) {
             continue;
         }
-        let shown = key.escape_default();
+        let written = key.escape_default();
+        let shown = shown(alloc, value)?;
         let message = match nearest(alloc, key, &KEYS)? {
-            Some(meant) => format!(in alloc; "unknown key {shown}; did you mean {meant}?")?,
-            None => format!(in alloc; "unknown key {shown}: it has no effect; remove it")?,
+            Some(meant) => format!(in alloc;
+                "unknown key {written} = {shown}; did you mean {meant}?"
+            )?,
+            None => format!(in alloc;
+                "unknown key {written} = {shown}: it has no effect; remove it"
+            )?,
         };
         findings.ignored(Place::Key(key), message)?;
     }
@@ -69,19 +75,21 @@ pub(crate) fn check_hop_keys(
     hop: &Table,
     findings: &mut Findings<'_>,
 ) -> Result<(), AllocError> {
-    for key in hop.keys() {
+    for (key, value) in hop.iter() {
         let key = key.as_str();
         if HOP_KEYS.contains(&key) {
             continue;
         }
         let route = domain.escape_default();
-        let shown = key.escape_default();
+        let written = key.escape_default();
+        let shown = shown(alloc, value)?;
         let message = match nearest(alloc, key, &HOP_KEYS)? {
             Some(meant) => format!(in alloc;
-                "route {route}: unknown key {shown}; did you mean {meant}?"
+                "route {route}: unknown key {written} = {shown}; did you mean {meant}?"
             )?,
             None => format!(in alloc;
-                "route {route}: unknown key {shown}: a route has name and at alone, so it has no effect; remove it"
+                "route {route}: unknown key {written} = {shown}: a route has name and at alone, so it has no effect; \
+                remove it"
             )?,
         };
         findings.ignored(Place::Route(domain), message)?;

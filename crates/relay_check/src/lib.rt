@@ -11,6 +11,7 @@ mod position;
 mod risks;
 mod route;
 mod routes;
+mod shown;
 mod values;
 
 pub use checking::{check, warn};

@@ -1,6 +1,7 @@
 //! Checks of the networks of trusted clients, of balancers and of the clients that may connect, each on its own.
 use crate::findings::Findings;
 use crate::position::Place;
+use crate::shown::shown;
 use relay_routes::Network;
 use std::alloc::{AllocError, Global};
 use toml::{Table, Value};
@@ -49,10 +50,12 @@ fn check_each(
                 }
                 no_network(alloc, key, text.as_str())?
             }
-            other => format!(in alloc;
-                "{key}: ({}) is no network: write a text such as \"192.0.2.0/24\"",
-                other.type_str()
-            )?,
+            other => {
+                let shown = shown(alloc, other)?;
+                format!(in alloc;
+                    "{key}: {shown} is no network: write a text such as \"192.0.2.0/24\""
+                )?
+            }
         };
         findings.error(Place::Key(key), message)?;
     }
@@ -75,6 +78,29 @@ pub(crate) fn is_apart(text: &str, networks: &[Value]) -> bool {
     !networks.iter().any(|value| match value {
         Value::String(text) => match Network::read(text.as_bytes()) {
             Some(other) => share_clients(&network, &other),
+            None => false,
+        },
+        _ => false,
+    })
+}
+
+/// Returns whether each of these networks lies in one of the others.
+pub(crate) fn are_within(networks: &[Value], others: &[Value]) -> bool {
+    networks.iter().all(|value| match value {
+        Value::String(text) => match Network::read(text.as_bytes()) {
+            Some(network) => is_within(&network, others),
+            None => false,
+        },
+        _ => false,
+    })
+}
+
+/// Returns whether a network lies in one of the others.
+fn is_within(network: &Network, others: &[Value]) -> bool {
+    others.iter().any(|value| match value {
+        Value::String(text) => match Network::read(text.as_bytes()) {
+            Some(other) => other.prefix_length <= network.prefix_length
+                && other.contains(network.first.octets()),
             None => false,
         },
         _ => false,

@@ -1,17 +1,18 @@
 //! Risks of a configuration with which a relay can run.
 use crate::document::{routes_of, text_at};
 use crate::findings::Findings;
-use crate::networks::{CLIENTS, TRUSTED_CLIENTS, are_everybody, is_apart, networks_of};
+use crate::networks::{CLIENTS, TRUSTED_CLIENTS, are_everybody, are_within, is_apart, networks_of};
 use crate::position::Place;
 use relay_disk::FileDisk;
 use relay_routes::{Config, RoutedPaths};
 use std::alloc::{AllocError, Global};
-use std::fs::File;
+use std::fs::{File, OpenOptions};
+use std::io;
 use std::net::SocketAddrV4;
 use std::rt::Files;
 use toml::{Table, Value};
 
-/// Finds what a postmaster may not have meant, and files of the spool that can't be read.
+/// Finds what a postmaster may not have meant, and files of the spool that can't be opened.
 pub(crate) fn check_risks<F: Files<File = File>>(
     alloc: Global,
     files: &F,
@@ -94,16 +95,52 @@ fn check_reach(
         return findings.warning(Place::Key("routes"), message);
     }
     if routes.contains_key("*") {
-        return check_openness(alloc, config, document, findings);
+        check_openness(alloc, config, document, findings)?;
     }
-    let host = config.host.as_slice();
-    if routes.keys().any(|domain| domain.as_str().as_bytes().eq_ignore_ascii_case(host)) {
+    check_postmaster(alloc, document, routes, findings)
+}
+
+/// Warns if the relay refuses mail to its own postmaster, from every client or from those that it doesn't trust.
+fn check_postmaster(
+    alloc: Global,
+    document: &Table,
+    routes: &Table,
+    findings: &mut Findings<'_>,
+) -> Result<(), AllocError> {
+    let Some(host) = text_at(document, "host") else {
+        return Ok(());
+    };
+    if routes
+        .keys()
+        .any(|domain| domain.as_str().eq_ignore_ascii_case(host))
+    {
         return Ok(());
     }
+    let refused = if !routes.contains_key("*") {
+        "is refused"
+    } else if serves_strangers(document) {
+        "is refused from clients outside of trusted_clients"
+    } else {
+        return Ok(());
+    };
     let message = format!(in alloc;
-        "no route for the relay's own name: mail to its postmaster is refused (RFC 5321, 4.5.1); add a route for host"
+        "no route for the relay's own name, host = \"{}\": mail to its postmaster {refused} (RFC 5321, 4.5.1); \
+        add a route for host",
+        host.escape_default()
     )?;
     findings.warning(Place::Key("routes"), message)
+}
+
+/// Returns whether a client may connect that isn't trusted.
+fn serves_strangers(document: &Table) -> bool {
+    match (
+        networks_of(document, TRUSTED_CLIENTS),
+        networks_of(document, CLIENTS),
+    ) {
+        (Some(trusted), Some(clients)) => !are_within(clients, trusted),
+        (Some(trusted), None) => !are_everybody(trusted),
+        (None, _) => false,
+    }
 }
 
 /// Warns of an open relay.
@@ -208,14 +245,14 @@ fn leads_here(at: &str, listen: SocketAddrV4) -> bool {
         && (at.ip() == listen.ip() || (listen.ip().is_unspecified() && at.ip().is_loopback()))
 }
 
-/// Warns of a file of the spool that doesn't exist, or that this user can't read.
+/// Warns of a file of the spool that doesn't exist, or that this user can't read and write.
 fn check_file<F: Files<File = File>>(
     alloc: Global,
     files: &F,
     path: &str,
     findings: &mut Findings<'_>,
 ) -> Result<(), AllocError> {
-    let Err(error) = FileDisk::open_to_read(files, path) else {
+    let Err(error) = open(files, path) else {
         return Ok(());
     };
     let message = format!(in alloc;
@@ -223,4 +260,12 @@ fn check_file<F: Files<File = File>>(
         path.escape_default()
     )?;
     findings.warning(Place::Key("spool"), message)
+}
+
+/// Opens a file for reading and for writing, as `run` does, and closes it. Makes no file, changes nothing in it, and
+/// takes no lock.
+fn open<F: Files<File = File>>(files: &F, path: &str) -> io::Result<()> {
+    FileDisk::open_to_read(files, path)?;
+    OpenOptions::new().read(true).write(true).open(files, path)?;
+    Ok(())
 }

@@ -3,6 +3,7 @@ use crate::document::text_at;
 use crate::findings::Findings;
 use crate::known_keys::check_hop_keys;
 use crate::position::Place;
+use crate::shown::shown;
 use relay_envelope::is_domain;
 use relay_routes::{Config, ConfigFault, Hop, HostName, Key, RouteFault, Table as RouteTable};
 use std::alloc::{AllocError, Global};
@@ -23,7 +24,7 @@ pub(crate) fn check_routes(
         let domain = domain.as_str();
         check_domain(alloc, domain, findings)?;
         if let Some(hop) = check_hop(alloc, domain, value, findings)? {
-            check_beside(alloc, &mut table, domain, hop, findings)?;
+            check_beside(alloc, &mut table, domain, value, hop, findings)?;
         }
     }
     Ok(())
@@ -59,9 +60,10 @@ fn check_hop(
     findings: &mut Findings<'_>,
 ) -> Result<Option<Hop>, AllocError> {
     let Some(members) = value.as_table() else {
+        let route = domain.escape_default();
+        let shown = shown(alloc, value)?;
         let message = format!(in alloc;
-            "route {} is no table: write {{ name = \"mx.example.org\", at = \"192.0.2.1:25\" }}",
-            domain.escape_default()
+            "route {route} = {shown} is no table: write {{ name = \"mx.example.org\", at = \"192.0.2.1:25\" }}"
         )?;
         findings.error(Place::Route(domain), message)?;
         return Ok(None);
@@ -83,20 +85,30 @@ fn check_name(
     findings: &mut Findings<'_>,
 ) -> Result<Option<HostName>, AllocError> {
     let route = domain.escape_default();
-    let message = match text_at(members, "name") {
+    let message = match members.get("name") {
         None => format!(in alloc;
             "route {route}: name is missing: write name = \"mx.example.org\""
         )?,
-        Some(text) => match HostName::read(alloc, text.as_bytes())? {
+        Some(value) => match name_of(alloc, value)? {
             Some(name) => return Ok(Some(name)),
-            None => format!(in alloc;
-                "route {route}: name = \"{}\" is no host name: write letters, digits, hyphens and periods",
-                text.escape_default()
-            )?,
+            None => {
+                let shown = shown(alloc, value)?;
+                format!(in alloc;
+                    "route {route}: name = {shown} is no host name: write letters, digits, hyphens and periods"
+                )?
+            }
         },
     };
     findings.error(Place::Route(domain), message)?;
     Ok(None)
+}
+
+/// Returns the name in a value, if it is one.
+fn name_of(alloc: Global, value: &Value) -> Result<Option<HostName>, AllocError> {
+    match value {
+        Value::String(text) => HostName::read(alloc, text.as_bytes()),
+        _ => Ok(None),
+    }
 }
 
 /// Returns the address of a route's next hop, or adds what is wrong with it.
@@ -107,22 +119,32 @@ fn check_address(
     findings: &mut Findings<'_>,
 ) -> Result<Option<SocketAddrV4>, AllocError> {
     let route = domain.escape_default();
-    let message = match text_at(members, "at") {
+    let message = match members.get("at") {
         None => format!(in alloc; "route {route}: at is missing: write at = \"192.0.2.1:25\"")?,
-        Some(text) => match address_of(alloc, text)? {
+        Some(value) => match address_of(alloc, value)? {
             Some(at) => return Ok(Some(at)),
-            None => format!(in alloc;
-                "route {route}: at = \"{}\" is no address: write an IPv4 address and a port, such as \"192.0.2.1:25\"",
-                text.escape_default()
-            )?,
+            None => {
+                let shown = shown(alloc, value)?;
+                format!(in alloc;
+                    "route {route}: at = {shown} is no address: write an IPv4 address and a port, such as \
+                    \"192.0.2.1:25\""
+                )?
+            }
         },
     };
     findings.error(Place::Route(domain), message)?;
     Ok(None)
 }
 
-/// Returns the address in a text, read as `listen` would be.
-fn address_of(alloc: Global, text: &str) -> Result<Option<SocketAddrV4>, AllocError> {
+/// Returns the address in a value, read as `listen` would be.
+fn address_of(alloc: Global, value: &Value) -> Result<Option<SocketAddrV4>, AllocError> {
+    match value {
+        Value::String(text) => address_in(alloc, text.as_str()),
+        _ => Ok(None),
+    }
+}
+
+fn address_in(alloc: Global, text: &str) -> Result<Option<SocketAddrV4>, AllocError> {
     let mut probe = Table::new(alloc);
     add(alloc, &mut probe, "host", "localhost")?;
     add(alloc, &mut probe, "listen", text)?;
@@ -148,6 +170,7 @@ fn check_beside(
     alloc: Global,
     table: &mut RouteTable,
     domain: &str,
+    value: &Value,
     hop: Hop,
     findings: &mut Findings<'_>,
 ) -> Result<(), AllocError> {
@@ -156,12 +179,34 @@ fn check_beside(
         // An invalid domain was found before.
         Ok(()) | Err(RouteFault::BadDomain) => return Ok(()),
         Err(RouteFault::NoMemory) => return Err(AllocError),
-        Err(RouteFault::Repeated) => format!(in alloc;
-            "route {route} stands twice: letter case makes no difference in a domain; remove one"
-        )?,
-        Err(RouteFault::SecondPlace) => format!(in alloc;
-            "route {route}: its hop's name has another address in another route; give each address a name of its own"
-        )?,
+        Err(RouteFault::Repeated) => {
+            let written = written_hop(alloc, value)?;
+            format!(in alloc;
+                "route {route} = {written} stands twice: letter case makes no difference in a domain; remove one"
+            )?
+        }
+        Err(RouteFault::SecondPlace) => {
+            let written = written_hop(alloc, value)?;
+            format!(in alloc;
+                "route {route} = {written}: its hop's name has another address in another route; give each address a \
+                name of its own"
+            )?
+        }
     };
     findings.error(Place::Route(domain), message)
+}
+
+/// Returns a next hop whose name and address are valid, as a configuration writes it.
+fn written_hop(alloc: Global, hop: &Value) -> Result<String, AllocError> {
+    let name = member(hop, "name");
+    let at = member(hop, "at");
+    format!(in alloc; "{{ name = \"{name}\", at = \"{at}\" }}")
+}
+
+/// Returns the string at a key of a table, or an empty one.
+fn member<'a>(table: &'a Value, key: &str) -> &'a str {
+    match table.as_table() {
+        Some(members) => text_at(members, key).unwrap_or(""),
+        None => "",
+    }
 }

@@ -4,6 +4,7 @@ use crate::findings::Findings;
 use crate::known_keys::KEY_COUNT;
 use crate::networks::{BALANCERS, CLIENTS, TRUSTED_CLIENTS};
 use crate::position::Place;
+use crate::shown::shown;
 use relay_limits::{AllowedClients, Balancers, Limit, Limits, control_group, control_path};
 use relay_routes::{Config, ConfigFault, Key};
 use std::alloc::{AllocError, Global};
@@ -165,15 +166,6 @@ fn report(
             )?;
             findings.error(Place::Key(key), message)
         }
-    }
-}
-
-/// Returns a value in one line: a string with escapes; of an array or a table only its type.
-fn shown(alloc: Global, value: &Value) -> Result<String, AllocError> {
-    match value {
-        Value::String(text) => format!(in alloc; "\"{}\"", text.as_str().escape_default()),
-        Value::Array(_) | Value::Table(_) => format!(in alloc; "({})", value.type_str()),
-        value => format!(in alloc; "{value}"),
     }
 }
 
