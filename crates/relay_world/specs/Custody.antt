@@ -61,7 +61,20 @@ AcknowledgedIsAccepted {D} honest words =
     → (node number places : ℕ) → (told : Acknowledged world node number places)
     → Contains {X = ℕ × ℕ} (accepts_on told.on world.ledger) (number, places)
 
--- On an unbroken link each of these accepts was acknowledged.
+-- Whether a link is broken or not: where what a node has read and written there begins with a dialogue that ends with the
+-- answer that a message is queued, that message is acknowledged.
+abbrev pub AnsweredIsAcknowledged : Type 0 → Type 0
+AnsweredIsAcknowledged D =
+    (world : World D) (on : ℕ) (link : Link) (end : ServerEnd) → link_at world.links on ≡ Some link
+    → link.server ≡ Some end → (host : Host D) → slice_get world.hosts end.node ≡ Some host
+    → (said : Said) → IsDialogue (setup_for host.config end.peer) said
+    → Begins said.input (take link.up_read link.up) → Begins said.output link.down
+    → (answers : List Answer) (number : ℕ) → said.answers ≡ answers ++ Queued number ∷ []
+    → (offers : List Offered) (offer : Offered) → said.offers ≡ offers ++ offer ∷ []
+    → length answers ≡ length offers
+    → Acknowledged world end.node number (length offer.envelope.recipients)
+
+-- On an unbroken link each accept of the ledger was acknowledged.
 abbrev pub AcceptedIsAcknowledged : {D : Type 0} → Type 0 → DiskWords D → Type 0
 AcceptedIsAcknowledged {D} honest words =
     (world : World D) (lists : List (List Change)) → IsBound honest words world lists

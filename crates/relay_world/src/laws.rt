@@ -1,6 +1,7 @@
 //! What the invariant of two relays guarantees for their mail, and that each event preserves it.
 ghost use Rattle.relay_world.specs.Content.{ContentIsKept};
-ghost use Rattle.relay_world.specs.Custody.{AcceptedIsAcknowledged, AcknowledgedIsAccepted, CustodyIsKept};
+ghost use Rattle.relay_world.specs.Custody.{AcceptedIsAcknowledged, AcknowledgedIsAccepted, AnsweredIsAcknowledged};
+ghost use Rattle.relay_world.specs.Custody.{CustodyIsKept};
 ghost use Rattle.relay_world.specs.HangUp.{HangingUpEnds, HangingUpKeeps};
 ghost use Rattle.relay_world.specs.Stops.{DownIsNotRefused, ReopeningKeeps, StayingDownKeeps, StayingUpKeeps};
 ghost use Rattle.relay_world.specs.Stops.{StoppingGivingUpKeeps, StoppingHearingKeeps, StoppingKeeps};
@@ -22,6 +23,11 @@ pub fn custody_is_kept<D: Disk>()
 /// Each message that a node has acknowledged on a link it has accepted there.
 pub fn acknowledged_is_accepted<D: Disk>()
     ensures { AcknowledgedIsAccepted D.honest D.words }
+{}
+
+/// Each message whose answer a node has written on a link, broken or not, it has acknowledged there.
+pub fn answered_is_acknowledged<D: Disk>()
+    ensures { AnsweredIsAcknowledged D }
 {}
 
 /// Each message that a node has accepted on an unbroken link it has acknowledged there.
