@@ -6,6 +6,8 @@ use Rattle.relay_slots.specs.Slots.{AreFree}
 use Rattle.relay_records.specs.Open.{Opens}
 use Rattle.relay_loop.specs.Relay.{RelayState}
 use Rattle.relay_routes.specs.declared.config.Config.{Config}
+use Rattle.relay_next_hops.specs.Readiness.{hops_of}
+use Rattle.relay_next_hops.specs.declared.next_hops.NextHops.{NextHops}
 use Rattle.relay_run.specs.declared.known.Known.{Known}
 use Rattle.relay_run.specs.declared.reopening.Opening.{Opening}
 use Rattle.relay_run.specs.declared.reopening.Opening.TheVariants.{Done, Failed as Fails}
@@ -68,6 +70,11 @@ module _ {D : Type 0} (honest : Type 0) (words : DiskWords D) where
   abbrev pub HasOpenedIn : Opening D → Type 0
   HasOpenedIn (Done relay) = HasOpened relay
   HasOpenedIn (Fails closed) = Unit {0}
+
+-- the relay and its connections to next hops are the same, or there is no connection to a next hop
+abbrev pub GoesOnOrHasNoHops
+    : {S D : Type 0} → NextHops S → NextHops S → RelayState D → RelayState D → Type 0
+GoesOnOrHasNoHops old new before after = ((new ≡ old) × (after ≡ before)) ⊎ AreFree (hops_of new)
 
 -- the configuration of a spool that was to be opened
 abbrev pub config_in : {D : Type 0} → Opening D → Config

@@ -2,11 +2,13 @@
 //! no session and no attempt is left: the sessions are ended between mail transactions, attempts end by themselves, and
 //! clients that come meanwhile wait to be accepted. After a minute it takes effect in any case.
 ghost use Rattle.std.specs.Prelude.{◌≡◌, ◌⊎◌, ◌↔◌, IfOk, IfSome, IsTrue, None};
+ghost use Rattle.relay_slots.specs.Slots.{AreFree};
 ghost use Rattle.relay_connections.specs.Readiness.{clients_of};
+ghost use Rattle.relay_next_hops.specs.Readiness.{hops_of};
 ghost use Rattle.relay_run.specs.Answers.{IsError};
 ghost use Rattle.relay_run.specs.Reloading.{HoldsAlike, IsIdle, IsReloadable, IsReloading, KeepsPlaces, MayReload};
 ghost use Rattle.relay_run.specs.Reloading.{RetiresFor, ServesReload, TakesEffect};
-ghost use Rattle.relay_run.specs.Reopening.{HasOpened, IsWhole, KeepsConfig};
+ghost use Rattle.relay_run.specs.Reopening.{GoesOnOrHasNoHops, HasOpened, IsWhole, KeepsConfig};
 ghost use Rattle.relay_run.specs.Serving.{GoesOnOrServesNone};
 
 use crate::answers::{Answer, done_with_count, refused};
@@ -172,6 +174,7 @@ impl<S: Stream + Drop, D: Device + Drop, F: Ballast + Drop> Shell<S, D, F> {
             × (shell.steering.drain ≡ self.steering.drain) × (shell.clients.stops ≡ self.clients.stops)) }
         ensures served { IfOk result (λ shell. GoesOnOrServesNone D.Disk.honest D.Disk.words (clients_of self.clients)
             (clients_of shell.clients) self.relay shell.relay) }
+        ensures hops { IfOk result (λ shell. GoesOnOrHasNoHops self.next_hops shell.next_hops self.relay shell.relay) }
     {
         let alloc = journal.alloc;
         let Some(reload) = self.steering.reload.take() else {
@@ -212,6 +215,7 @@ impl<S: Stream + Drop, D: Device + Drop, F: Ballast + Drop> Shell<S, D, F> {
             × (shell.clients.stops ≡ self.clients.stops)) }
         ensures opened { IfOk result (λ shell. (clients_of shell.clients ≡ clients_of self.clients)
             × HasOpened D.Disk.honest D.Disk.words shell.relay) }
+        ensures hops { IfOk result (λ shell. AreFree (hops_of shell.next_hops)) }
     {
         let Settings {
             config,

@@ -1,11 +1,14 @@
 ghost use Rattle.std.specs.Prelude.{◌≡◌, ◌↔◌, List, None, IfOk, IsErr, IsOk, IsTrue, OnOk};
+ghost use Rattle.relay_slots.specs.Slots.{AreFree};
 ghost use Rattle.relay_book.specs.declared.change.Change.{Change};
 ghost use Rattle.relay_connections.specs.Carried.{Setting};
 ghost use Rattle.relay_connections.specs.Readiness.{clients_of};
 ghost use Rattle.relay_connections.specs.Served.{AreServed, AreServedAfter};
 ghost use Rattle.relay_connections.specs.Welcome.{KeepsRules};
+ghost use Rattle.relay_next_hops.specs.Readiness.{hops_of};
 ghost use Rattle.relay_run.specs.Reloading.{IsReloadable, IsReloading, MayReload};
-ghost use Rattle.relay_run.specs.Reopening.{HasFailedToSync, HasOpened, IsWhole, KeepsConfig, config_for};
+ghost use Rattle.relay_run.specs.Reopening.{GoesOnOrHasNoHops, HasFailedToSync, HasOpened, IsWhole, KeepsConfig};
+ghost use Rattle.relay_run.specs.Reopening.{config_for};
 ghost use Rattle.relay_run.specs.Room.{MayStart};
 ghost use Rattle.relay_run.specs.Serving.{AreServedOn, AreServedWithMore, GoesOnOrServesNone, ServesNoneYet};
 ghost use Rattle.relay_run.specs.Steering.{IsDraining, MayBegin, TurnsAway};
@@ -380,6 +383,7 @@ impl<S: Stream + Drop, D: Device + Drop, F: Ballast + Drop> Shell<S, D, F> {
             (clients_of after.clients) self.relay after.relay) }
         ensures none { IsErr end → IfOk result (λ after. ServesNoneYet D.Disk.honest D.Disk.words
             (clients_of after.clients) after.relay) }
+        ensures hops { IfOk result (λ after. GoesOnOrHasNoHops self.next_hops after.next_hops self.relay after.relay) }
     {
         journal.form = self.form;
         let after = self.kept_or_reopened(journal, listener, end, now);
@@ -405,6 +409,7 @@ impl<S: Stream + Drop, D: Device + Drop, F: Ballast + Drop> Shell<S, D, F> {
             (clients_of after.clients) self.relay after.relay) }
         ensures none { IsErr end → IfOk result (λ after. ServesNoneYet D.Disk.honest D.Disk.words
             (clients_of after.clients) after.relay) }
+        ensures hops { IfOk result (λ after. GoesOnOrHasNoHops self.next_hops after.next_hops self.relay after.relay) }
     {
         match end {
             Ok(()) if self.may_reload(now) => self.reloaded(journal, listener, now),
@@ -434,6 +439,7 @@ impl<S: Stream + Drop, D: Device + Drop, F: Ballast + Drop> Shell<S, D, F> {
             shell.relay.node.config) }
         ensures none { IfOk result (λ shell. ServesNoneYet D.Disk.honest D.Disk.words (clients_of shell.clients)
             shell.relay) }
+        ensures hops { IfOk result (λ shell. AreFree (hops_of shell.next_hops)) }
     {
         self.clients.clear();
         self.leaving.clear();
@@ -461,6 +467,7 @@ impl<S: Stream + Drop, D: Device + Drop, F: Ballast + Drop> Shell<S, D, F> {
         ensures config { IfOk result (λ shell. KeepsConfig (config_for why self.relay.node.config)
             shell.relay.node.config) }
         ensures opened { IfOk result (λ shell. HasOpened D.Disk.honest D.Disk.words shell.relay) }
+        ensures hops { IfOk result (λ shell. AreFree (hops_of shell.next_hops)) }
     {
         let Shell {
             relay,

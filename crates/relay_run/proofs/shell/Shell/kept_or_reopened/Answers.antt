@@ -27,3 +27,10 @@ returns-in-Err-Device-clause-config g c = if_ok_then c.reopened-in-Err-Device.re
 
 pub returns-in-Err-Device-clause-reloads : goal.returns-in-Err-Device-clause-reloads
 returns-in-Err-Device-clause-reloads g c = if_ok_then c.reopened-in-Err-Device.result _ _ c.reopened-in-Err-Device.ensures.config (λ after config. λ well due. absurd (fault_is_none c.args.end _ c.in-Err-Device.is well))
+
+-- It has no connection to a next hop.
+pub returns-in-Ok-2-clause-hops : goal.returns-in-Ok-2-clause-hops
+returns-in-Ok-2-clause-hops g c = if_ok_then c.reopened.result _ _ c.reopened.ensures.hops (λ after free. inr free)
+
+pub returns-in-Err-Device-clause-hops : goal.returns-in-Err-Device-clause-hops
+returns-in-Err-Device-clause-hops g c = if_ok_then c.reopened-in-Err-Device.result _ _ c.reopened-in-Err-Device.ensures.hops (λ after free. inr free)
