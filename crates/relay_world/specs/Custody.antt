@@ -61,8 +61,8 @@ AcknowledgedIsAccepted {D} honest words =
     → (node number places : ℕ) → (told : Acknowledged world node number places)
     → Contains {X = ℕ × ℕ} (accepts_on told.on world.ledger) (number, places)
 
--- Whether a link is broken or not: where what a node has read and written there begins with a dialogue that ends with the
--- answer that a message is queued, that message is acknowledged.
+-- Whether a link is broken or not: where what a node has read and written there begins with a dialogue that ends with
+-- the answer that a message is queued, that message is acknowledged.
 abbrev pub AnsweredIsAcknowledged : Type 0 → Type 0
 AnsweredIsAcknowledged D =
     (world : World D) (on : ℕ) (link : Link) (end : ServerEnd) → link_at world.links on ≡ Some link
