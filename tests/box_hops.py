@@ -18,7 +18,7 @@ class Link(Stream):
         super().__init__(number, address, judge.now)
         self.judge, self.custody, self.setup = judge, judge.custody, judge.setup
         self.course = Course(judge.setup.host, self)
-        # Whether it is to be made still, and whether the relay knows that it was.
+        # Whether it isn't open yet, and whether the relay knows that it is.
         self.is_pending, self.is_connected, self.is_settled = is_pending, False, False
         # The wall clock when it was dialled and when the first octet of the greeting was read, and its latest.
         self.dialled, self.began, self.dialled_in = judge.wall, None, judge.counts["turns"]

@@ -40,13 +40,15 @@ impl<D: Disk> Drop for Spool<D> {
 # and the edited text.
 PROVER = """\
 #!/usr/bin/env python3
-import json, pathlib, sys
+import json, os, pathlib, sys
 here = pathlib.Path(__file__).parent
 answers = json.loads((here / "answers").read_text())
 (here / "answers").write_text(json.dumps(answers[1:]))
 with open(here / "calls", "a") as calls:
     calls.write(json.dumps([sys.argv[1:], pathlib.Path("src/a/b.rt").read_text()]) + "\\n")
 print(answers[0][1])
+if answers[0][0] == "killed":
+    os.kill(os.getpid(), 9)
 sys.exit(answers[0][0])
 """
 # An edit's changes, and the functions that it stands in; None where it changes something besides.
@@ -157,6 +159,12 @@ def counts_no_run_that_ended_for_another_reason():
     same("nothing is known", found[0], "BAD")
 
 
+def tries_once_more_where_the_prover_was_killed():
+    refused = [1, "fn c::a::b::first: not proved"]
+    same("once", tried([["killed", ""], refused], FIRST)[0], [])
+    same("twice, and alone", tried([["killed", ""]] * 4, FIRST)[0], "BAD")
+
+
 def takes_a_limit_of_the_prover_for_a_refusal():
     said = "rattle: no verdict: antt ran out of the steps that the check of one declaration may take"
     same("it isn't admitted", tried([[3, said], [3, said]], FIRST)[0], [])
@@ -168,7 +176,7 @@ def main():
                 tries_an_edit_of_a_constant_alone, counts_no_function_that_calls_a_refused_one,
                 counts_no_other_function_of_a_like_name, takes_an_edit_that_another_function_refuses,
                 counts_no_text_that_cannot_be_read, counts_no_run_that_ended_for_another_reason,
-                takes_a_limit_of_the_prover_for_a_refusal):
+                tries_once_more_where_the_prover_was_killed, takes_a_limit_of_the_prover_for_a_refusal):
         row()
         print(f"edits_that_must_fail: {row.__name__}")
 

@@ -12,6 +12,7 @@ import dataclasses
 import pathlib
 import re
 import shutil
+import signal
 import subprocess
 import tempfile
 
@@ -138,9 +139,13 @@ class Trial:
             only = [word for it in sorted(functions) for word in ("--only", it)]
             self.before()
             self.runs += 1
-            ran = subprocess.run([*self.command, *only, "--incremental", self.room / "kept"], cwd=place, text=True,
-                                 errors="replace", stdin=subprocess.DEVNULL, stdout=subprocess.PIPE,
-                                 stderr=subprocess.STDOUT)
+            for _ in range(2):
+                ran = subprocess.run([*self.command, *only, "--incremental", self.room / "kept"], cwd=place, text=True,
+                                     errors="replace", stdin=subprocess.DEVNULL, stdout=subprocess.PIPE,
+                                     stderr=subprocess.STDOUT)
+                if ran.returncode != -signal.SIGKILL:
+                    break
+                # The system has most likely killed it for want of memory, which others take for a while.
             return ran.returncode, ran.stdout
 
     def refused_among(self, edits):

@@ -88,8 +88,7 @@ class Gate:
         return ["nice", "-n", "19", edits.KIT / "bin/rattle", "check", *words]
 
     def try_edits(self, name):
-        """Tries the edits of a crate; prints what came of them, and returns how many there are and how many were
-        refused."""
+        """Tries the edits of a crate and prints the result. Returns how many there are and how many were refused."""
         crate, room = TOP / "crates" / name, self.room / f"edits-{name}"
         try:
             all_edits = edits.edits_of(crate)
