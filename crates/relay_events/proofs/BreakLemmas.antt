@@ -14,7 +14,6 @@ use Rattle.relay_hosts.specs.Links.{whole_link}
 use Rattle.relay_events.specs.Happened.{HasHappened}
 use Rattle.relay_events.specs.Relays.{AreBound}
 use Rattle.relay_hosts.specs.Room.{HasRoom}
-use Rattle.relay_events.specs.Told.{running_of}
 use Rattle.relay_events.proofs.PlaceLemmas.{link_put}
 use Rattle.relay_events.proofs.RunLemmas.{both_happened, one_happened, still_bound}
 use Rattle.relay_events.proofs.SendLemmas.{whole_there}
@@ -60,7 +59,3 @@ module _ {D : Type 0} (honest : Type 0) (words : DiskWords D) where
   -- there is as much room, and as much runs
   pub room_broken : (old new : World D) (number free : ℕ) → HasRoom old free → Breaks old new number → HasRoom new free
   room_broken old new number free room breaks = subst (λ (w : World D). HasRoom w free) (sym breaks.new_is) room
-
-  pub running_broken : (old new : World D) (number : ℕ) → Breaks old new number
-      → running_of new.attempts ≡ running_of old.attempts
-  running_broken old new number breaks = ap (λ (w : World D). running_of w.attempts) breaks.new_is

@@ -24,7 +24,7 @@ use Rattle.relay_hosts.specs.Room.{HasRoom, lines_to_come}
 use Rattle.relay_events.specs.Told.{ends_of, running_of, sessions_of}
 use Rattle.relay_events.proofs.CutShortLemmas.{goes_down, held_more}
 use Rattle.relay_events.proofs.HungLemmas.{hung_lines_less, hung_running_less, let_go_sessions}
-use Rattle.relay_events.proofs.LossLemmas.{attempt_of, has_dropped, over_fewer, over_room, over_running, over_world, running_is}
+use Rattle.relay_events.proofs.LossLemmas.{attempt_of, has_dropped, over_fewer, over_room, over_world, running_is}
 use Rattle.relay_events.proofs.RunLemmas.{one_happened}
 use Rattle.relay_events.proofs.TellLemmas.{get_within}
 
@@ -102,12 +102,6 @@ module _ {D : Type 0} (honest : Type 0) (words : DiskWords D) (old called : Worl
     gone_fewer =
         subst (λ (w : World D). ends_of w < ends_of old) (sym (set_is new Dropped sets))
         (over_fewer honest words old number end.place end.slot its runs.on was now was_is (record its { fate = Dropped }) Dropped
-        old.ledger refl refl)
-
-    pub gone_running : running_of new.attempts < running_of old.attempts
-    gone_running =
-        subst (λ (w : World D). running_of w.attempts < running_of old.attempts) (sym (set_is new Dropped sets))
-        (over_running honest words old number end.place end.slot its runs.on was now was_is (record its { fate = Dropped }) Dropped
         old.ledger refl refl)
 
   -- its node stopped in the call

@@ -23,9 +23,9 @@ use Rattle.relay_events.specs.Relays.{AreBound}
 use Rattle.relay_events.specs.Restart.{IsDownAt}
 use Rattle.relay_hosts.specs.Room.{HasRoom, lines_held, lines_left, lines_to_come}
 use Rattle.relay_events.specs.Step.{CompactsSpool, Refuses, RefusesToCompact, Shows, Steps, fault_of}
-use Rattle.relay_events.specs.Told.{LearnsOfBreaks, running_of}
+use Rattle.relay_events.specs.Told.{LearnsOfBreaks}
 use Rattle.relay_events.proofs.GiveUpLemmas.{called_same}
-use Rattle.relay_events.proofs.HungLemmas.{hung_lines, hung_running}
+use Rattle.relay_events.proofs.HungLemmas.{hung_lines}
 use Rattle.relay_events.proofs.PlaceLemmas.{value_put}
 use Rattle.relay_events.proofs.ReopenLemmas.{held_put}
 use Rattle.relay_events.proofs.RunLemmas.{one_happened, run_happened, still_bound}
@@ -176,9 +176,3 @@ module _ {D : Type 0} (honest : Type 0) (words : DiskWords D) (old called : Worl
         let hosts = ap (λ (w : World D). lines_left 0 w.hosts) all_is in
         let less = hung_lines node old.attempts in
         omega (arith, room, put, none, none_now, attempts, hosts, less)
-
-    pub halted_running : running_of down.attempts ≤ running_of old.attempts
-    halted_running =
-        let attempts = ap (λ (w : World D). running_of w.attempts) all_is in
-        let less = hung_running node old.attempts in
-        omega (arith, attempts, less)

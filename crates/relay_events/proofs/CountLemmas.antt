@@ -62,14 +62,3 @@ sessions_same (x ∷ xs) zero link moved is same =
     omega (arith, here)
 sessions_same (x ∷ xs) (suc place) link moved is same =
     let rest = sessions_same xs place link moved is same in omega (arith, rest)
-
-pub few_running : (attempts : List Attempt) → running_of attempts ≤ length attempts
-few_running [] = omega arith
-few_running (x ∷ xs) =
-    let rest = few_running xs in
-    let one = one_at_most (is_running x.fate) in
-    omega (arith, rest, one)
-  where
-    one_at_most : (b : Bool) → count_of b ≤ 1
-    one_at_most true = omega arith
-    one_at_most false = omega arith

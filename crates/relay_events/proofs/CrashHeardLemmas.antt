@@ -20,10 +20,9 @@ use Rattle.relay_events.specs.Relays.{AreBound}
 use Rattle.relay_events.specs.Restart.{CrashesAt, IsCutShortAt, IsReadyToCrash, Restarts}
 use Rattle.relay_hosts.specs.Room.{HasRoom, HasRoomFor, lines_to_come}
 use Rattle.relay_events.specs.Step.{Carries, CrashesInHearing, Stops}
-use Rattle.relay_events.specs.Told.{running_of}
 use Rattle.relay_events.proofs.CutShortLemmas.{cut_short as was_cut, goes_down, held_more, stopped_same}
 use Rattle.relay_events.proofs.HearLemmas.{its_node, waits_there}
-use Rattle.relay_events.proofs.HungLemmas.{hung_lines, hung_running}
+use Rattle.relay_events.proofs.HungLemmas.{hung_lines}
 use Rattle.relay_events.proofs.RunLemmas.{both_happened, opened_happened, run_happened, still_bound}
 
 module _ {D : Type 0} (honest : Type 0) (words : DiskWords D) (old called : World D) (number node count : ℕ)
@@ -86,12 +85,6 @@ module _ {D : Type 0} (honest : Type 0) (words : DiskWords D) (old called : Worl
         calls.hears.after calls.hears.runs (FromClient number) down crashes in
         omega (arith, room, less, attempts, held)
 
-    pub crash_running : running_of down.attempts ≤ running_of old.attempts
-    crash_running =
-        let less = hung_running node old.attempts in
-        let attempts = ap (λ (w : World D). running_of w.attempts) fell.new_is in
-        omega (arith, less, attempts)
-
     crash_bound : honest → RunsKeepAll honest words → CrashingHappens honest words → AreBound honest words old
         → AreBound honest words down
     crash_bound is_honest keeps happens bound =
@@ -113,9 +106,3 @@ module _ {D : Type 0} (honest : Type 0) (words : DiskWords D) (old called : Worl
     restart_happened happens lists bound =
         both_happened honest words old restarts.down new (crash_happened restarts.down restarts.crashes happens lists bound)
         (opened_happened honest words restarts.down new node restarts.opened)
-
-    pub restart_running : running_of new.attempts ≤ running_of old.attempts
-    restart_running =
-        let less = crash_running restarts.down restarts.crashes in
-        let fewer = restarts.running in
-        omega (arith, less, fewer)

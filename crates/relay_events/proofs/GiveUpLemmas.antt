@@ -43,12 +43,12 @@ use Rattle.relay_events.specs.Relays.{AreBound}
 use Rattle.relay_events.specs.Restart.{CrashesAt, IsCutShortAt, IsReadyToCrash, Restarts}
 use Rattle.relay_hosts.specs.Room.{HasRoom, lines_held, lines_left, lines_to_come}
 use Rattle.relay_events.specs.Step.{GivesUpPlaces, Refuses, RefusesToWithdraw, Shows, Steps, WithdrawsPlace, fault_of}
-use Rattle.relay_events.specs.Told.{LearnsOfBreaks, running_of}
+use Rattle.relay_events.specs.Told.{LearnsOfBreaks}
 use Rattle.relay_hosts.specs.Work.{HasChanges, HoldsChanges, KnowsChanges}
 use Rattle.relay_events.proofs.CutShortLemmas.{cut_short, goes_down, held_more, note_there, stopped_same}
 use Rattle.relay_events.proofs.EventLemmas.{given_up}
 use Rattle.relay_events.proofs.GiveLemmas.{first_is}
-use Rattle.relay_events.proofs.HungLemmas.{hung_lines, hung_running}
+use Rattle.relay_events.proofs.HungLemmas.{hung_lines}
 use Rattle.relay_events.proofs.PlaceLemmas.{set_same, value_put}
 use Rattle.relay_events.proofs.ReopenLemmas.{held_put}
 use Rattle.relay_events.proofs.RunLemmas.{one_happened, opened_happened, run_happened, still_bound_asking, then_happened}
@@ -227,12 +227,6 @@ module _ {D : Type 0} (honest : Type 0) (words : DiskWords D) (reason : Reason) 
           let few = few_halted in
           omega (arith, room, less, attempts, held, lines_are, few)
 
-      crash_running : running_of down.attempts ≤ running_of old.attempts
-      crash_running =
-          let less = hung_running node old.attempts in
-          let attempts = ap (λ (w : World D). running_of w.attempts) fell.new_is in
-          omega (arith, less, attempts)
-
     pub halted_ready : honest → RunsKeepAll honest words → RestingCrashHappens honest words → AreBound honest words old → (free : ℕ)
         → lines_to_come old.attempts + lines_left 0 old.hosts + 100 ≤ free
         → IsReadyToCrash honest words called node (FromGivingUp message) free
@@ -250,12 +244,6 @@ module _ {D : Type 0} (honest : Type 0) (words : DiskWords D) (reason : Reason) 
       halted_happened happens =
           then_happened honest words (asked_by reason node message) old restarts.down new (crash_happened restarts.down restarts.crashes happens)
           (opened_happened honest words restarts.down new node restarts.opened)
-
-      pub halted_running : running_of new.attempts ≤ running_of old.attempts
-      halted_running =
-          let less = crash_running restarts.down restarts.crashes in
-          let fewer = restarts.running in
-          omega (arith, less, fewer)
 
   -- a node that wasn't called, or refused, is as it was
   pub called_same : (was now : Host D) → slice_get old.hosts node ≡ Some was → now ≡ was

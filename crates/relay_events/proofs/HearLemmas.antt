@@ -27,7 +27,6 @@ use Rattle.relay_events.specs.Relays.{AreBound}
 use Rattle.relay_hosts.specs.Room.{HasRoom, HasRoomFor, lines_held, lines_left, lines_to_come}
 use Rattle.relay_events.specs.Step.{Carries, Did, Hears as HearsOctets, HearsUnanswered, Refuses, RefusesToHear, Shows, fault_of}
 use Rattle.relay_hosts.specs.Links.{waits_up}
-use Rattle.relay_events.specs.Told.{running_of}
 use Rattle.relay_events.proofs.EndLemmas.{served_by}
 use Rattle.relay_events.proofs.EventLemmas.{LedgerHeard, heard, session_ended}
 use Rattle.relay_events.proofs.PlaceLemmas.{link_put, set_same, value_put}
@@ -296,9 +295,6 @@ module _ {D : Type 0} (honest : Type 0) (words : DiskWords D) (old called : Worl
         | inr broken ↦ hosts_as (broken_link takes.link) broken.0
       ]
 
-      pub heard_running : running_of new.attempts ≤ running_of old.attempts
-      heard_running = let same = ap running_of heard_attempts in omega (arith, same)
-
       pub heard_room : (free free_now : ℕ) → HasRoomFor old 1 free → free ≤ free_now + 1 → HasRoom new free_now
       heard_room free free_now room less =
           let attempts = ap lines_to_come heard_attempts in
@@ -341,9 +337,6 @@ module _ {D : Type 0} (honest : Type 0) (words : DiskWords D) (old called : Worl
 
     gone_attempts : called.attempts ≡ old.attempts
     gone_attempts = ap (λ (w : World D). w.attempts) calls.new_is
-
-    pub gone_running : running_of called.attempts ≤ running_of old.attempts
-    gone_running = let same = ap running_of gone_attempts in omega (arith, same)
 
     pub gone_room : (free : ℕ) → HasRoomFor old 1 free → lines_to_come called.attempts + lines_left 0 called.hosts ≤ free
     gone_room free room =

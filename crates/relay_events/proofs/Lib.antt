@@ -37,4 +37,5 @@ mod StartLemmas
 mod StepLemmas
 mod StopNowLemmas
 mod TellLemmas
+mod TryingLemmas
 pub mod Theorems

@@ -30,10 +30,10 @@ use Rattle.relay_events.specs.Happened.{HasHappened}
 use Rattle.relay_events.specs.Relays.{AreBound}
 use Rattle.relay_events.specs.Restart.{CrashesAt, IsCutShortAt, IsReadyToCrash, Restarts}
 use Rattle.relay_hosts.specs.Room.{HasRoom}
-use Rattle.relay_events.specs.Told.{CrashesTold, ends_of, running_of}
-use Rattle.relay_events.proofs.ClientEndLemmas.{crash_fewer, crash_room, crash_running, ended_is, its, over, was_is}
+use Rattle.relay_events.specs.Told.{CrashesTold, ends_of}
+use Rattle.relay_events.proofs.ClientEndLemmas.{crash_fewer, crash_room, ended_is, its, over, was_is}
 use Rattle.relay_events.proofs.CutShortLemmas.{cut_short as was_cut, goes_down, note_there, stopped_same}
-use Rattle.relay_events.proofs.LossLemmas.{attempt_of, few_left, few_recorded, has_lost, lines_room, over_fewer, over_room, over_running, same_before}
+use Rattle.relay_events.proofs.LossLemmas.{attempt_of, few_left, few_recorded, has_lost, lines_room, over_fewer, over_room, same_before}
 use Rattle.relay_events.proofs.RunLemmas.{both_happened, one_happened, opened_happened, run_happened, still_bound}
 use Rattle.relay_report.specs.Report.{reporter_of}
 
@@ -91,12 +91,6 @@ module _ {D : Type 0} (honest : Type 0) (words : DiskWords D) (old called : Worl
       ended_fewer =
           subst (λ (w : World D). ends_of w < ends_of old) (sym new_is)
           (over_fewer honest words old number end.place end.slot attempt runs.on calls.was calls.now same
-          (record attempt { fate = Lost change }) (Lost change) (old.ledger ++ lines) refl refl)
-
-      pub ended_running : running_of new.attempts < running_of old.attempts
-      ended_running =
-          subst (λ (w : World D). running_of w.attempts < running_of old.attempts) (sym new_is)
-          (over_running honest words old number end.place end.slot attempt runs.on calls.was calls.now same
           (record attempt { fate = Lost change }) (Lost change) (old.ledger ++ lines) refl refl)
 
   -- its node stopped
@@ -200,12 +194,4 @@ module _ {D : Type 0} (honest : Type 0) (words : DiskWords D) (old called : Worl
           calls.tells.before calls.tells.after calls.tells.runs (FromLoss number end.place end.message) restarts.down
           restarts.crashes in
           let fewer = restarts.fewer in
-          omega (arith, less, fewer)
-
-      pub restart_running : running_of new.attempts < running_of old.attempts
-      restart_running =
-          let less = crash_running honest words old called number end runs calls.was calls.now calls.was_at calls.new_is
-          calls.tells.before calls.tells.after calls.tells.runs (FromLoss number end.place end.message) restarts.down
-          restarts.crashes in
-          let fewer = restarts.running in
           omega (arith, less, fewer)

@@ -36,7 +36,7 @@ use Rattle.relay_events.specs.ClientEnd.{RunsOn}
 use Rattle.relay_hosts.specs.Call.{HasAttempt, HoldsAttempt, Loses, LosesAttempt}
 use Rattle.relay_hosts.specs.Links.{is_running, runs_there, tries_on}
 use Rattle.relay_hosts.specs.Room.{HasRoom, lines_held}
-use Rattle.relay_events.specs.Told.{ends_of, running_of}
+use Rattle.relay_events.specs.Told.{ends_of}
 use Rattle.relay_events.proofs.CountLemmas.{count_of, lines_less, running_less}
 use Rattle.relay_events.proofs.PlaceLemmas.{value_put}
 use Rattle.relay_events.proofs.ReopenLemmas.{held_put}
@@ -277,14 +277,6 @@ module _ {D : Type 0} (honest : Type 0) (words : DiskWords D) (old : World D) (n
   pub over_fewer : (ended : Attempt) (fate : Fate) (ledger : List Line) → ended ≡ record attempt { fate = fate }
       → is_running fate ≡ false → ends_of (over_world ended ledger) < ends_of old
   over_fewer ended fate ledger is over =
-      let less = running_less old.attempts place attempt ended on.attempt_at
-      (ap (λ (a : Attempt). is_running a.fate) is ∙ over) in
-      let one = ap count_of (running_is attempt.fate slot on.runs) in
-      omega (arith, less, one)
-
-  pub over_running : (ended : Attempt) (fate : Fate) (ledger : List Line) → ended ≡ record attempt { fate = fate }
-      → is_running fate ≡ false → running_of (over_world ended ledger).attempts < running_of old.attempts
-  over_running ended fate ledger is over =
       let less = running_less old.attempts place attempt ended on.attempt_at
       (ap (λ (a : Attempt). is_running a.fate) is ∙ over) in
       let one = ap count_of (running_is attempt.fate slot on.runs) in

@@ -1,8 +1,9 @@
 -- Each node goes by the configuration that it had, so that names stay apart.
-use Rattle.std.proofs.Common.{inl, inr, ◌≡◌, ℕ, zero, suc, List, [], ◌∷◌, ◌++◌, Option, None, Some, refl, sym, subst, ap, ◌∙◌}
+use Rattle.std.proofs.Common.{inl, inr, ◌≡◌, ◌<◌, ◌≤◌, ℕ, zero, suc, List, [], ◌∷◌, ◌++◌, length, Option, None, Some, refl, sym, subst, ap, ◌∙◌, arith}
 use Rattle.std.specs.Prelude.{slice_get}
 use Rattle.std.proofs.lemmas.Bool.Decides.{eqb_tells}
-use Rattle.std.proofs.lemmas.Option.{same_Some}
+use Rattle.std.proofs.lemmas.Bool.{cases_lt}
+use Rattle.std.proofs.lemmas.Option.{same_Some, slice_get_within}
 use Rattle.relay_lines.specs.Reply.{Reply}
 use Rattle.relay_disk.specs.Device.{DiskWords}
 use Rattle.relay_node.specs.Node.{NodeState}
@@ -18,6 +19,11 @@ use Rattle.relay_records.specs.Staged.{Row, no_row}
 use Rattle.relay_world.specs.World.{Down, FromClient, FromGivingUp, Host, Origin, Undecided, Up, World}
 use Rattle.relay_events.specs.Relays.{HaveOwnNames}
 
+get_there : {A : Type 0} (xs : List A) (place : ℕ) → place < length xs → (value : A) × (slice_get xs place ≡ Some value)
+get_there [] place within = absurd (omega (arith, within))
+get_there (x ∷ xs) zero within = (x, refl)
+get_there (x ∷ xs) (suc place) within = get_there xs place (omega (arith, within))
+
 module _ {D : Type 0} where
   -- each node goes by the configuration that it had
   abbrev pub SameNames : List (Host D) → List (Host D) → Type 0
@@ -31,6 +37,17 @@ module _ {D : Type 0} where
       let were = names other others there in
       own one other was.0 were.0 was.1 were.1
       (ap (λ (c : Config). c.host) (sym was.2) ∙ same ∙ ap (λ (c : Config). c.host) were.2)
+
+  -- and there are no more than there were
+  pub few_names : (old new : List (Host D)) → SameNames old new → (most : ℕ) → length old ≤ most → length new ≤ most
+  few_names old new names most few = elim (cases_lt most (length new)) [
+    | inl above ↦
+        let there = get_there new most above in
+        let was = names most there.0 there.1 in
+        let within = slice_get_within old most was.0 was.1 in
+        absurd (omega (arith, few, within))
+    | inr within ↦ within
+  ]
 
   pub names_same : (old new : List (Host D)) → new ≡ old → SameNames old new
   names_same old new same node host at = (host, ap (λ l. slice_get l node) (sym same) ∙ at, refl)

@@ -37,12 +37,11 @@ use Rattle.relay_events.specs.Relays.{AreBound}
 use Rattle.relay_events.specs.Restart.{CrashesAt, IsCutShortAt, IsReadyToCrash, Restarts}
 use Rattle.relay_hosts.specs.Room.{HasRoom}
 use Rattle.relay_events.specs.Step.{Carries, CrashesInReading, Stops}
-use Rattle.relay_events.specs.Told.{running_of}
 use Rattle.relay_events.proofs.CarriedLemmas.{attempt_node, carried_to}
-use Rattle.relay_events.proofs.ClientEndLemmas.{crash_room, crash_running, its, still_there, was_is}
+use Rattle.relay_events.proofs.ClientEndLemmas.{crash_room, its, still_there, was_is}
 use Rattle.relay_events.proofs.CutShortLemmas.{cut_short as was_cut, goes_down, note_there, stopped_same}
 use Rattle.relay_events.proofs.LossLemmas.{attempt_of, few_left, lines_room, same_before}
-use Rattle.relay_events.proofs.ReadLemmas.{answered_carries, answered_happened, carried_world, few_replied, read_room, read_running, used_within}
+use Rattle.relay_events.proofs.ReadLemmas.{answered_carries, answered_happened, carried_world, few_replied, read_room, used_within}
 use Rattle.relay_events.proofs.RunLemmas.{both_happened, opened_happened, run_happened, still_bound}
 use Rattle.relay_report.specs.Report.{reporter_of}
 
@@ -161,12 +160,6 @@ module _ {D : Type 0} (honest : Type 0) (words : DiskWords D) (old called : Worl
           ended (old.ledger ++ replied_lines number it replied.change recorded) (capacity - len) (capacity_now - len_now) refl
           (omega (arith, long, more)) room)
 
-      pub done_running : running_of new.attempts ≤ running_of old.attempts
-      done_running =
-          subst (λ (w : World D). running_of w.attempts ≤ running_of old.attempts) (sym new_is)
-          (read_running honest words old number end.place end.slot it runs.on calls.was calls.now same count replied recorded reads
-          ended refl)
-
   -- its node stopped
   module _ (calls : IsCalledToRead honest words old called number end.node end.slot count Stopped) where
     abbrev halted : Attempt
@@ -266,10 +259,3 @@ module _ {D : Type 0} (honest : Type 0) (words : DiskWords D) (old called : Worl
       restart_happened happens lists bound =
           both_happened honest words old restarts.down new (crash_happened restarts.down restarts.crashes happens lists bound)
           (opened_happened honest words restarts.down new end.node restarts.opened)
-
-      pub restart_running : running_of new.attempts < running_of old.attempts
-      restart_running =
-          let less = crash_running honest words old called number end runs calls.was calls.now calls.was_at calls.new_is
-          stops.before stops.after stops.runs (FromReplies number end.place end.message) restarts.down restarts.crashes in
-          let fewer = restarts.running in
-          omega (arith, less, fewer)

@@ -29,11 +29,10 @@ use Rattle.relay_events.specs.ClientEnd.{RunsOn}
 use Rattle.relay_events.specs.Happened.{HasHappened}
 use Rattle.relay_hosts.specs.Room.{HasRoom, lines_held, lines_to_come}
 use Rattle.relay_events.specs.Step.{Carries, Reads as ReadsThere, ReadsUnwritten, Refuses, Shows}
-use Rattle.relay_events.specs.Told.{running_of}
 use Rattle.relay_events.proofs.BreakLemmas.{breaks_there}
 use Rattle.relay_events.proofs.CarriedLemmas.{carried_to}
 use Rattle.relay_events.proofs.EventLemmas.{AttemptRead, replies_read}
-use Rattle.relay_events.proofs.LossLemmas.{attempt_of, few_left, over_room, over_running, put_of, same_before, was_at}
+use Rattle.relay_events.proofs.LossLemmas.{attempt_of, few_left, over_room, put_of, same_before, was_at}
 use Rattle.relay_events.proofs.PlaceLemmas.{link_put, set_same, value_put}
 use Rattle.relay_events.proofs.ReopenLemmas.{held_put}
 use Rattle.relay_events.proofs.RunLemmas.{both_happened, one_happened}
@@ -191,19 +190,6 @@ module _ {D : Type 0} (honest : Type 0) (words : DiskWords D) (old : World D) (n
   read_room ended ledger free free_now is most room =
       let up = up_by reads.after replied.change recorded reads.notes in
       room_by replied.change recorded ended ledger up.0 free free_now is up.1 few_replied most room
-
-  running_by : (change : Option ℕ) (ended : Attempt) → ended ≡ replied_attempt attempt change
-      → running_of (slice_set old.attempts place ended) ≤ running_of old.attempts
-  running_by None ended is =
-      let same = ap running_of (set_same old.attempts place attempt ended on.attempt_at is) in omega (arith, same)
-  running_by (Some change) ended is =
-      let less = over_running honest words old number place slot attempt on was now was_is ended (RepliedBy change) old.ledger is
-      refl in
-      omega (arith, less)
-
-  pub read_running : (ended : Attempt) → ended ≡ replied_attempt attempt replied.change
-      → running_of (slice_set old.attempts place ended) ≤ running_of old.attempts
-  read_running ended is = running_by replied.change ended is
 
 -- what a node writes stands on a whole link, and doesn't on a broken one
 whole_written : (link moved : Link) (replied : Replied) → link.broken ≡ false

@@ -30,7 +30,7 @@ use Rattle.relay_hosts.specs.Host.{host_of, origin_in, undecided_in}
 use Rattle.relay_events.specs.Relays.{AreBound}
 use Rattle.relay_events.specs.Restart.{FindsChange, MayBeFound, OpensAt}
 use Rattle.relay_hosts.specs.Room.{HasRoom, lines_held, lines_left, lines_to_come}
-use Rattle.relay_events.specs.Told.{IsOpened, ends_of, running_of}
+use Rattle.relay_events.specs.Told.{IsOpened, ends_of}
 use Rattle.relay_events.proofs.PlaceLemmas.{some_at, value_put}
 use Rattle.relay_events.proofs.TellLemmas.{get_within}
 
@@ -158,10 +158,6 @@ pub still_room : {D : Type 0} (honest : Type 0) (words : DiskWords D) (old new :
     → OpensAt honest words old new node None → HasRoom old free → HasRoom new free
 still_room honest words old new node free at room =
     subst (λ w. HasRoom w free) (sym at.new_is) (room_without honest words old node at.was at.now at.was_at free at.opens room)
-
-pub same_running : {D : Type 0} (honest : Type 0) (words : DiskWords D) (old new : World D) (node : ℕ) (found : Option Undecided)
-    → OpensAt honest words old new node found → running_of new.attempts ≡ running_of old.attempts
-same_running honest words old new node found at = ap (λ w. running_of w.attempts) at.new_is
 
 pub same_ends : {D : Type 0} (honest : Type 0) (words : DiskWords D) (old new : World D) (node : ℕ) (found : Option Undecided)
     → OpensAt honest words old new node found → ends_of new ≡ ends_of old
@@ -353,10 +349,4 @@ module _ {D : Type 0} (honest : Type 0) (words : DiskWords D) (old middle : Worl
     ends_with =
         let same = same_ends honest words old middle node (Some found) at in
         let fewer = finds.ends_fewer in
-        omega (arith, same, fewer)
-
-    pub running_with : running_of new.attempts ≤ running_of old.attempts
-    running_with =
-        let same = ap (λ (w : World D). running_of w.attempts) at.new_is in
-        let fewer = finds.running_fewer in
         omega (arith, same, fewer)

@@ -39,7 +39,6 @@ accept_found old node number note link moved ledger is moved_is ledger_is =
       };
       lines_fewer = omega arith;
       ends_fewer = omega (arith, same);
-      running_fewer = omega arith;
     }
 
 -- an outcome that was found
@@ -81,5 +80,4 @@ outcome_found old number place used fate lines link moved attempt ended ledger i
       };
       lines_fewer = omega (arith, lines_now);
       ends_fewer = omega (arith, same, running_now);
-      running_fewer = omega (arith, running_now);
     }

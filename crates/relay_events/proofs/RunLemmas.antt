@@ -7,7 +7,7 @@ use Rattle.relay_world.specs.World.{World}
 use Rattle.relay_events.specs.Happened.{HasHappened, HasHappenedAsking}
 use Rattle.relay_events.specs.Relays.{AreBound}
 use Rattle.relay_events.specs.Told.{IsOpened}
-use Rattle.relay_events.proofs.NamesLemmas.{own_names, run_names}
+use Rattle.relay_events.proofs.NamesLemmas.{few_names, own_names, run_names}
 
 module _ {D : Type 0} (honest : Type 0) (words : DiskWords D) where
   -- no event
@@ -87,6 +87,7 @@ module _ {D : Type 0} (honest : Type 0) (words : DiskWords D) where
         linked = later.3;
         sources = later.4;
         named = own_names old.hosts new.hosts (run_names honest words happened.count old new happened.run) bound.named;
+        few = few_names old.hosts new.hosts (run_names honest words happened.count old new happened.run) 16 bound.few;
       }
 
   pub still_bound : honest → RunsKeepAll honest words → (old new : World D) → AreBound honest words old

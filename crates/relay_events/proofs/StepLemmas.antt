@@ -1,6 +1,5 @@
 -- The first events of relays.
 use Rattle.std.proofs.Common.{inr, ◌≡◌, ◌<◌, ℕ, List, [], ◌∷◌, length, Ok, Err, Result, refl, arith}
-use Rattle.std.specs.Global.{Vec}
 use Rattle.relay_disk.specs.Device.{DiskWords}
 use Rattle.relay_world.specs.Once.{RunsKeepAll, Ticks}
 use Rattle.relay_world.specs.World.{World}
@@ -20,12 +19,9 @@ pub seen_alone : (own : Seen) (nodes : List ℕ) → length nodes ≡ 0 → IsSe
 seen_alone own [] none = refl
 seen_alone own (node ∷ nodes) none = absurd (omega (arith, none))
 
-pub seen_stopped : (own : Seen) (stopped : Vec ℕ) → 0 < length stopped.items → IsSeen (Shows own) stopped.items (Ok (Stopped stopped))
-seen_stopped own stopped some = by stopped.items some refl
-  where
-    by : (nodes : List ℕ) → 0 < length nodes → stopped.items ≡ nodes → IsSeen (Shows own) nodes (Ok (Stopped stopped))
-    by [] some is = absurd (omega (arith, some))
-    by (node ∷ nodes) some is = (stopped, refl, is)
+pub seen_stopped : (own : Seen) (stopped : List ℕ) → 0 < length stopped → IsSeen (Shows own) stopped (Ok (Stopped stopped))
+seen_stopped own [] some = absurd (omega (arith, some))
+seen_stopped own (node ∷ nodes) some = refl
 
 module _ {D : Type 0} (honest : Type 0) (words : DiskWords D) where
   -- an event that was done is a step, whatever is answered
@@ -42,12 +38,12 @@ module _ {D : Type 0} (honest : Type 0) (words : DiskWords D) where
   told_already world told = record { turns = 0; stopped = []; tell = (refl, refl); told = told }
 
   pub tick_steps : (old : World D) (now : ℕ) → LearnsOfBreaks old
-      → Steps honest words old (Tick now) (record old { clock = now }) (Ok Set)
+      → Steps honest words old (Tick now) (record old { clock = now }) (Ok (Set now))
   tick_steps old now told = (
     refl,
     (
       record old { clock = now },
-      (Shows Set, (record { new_is = refl }, refl), (told_already (record old { clock = now }) told, refl)),
+      (Shows (Set now), (record { new_is = refl }, refl), (told_already (record old { clock = now }) told, refl)),
     ),
   )
 

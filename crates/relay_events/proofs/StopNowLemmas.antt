@@ -27,8 +27,8 @@ use Rattle.relay_hosts.specs.Room.{HasRoom, lines_held, lines_left, lines_to_com
 use Rattle.relay_events.specs.Step.{Shows, Steps}
 use Rattle.relay_hosts.specs.StopNow.{IsArmed}
 use Rattle.relay_events.specs.StopNow.{IsTakenDown}
-use Rattle.relay_events.specs.Told.{LearnsOfBreaks, running_of}
-use Rattle.relay_events.proofs.HungLemmas.{hung_lines, hung_running}
+use Rattle.relay_events.specs.Told.{LearnsOfBreaks}
+use Rattle.relay_events.proofs.HungLemmas.{hung_lines}
 use Rattle.relay_events.proofs.PlaceLemmas.{value_put}
 use Rattle.relay_events.proofs.ReopenLemmas.{held_put}
 use Rattle.relay_events.proofs.RunLemmas.{one_happened, run_happened, still_bound}
@@ -130,15 +130,6 @@ module _ {D : Type 0} (honest : Type 0) (words : DiskWords D) where
           omega (arith, room, put, same, attempts, hosts)
     ]
 
-    pub taken_running : running_of new.attempts ≤ running_of old.attempts
-    taken_running = elim taken.stops [
-      | inl rest ↦
-          let attempts = ap (λ (w : World D). running_of w.attempts) rest.1 in
-          let less = hung_running node old.attempts in
-          omega (arith, attempts, less)
-      | inr again ↦ let attempts = ap (λ (w : World D). running_of w.attempts) again.1 in omega (arith, attempts)
-    ]
-
 -- a place that is there, and one that isn't
 pub there_is : {A : Type 0} (xs : List A) (place : ℕ) → place < length xs → is_some (slice_get xs place) ≡ true
 there_is [] place within = absurd (omega (arith, within))
@@ -205,14 +196,14 @@ module _ {D : Type 0} (honest : Type 0) (words : DiskWords D) (old : World D) (n
     has_armed = record { stays = stays_up; fused = armed.fused }
 
     pub armed_steps : (calls : ℕ) → 0 < calls → passing ≡ calls - 1 → unless_up old node None ≡ None → LearnsOfBreaks old
-        → Steps honest words old (Stop node calls pick) armed_world (Ok Armed)
+        → Steps honest words old (Stop node calls pick) armed_world (Ok (Armed node))
     armed_steps zero later is none told = absurd (omega (arith, later))
     armed_steps (suc calls) later is none told = (
       none,
       (
         armed_world,
         (
-          Shows Armed,
+          Shows (Armed node),
           (record { armed = has_armed; calls_left = armed.calls_left ∙ ap (λ n. Some n) (is ∙ one_less calls) }, refl),
           (told_already honest words armed_world told, refl),
         ),

@@ -1,7 +1,6 @@
 -- The first work of a node, and the effect of its calls for that.
 use Rattle.std.specs.Prelude.{◌≡◌, ◌⊎◌, ◌<◌, ◌≤◌, ℕ, ◌+◌, List, [], ◌∷◌, ◌++◌, length, Result, Ok, Err, Some, slice_get}
 use Rattle.std.specs.Prelude.{slice_set, vec_capacity, vec_len}
-use Rattle.std.specs.Global.{Vec}
 use Rattle.relay_disk.specs.Device.{DiskWords}
 use Rattle.relay_slots.specs.Slots.{IsFull}
 use Rattle.relay_attempts.specs.declared.start.Started.{Started}
@@ -17,7 +16,6 @@ use Rattle.relay_events.specs.declared.relays.Relays.{Relays}
 use Rattle.relay_hosts.specs.declared.work.GivenUp.{GivenUp}
 use Rattle.relay_events.specs.Relays.{free_lines}
 use Rattle.relay_hosts.specs.Room.{lines_left, lines_to_come}
-use Rattle.relay_events.specs.Told.{running_of}
 use Rattle.relay_hosts.specs.Work.{BeginsAttempt, GivesUpOrNot, GivesUpUnlessFull, HasChanges, LacksRoom, attempts_in}
 use Rattle.relay_hosts.specs.Work.{works_in}
 
@@ -112,8 +110,3 @@ pub record HasRoomForWork {D : Type 0} (relays : Relays D) : Type 0 where
   pub link : vec_len relays.links < vec_capacity relays.links
   pub attempt : vec_len relays.attempts < vec_capacity relays.attempts
   pub lines : lines_to_come relays.attempts.items + lines_left 0 relays.hosts.items + most_places ≤ free_lines relays
-
--- an empty list, with room for each node that may stop in a step
-pub record IsListOfStops {D : Type 0} (relays : Relays D) (stopped : Vec ℕ) : Type 0 where
-  pub empty : stopped.items ≡ []
-  pub room : vec_len stopped + 1 + running_of relays.attempts.items ≤ vec_capacity stopped

@@ -1,5 +1,5 @@
 -- Simulated relays as a world, and what holds between two events.
-use Rattle.std.specs.Prelude.{◌≡◌, ℕ, ◌-◌, List, Some, slice_get, vec_capacity, vec_len}
+use Rattle.std.specs.Prelude.{◌≡◌, ◌≤◌, ℕ, ◌-◌, List, Some, length, slice_get, vec_capacity, vec_len}
 use Rattle.relay_disk.specs.Device.{DiskWords}
 use Rattle.relay_book.specs.declared.change.Change.{Change}
 use Rattle.relay_world.specs.Bound.{IsBound}
@@ -32,7 +32,8 @@ HaveOwnNames {D} hosts =
     → host.config.host ≡ others.config.host → one ≡ other
 
 -- The relays are bound by lists of changes, try each place once at a time, have withdrawn what the postmaster has asked
--- for, and have the links that they are meant to have, lines with their sources, and names of their own.
+-- for, and have the links that they are meant to have, lines with their sources, and names of their own. There are 16 at
+-- most.
 pub record AreBound {D : Type 0} (honest : Type 0) (words : DiskWords D) (world : World D) : Type 0 where
   pub lists : List (List Change)
   pub bound : IsBound honest words world lists
@@ -41,6 +42,7 @@ pub record AreBound {D : Type 0} (honest : Type 0) (words : DiskWords D) (world 
   pub linked : AreLinkedToHops world
   pub sources : HasSources world lists
   pub named : HaveOwnNames world.hosts
+  pub few : length world.hosts ≤ 16
 
 -- All this holds between two events; moreover nodes are notified of each broken link, and there is room for what may
 -- come.

@@ -20,7 +20,7 @@ use Rattle.relay_hosts.specs.Host.{holds_up, origin_in}
 use Rattle.relay_hosts.specs.Links.{is_running}
 use Rattle.relay_events.specs.Relays.{AreBound}
 use Rattle.relay_hosts.specs.Room.{HasRoom, lines_to_come}
-use Rattle.relay_events.specs.Told.{IsOpened, ends_of, running_of}
+use Rattle.relay_events.specs.Told.{IsOpened, ends_of}
 
 module _ {D : Type 0} (world : World D) (node : ℕ) where
   -- the node at this index is down
@@ -68,7 +68,6 @@ pub record Restarts {D : Type 0} (honest : Type 0) (words : DiskWords D) (old ne
     pub crashes : CrashesAt honest words old down node origin
     pub opened : IsOpened honest words down new node
     pub fewer : ends_of new ≤ ends_of down
-    pub running : running_of new.attempts ≤ running_of down.attempts
 
 -- In whatever way the node goes down with the change that it was adding, the invariant still holds, and there is room
 -- for what may come.
@@ -106,7 +105,6 @@ pub record FindsBy {D : Type 0} (old new : World D) (lines : List Line) (found :
   pub finds : found
   pub lines_fewer : lines_to_come new.attempts ≤ lines_to_come old.attempts
   pub ends_fewer : ends_of new ≤ ends_of old
-  pub running_fewer : running_of new.attempts ≤ running_of old.attempts
 
 -- a node's undecided change was found, with its note and its cause
 abbrev pub FindsChange : {D : Type 0} → World D → World D → ℕ → Noted → world.Origin → Type 0

@@ -2,7 +2,6 @@
 use Rattle.std.specs.Prelude.{◌≡◌, ◌⊎◌, ◌<◌, ℕ, zero, suc, Bool, true, false, List, [], ◌∷◌, length, None, Some, Result}
 use Rattle.std.specs.Prelude.{Ok, Err, slice_get}
 use Rattle.std.specs.Option.{is_some}
-use Rattle.std.specs.Global.{Vec}
 use Rattle.relay_disk.specs.Device.{DiskWords}
 use Rattle.relay_disk.specs.Disks.{calls_left_of}
 use Rattle.relay_slots.specs.Slots.{IsFull}
@@ -46,7 +45,7 @@ pub data Did : Type 0 where
 
 -- the result says that these nodes have stopped, in this order
 abbrev pub HaveStopped : List ℕ → Result Seen PairFault → Type 0
-HaveStopped nodes answer = (stopped : Vec ℕ) × (answer ≡ Ok (seen.Stopped stopped)) × (stopped.items ≡ nodes)
+HaveStopped nodes answer = answer ≡ Ok (seen.Stopped nodes)
 
 -- The result of an event with this effect, after which these nodes have stopped. If any node has stopped, the result
 -- lists all of them and nothing else.
@@ -205,12 +204,12 @@ module _ {D : Type 0} (honest : Type 0) (words : DiskWords D) where
   Acts old (Send number octets) middle did = HasWritten old middle number octets × (did ≡ Shows seen.Sent)
   Acts old (Carry number node count) middle did = Carries old number node count middle did
   Acts old (Break number) middle did = Breaks old middle number × (did ≡ Shows (seen.Broken number))
-  Acts old (Tick now) middle did = HasTicked old middle now × (did ≡ Shows seen.Set)
+  Acts old (Tick now) middle did = HasTicked old middle now × (did ≡ Shows (seen.Set now))
   Acts old (Give node) middle did = Gives old node middle did
   Acts old (Compact node) middle did = Rewrites old node middle did
   Acts old (Withdraw node message place withdrawal) middle did = Withdraws old node message place withdrawal middle did
   Acts old (Stop node zero pick) middle did = StopsNow old middle node × (did ≡ Stops node)
-  Acts old (Stop node (suc calls) pick) middle did = SetsStop old middle node calls × (did ≡ Shows seen.Armed)
+  Acts old (Stop node (suc calls) pick) middle did = SetsStop old middle node calls × (did ≡ Shows (seen.Armed node))
 
   -- events that allocate memory to find a node's work
   abbrev pub LooksForWork : Event → Type 0
@@ -224,19 +223,18 @@ module _ {D : Type 0} (honest : Type 0) (words : DiskWords D) where
   LooksForWork (Withdraw node message place withdrawal) = ⊥
   LooksForWork (Stop node calls pick) = ⊥
 
-  -- events that may fail for lack of memory before a node is called: all but setting the clock, and setting a device
-  -- fault for a later call
+  -- events that may fail for lack of memory before a node is called: those that write on a link, add to the ledger, or
+  -- look for work
   abbrev pub TakesMemory : Event → Type 0
   TakesMemory (Connect node) = Unit {0}
   TakesMemory (Send number octets) = Unit {0}
   TakesMemory (Carry number node count) = Unit {0}
-  TakesMemory (Break number) = Unit {0}
+  TakesMemory (Break number) = ⊥
   TakesMemory (Tick now) = ⊥
   TakesMemory (Give node) = Unit {0}
-  TakesMemory (Compact node) = Unit {0}
+  TakesMemory (Compact node) = ⊥
   TakesMemory (Withdraw node message place withdrawal) = Unit {0}
-  TakesMemory (Stop node zero pick) = Unit {0}
-  TakesMemory (Stop node (suc calls) pick) = ⊥
+  TakesMemory (Stop node calls pick) = ⊥
 
   -- If memory runs out before a node is called, nothing changes.
   abbrev pub RefusesLate : World D → Event → World D → PairFault → Type 0

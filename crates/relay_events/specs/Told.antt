@@ -1,5 +1,5 @@
 -- Notifying the nodes at the ends of broken links.
-use Rattle.std.specs.Prelude.{◌≡◌, ◌⊎◌, ◌<◌, ℕ, ◌+◌, zero, suc, true, false, List, [], ◌∷◌, ◌++◌, Some, if◌then◌else◌}
+use Rattle.std.specs.Prelude.{◌≡◌, ◌⊎◌, ◌<◌, ℕ, ◌+◌, zero, suc, nat_eq, Bool, true, false, ◌&&◌, ◌||◌, List, [], ◌∷◌, ◌++◌, Some, if◌then◌else◌}
 use Rattle.relay_disk.specs.Device.{DiskWords}
 use Rattle.relay_world.specs.declared.attempt.Attempt.{Attempt}
 use Rattle.relay_world.specs.declared.link.Link.{Link}
@@ -92,3 +92,14 @@ running_of (attempt ∷ attempts) = (if is_running attempt.fate then 1 else 0) +
 
 abbrev pub ends_of : {D : Type 0} → World D → ℕ
 ends_of world = sessions_of world.links + running_of world.attempts
+
+-- whether an attempt of this node is running
+abbrev pub runs_for : ℕ → List Attempt → Bool
+runs_for node [] = false
+runs_for node (attempt ∷ attempts) =
+    (nat_eq attempt.node node && is_running attempt.fate) || runs_for node attempts
+
+-- how many of this many nodes, the first ones, have a running attempt
+unfoldable pub trying_of : ℕ → List Attempt → ℕ
+trying_of zero attempts = 0
+trying_of (suc node) attempts = (if runs_for node attempts then 1 else 0) + trying_of node attempts

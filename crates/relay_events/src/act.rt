@@ -1,15 +1,15 @@
 //! The direct effect of an event, and its result after nodes were notified of the links that it broke.
-ghost use Rattle.std.specs.Prelude.{◌≡◌, ◌+◌, ◌≤◌, ◌++◌, List, ℕ, [], vec_capacity, vec_len};
+ghost use Rattle.std.specs.Prelude.{◌≡◌, ◌≤◌, ◌++◌, List, ℕ, [], length};
 ghost use Rattle.relay_events.specs.Act.{IsFinished, did_of, stops_of};
 ghost use Rattle.relay_events.specs.Happened.{HasHappened};
 ghost use Rattle.relay_events.specs.Relays.{AreBound, AreInOrder, free_lines, world_of};
 ghost use Rattle.relay_hosts.specs.Room.{HasRoom};
 ghost use Rattle.relay_events.specs.Step.{IsSeen, fault_of};
-ghost use Rattle.relay_events.specs.Told.{running_of};
 
 use crate::fault::PairFault;
 use crate::relays::Relays;
 use crate::seen::{Seen, seen_of};
+use crate::stopped::StoppedNodes;
 use relay_disk::Reboot;
 use relay_node::NodeFault;
 
@@ -25,41 +25,37 @@ pub(crate) enum Act {
 }
 
 impl<D: Reboot + Drop> Relays<D> {
-    /// Notifies nodes of the links that an event broke, and returns the result of the event. `stopped` is empty, with
-    /// room for each node that may stop.
-    pub(crate) fn finish(&mut self, act: Act, stopped: Vec<usize>) -> Result<Seen, PairFault>
+    /// Notifies nodes of the links that an event broke, and returns the result of the event. Takes no memory.
+    pub(crate) fn finish(&mut self, act: Act) -> Result<Seen, PairFault>
         requires honest { D.Disk.honest }
         requires bound { AreBound D.Disk.honest D.Disk.words (world_of self.old) }
         requires room { HasRoom (world_of self.old) (free_lines self.old) }
-        requires empty { stopped.items ≡ [] }
-        requires list { vec_len stopped + 1 + running_of self.old.attempts.items ≤ vec_capacity stopped }
         ensures finished { IsFinished D.Disk.honest D.Disk.words (world_of self.old) (did_of act) (world_of self.new)
             result }
         ensures happened { HasHappened D.Disk.honest D.Disk.words (world_of self.old) (world_of self.new) }
         ensures order { AreInOrder D.Disk.honest D.Disk.words self.new }
     {
-        let mut stopped = stopped;
+        let mut stopped = StoppedNodes::new();
         list_stop(&act, &mut stopped);
         self.tell(&mut stopped);
         answer_of(act, stopped)
     }
 }
 
-/// Adds the node that has stopped, if one has, to a list with room for it.
-fn list_stop(act: &Act, stopped: &mut Vec<usize>)
-    requires { vec_len stopped.old + 1 ≤ vec_capacity stopped.old }
-    ensures items { stopped.new.items ≡ stopped.old.items ++ stops_of (did_of act.now) }
-    ensures len { vec_len stopped.new ≤ vec_len stopped.old + 1 }
-    ensures capacity { vec_capacity stopped.old ≤ vec_capacity stopped.new }
+/// Adds the node that has stopped, if one has, to an empty list.
+fn list_stop(act: &Act, stopped: &mut StoppedNodes)
+    requires { stopped.old ≡ [] }
+    ensures nodes { stopped.new ≡ stopped.old ++ stops_of (did_of act.now) }
+    ensures few { length stopped.new ≤ 1 }
 {
     if let Act::Stops(node) = act {
-        stopped.push(*node).unwrap();
+        stopped.push(*node);
     }
 }
 
 /// Returns the result of an event with this effect, after which these nodes have stopped.
-fn answer_of(act: Act, stopped: Vec<usize>) -> Result<Seen, PairFault>
-    ensures { (told : List ℕ) → stopped.items ≡ stops_of (did_of act) ++ told → IsSeen (did_of act) told result }
+fn answer_of(act: Act, stopped: StoppedNodes) -> Result<Seen, PairFault>
+    ensures { (told : List ℕ) → stopped ≡ stops_of (did_of act) ++ told → IsSeen (did_of act) told result }
 {
     match act {
         Act::Shows(own) => Ok(seen_of(own, stopped)),

@@ -16,7 +16,7 @@ use relay_hosts::links::break_off;
 use relay_world::passing::runs_keep_all;
 
 impl<D: Reboot + Drop> Relays<D> {
-    /// Breaks a link, and notifies the nodes at its ends.
+    /// Breaks a link, and notifies the nodes at its ends. Takes no memory.
     pub(crate) fn break_link(&mut self, number: usize) -> Result<Seen, PairFault>
         requires honest { D.Disk.honest }
         requires order { AreInOrder D.Disk.honest D.Disk.words self.old }
@@ -28,11 +28,8 @@ impl<D: Reboot + Drop> Relays<D> {
         if let Some(fault) = self.break_fault(number) {
             return Err(fault);
         }
-        let Ok(stopped) = self.list_of_stops() else {
-            return Err(PairFault::NoMemory);
-        };
         self.break_off(number);
-        self.finish(Act::Shows(Seen::Broken(number)), stopped)
+        self.finish(Act::Shows(Seen::Broken(number)))
     }
 }
 

@@ -12,7 +12,7 @@ ghost use Rattle.relay_events.specs.Happened.{HasHappened};
 ghost use Rattle.relay_events.specs.Relays.{AreBound, AreInOrder, free_lines, world_of};
 ghost use Rattle.relay_hosts.specs.Room.{HasRoom};
 ghost use Rattle.relay_events.specs.Step.{Carries, Steps};
-ghost use Rattle.relay_events.specs.Told.{TriesAt, running_of};
+ghost use Rattle.relay_events.specs.Told.{TriesAt};
 ghost use Rattle.relay_events.specs.declared.event.Event.TheVariants.{Carry};
 
 use crate::act::{Act, fault_of};
@@ -44,11 +44,8 @@ impl<D: Reboot + Drop> Relays<D> {
         ensures order { AreInOrder D.Disk.honest D.Disk.words self.new }
     {
         runs_keep_all::<D>();
-        let Ok(stopped) = self.list_of_stops() else {
-            return Err(PairFault::NoMemory);
-        };
         let act = self.carry_replies(number, count);
-        self.finish(act, stopped)
+        self.finish(act)
     }
 
     /// Has the attempt read unread replies; if there are none, notifies it that its connection is over.
@@ -62,7 +59,6 @@ impl<D: Reboot + Drop> Relays<D> {
             (did_of result) }
         ensures happened { HasHappened D.Disk.honest D.Disk.words (world_of self.old) (world_of self.new) }
         ensures room { HasRoom (world_of self.new) (free_lines self.new) }
-        ensures running { running_of self.new.attempts.items ≤ running_of self.old.attempts.items }
     {
         let link = &self.links[number - 1];
         if is_read(link.down.as_slice(), link.down_read) {
@@ -82,7 +78,6 @@ impl<D: Reboot + Drop> Relays<D> {
             (did_of result) }
         ensures happened { HasHappened D.Disk.honest D.Disk.words (world_of self.old) (world_of self.new) }
         ensures room { HasRoom (world_of self.new) (free_lines self.new) }
-        ensures running { running_of self.new.attempts.items ≤ running_of self.old.attempts.items }
     {
         match self.lose_attempt(number) {
             Loss::Ended(change) => Act::Shows(Seen::Carried {
@@ -111,7 +106,6 @@ impl<D: Reboot + Drop> Relays<D> {
             (did_of result) }
         ensures happened { HasHappened D.Disk.honest D.Disk.words (world_of self.old) (world_of self.new) }
         ensures room { HasRoom (world_of self.new) (free_lines self.new) }
-        ensures running { running_of self.new.attempts.items ≤ running_of self.old.attempts.items }
     {
         runs_keep_all::<D>();
         crashing_happens::<D>();

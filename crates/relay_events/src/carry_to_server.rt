@@ -10,7 +10,7 @@ ghost use Rattle.relay_events.specs.Happened.{HasHappened};
 ghost use Rattle.relay_events.specs.Relays.{AreBound, AreInOrder, free_lines, world_of};
 ghost use Rattle.relay_hosts.specs.Room.{HasRoom, HasRoomFor};
 ghost use Rattle.relay_events.specs.Step.{Carries, Steps};
-ghost use Rattle.relay_events.specs.Told.{HearsAt, running_of};
+ghost use Rattle.relay_events.specs.Told.{HearsAt};
 ghost use Rattle.relay_events.specs.declared.event.Event.TheVariants.{Carry};
 
 use crate::act::{Act, fault_of};
@@ -69,16 +69,13 @@ impl<D: Reboot + Drop> Relays<D> {
         ensures order { AreInOrder D.Disk.honest D.Disk.words self.new }
     {
         runs_keep_all::<D>();
-        let Ok(stopped) = self.list_of_stops() else {
-            return Err(PairFault::NoMemory);
-        };
         let Ok(()) = self.keep_lines(1) else {
             return Err(PairFault::NoMemory);
         };
         let Some(act) = self.hear(number, node, count) else {
             return Err(PairFault::NoMemory);
         };
-        self.finish(act, stopped)
+        self.finish(act)
     }
 
     /// Has a node hear unread octets at the server end of a link, in one call. Returns `None`, without calling the
@@ -93,7 +90,6 @@ impl<D: Reboot + Drop> Relays<D> {
             (did_of act)) }
         ensures happened { HasHappened D.Disk.honest D.Disk.words (world_of self.old) (world_of self.new) }
         ensures room { HasRoom (world_of self.new) (free_lines self.new) }
-        ensures running { running_of self.new.attempts.items ≤ running_of self.old.attempts.items }
     {
         runs_keep_all::<D>();
         crashing_happens::<D>();

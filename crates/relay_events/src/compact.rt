@@ -29,16 +29,13 @@ impl<D: Reboot + Drop> Relays<D> {
         if let Some(fault) = self.down_fault(node) {
             return Err(fault);
         }
-        let Ok(list) = self.list_of_stops() else {
-            return Err(PairFault::NoMemory);
-        };
         match self.call_to_compact(node) {
             Compacted::Done(size) => Ok(Seen::Compacted(node, size)),
             Compacted::Refused(fault) => Err(fault_of(fault)),
             Compacted::Stopped => {
                 self.let_go(node);
                 self.reopen(node);
-                self.finish(Act::Stops(node), list)
+                self.finish(Act::Stops(node))
             }
         }
     }

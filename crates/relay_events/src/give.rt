@@ -6,7 +6,6 @@ ghost use Rattle.relay_world.specs.World.{Host as HostOf};
 ghost use Rattle.relay_events.specs.BreakOff.{BreaksAfter, IsLink};
 ghost use Rattle.relay_events.specs.FirstFault.{unless_up};
 ghost use Rattle.relay_events.specs.Give.{HasBegunOrNot, HasBegunThere, HasRoomForWork, IsCalledByWork, IsFirstWork};
-ghost use Rattle.relay_events.specs.Give.{IsListOfStops};
 ghost use Rattle.relay_hosts.specs.Named.{IsFirstNamed, NoneIsNamed};
 ghost use Rattle.relay_events.specs.Happened.{HasHappened};
 ghost use Rattle.relay_events.specs.Relays.{AreBound, AreInOrder, free_lines, world_of};
@@ -41,18 +40,17 @@ impl<D: Reboot + Drop> Relays<D> {
         if let Some(fault) = self.down_fault(node) {
             return Err(fault);
         }
-        let Some(stopped) = self.room_for_work() else {
+        let Ok(()) = self.room_for_work() else {
             return Err(PairFault::NoMemory);
         };
-        self.do_first_work(node, stopped)
+        self.do_first_work(node)
     }
 
     /// Has a node that is up do its first work, for which there is room.
-    fn do_first_work(&mut self, node: usize, stopped: Vec<usize>) -> Result<Seen, PairFault>
+    fn do_first_work(&mut self, node: usize) -> Result<Seen, PairFault>
         requires honest { D.Disk.honest }
         requires order { AreInOrder D.Disk.honest D.Disk.words self.old }
         requires room { HasRoomForWork self.old }
-        requires list { IsListOfStops self.old stopped }
         requires up { unless_up (world_of self.old) node None ≡ None }
         ensures steps { Steps D.Disk.honest D.Disk.words (world_of self.old) (Give node) (world_of self.new) result }
         ensures happened { HasHappened D.Disk.honest D.Disk.words (world_of self.old) (world_of self.new) }
@@ -66,22 +64,16 @@ impl<D: Reboot + Drop> Relays<D> {
             return Err(PairFault::Nothing);
         };
         match work {
-            Work::NoRoute(message) => self.give_up_first(node, message, stopped),
-            Work::Try(message, hop) => self.try_first(node, message, &hop, stopped),
+            Work::NoRoute(message) => self.give_up_first(node, message),
+            Work::Try(message, hop) => self.try_first(node, message, &hop),
         }
     }
 
     /// Has a node give up the places of a message that have no hop.
-    fn give_up_first(
-        &mut self,
-        node: usize,
-        message: u64,
-        stopped: Vec<usize>,
-    ) -> Result<Seen, PairFault>
+    fn give_up_first(&mut self, node: usize, message: u64) -> Result<Seen, PairFault>
         requires honest { D.Disk.honest }
         requires order { AreInOrder D.Disk.honest D.Disk.words self.old }
         requires room { HasRoomForWork self.old }
-        requires list { IsListOfStops self.old stopped }
         requires first { IsFirstWork (world_of self.old) node (NoRoute message) }
         ensures steps { Steps D.Disk.honest D.Disk.words (world_of self.old) (Give node) (world_of self.new) result }
         ensures happened { HasHappened D.Disk.honest D.Disk.words (world_of self.old) (world_of self.new) }
@@ -98,23 +90,16 @@ impl<D: Reboot + Drop> Relays<D> {
             GivenUp::NoRoom => Err(PairFault::NoMemory),
             GivenUp::Stopped => {
                 self.restart(node, Origin::FromGivingUp(message));
-                self.finish(Act::Stops(node), stopped)
+                self.finish(Act::Stops(node))
             }
         }
     }
 
     /// Has a node begin an attempt for a message and a hop, on a link that leads there.
-    fn try_first(
-        &mut self,
-        node: usize,
-        message: u64,
-        hop: &HostName,
-        stopped: Vec<usize>,
-    ) -> Result<Seen, PairFault>
+    fn try_first(&mut self, node: usize, message: u64, hop: &HostName) -> Result<Seen, PairFault>
         requires honest { D.Disk.honest }
         requires order { AreInOrder D.Disk.honest D.Disk.words self.old }
         requires room { HasRoomForWork self.old }
-        requires list { IsListOfStops self.old stopped }
         requires first { IsFirstWork (world_of self.old) node (Try message hop.now) }
         ensures steps { Steps D.Disk.honest D.Disk.words (world_of self.old) (Give node) (world_of self.new) result }
         ensures happened { HasHappened D.Disk.honest D.Disk.words (world_of self.old) (world_of self.new) }
@@ -129,7 +114,7 @@ impl<D: Reboot + Drop> Relays<D> {
         let Ok(name) = Octets::from_slice(self.alloc, hop.as_slice()) else {
             return Err(PairFault::NoMemory);
         };
-        self.start_at_node(node, message, hop, name, to, stopped)
+        self.start_at_node(node, message, hop, name, to)
     }
 
     /// Begins an attempt on a new link to the node that has the hop's name, unless 64 attempts are running. If there is
@@ -141,12 +126,10 @@ impl<D: Reboot + Drop> Relays<D> {
         hop: &HostName,
         name: Octets,
         to: usize,
-        stopped: Vec<usize>,
     ) -> Result<Seen, PairFault>
         requires honest { D.Disk.honest }
         requires order { AreInOrder D.Disk.honest D.Disk.words self.old }
         requires room { HasRoomForWork self.old }
-        requires list { IsListOfStops self.old stopped }
         requires first { IsFirstWork (world_of self.old) node (Try message hop.now) }
         requires name { name ≡ hop.now }
         requires named { IsFirstNamed self.old.hosts.items hop.now to }
@@ -167,21 +150,15 @@ impl<D: Reboot + Drop> Relays<D> {
         let link = self.links.len();
         match self.begin_on(node, message, hop, name, link) {
             Ok(place) => Ok(Seen::Started(place)),
-            Err(fault) => self.break_unstarted(link, fault, stopped),
+            Err(fault) => self.break_unstarted(link, fault),
         }
     }
 
     /// Breaks a link for which a node refused the attempt, and notifies the node at the other end.
-    fn break_unstarted(
-        &mut self,
-        number: usize,
-        why: NodeFault,
-        stopped: Vec<usize>,
-    ) -> Result<Seen, PairFault>
+    fn break_unstarted(&mut self, number: usize, why: NodeFault) -> Result<Seen, PairFault>
         requires honest { D.Disk.honest }
         requires bound { AreBound D.Disk.honest D.Disk.words (world_of self.old) }
         requires room { HasRoom (world_of self.old) (free_lines self.old) }
-        requires list { IsListOfStops self.old stopped }
         requires there { IsLink (world_of self.old) number }
         ensures breaks { BreaksAfter D.Disk.honest D.Disk.words (world_of self.old) (world_of self.new) number why
             result }
@@ -190,7 +167,7 @@ impl<D: Reboot + Drop> Relays<D> {
     {
         runs_keep_all::<D>();
         self.break_off(number);
-        self.finish(Act::Refuses(fault_of(why)), stopped)
+        self.finish(Act::Refuses(fault_of(why)))
     }
 }
 

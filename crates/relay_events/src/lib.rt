@@ -22,6 +22,7 @@ mod seen;
 mod send;
 mod step;
 mod stop;
+mod stopped;
 mod tell;
 mod withdraw;
 
@@ -29,3 +30,4 @@ pub use event::Event;
 pub use fault::PairFault;
 pub use relays::Relays;
 pub use seen::Seen;
+pub use stopped::StoppedNodes;

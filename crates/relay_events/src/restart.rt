@@ -9,7 +9,7 @@ ghost use Rattle.relay_events.specs.Relays.{AreBound, free_lines, world_of};
 ghost use Rattle.relay_events.specs.Restart.{CrashesAt, FindsBy, FindsChange, HasMoreDown, HasMoreUp, IsCutShortAt};
 ghost use Rattle.relay_events.specs.Restart.{IsDownAt, IsReadyToCrash, MayBeFound, OpensAt, Restarts};
 ghost use Rattle.relay_hosts.specs.Room.{HasRoom};
-ghost use Rattle.relay_events.specs.Told.{IsOpened, ends_of, running_of};
+ghost use Rattle.relay_events.specs.Told.{IsOpened, ends_of};
 
 use crate::relays::Relays;
 use relay_disk::{Disk, Reboot};
@@ -55,7 +55,6 @@ impl<D: Reboot + Drop> Relays<D> {
         ensures opened { IsOpened D.Disk.honest D.Disk.words (world_of self.old) (world_of self.new) node }
         ensures room { HasRoom (world_of self.new) (free_lines self.new) }
         ensures fewer { ends_of (world_of self.new) ≤ ends_of (world_of self.old) }
-        ensures running { running_of self.new.attempts.items ≤ running_of self.old.attempts.items }
     {
         down_is_not_refused::<D>();
         let Some(found) = self.open_host(node) else {

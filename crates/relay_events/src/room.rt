@@ -1,6 +1,6 @@
 //! Reserved room: in the ledger, and for what a node may begin.
-ghost use Rattle.std.specs.Prelude.{◌≡◌, ◌+◌, ◌<◌, ◌≤◌, IfSome, MatchOption, OnOk, vec_capacity, vec_len};
-ghost use Rattle.relay_events.specs.Give.{HasRoomForWork, IsListOfStops};
+ghost use Rattle.std.specs.Prelude.{◌≡◌, ◌+◌, ◌<◌, ◌≤◌, MatchOption, OnOk, vec_capacity, vec_len};
+ghost use Rattle.relay_events.specs.Give.{HasRoomForWork};
 ghost use Rattle.relay_events.specs.Relays.{AreInOrder, free_lines, world_of};
 ghost use Rattle.relay_hosts.specs.Room.{HasRoomFor, lines_left, lines_to_come};
 
@@ -37,25 +37,21 @@ impl<D: Disk> Relays<D> {
 }
 
 impl<D: Disk> Relays<D> {
-    /// Reserves room for one more link, one more attempt, and the ledger lines that its places may need. Returns an
-    /// empty list with room for each node that may stop in a step, or `None` if memory runs out.
-    pub(crate) fn room_for_work(&mut self) -> Option<Vec<usize>>
+    /// Reserves room for one more link, one more attempt, and the ledger lines that its places may need. Nothing else
+    /// changes.
+    pub(crate) fn room_for_work(&mut self) -> Result<(), AllocError>
         requires { AreInOrder D.honest D.words self.old }
         ensures world { world_of self.new ≡ world_of self.old }
         ensures order { AreInOrder D.honest D.words self.new }
-        ensures room { IfSome result (λ stopped. HasRoomForWork self.new) }
-        ensures list { IfSome result (λ stopped. IsListOfStops self.new stopped) }
+        ensures room { OnOk result (HasRoomForWork self.new) }
     {
         let Ok(()) = self.keep_lines(MOST_PLACES) else {
-            return None;
+            return Err(AllocError);
         };
         let Ok(()) = self.keep_places() else {
-            return None;
+            return Err(AllocError);
         };
-        match self.list_of_stops() {
-            Ok(stopped) => Some(stopped),
-            Err(_) => None,
-        }
+        Ok(())
     }
 
     /// Reserves room for one more link, and one more attempt. Nothing else changes.

@@ -2,6 +2,9 @@
 ghost use Rattle.std.specs.Prelude.{Ok};
 ghost use Rattle.relay_events.specs.Step.{IsSeen, Shows};
 
+use crate::stopped::StoppedNodes;
+use relay_trace::Moment;
+
 /// The result of an event that was done.
 #[derive(Drop)]
 pub enum Seen {
@@ -22,8 +25,8 @@ pub enum Seen {
     },
     /// The link of this number is broken.
     Broken(usize),
-    /// The clock is set.
-    Set,
+    /// The clock is set to this time.
+    Set(Moment),
     /// A node has begun the attempt at this index.
     Started(usize),
     /// A node has given up places of this message, by the change of this number.
@@ -32,15 +35,15 @@ pub enum Seen {
     Withdrawn(u64),
     /// The node at this index has compacted its spool, to this size in octets.
     Compacted(usize, usize),
-    /// A device fault is set for a node.
-    Armed,
+    /// A device fault is set for the node at this index.
+    Armed(usize),
     /// These nodes have stopped, in this order.
-    Stopped(Vec<usize>),
+    Stopped(StoppedNodes),
 }
 
 /// Returns the result of an event that would have this one, if these nodes have stopped after it.
-pub(crate) fn seen_of(own: Seen, stopped: Vec<usize>) -> Seen
-    ensures { IsSeen (Shows own) stopped.items (Ok result) }
+pub(crate) fn seen_of(own: Seen, stopped: StoppedNodes) -> Seen
+    ensures { IsSeen (Shows own) stopped (Ok result) }
 {
     if stopped.is_empty() {
         return own;

@@ -53,6 +53,6 @@ impl<D: Reboot + Drop> Relays<D> {
     {
         runs_keep_all::<D>();
         self.clock = now;
-        Ok(Seen::Set)
+        Ok(Seen::Set(now))
     }
 }

@@ -30,7 +30,7 @@ impl<D: Reboot + Drop> Relays<D> {
     }
 
     /// Stops a node now, also one that is down; opens it again, if it can be opened; and notifies the nodes at the
-    /// other ends of its links.
+    /// other ends of its links. Without memory to open it the node stays down.
     fn stop_now(&mut self, node: usize, pick: u64) -> Result<Seen, PairFault>
         requires honest { D.Disk.honest }
         requires order { AreInOrder D.Disk.honest D.Disk.words self.old }
@@ -44,12 +44,9 @@ impl<D: Reboot + Drop> Relays<D> {
         if self.hosts.len() <= node {
             return Err(PairFault::Down);
         }
-        let Ok(stopped) = self.list_of_stops() else {
-            return Err(PairFault::NoMemory);
-        };
         self.take_down(node, pick);
         self.reopen(node);
-        self.finish(Act::Stops(node), stopped)
+        self.finish(Act::Stops(node))
     }
 
     /// Stops a node between two calls, or stops it again if it is down.
@@ -85,6 +82,6 @@ impl<D: Reboot + Drop> Relays<D> {
             return Err(fault);
         }
         self.hosts[node].arm(calls - 1, pick);
-        Ok(Seen::Armed)
+        Ok(Seen::Armed(node))
     }
 }

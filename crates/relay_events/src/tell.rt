@@ -1,5 +1,5 @@
 //! Notifying nodes of broken links.
-ghost use Rattle.std.specs.Prelude.{◌≡◌, ◌+◌, ◌++◌, ◌<◌, ◌≤◌, [], IfOk, MatchOption, length, vec_capacity, vec_len};
+ghost use Rattle.std.specs.Prelude.{◌≡◌, ◌+◌, ◌++◌, ◌<◌, ◌≤◌, MatchOption, length, vec_capacity, vec_len};
 ghost use Rattle.relay_world.specs.Ledger.{left_lines, report_told};
 ghost use Rattle.relay_world.specs.Steps.{EndsSession};
 ghost use Rattle.relay_world.specs.declared.attempt.Fate.TheVariants.{Lost};
@@ -9,10 +9,11 @@ ghost use Rattle.relay_events.specs.Happened.{HasHappened};
 ghost use Rattle.relay_events.specs.Relays.{AreBound, free_lines, world_of};
 ghost use Rattle.relay_hosts.specs.Room.{HasRoom};
 ghost use Rattle.relay_events.specs.Told.{AreToldTo, HearsAt, IsFirstUntold, LearnsOfBreaks, TellsSome, TriesAt};
-ghost use Rattle.relay_events.specs.Told.{ends_of, running_of};
+ghost use Rattle.relay_events.specs.Told.{ends_of, trying_of};
 
 use crate::client_end::ClientEnd;
 use crate::relays::Relays;
+use crate::stopped::StoppedNodes;
 use relay_disk::{Disk, Reboot};
 use relay_hosts::heard::close_server;
 use relay_hosts::links::{hears_on, is_untold};
@@ -20,7 +21,6 @@ use relay_hosts::{Origin, Recorded, ToldLoss};
 use relay_node::NodeFault;
 use relay_world::Fate;
 use relay_world::passing::{crashing_happens, runs_keep_all};
-use std::alloc::AllocError;
 
 /// The result of notifying a node that an attempt's connection is lost.
 #[derive(Clone, Copy)]
@@ -47,29 +47,16 @@ impl<D: Disk> Relays<D> {
     }
 }
 
-impl<D: Disk> Relays<D> {
-    /// Returns an empty list with room for each node that may stop in a step. A node that stops in a call of an attempt
-    /// loses that attempt, and one more may stop before.
-    pub(crate) fn list_of_stops(&self) -> Result<Vec<usize>, AllocError>
-        ensures empty { IfOk result (λ list. list.items ≡ []) }
-        ensures room { IfOk result (λ list. vec_len list + 1 + running_of self.now.attempts.items ≤ vec_capacity list) }
-    {
-        let mut stopped = Vec::new(self.alloc);
-        stopped.reserve(self.attempts.len() + 1)?;
-        Ok(stopped)
-    }
-}
-
 impl<D: Reboot + Drop> Relays<D> {
     /// Notifies nodes of each broken link, the lowest number first. Nodes that stop in it are added to `stopped`, which
-    /// has room for them.
-    pub(crate) fn tell(&mut self, stopped: &mut Vec<usize>)
+    /// has room for each node that has a running attempt: a node stops when an attempt is lost, and has none after that.
+    pub(crate) fn tell(&mut self, stopped: &mut StoppedNodes)
         requires honest { D.Disk.honest }
         requires bound { AreBound D.Disk.honest D.Disk.words (world_of self.old) }
         requires room { HasRoom (world_of self.old) (free_lines self.old) }
-        requires list { vec_len stopped.old + running_of self.old.attempts.items ≤ vec_capacity stopped.old }
-        ensures told { AreToldTo D.Disk.honest D.Disk.words (world_of self.old) (world_of self.new) stopped.old.items
-            stopped.new.items }
+        requires list { length stopped.old + trying_of 16 self.old.attempts.items ≤ 17 }
+        ensures told { AreToldTo D.Disk.honest D.Disk.words (world_of self.old) (world_of self.new) stopped.old
+            stopped.new }
         ensures happened { HasHappened D.Disk.honest D.Disk.words (world_of self.old) (world_of self.new) }
         ensures bound { AreBound D.Disk.honest D.Disk.words (world_of self.new) }
         ensures room { HasRoom (world_of self.new) (free_lines self.new) }
@@ -80,16 +67,15 @@ impl<D: Reboot + Drop> Relays<D> {
     }
 
     /// Notifies one node of a broken link. If the node stops in it, adds it to `stopped`.
-    fn tell_one(&mut self, number: usize, stopped: &mut Vec<usize>)
+    fn tell_one(&mut self, number: usize, stopped: &mut StoppedNodes)
         requires honest { D.Disk.honest }
         requires bound { AreBound D.Disk.honest D.Disk.words (world_of self.old) }
         requires room { HasRoom (world_of self.old) (free_lines self.old) }
         requires first { IsFirstUntold (world_of self.old) number }
-        requires list { vec_len stopped.old + running_of self.old.attempts.items ≤ vec_capacity stopped.old }
-        ensures told { TellsSome D.Disk.honest D.Disk.words (world_of self.old) (world_of self.new) number
-            stopped.old.items
-            stopped.new.items }
-        ensures list { vec_len stopped.new + running_of self.new.attempts.items ≤ vec_capacity stopped.new }
+        requires list { length stopped.old + trying_of 16 self.old.attempts.items ≤ 17 }
+        ensures told { TellsSome D.Disk.honest D.Disk.words (world_of self.old) (world_of self.new) number stopped.old
+            stopped.new }
+        ensures list { length stopped.new + trying_of 16 self.new.attempts.items ≤ 17 }
         ensures happened { HasHappened D.Disk.honest D.Disk.words (world_of self.old) (world_of self.new) }
         ensures bound { AreBound D.Disk.honest D.Disk.words (world_of self.new) }
         ensures room { HasRoom (world_of self.new) (free_lines self.new) }
@@ -134,7 +120,6 @@ impl<D: Reboot + Drop> Relays<D> {
         ensures happened { HasHappened D.Disk.honest D.Disk.words (world_of self.old) (world_of self.new) }
         ensures room { HasRoom (world_of self.new) (free_lines self.new) }
         ensures fewer { ends_of (world_of self.new) < ends_of (world_of self.old) }
-        ensures running { running_of self.new.attempts.items < running_of self.old.attempts.items }
     {
         runs_keep_all::<D>();
         crashing_happens::<D>();
@@ -182,13 +167,11 @@ impl<D: Disk> Relays<D> {
 }
 
 /// Adds the node that has stopped in this, if one has, to a list with room for it.
-fn list_loss(loss: Loss, stopped: &mut Vec<usize>)
-    requires { vec_len stopped.old + 1 ≤ vec_capacity stopped.old }
-    ensures items { stopped.new.items ≡ stopped.old.items ++ stops_by loss }
-    ensures len { vec_len stopped.new ≤ vec_len stopped.old + 1 }
-    ensures capacity { vec_capacity stopped.old ≤ vec_capacity stopped.new }
+fn list_loss(loss: Loss, stopped: &mut StoppedNodes)
+    requires { length stopped.old + length (stops_by loss) ≤ 17 }
+    ensures { stopped.new ≡ stopped.old ++ stops_by loss }
 {
     if let Loss::Stopped(node) = loss {
-        stopped.push(node).unwrap();
+        stopped.push(node);
     }
 }

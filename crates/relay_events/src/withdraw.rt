@@ -2,7 +2,7 @@
 ghost use Rattle.std.specs.Prelude.{◌≡◌, ◌∷◌, [], None};
 ghost use Rattle.relay_world.specs.GivingUp.{Postmaster};
 ghost use Rattle.relay_events.specs.FirstFault.{unless_up};
-ghost use Rattle.relay_events.specs.Give.{HasRoomForWork, IsCalledToGiveUp, IsListOfStops};
+ghost use Rattle.relay_events.specs.Give.{HasRoomForWork, IsCalledToGiveUp};
 ghost use Rattle.relay_events.specs.Happened.{HasHappenedFor};
 ghost use Rattle.relay_events.specs.Relays.{AreBound, AreInOrder, world_of};
 ghost use Rattle.relay_events.specs.Step.{Steps};
@@ -37,10 +37,10 @@ impl<D: Reboot + Drop> Relays<D> {
         if let Some(fault) = self.down_fault(node) {
             return Err(fault);
         }
-        let Some(stopped) = self.room_for_work() else {
+        let Ok(()) = self.room_for_work() else {
             return Err(PairFault::NoMemory);
         };
-        self.withdraw_there(node, message, place, withdrawal, stopped)
+        self.withdraw_there(node, message, place, withdrawal)
     }
 
     /// A node that is up withdraws a place, for which there is room.
@@ -50,12 +50,10 @@ impl<D: Reboot + Drop> Relays<D> {
         message: u64,
         place: u8,
         withdrawal: Withdrawal,
-        stopped: Vec<usize>,
     ) -> Result<Seen, PairFault>
         requires honest { D.Disk.honest }
         requires order { AreInOrder D.Disk.honest D.Disk.words self.old }
         requires room { HasRoomForWork self.old }
-        requires list { IsListOfStops self.old stopped }
         requires up { unless_up (world_of self.old) node None ≡ None }
         ensures steps { Steps D.Disk.honest D.Disk.words (world_of self.old) (Withdraw node message place withdrawal)
             (world_of self.new) result }
@@ -74,7 +72,7 @@ impl<D: Reboot + Drop> Relays<D> {
             GivenUp::NoRoom => Err(PairFault::NoMemory),
             GivenUp::Stopped => {
                 self.restart(node, Origin::FromGivingUp(message));
-                self.finish(Act::Stops(node), stopped)
+                self.finish(Act::Stops(node))
             }
         }
     }

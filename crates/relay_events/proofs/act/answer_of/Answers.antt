@@ -8,12 +8,12 @@ returns-in-Shows c told is =
 
 pub returns-then-is_empty : goal.returns-then-is_empty
 returns-then-is_empty c told is =
-    let none : length c.args.stopped.items ≡ 0 = search rules in
+    let none : length c.args.stopped ≡ 0 = search rules in
     answers_refused c.args.act c.args.stopped told is c.in-Refuses.why c.in-Refuses.is none
 
 pub returns-else-is_empty : goal.returns-else-is_empty
 returns-else-is_empty c told is =
-    let some : 0 < length c.args.stopped.items = search rules in
+    let some : 0 < length c.args.stopped = search rules in
     answers_stopped c.args.act c.args.stopped told is c.in-Refuses.why c.in-Refuses.is some
 
 pub returns-in-Stops : goal.returns-in-Stops

@@ -7,7 +7,7 @@ use Rattle.relay_hosts.specs.Links.{whole_link}
 use Rattle.relay_events.specs.Relays.{free_lines, world_of}
 use Rattle.relay_hosts.specs.Room.{HasRoom}
 use Rattle.relay_events.specs.Step.{Shows}
-use Rattle.relay_events.proofs.BreakLemmas.{is_link, off_bound, off_happened, room_broken, running_broken}
+use Rattle.relay_events.proofs.BreakLemmas.{is_link, off_bound, off_happened, room_broken}
 use Rattle.relay_events.proofs.StepLemmas.{done_steps}
 use Rattle.relay_events.proofs.RunLemmas.{both_happened}
 use Rattle.relay_events.proofs.relays.Relays.break_link.Goals as goal
@@ -28,13 +28,6 @@ finish-requires-clause-room g c =
     subst (λ l. HasRoom (world_of c.break_off.new.self) (vec_capacity l - vec_len l)) (sym c.break_off.ensures.ledger)
     (room_broken g.D.Disk.honest g.D.Disk.words (world_of c.args.self.now) (world_of c.break_off.new.self) c.args.number
     (free_lines c.args.self.now) c.requires.order.room c.break_off.ensures.world)
-
-pub finish-requires-clause-list : goal.finish-requires-clause-list
-finish-requires-clause-list g c =
-    let room = c.in-Ok.ensures.room in
-    let same = running_broken g.D.Disk.honest g.D.Disk.words (world_of c.args.self.now) (world_of c.break_off.new.self)
-    c.args.number c.break_off.ensures.world in
-    omega (arith, room, same)
 
 pub returns-clause-steps : goal.returns-clause-steps
 returns-clause-steps g c =

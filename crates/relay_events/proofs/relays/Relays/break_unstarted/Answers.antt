@@ -3,7 +3,7 @@ use Rattle.std.specs.Prelude.{vec_capacity, vec_len}
 use Rattle.relay_events.specs.Relays.{free_lines, world_of}
 use Rattle.relay_hosts.specs.Room.{HasRoom}
 use Rattle.relay_events.specs.Step.{IsSeen, Refuses}
-use Rattle.relay_events.proofs.BreakLemmas.{off_bound, off_happened, room_broken, running_broken}
+use Rattle.relay_events.proofs.BreakLemmas.{off_bound, off_happened, room_broken}
 use Rattle.relay_events.proofs.RunLemmas.{both_happened}
 use Rattle.relay_events.proofs.relays.Relays.break_unstarted.Goals as goal
 
@@ -17,16 +17,6 @@ finish-requires-clause-room g c =
     subst (λ l. HasRoom (world_of c.break_off.new.self) (vec_capacity l - vec_len l)) (sym c.break_off.ensures.ledger)
     (room_broken g.D.Disk.honest g.D.Disk.words (world_of c.args.self.now) (world_of c.break_off.new.self) c.args.number
     (free_lines c.args.self.now) c.requires.room c.break_off.ensures.world)
-
-pub finish-requires-clause-empty : goal.finish-requires-clause-empty
-finish-requires-clause-empty g c = c.requires.list.empty
-
-pub finish-requires-clause-list : goal.finish-requires-clause-list
-finish-requires-clause-list g c =
-    let room = c.requires.list.room in
-    let same = running_broken g.D.Disk.honest g.D.Disk.words (world_of c.args.self.now) (world_of c.break_off.new.self)
-    c.args.number c.break_off.ensures.world in
-    omega (arith, room, same)
 
 pub returns-clause-breaks : goal.returns-clause-breaks
 returns-clause-breaks g c = record {

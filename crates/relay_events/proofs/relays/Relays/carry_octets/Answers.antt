@@ -4,7 +4,7 @@ use Rattle.relay_events.specs.Hear.{WaitsAt}
 use Rattle.relay_events.specs.Happened.{HasHappened}
 use Rattle.relay_events.specs.Relays.{AreBound, world_of}
 use Rattle.relay_events.specs.Step.{Carries}
-use Rattle.relay_events.specs.Told.{LearnsOfBreaks, running_of}
+use Rattle.relay_events.specs.Told.{LearnsOfBreaks}
 use Rattle.relay_events.specs.Act.{did_of}
 use Rattle.relay_events.proofs.CarryLemmas.{carried_steps, kept_order, unheard_steps}
 use Rattle.relay_events.proofs.RunLemmas.{both_happened, none_happened, still_bound}
@@ -12,20 +12,17 @@ use Rattle.relay_events.proofs.relays.Relays.carry_octets.Goals as goal
 
 -- nothing was done for want of memory
 pub returns-in_default-clause-steps : goal.returns-in_default-clause-steps
-returns-in_default-clause-steps g c = inr (inl (tt, inl c.requires.none, refl, refl))
-
-pub returns-in_default-keep_lines-clause-steps : goal.returns-in_default-keep_lines-clause-steps
-returns-in_default-keep_lines-clause-steps g c =
+returns-in_default-clause-steps g c =
     unheard_steps g.D.Disk.honest g.D.Disk.words (world_of c.args.self.now) (world_of c.keep_lines.new.self) c.args.number
     c.args.node c.args.count c.requires.none c.keep_lines.ensures.world
 
-pub returns-in_default-keep_lines-clause-happened : goal.returns-in_default-keep_lines-clause-happened
-returns-in_default-keep_lines-clause-happened g c =
+pub returns-in_default-clause-happened : goal.returns-in_default-clause-happened
+returns-in_default-clause-happened g c =
     subst (λ w. HasHappened g.D.Disk.honest g.D.Disk.words (world_of c.args.self.now) w) (sym c.keep_lines.ensures.world)
     (none_happened g.D.Disk.honest g.D.Disk.words (world_of c.args.self.now))
 
-pub returns-in_default-keep_lines-clause-order : goal.returns-in_default-keep_lines-clause-order
-returns-in_default-keep_lines-clause-order g c =
+pub returns-in_default-clause-order : goal.returns-in_default-clause-order
+returns-in_default-clause-order g c =
     kept_order g.D.Disk.honest g.D.Disk.words c.args.self.now c.keep_lines.new.self c.keep_lines.ensures.world
     c.keep_lines.ensures.free c.requires.order
 
@@ -63,13 +60,6 @@ finish-requires-clause-bound g c =
     (world_of c.hear.new.self)
     (subst (λ w. AreBound g.D.Disk.honest g.D.Disk.words w) (sym c.keep_lines.ensures.world) c.requires.order.bound)
     c.hear.ensures.happened
-
-pub finish-requires-clause-list : goal.finish-requires-clause-list
-finish-requires-clause-list g c =
-    let room = c.in-Ok.ensures.room in
-    let fewer = c.hear.ensures.running in
-    let same = ap (λ (w : World _). running_of w.attempts) c.keep_lines.ensures.world in
-    omega (arith, room, fewer, same)
 
 pub returns-clause-steps : goal.returns-clause-steps
 returns-clause-steps g c =

@@ -10,15 +10,6 @@ finish-requires-clause-bound g c =
     still_bound g.D.Disk.honest g.D.Disk.words c.requires.honest c.runs_keep_all.ensures (world_of c.args.self.now)
     (world_of c.carry_replies-act.new.self) c.requires.order.bound c.carry_replies-act.ensures.happened
 
-pub finish-requires-clause-list : goal.finish-requires-clause-list
-finish-requires-clause-list g c =
-    let room = c.in-Ok.ensures.room in
-    let fewer = c.carry_replies-act.ensures.running in
-    omega (arith, room, fewer)
-
-pub returns-in_default-clause-steps : goal.returns-in_default-clause-steps
-returns-in_default-clause-steps g c node none at = inr (inl (tt, inl none, refl, refl))
-
 pub returns-clause-steps : goal.returns-clause-steps
 returns-clause-steps g c node none at =
     carried_steps g.D.Disk.honest g.D.Disk.words (world_of c.args.self.now) (world_of c.carry_replies-act.new.self)

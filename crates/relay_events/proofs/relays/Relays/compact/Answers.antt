@@ -7,7 +7,7 @@ use Rattle.relay_events.specs.Relays.{free_lines, world_of}
 use Rattle.relay_hosts.specs.Room.{HasRoom}
 use Rattle.relay_events.specs.Step.{CrashesInCompacting, Steps, Stops}
 use Rattle.relay_events.proofs.CarryLemmas.{same_order}
-use Rattle.relay_events.proofs.CompactLemmas.{halted_bound, halted_crash, halted_down, halted_happened, halted_room, halted_running, rewritten_bound, rewritten_happened, rewritten_room, rewritten_steps, rewritten_told, unwritten_same, unwritten_steps}
+use Rattle.relay_events.proofs.CompactLemmas.{halted_bound, halted_crash, halted_down, halted_happened, halted_room, rewritten_bound, rewritten_happened, rewritten_room, rewritten_steps, rewritten_told, unwritten_same, unwritten_steps}
 use Rattle.relay_events.proofs.RunLemmas.{both_happened, none_happened, opened_happened, still_bound}
 use Rattle.relay_events.proofs.StepLemmas.{done_steps}
 use Rattle.relay_events.proofs.relays.Relays.compact.Goals as goal
@@ -15,11 +15,6 @@ use Rattle.relay_events.proofs.relays.Relays.compact.Goals as goal
 pub call_to_compact-requires-clause-up : goal.call_to_compact-requires-clause-up
 call_to_compact-requires-clause-up g c =
     let none : unless_up (world_of c.args.self.now) c.args.node None ≡ None = search rules in none
-
-pub returns-in_default-list_of_stops-clause-steps : goal.returns-in_default-list_of_stops-clause-steps
-returns-in_default-list_of_stops-clause-steps g c =
-    let none : unless_up (world_of c.args.self.now) c.args.node None ≡ None = search rules in
-    inr (inl (tt, inl none, refl, refl))
 
 pub returns-in-Done-clause-steps : goal.returns-in-Done-clause-steps
 returns-in-Done-clause-steps g c =
@@ -96,17 +91,6 @@ finish-requires-clause-bound g c =
     c.in-Stopped.ensures.called down c.let_go.ensures.world c.requires.honest c.runs_keep_all.ensures
     c.resting_crash_happens.ensures c.requires.order.bound)
     (opened_happened g.D.Disk.honest g.D.Disk.words down (world_of c.reopen.new.self) c.args.node c.reopen.ensures.opened)
-
-pub finish-requires-clause-empty : goal.finish-requires-clause-empty
-finish-requires-clause-empty g c = c.in-Ok.ensures.empty
-
-pub finish-requires-clause-list : goal.finish-requires-clause-list
-finish-requires-clause-list g c =
-    let room = c.in-Ok.ensures.room in
-    let fewer = halted_running g.D.Disk.honest g.D.Disk.words (world_of c.args.self.now) (world_of c.call_to_compact.new.self)
-    c.args.node c.in-Stopped.ensures.called (world_of c.let_go.new.self) c.let_go.ensures.world in
-    let running = c.reopen.ensures.running in
-    omega (arith, room, fewer, running)
 
 pub returns-in-Stopped-clause-steps : goal.returns-in-Stopped-clause-steps
 returns-in-Stopped-clause-steps g c =

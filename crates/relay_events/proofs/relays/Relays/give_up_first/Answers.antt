@@ -9,7 +9,7 @@ use Rattle.relay_events.specs.Relays.{free_lines, world_of}
 use Rattle.relay_events.specs.Step.{CrashesInGivingUp, Steps, Stops}
 use Rattle.relay_events.proofs.CarryLemmas.{same_order}
 use Rattle.relay_events.proofs.GiveLemmas.{first_is, ungiven_steps}
-use Rattle.relay_events.proofs.GiveUpLemmas.{called_same, few_given, given_bound, given_happened, given_room, given_steps, given_told, halted_crash, halted_happened, halted_ready, halted_running, halted_short}
+use Rattle.relay_events.proofs.GiveUpLemmas.{called_same, few_given, given_bound, given_happened, given_room, given_steps, given_told, halted_crash, halted_happened, halted_ready, halted_short}
 use Rattle.relay_events.proofs.RunLemmas.{both_happened, none_happened, still_bound}
 use Rattle.relay_events.proofs.StepLemmas.{done_steps}
 use Rattle.relay_events.proofs.relays.Relays.give_up_first.Goals as goal
@@ -132,16 +132,6 @@ finish-requires-clause-bound g c =
     (halted_happened g.D.Disk.honest g.D.Disk.words NoHop (world_of c.args.self.now) (world_of c.call_to_give_up.new.self) c.args.node
     c.args.message c.in-Stopped.ensures.called.called (world_of c.restart.new.self) c.restart.ensures.restarts
     c.resting_crash_happens.ensures)
-
-pub finish-requires-clause-empty : goal.finish-requires-clause-empty
-finish-requires-clause-empty g c = c.requires.list.empty
-
-pub finish-requires-clause-list : goal.finish-requires-clause-list
-finish-requires-clause-list g c =
-    let room = c.requires.list.room in
-    let fewer = halted_running g.D.Disk.honest g.D.Disk.words NoHop (world_of c.args.self.now) (world_of c.call_to_give_up.new.self)
-    c.args.node c.args.message c.in-Stopped.ensures.called.called (world_of c.restart.new.self) c.restart.ensures.restarts in
-    omega (arith, room, fewer)
 
 pub returns-in-Stopped-clause-steps : goal.returns-in-Stopped-clause-steps
 returns-in-Stopped-clause-steps g c =

@@ -6,9 +6,8 @@ use Rattle.relay_events.specs.Happened.{HasHappened}
 use Rattle.relay_events.specs.Relays.{free_lines, world_of}
 use Rattle.relay_hosts.specs.Room.{HasRoom}
 use Rattle.relay_events.specs.Step.{Carries, Refuses}
-use Rattle.relay_events.specs.Told.{running_of}
-use Rattle.relay_events.proofs.CrashHeardLemmas.{cut_short, ready_to_crash, restart_carries, restart_happened, restart_running}
-use Rattle.relay_events.proofs.HearLemmas.{cut_there, gone_carries, gone_happened, gone_room, gone_running, heard_carries, heard_happened, heard_room, heard_running, may_read, uncalled}
+use Rattle.relay_events.proofs.CrashHeardLemmas.{cut_short, ready_to_crash, restart_carries, restart_happened}
+use Rattle.relay_events.proofs.HearLemmas.{cut_there, gone_carries, gone_happened, gone_room, heard_carries, heard_happened, heard_room, may_read, uncalled}
 use Rattle.relay_events.proofs.PlaceLemmas.{link_same, link_there, number_positive}
 use Rattle.relay_events.proofs.RunLemmas.{none_happened}
 use Rattle.relay_events.proofs.TellLemmas.{get_within}
@@ -52,12 +51,6 @@ returns-in-Done-clause-room g c =
     c.args.node c.args.count c.requires.waits c.in-Done.received c.in-Done.recorded c.in-Done.ensures.called
     (world_of c.take_heard.new.self) (did_of c.take_heard.result) c.take_heard.ensures.takes (free_lines c.args.self.now)
     (free_lines c.take_heard.new.self) c.requires.room (omega (arith, len, capacity, more, still))
-
-pub returns-in-Done-clause-running : goal.returns-in-Done-clause-running
-returns-in-Done-clause-running g c =
-    heard_running g.D.Disk.honest g.D.Disk.words (world_of c.args.self.now) (world_of c.call_to_hear.new.self) c.args.number
-    c.args.node c.args.count c.requires.waits c.in-Done.received c.in-Done.recorded c.in-Done.ensures.called
-    (world_of c.take_heard.new.self) (did_of c.take_heard.result) c.take_heard.ensures.takes
 
 pub overflow_sub-number : goal.overflow_sub-number
 overflow_sub-number g c =
@@ -111,11 +104,6 @@ returns-in-Gone-clause-room g c =
     c.requires.room in
     omega (arith, room, len, capacity)
 
-pub returns-in-Gone-clause-running : goal.returns-in-Gone-clause-running
-returns-in-Gone-clause-running g c =
-    gone_running g.D.Disk.honest g.D.Disk.words (world_of c.args.self.now) (world_of c.call_to_hear.new.self) c.args.number
-    c.args.node c.args.count c.requires.waits c.in-Gone.fault c.in-Gone.ensures.called
-
 pub restart-requires-clause-cut : goal.restart-requires-clause-cut
 restart-requires-clause-cut g c =
     cut_short g.D.Disk.honest g.D.Disk.words (world_of c.args.self.now) (world_of c.call_to_hear.new.self) c.args.number
@@ -141,11 +129,6 @@ returns-in-Stopped-clause-happened g c =
     c.args.node c.args.count c.requires.waits c.in-Stopped.ensures.called (world_of c.restart.new.self) c.restart.ensures.restarts
     c.crashing_happens.ensures c.requires.bound.lists c.requires.bound.bound
 
-pub returns-in-Stopped-clause-running : goal.returns-in-Stopped-clause-running
-returns-in-Stopped-clause-running g c =
-    restart_running g.D.Disk.honest g.D.Disk.words (world_of c.args.self.now) (world_of c.call_to_hear.new.self) c.args.number
-    c.args.node c.args.count c.requires.waits c.in-Stopped.ensures.called (world_of c.restart.new.self) c.restart.ensures.restarts
-
 pub returns-in-NoRoom-clause-carries : goal.returns-in-NoRoom-clause-carries
 returns-in-NoRoom-clause-carries g c =
     uncalled g.D.Disk.honest g.D.Disk.words (world_of c.args.self.now) (world_of c.call_to_hear.new.self) c.args.number
@@ -166,10 +149,3 @@ returns-in-NoRoom-clause-room g c =
     subst (λ (w : World _). HasRoom w (free_lines c.call_to_hear.new.self))
     (sym (uncalled g.D.Disk.honest g.D.Disk.words (world_of c.args.self.now) (world_of c.call_to_hear.new.self) c.args.number
     c.args.node c.args.count c.requires.waits c.in-NoRoom.ensures.called)) (omega (arith, len, capacity, room))
-
-pub returns-in-NoRoom-clause-running : goal.returns-in-NoRoom-clause-running
-returns-in-NoRoom-clause-running g c =
-    let same = ap (λ (w : World _). running_of w.attempts)
-    (uncalled g.D.Disk.honest g.D.Disk.words (world_of c.args.self.now) (world_of c.call_to_hear.new.self) c.args.number
-    c.args.node c.args.count c.requires.waits c.in-NoRoom.ensures.called) in
-    omega (arith, same)

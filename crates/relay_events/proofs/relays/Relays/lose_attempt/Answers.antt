@@ -3,8 +3,8 @@ use Rattle.std.specs.Prelude.{vec_capacity, vec_len}
 use Rattle.relay_events.specs.Relays.{free_lines, world_of}
 use Rattle.relay_hosts.specs.Call.{IsWhyUntold}
 use Rattle.relay_hosts.specs.Room.{HasRoom}
-use Rattle.relay_events.proofs.ClientEndLemmas.{gone_fewer, gone_happened, gone_room, gone_running, has_at, has_gone_so, place_within}
-use Rattle.relay_events.proofs.LoseLemmas.{crashes_told, cut_short, ended_fewer, ended_happened, ended_room, ended_running, has_ended, ready_to_crash, restart_fewer, restart_happened, restart_running, room_for}
+use Rattle.relay_events.proofs.ClientEndLemmas.{gone_fewer, gone_happened, gone_room, has_at, has_gone_so, place_within}
+use Rattle.relay_events.proofs.LoseLemmas.{crashes_told, cut_short, ended_fewer, ended_happened, ended_room, has_ended, ready_to_crash, restart_fewer, restart_happened, room_for}
 use Rattle.relay_events.proofs.relays.Relays.lose_attempt.Goals as goal
 
 pub call_to_lose-requires : goal.call_to_lose-requires
@@ -55,12 +55,6 @@ returns-in-Ended-clause-fewer g c =
     c.client_end-end.result c.client_end-end.ensures c.in-Ended.change c.in-Ended.recorded c.in-Ended.ensures.called
     (world_of c.end_by_loss.new.self) c.end_by_loss.ensures.world
 
-pub returns-in-Ended-clause-running : goal.returns-in-Ended-clause-running
-returns-in-Ended-clause-running g c =
-    ended_running g.D.Disk.honest g.D.Disk.words (world_of c.args.self.now) (world_of c.call_to_lose.new.self) c.args.number
-    c.client_end-end.result c.client_end-end.ensures c.in-Ended.change c.in-Ended.recorded c.in-Ended.ensures.called
-    (world_of c.end_by_loss.new.self) c.end_by_loss.ensures.world
-
 pub set_fate-requires : goal.set_fate-requires
 set_fate-requires g c =
     let called = c.in-Gone.ensures.called in
@@ -98,13 +92,6 @@ returns-in-Gone-clause-fewer g c =
     c.client_end-end.result c.client_end-end.ensures called.was called.now called.was_at called.new_is
     (world_of c.set_fate.new.self) called.tells.0 c.set_fate.ensures.world
 
-pub returns-in-Gone-clause-running : goal.returns-in-Gone-clause-running
-returns-in-Gone-clause-running g c =
-    let called = c.in-Gone.ensures.called in
-    gone_running g.D.Disk.honest g.D.Disk.words (world_of c.args.self.now) (world_of c.call_to_lose.new.self) c.args.number
-    c.client_end-end.result c.client_end-end.ensures called.was called.now called.was_at called.new_is
-    (world_of c.set_fate.new.self) called.tells.0 c.set_fate.ensures.world
-
 pub restart-requires-clause-cut : goal.restart-requires-clause-cut
 restart-requires-clause-cut g c =
     cut_short g.D.Disk.honest g.D.Disk.words (world_of c.args.self.now) (world_of c.call_to_lose.new.self) c.args.number
@@ -133,11 +120,5 @@ returns-in-Stopped-clause-happened g c =
 pub returns-in-Stopped-clause-fewer : goal.returns-in-Stopped-clause-fewer
 returns-in-Stopped-clause-fewer g c =
     restart_fewer g.D.Disk.honest g.D.Disk.words (world_of c.args.self.now) (world_of c.call_to_lose.new.self) c.args.number
-    c.client_end-end.result c.client_end-end.ensures c.in-Stopped.ensures.called (world_of c.restart.new.self)
-    c.restart.ensures.restarts
-
-pub returns-in-Stopped-clause-running : goal.returns-in-Stopped-clause-running
-returns-in-Stopped-clause-running g c =
-    restart_running g.D.Disk.honest g.D.Disk.words (world_of c.args.self.now) (world_of c.call_to_lose.new.self) c.args.number
     c.client_end-end.result c.client_end-end.ensures c.in-Stopped.ensures.called (world_of c.restart.new.self)
     c.restart.ensures.restarts

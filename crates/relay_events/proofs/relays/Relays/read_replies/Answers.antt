@@ -8,10 +8,10 @@ use Rattle.relay_hosts.specs.Call.{IsWhyUnread}
 use Rattle.relay_events.specs.Relays.{free_lines, world_of}
 use Rattle.relay_hosts.specs.Room.{HasRoom}
 use Rattle.relay_events.specs.Step.{Carries, IsWhyDropped, Refuses}
-use Rattle.relay_events.proofs.BreakLemmas.{room_broken, running_broken, then_broken}
+use Rattle.relay_events.proofs.BreakLemmas.{room_broken, then_broken}
 use Rattle.relay_events.proofs.CarriedLemmas.{dropped_carries, tries_at}
-use Rattle.relay_events.proofs.ClientEndLemmas.{gone_happened, gone_room, gone_running, has_gone, has_gone_so, place_within}
-use Rattle.relay_events.proofs.ReadDoneLemmas.{crash_carries, cut_short, done_carries, done_happened, done_room, done_running, has_more, link_same, ready_to_crash, restart_happened, restart_running, room_for}
+use Rattle.relay_events.proofs.ClientEndLemmas.{gone_happened, gone_room, has_gone, has_gone_so, place_within}
+use Rattle.relay_events.proofs.ReadDoneLemmas.{crash_carries, cut_short, done_carries, done_happened, done_room, has_more, link_same, ready_to_crash, restart_happened, room_for}
 use Rattle.relay_events.proofs.relays.Relays.read_replies.Goals as goal
 
 pub client_end-end-requires-clause-tries : goal.client_end-end-requires-clause-tries
@@ -62,12 +62,6 @@ returns-in-Done-clause-room g c =
     (vec_len ledger) (vec_capacity ledger)
     (subst (λ l. HasRoom (world_of c.args.self.now) (vec_capacity l - vec_len l)) (sym c.call_to_read.ensures.ledger)
     c.requires.room) c.take_replies.ensures.capacity c.take_replies.ensures.len
-
-pub returns-in-Done-clause-running : goal.returns-in-Done-clause-running
-returns-in-Done-clause-running g c =
-    done_running g.D.Disk.honest g.D.Disk.words (world_of c.args.self.now) (world_of c.call_to_read.new.self) c.args.number
-    c.args.count c.client_end-end.result c.client_end-end.ensures c.in-Done.replied c.in-Done.recorded c.in-Done.ensures.called
-    (world_of c.take_replies.new.self) c.take_replies.result c.take_replies.ensures.takes
 
 pub set_fate-requires : goal.set_fate-requires
 set_fate-requires g c =
@@ -126,16 +120,6 @@ returns-in-Gone-clause-room g c =
     (world_of c.set_fate.new.self) called.reads.0 c.set_fate.ensures.world (free_lines c.args.self.now) c.requires.room)
     c.break_off.ensures.world)
 
-pub returns-in-Gone-clause-running : goal.returns-in-Gone-clause-running
-returns-in-Gone-clause-running g c =
-    let called = c.in-Gone.ensures.called in
-    let less = gone_running g.D.Disk.honest g.D.Disk.words (world_of c.args.self.now) (world_of c.call_to_read.new.self)
-    c.args.number c.client_end-end.result c.client_end-end.ensures called.was called.now called.was_at called.new_is
-    (world_of c.set_fate.new.self) called.reads.0 c.set_fate.ensures.world in
-    let same = running_broken g.D.Disk.honest g.D.Disk.words (world_of c.set_fate.new.self) (world_of c.break_off.new.self)
-    c.args.number c.break_off.ensures.world in
-    omega (arith, less, same)
-
 pub restart-requires-clause-cut : goal.restart-requires-clause-cut
 restart-requires-clause-cut g c =
     cut_short g.D.Disk.honest g.D.Disk.words (world_of c.args.self.now) (world_of c.call_to_read.new.self) c.args.number
@@ -160,10 +144,3 @@ returns-in-Stopped-clause-happened g c =
     restart_happened g.D.Disk.honest g.D.Disk.words (world_of c.args.self.now) (world_of c.call_to_read.new.self) c.args.number
     c.args.count c.client_end-end.result c.client_end-end.ensures c.in-Stopped.ensures.called (world_of c.restart.new.self)
     c.restart.ensures.restarts c.crashing_happens.ensures c.requires.bound.lists c.requires.bound.bound
-
-pub returns-in-Stopped-clause-running : goal.returns-in-Stopped-clause-running
-returns-in-Stopped-clause-running g c =
-    let less = restart_running g.D.Disk.honest g.D.Disk.words (world_of c.args.self.now) (world_of c.call_to_read.new.self)
-    c.args.number c.args.count c.client_end-end.result c.client_end-end.ensures c.in-Stopped.ensures.called
-    (world_of c.restart.new.self) c.restart.ensures.restarts in
-    omega (arith, less)

@@ -2,7 +2,7 @@ use Rattle.std.proofs.Common.{◌≡◌, ◌+◌, ◌-◌, ◌≤◌, None, subs
 use Rattle.std.specs.Prelude.{vec_capacity, vec_len}
 use Rattle.relay_events.specs.Relays.{free_lines, world_of}
 use Rattle.relay_hosts.specs.Room.{HasRoom}
-use Rattle.relay_events.proofs.ReopenLemmas.{ends_with, found_lines, found_may, found_room, reopened_with, reopened_without, room_with, running_with, same_ends, same_running, still_room}
+use Rattle.relay_events.proofs.ReopenLemmas.{ends_with, found_lines, found_may, found_room, reopened_with, reopened_without, room_with, same_ends, still_room}
 use Rattle.relay_events.proofs.relays.Relays.reopen.Goals as goal
 
 pub find-requires-clause-may : goal.find-requires-clause-may
@@ -55,16 +55,5 @@ returns-in_default-clause-room g c =
 pub returns-in_default-clause-fewer : goal.returns-in_default-clause-fewer
 returns-in_default-clause-fewer g c =
     let same = same_ends g.D.Disk.honest g.D.Disk.words (world_of c.args.self.now) (world_of c.open_host.new.self) c.args.node
-    None c.in_default.ensures.world in
-    omega (arith, same)
-
-pub returns-clause-running : goal.returns-clause-running
-returns-clause-running g c =
-    running_with g.D.Disk.honest g.D.Disk.words (world_of c.args.self.now) (world_of c.open_host.new.self) c.args.node
-    c.in-Some.found c.in-Some.ensures.world (world_of c.find.new.self) c.find.ensures.finds
-
-pub returns-in_default-clause-running : goal.returns-in_default-clause-running
-returns-in_default-clause-running g c =
-    let same = same_running g.D.Disk.honest g.D.Disk.words (world_of c.args.self.now) (world_of c.open_host.new.self) c.args.node
     None c.in_default.ensures.world in
     omega (arith, same)

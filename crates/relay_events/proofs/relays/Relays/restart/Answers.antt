@@ -24,5 +24,4 @@ returns-clause-restarts g c = record {
   crashes = c.crash.ensures.world;
   opened = c.reopen.ensures.opened;
   fewer = c.reopen.ensures.fewer;
-  running = c.reopen.ensures.running;
 }

@@ -22,18 +22,18 @@ returns-in_default-keep_places-clause-order g c =
     (kept_order g.D.Disk.honest g.D.Disk.words c.args.self.now c.keep_lines.new.self c.keep_lines.ensures.world
     c.keep_lines.ensures.free c.requires)
 
-pub returns-in-Ok-list_of_stops-clause-world : goal.returns-in-Ok-list_of_stops-clause-world
-returns-in-Ok-list_of_stops-clause-world g c = c.keep_places.ensures.world ∙ c.keep_lines.ensures.world
+pub returns-clause-world : goal.returns-clause-world
+returns-clause-world g c = c.keep_places.ensures.world ∙ c.keep_lines.ensures.world
 
-pub returns-in-Ok-list_of_stops-clause-order : goal.returns-in-Ok-list_of_stops-clause-order
-returns-in-Ok-list_of_stops-clause-order g c =
+pub returns-clause-order : goal.returns-clause-order
+returns-clause-order g c =
     same_order g.D.Disk.honest g.D.Disk.words c.keep_lines.new.self c.keep_places.new.self c.keep_places.ensures.world
     c.keep_places.ensures.ledger
     (kept_order g.D.Disk.honest g.D.Disk.words c.args.self.now c.keep_lines.new.self c.keep_lines.ensures.world
     c.keep_lines.ensures.free c.requires)
 
-pub returns-in-Ok-list_of_stops-clause-room : goal.returns-in-Ok-list_of_stops-clause-room
-returns-in-Ok-list_of_stops-clause-room g c = record {
+pub returns-clause-room : goal.returns-clause-room
+returns-clause-room g c = record {
   link = c.in-Ok-keep_places.ensures.link;
   attempt = c.in-Ok-keep_places.ensures.attempt;
   lines = subst (λ (w : World _). HasRoomFor w most_places (vec_capacity c.keep_places.new.self.ledger - vec_len c.keep_places.new.self.ledger))
@@ -41,17 +41,3 @@ returns-in-Ok-list_of_stops-clause-room g c = record {
       (subst (λ l. HasRoomFor (world_of c.keep_lines.new.self) most_places (vec_capacity l - vec_len l))
       (sym c.keep_places.ensures.ledger) c.in-Ok.ensures.room);
 }
-
-pub returns-in-Ok-list_of_stops-clause-list : goal.returns-in-Ok-list_of_stops-clause-list
-returns-in-Ok-list_of_stops-clause-list g c =
-    record { empty = c.in-Ok-list_of_stops.ensures.empty; room = c.in-Ok-list_of_stops.ensures.room }
-
-pub returns-in-Err-clause-world : goal.returns-in-Err-clause-world
-returns-in-Err-clause-world g c = c.keep_places.ensures.world ∙ c.keep_lines.ensures.world
-
-pub returns-in-Err-clause-order : goal.returns-in-Err-clause-order
-returns-in-Err-clause-order g c =
-    same_order g.D.Disk.honest g.D.Disk.words c.keep_lines.new.self c.keep_places.new.self c.keep_places.ensures.world
-    c.keep_places.ensures.ledger
-    (kept_order g.D.Disk.honest g.D.Disk.words c.args.self.now c.keep_lines.new.self c.keep_lines.ensures.world
-    c.keep_lines.ensures.free c.requires)

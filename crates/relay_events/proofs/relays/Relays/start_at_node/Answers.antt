@@ -8,7 +8,7 @@ use Rattle.relay_events.specs.Happened.{HasHappened}
 use Rattle.relay_events.specs.Relays.{AreBound, free_lines, world_of}
 use Rattle.relay_hosts.specs.Room.{HasRoom}
 use Rattle.relay_events.specs.Step.{Steps}
-use Rattle.relay_events.specs.Told.{LearnsOfBreaks, running_of}
+use Rattle.relay_events.specs.Told.{LearnsOfBreaks}
 use Rattle.relay_hosts.specs.Work.{attempts_in}
 use Rattle.relay_events.proofs.AtNodeLemmas.{begun_bound, begun_happened, begun_room, begun_steps, begun_told, first_still, has_free, link_opened, next_number, one_too_many, unopened_steps, unstarted_steps}
 use Rattle.relay_events.proofs.ConnectLemmas.{linked_bound, linked_happened, linked_room}
@@ -140,13 +140,6 @@ break_unstarted-requires-clause-room g c =
     (subst (λ w. HasRoom w (free_lines c.args.self.now)) (sym c.in-Err-begin_on.ensures.begun.0)
     (linked_room g.D.Disk.honest g.D.Disk.words (world_of c.args.self.now) (world_of c.open_link.new.self) c.args.to
     c.address_of-peer.result c.in-Ok.greeting c.in-Ok.ensures.opens (free_lines c.args.self.now) c.requires.order.room))
-
-pub break_unstarted-requires-clause-list : goal.break_unstarted-requires-clause-list
-break_unstarted-requires-clause-list g c =
-    let running = ap (λ (w : World _). running_of w.attempts) c.in-Err-begin_on.ensures.begun.0
-    ∙ ap (λ (w : World _). running_of w.attempts) c.in-Ok.ensures.opens.new_is in
-    let room = c.requires.list.room in
-    record { empty = c.requires.list.empty; room = omega (arith, running, room) }
 
 pub break_unstarted-requires-clause-there : goal.break_unstarted-requires-clause-there
 break_unstarted-requires-clause-there g c =

@@ -6,7 +6,7 @@ use Rattle.relay_hosts.specs.Room.{HasRoom}
 use Rattle.relay_events.specs.Step.{Stops}
 use Rattle.relay_events.proofs.StepLemmas.{done_steps}
 use Rattle.relay_events.proofs.RunLemmas.{both_happened, opened_happened, still_bound}
-use Rattle.relay_events.proofs.StopNowLemmas.{stop_may, stop_refused, taken_bound, taken_down, taken_happened, taken_room, taken_running, taken_stops}
+use Rattle.relay_events.proofs.StopNowLemmas.{stop_may, stop_refused, taken_bound, taken_down, taken_happened, taken_room, taken_stops}
 use Rattle.relay_events.proofs.relays.Relays.stop_now.Goals as goal
 
 pub reopen-requires-clause-bound : goal.reopen-requires-clause-bound
@@ -34,23 +34,10 @@ finish-requires-clause-bound g c =
     (opened_happened g.D.Disk.honest g.D.Disk.words (world_of c.take_down.new.self) (world_of c.reopen.new.self) c.args.node
     c.reopen.ensures.opened)
 
-pub finish-requires-clause-list : goal.finish-requires-clause-list
-finish-requires-clause-list g c =
-    let room = c.in-Ok.ensures.room in
-    let fewer = taken_running g.D.Disk.honest g.D.Disk.words (world_of c.args.self.now) (world_of c.take_down.new.self) c.args.node
-    c.take_down.ensures.world in
-    let running = c.reopen.ensures.running in
-    omega (arith, room, fewer, running)
-
 pub returns-then-len-node-clause-steps : goal.returns-then-len-node-clause-steps
 returns-then-len-node-clause-steps g c =
     let beyond : length c.args.self.now.hosts.items ≤ c.args.node = search rules in
     stop_refused g.D.Disk.honest g.D.Disk.words (world_of c.args.self.now) c.args.node c.args.pick beyond
-
-pub returns-in_default-clause-steps : goal.returns-in_default-clause-steps
-returns-in_default-clause-steps g c =
-    let within : c.args.node < length c.args.self.now.hosts.items = search rules in
-    inr (inl (tt, inl (stop_may g.D.Disk.honest g.D.Disk.words (world_of c.args.self.now) c.args.node c.args.pick within), refl, refl))
 
 pub returns-clause-steps : goal.returns-clause-steps
 returns-clause-steps g c =

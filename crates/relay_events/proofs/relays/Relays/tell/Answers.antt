@@ -7,7 +7,7 @@ use Rattle.relay_events.proofs.relays.Relays.tell.Goals as goal
 
 pub loop-number-init : goal.loop-number-init
 loop-number-init g c = (
-  (0, [], (refl, refl), sym (append-nil c.args.stopped.now.items)),
+  (0, [], (refl, refl), sym (append-nil c.args.stopped.now)),
   none_happened g.D.Disk.honest g.D.Disk.words (world_of c.args.self.now),
   c.requires.bound,
   c.requires.room,
@@ -22,9 +22,9 @@ loop-number-preserved g c =
         suc told.0,
         told.1 ++ one.0,
         tell_more g.D.Disk.honest g.D.Disk.words told.0 (world_of c.args.self.now) (world_of c.loop-number.self)
-            (world_of c.tell_one.new.self) told.1 _ told.2 c.in-Some.ensures c.loop-number.stopped.items
-            c.tell_one.new.stopped.items one,
-        one.2 ∙ ap (λ l. l ++ one.0) told.3 ∙ append_assoc c.args.stopped.now.items told.1 one.0,
+            (world_of c.tell_one.new.self) told.1 _ told.2 c.in-Some.ensures c.loop-number.stopped
+            c.tell_one.new.stopped one,
+        one.2 ∙ ap (λ l. l ++ one.0) told.3 ∙ append_assoc c.args.stopped.now told.1 one.0,
       ),
       both_happened g.D.Disk.honest g.D.Disk.words (world_of c.args.self.now) (world_of c.loop-number.self)
           (world_of c.tell_one.new.self) c.loop-number.invariant.1 c.tell_one.ensures.happened,

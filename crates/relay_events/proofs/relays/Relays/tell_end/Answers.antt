@@ -4,7 +4,7 @@ use Rattle.relay_world.specs.World.{link_at}
 use Rattle.relay_events.specs.Relays.{free_lines, world_of}
 use Rattle.relay_hosts.specs.Room.{HasRoom}
 use Rattle.relay_events.specs.Step.{Carries, Refuses}
-use Rattle.relay_events.proofs.BreakLemmas.{room_broken, running_broken, then_broken}
+use Rattle.relay_events.proofs.BreakLemmas.{room_broken, then_broken}
 use Rattle.relay_events.proofs.CarriedLemmas.{dropped_carries, lost_carries, told_carries}
 use Rattle.relay_events.proofs.relays.Relays.tell_end.Goals as goal
 
@@ -18,9 +18,6 @@ pub returns-in-Ended-clause-carries : goal.returns-in-Ended-clause-carries
 returns-in-Ended-clause-carries g c node count runs =
     lost_carries g.D.Disk.honest g.D.Disk.words (world_of c.args.self.now) (world_of c.lose_attempt.new.self) c.args.number node
     count c.in-Ended.change runs c.in-Ended.ensures.told
-
-pub returns-in-Ended-clause-running : goal.returns-in-Ended-clause-running
-returns-in-Ended-clause-running g c = let less = c.lose_attempt.ensures.running in omega (arith, less)
 
 pub returns-in-Gone-clause-carries : goal.returns-in-Gone-clause-carries
 returns-in-Gone-clause-carries g c node count runs =
@@ -42,17 +39,7 @@ returns-in-Gone-clause-room g c =
     (room_broken g.D.Disk.honest g.D.Disk.words (world_of c.lose_attempt.new.self) (world_of c.break_off.new.self) c.args.number
     (free_lines c.lose_attempt.new.self) c.lose_attempt.ensures.room c.break_off.ensures.world)
 
-pub returns-in-Gone-clause-running : goal.returns-in-Gone-clause-running
-returns-in-Gone-clause-running g c =
-    let less = c.lose_attempt.ensures.running in
-    let same = running_broken g.D.Disk.honest g.D.Disk.words (world_of c.lose_attempt.new.self) (world_of c.break_off.new.self)
-    c.args.number c.break_off.ensures.world in
-    omega (arith, less, same)
-
 pub returns-in-Stopped-clause-carries : goal.returns-in-Stopped-clause-carries
 returns-in-Stopped-clause-carries g c node count runs =
     told_carries g.D.Disk.honest g.D.Disk.words (world_of c.args.self.now) (world_of c.lose_attempt.new.self) c.args.number
     c.in-Stopped.node node count runs c.in-Stopped.ensures.told
-
-pub returns-in-Stopped-clause-running : goal.returns-in-Stopped-clause-running
-returns-in-Stopped-clause-running g c = let less = c.lose_attempt.ensures.running in omega (arith, less)

@@ -1,17 +1,19 @@
 use Rattle.std.proofs.Common.{◌≡◌, ◌-◌, [], true, false, length, sym, ap, ◌∙◌, arith, rules}
 use Rattle.std.specs.Prelude.{List, vec_len}
-use Rattle.std.proofs.lemmas.List.{append-nil}
+use Rattle.std.proofs.lemmas.List.{append-nil, length-append}
 use Rattle.relay_world.specs.declared.link.Link.{Link}
 use Rattle.relay_world.specs.Once.{Ends}
 use Rattle.relay_events.specs.Relays.{world_of}
 use Rattle.relay_world.specs.declared.attempt.Attempt.{Attempt}
-use Rattle.relay_events.specs.Told.{Ends as EndTold, running_of}
+use Rattle.relay_events.specs.Told.{Ends as EndTold, trying_of}
 use Rattle.relay_hosts.specs.Links.{hears_on}
 use Rattle.relay_events.proofs.CarriedLemmas.{some_told}
 use Rattle.relay_events.proofs.EndLemmas.{tries_there}
 use Rattle.relay_events.proofs.PlaceLemmas.{link_same, link_there, number_positive}
 use Rattle.relay_events.proofs.RunLemmas.{one_happened, still_bound}
 use Rattle.relay_events.proofs.TellLemmas.{get_within}
+use Rattle.relay_events.proofs.TryingLemmas.{tells_fewer}
+use Rattle.relay_events.specs.Carried.{stops_by}
 use Rattle.relay_events.proofs.relays.Relays.tell_one.Goals as goal
 
 pub overflow_sub-number : goal.overflow_sub-number
@@ -44,19 +46,20 @@ lose_attempt-loss-requires-clause-tries g c =
     tries_there (world_of c.args.self.now) c.args.number first (ap (λ (l : Link). hears_on l.server) (sym same) ∙ silent)
 
 pub returns-then-hears_on-clause-told : goal.returns-then-hears_on-clause-told
-returns-then-hears_on-clause-told g c = ([], EndTold c.end_session.ensures.told, sym (append-nil c.args.stopped.now.items))
+returns-then-hears_on-clause-told g c = ([], EndTold c.end_session.ensures.told, sym (append-nil c.args.stopped.now))
 
 pub list_loss-requires : goal.list_loss-requires
 list_loss-requires g c =
     let room = c.requires.list in
-    let less = c.lose_attempt-loss.ensures.running in
+    let less = tells_fewer g.D.Disk.honest g.D.Disk.words (world_of c.args.self.now) (world_of c.lose_attempt-loss.new.self)
+    c.args.number c.lose_attempt-loss.result c.requires.bound.few c.lose_attempt-loss.ensures.told in
     omega (arith, room, less)
 
 pub returns-clause-told : goal.returns-clause-told
 returns-clause-told g c =
     some_told g.D.Disk.honest g.D.Disk.words (world_of c.args.self.now) (world_of c.lose_attempt-loss.new.self) c.args.number
-    c.args.stopped.now.items c.list_loss.new.stopped.items c.lose_attempt-loss.result c.lose_attempt-loss.ensures.told
-    c.list_loss.ensures.items
+    c.args.stopped.now c.list_loss.new.stopped c.lose_attempt-loss.result c.lose_attempt-loss.ensures.told
+    c.list_loss.ensures
 
 pub returns-then-hears_on-clause-happened : goal.returns-then-hears_on-clause-happened
 returns-then-hears_on-clause-happened g c =
@@ -78,13 +81,14 @@ returns-clause-bound g c =
 pub returns-clause-list : goal.returns-clause-list
 returns-clause-list g c =
     let room = c.requires.list in
-    let less = c.lose_attempt-loss.ensures.running in
-    let len = c.list_loss.ensures.len in
-    let capacity = c.list_loss.ensures.capacity in
-    omega (arith, room, less, len, capacity)
+    let less = tells_fewer g.D.Disk.honest g.D.Disk.words (world_of c.args.self.now) (world_of c.lose_attempt-loss.new.self)
+    c.args.number c.lose_attempt-loss.result c.requires.bound.few c.lose_attempt-loss.ensures.told in
+    let listed = ap length c.list_loss.ensures
+    ∙ length-append c.args.stopped.now (stops_by c.lose_attempt-loss.result) in
+    omega (arith, room, less, listed)
 
 pub returns-then-hears_on-clause-list : goal.returns-then-hears_on-clause-list
 returns-then-hears_on-clause-list g c =
-    let same = ap (λ (l : List Attempt). running_of l) c.end_session.ensures.told.rest.0 in
+    let same = ap (λ (l : List Attempt). trying_of 16 l) c.end_session.ensures.told.rest.0 in
     let room = c.requires.list in
     omega (arith, same, room)

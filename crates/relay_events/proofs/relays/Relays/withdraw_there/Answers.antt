@@ -8,7 +8,7 @@ use Rattle.relay_events.specs.Happened.{Asking, HasHappened, Unasked}
 use Rattle.relay_events.specs.Relays.{free_lines, world_of}
 use Rattle.relay_events.specs.Step.{CrashesInWithdrawing, Steps, Stops}
 use Rattle.relay_events.proofs.CarryLemmas.{same_order}
-use Rattle.relay_events.proofs.GiveUpLemmas.{called_same, few_given, given_bound, given_happened, given_room, given_told, halted_crash, halted_happened, halted_ready, halted_running, halted_short, unwithdrawn_same, unwithdrawn_steps, withdrawn_steps}
+use Rattle.relay_events.proofs.GiveUpLemmas.{called_same, few_given, given_bound, given_happened, given_room, given_told, halted_crash, halted_happened, halted_ready, halted_short, unwithdrawn_same, unwithdrawn_steps, withdrawn_steps}
 use Rattle.relay_events.proofs.RunLemmas.{none_happened, still_bound_asking, then_happened}
 use Rattle.relay_events.proofs.StepLemmas.{done_steps}
 use Rattle.relay_events.proofs.relays.Relays.withdraw_there.Goals as goal
@@ -136,16 +136,6 @@ finish-requires-clause-bound g c =
     (halted_happened g.D.Disk.honest g.D.Disk.words (by_him c.args.withdrawal c.args.place) (world_of c.args.self.now) (world_of c.call_to_withdraw.new.self) c.args.node
     c.args.message c.in-Stopped.ensures.called (world_of c.restart.new.self) c.restart.ensures.restarts
     c.resting_crash_happens.ensures)
-
-pub finish-requires-clause-empty : goal.finish-requires-clause-empty
-finish-requires-clause-empty g c = c.requires.list.empty
-
-pub finish-requires-clause-list : goal.finish-requires-clause-list
-finish-requires-clause-list g c =
-    let room = c.requires.list.room in
-    let fewer = halted_running g.D.Disk.honest g.D.Disk.words (by_him c.args.withdrawal c.args.place) (world_of c.args.self.now) (world_of c.call_to_withdraw.new.self)
-    c.args.node c.args.message c.in-Stopped.ensures.called (world_of c.restart.new.self) c.restart.ensures.restarts in
-    omega (arith, room, fewer)
 
 pub returns-in-Stopped-clause-steps : goal.returns-in-Stopped-clause-steps
 returns-in-Stopped-clause-steps g c =
