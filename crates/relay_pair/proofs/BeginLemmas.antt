@@ -243,10 +243,11 @@ module _ {D : Type 0} (honest : Type 0) (words : DiskWords D) where
           ]
         ]
 
-    pub begun_are_bound : ¬ HaveOneHost configs → OnceAtFirst words → HopLinksAtFirst D
+    pub begun_are_bound : ¬ HaveOneHost configs → length configs ≤ 16 → OnceAtFirst words → HopLinksAtFirst D
         → AreBound honest words (begun_with hosts)
-    begun_are_bound apart once linked = record {
+    begun_are_bound apart few once linked = record {
       named = begun_are_named apart;
+      few = let many = as_many_hosts 0 configs hosts are in omega (arith, few, many);
       lists = no_lists hosts;
       bound = begun_is_bound;
       asked = [];

@@ -6,6 +6,7 @@ use Rattle.relay_disk.specs.Device.{DiskWords}
 use Rattle.relay_book.specs.declared.change.Change.{Change}
 use Rattle.relay_world.specs.Bound.{IsBound}
 use Rattle.relay_world.specs.HopLinks.{AreLinkedToHops}
+use Rattle.relay_world.specs.Leaks.{NothingLeaks}
 use Rattle.relay_world.specs.Lines.{HasSources}
 use Rattle.relay_world.specs.Once.{IsTriedOnce}
 use Rattle.relay_world.specs.Promise.{KeepsPromise, PromiseIsKept}
@@ -73,8 +74,8 @@ module _ {D : Type 0} (honest : Type 0) (words : DiskWords D) where
 
   -- and the promise is kept
   pub promise_kept : honest → PromiseIsKept honest words → (asked : List Withdrawing) (old new : World D) → AreBound honest words old
-      → HasHappenedAsking honest words asked old new → KeepsItsPromise honest words asked old new
-  promise_kept is_honest keeps asked old new bound happened =
+      → NothingLeaks new → HasHappenedAsking honest words asked old new → KeepsItsPromise honest words asked old new
+  promise_kept is_honest keeps asked old new bound leaks happened =
       let later = keeps is_honest happened.count old new bound.lists bound.asked bound.bound bound.once bound.linked
       bound.sources happened.run in
       record {
@@ -86,6 +87,7 @@ module _ {D : Type 0} (honest : Type 0) (words : DiskWords D) where
             later.1;
         grown = later.3;
         attempts = later.4;
+        leaks = leaks;
         asked_before = bound.asked;
         once_before = bound.once;
         linked_before = bound.linked;
@@ -96,9 +98,9 @@ module _ {D : Type 0} (honest : Type 0) (words : DiskWords D) where
 
   -- and so after events that follow
   pub promise_on : honest → PromiseIsKept honest words → (asked more : List Withdrawing) (old now new : World D)
-      → KeepsItsPromise honest words asked old now
+      → KeepsItsPromise honest words asked old now → NothingLeaks new
       → HasHappenedAsking honest words more now new → KeepsItsPromise honest words (more ++ asked) old new
-  promise_on is_honest keeps asked more old now new kept happened =
+  promise_on is_honest keeps asked more old now new kept leaks happened =
       let both = both_asking honest words asked more old now new kept.happened happened in
       let later = keeps is_honest both.count old new kept.before kept.asked_before kept.were kept.once_before
       kept.linked_before kept.sources_before both.run in
@@ -111,6 +113,7 @@ module _ {D : Type 0} (honest : Type 0) (words : DiskWords D) where
             kept.sources_before both later.1;
         grown = later.3;
         attempts = later.4;
+        leaks = leaks;
         asked_before = kept.asked_before;
         once_before = kept.once_before;
         linked_before = kept.linked_before;
@@ -159,11 +162,11 @@ module _ {D : Type 0} (honest : Type 0) (words : DiskWords D) where
 
   -- the promise of a run
   pub run_kept : honest → PromiseIsKept honest words → (events : List Event) (old new : World D) → AreBound honest words old
-      → HappenedBy events old new → RunKeepsItsPromise honest words events old new
-  run_kept is_honest keeps events old new bound so = record {
+      → NothingLeaks new → HappenedBy events old new → RunKeepsItsPromise honest words events old new
+  run_kept is_honest keeps events old new bound leaks so = record {
     asked = so.asked;
     by_events = so.by_events;
-    keeps = promise_kept is_honest keeps so.asked old new bound so.happened;
+    keeps = promise_kept is_honest keeps so.asked old new bound leaks so.happened;
   }
 
   -- by no event nothing is asked for

@@ -7,6 +7,7 @@ use Rattle.relay_world.specs.Bound.{IsBound}
 use Rattle.relay_world.specs.GivingUp.{Withdrawing}
 use Rattle.relay_world.specs.Growth.{AttemptsGrow, HasGrown, ListsGrow}
 use Rattle.relay_world.specs.HopLinks.{AreLinkedToHops}
+use Rattle.relay_world.specs.Leaks.{NothingLeaks}
 use Rattle.relay_world.specs.Lines.{HasSources}
 use Rattle.relay_world.specs.Once.{IsTriedOnce}
 use Rattle.relay_world.specs.Promise.{KeepsPromise}
@@ -17,9 +18,10 @@ use Rattle.relay_events.specs.Happened.{HasHappenedAsking, asked_for}
 -- The mail of relays after a run. The relays had lists of changes with the invariant, tried each place once, and had
 -- ledger lines with their sources. Now each node has a list of changes that its spool holds and that begins with its
 -- earlier list, and by these lists the promise is kept. Nothing that was recorded, written or read before is gone; ends
--- of links belong to whom they did, and broken links are unchanged; attempts have gone on or ended. All of this came by
--- events of the world, each of which adds the accept or outcome that it leads to, at the clock's time. By these events
--- the postmaster asked for exactly the withdrawals in `asked`, the last one first.
+-- of links belong to whom they did, and broken links are unchanged; attempts have gone on or ended. Each seat in use at a
+-- node that is up is a link's, and each attempt number in use a running attempt's. All of this came by events of the
+-- world, each of which adds the accept or outcome that it leads to, at the clock's time. By these events the postmaster
+-- asked for exactly the withdrawals in `asked`, the last one first.
 pub record KeepsItsPromise {D : Type 0} (honest : Type 0) (words : DiskWords D) (asked : List Withdrawing)
     (old new : World D) : Type 0 where
   pub lists : List (List Change)
@@ -31,6 +33,7 @@ pub record KeepsItsPromise {D : Type 0} (honest : Type 0) (words : DiskWords D) 
       → KeepsPromise honest words new lists (asked ++ earlier)
   pub grown : HasGrown old new
   pub attempts : AttemptsGrow old new
+  pub leaks : NothingLeaks new
   pub asked_before : List Withdrawing
   pub once_before : IsTriedOnce old before asked_before
   pub linked_before : AreLinkedToHops old

@@ -10,4 +10,4 @@ mod profile;
 
 pub use network::NetFault;
 pub use pair::Pair;
-pub use relay_events::{Event, PairFault, Seen};
+pub use relay_events::{Event, PairFault, Seen, StoppedNodes};

@@ -1,5 +1,5 @@
 //! A run of simulated relays.
-ghost use Rattle.std.specs.Prelude.{◌≡◌, ◌≤◌, IfErr, IfOk, List};
+ghost use Rattle.std.specs.Prelude.{◌≡◌, ◌≤◌, IfErr, IfOk, List, length};
 ghost use Rattle.relay_pair.specs.Begin.{AreNew, HasBegun, HasBegunAsMany, HasBegunAsTwo};
 ghost use Rattle.relay_events.specs.Begin.{begun_with};
 ghost use Rattle.relay_pair.specs.Copied.{CountsCopies};
@@ -120,10 +120,10 @@ impl<D: Disk + Drop> Pair<D> {
         Ok(Pair::of_hosts(alloc, hosts))
     }
 
-    /// Returns relays of new hosts, no two of which have the same name. Allocates nothing.
+    /// Returns relays of at most 16 new hosts, no two of which have the same name. Allocates nothing.
     fn of_hosts(alloc: Global, hosts: Vec<Host<D>>) -> Self
         requires { (configs : List Configuration) × AreNew D.Disk.honest D.Disk.words 0 configs hosts.items
-            × ¬ HaveOneHost configs }
+            × (¬ HaveOneHost configs) × (length configs ≤ 16) }
         ensures { result ≡ begun_with hosts.items }
     {
         once_at_first::<D>();
@@ -228,7 +228,6 @@ impl<D: Reboot + Drop> Pair<D> {
         requires { D.Disk.honest }
         ensures steps { StepsEach D.Disk.honest D.Disk.words self.old events.now self.new }
         ensures promise { RunKeepsItsPromise D.Disk.honest D.Disk.words events.now self.old self.new }
-        ensures leaks { NothingLeaks self.new }
     {
         promise_is_kept::<D>();
         self.is_bound();

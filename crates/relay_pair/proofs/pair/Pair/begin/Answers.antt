@@ -1,5 +1,5 @@
 -- The two relays of a play, which have just begun.
-use Rattle.std.proofs.Common.{◌≡◌, List, [], ◌∷◌, ◌++◌, sym, subst, ap, ◌∙◌, rules}
+use Rattle.std.proofs.Common.{◌≡◌, List, [], ◌∷◌, ◌++◌, sym, subst, ap, ◌∙◌, arith, rules}
 use Rattle.relay_world.specs.World.{Host}
 use Rattle.relay_pair.specs.Begin.{AreNew}
 use Rattle.relay_pair.proofs.BeginLemmas.{two_are_new, two_hosts}
@@ -19,6 +19,7 @@ of_hosts-requires g c =
           (two_are_new g.D.Disk.honest g.D.Disk.words one other a b c.in_ok-first_profile.ensures.listen
           c.in_ok-second_profile.ensures.listen c.in-Ok.ensures c.in-Ok-create.ensures),
       two_hosts one other c.in_ok-first_profile.ensures.host_is c.in_ok-second_profile.ensures.host_is,
+      omega arith,
     )
 
 pub returns : goal.returns

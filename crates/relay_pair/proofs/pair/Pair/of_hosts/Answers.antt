@@ -16,7 +16,7 @@ invariant_of-result g c =
     record {
       order = record {
         bound = subst (λ (w : World _). AreBound g.D.Disk.honest g.D.Disk.words w) (sym c.of_hosts.ensures)
-            (begun_are_bound g.D.Disk.honest g.D.Disk.words configs hosts c.requires.1 c.requires.2 c.once_at_first.ensures
+            (begun_are_bound g.D.Disk.honest g.D.Disk.words configs hosts c.requires.1 c.requires.2 c.requires.3 c.once_at_first.ensures
             c.hop_links_at_first.ensures);
         told = subst (λ (w : World _). LearnsOfBreaks w) (sym c.of_hosts.ensures)
             (begun_are_told g.D.Disk.honest g.D.Disk.words configs hosts c.requires.1);
