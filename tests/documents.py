@@ -1,7 +1,7 @@
 #!/usr/bin/env python3
 """Compares the documents with the tree: links and their anchors, paths, quoted contracts, names of definitions, calls and
-must-fail edits, each crate's place, the length of lines and of documents. Prints each disagreement, and exits with 1 if
-there is one.
+must-fail edits, the file of each clause and definition that a document places in one, each crate's place, the length of
+lines and of documents. Prints each disagreement, and exits with 1 if there is one.
 
     tests/documents.py
 """
@@ -21,6 +21,10 @@ INVENTED = {"ReadsYourKey", "rattle", "read_your_key"}
 NAME = re.compile(r"[A-Za-z_][A-Za-z0-9_]*")
 LINK = re.compile(r"\]\(([^)\s]+)\)")
 QUOTED = re.compile(r"`([^`\n]+)`")
+# Definitions, fields and clauses with the file where they stand, as in: `KeepsCustody.held`, `IsBound` (`Bound.antt`).
+PLACED = re.compile(r"((?:`[\w.]+`, )*`[\w.]+`) \(`([\w/]+\.(?:antt|rt))`\)")
+# The folder of a file without one.
+HOME = "relay_world/specs"
 
 
 def tracked(*patterns):
@@ -83,6 +87,36 @@ def faults_of_names(text, names):
                     yield f"`{quoted}`: nothing in the tree has the name {name}"
 
 
+def is_declared(name, path):
+    """Returns whether a file declares a name: a definition and its field, or a function and its clause."""
+    first, _, second = name.partition(".")
+    lines = path.read_text().splitlines()
+    if path.suffix == ".rt":
+        word, inner = r"\s*(pub |pub\(crate\) )?fn {}\b", r"\s*(ensures|requires) {} \{{"
+    else:
+        word, inner = r"\s*((abbrev|unfoldable|pub|record|data) )*{}(?= )", r"\s+(pub )?{} :"
+    begin = next((at for at, line in enumerate(lines) if re.match(word.format(first), line)), None)
+    if begin is None or not second:
+        return begin is not None
+    # A field or a clause stands deeper than its definition or its function, up to the next line that doesn't.
+    margin = len(lines[begin]) - len(lines[begin].lstrip())
+    for line in lines[begin + 1:]:
+        if re.match(inner.format(second), line):
+            return True
+        if line.strip() and len(line) - len(line.lstrip()) <= margin and not line.lstrip().startswith(")"):
+            return False
+    return False
+
+
+def faults_of_places(text):
+    """A name that is placed in a file, in parentheses behind it, is declared there."""
+    for names, place in PLACED.findall(text):
+        path = TOP / "crates" / (place if "/" in place else f"{HOME}/{place}")
+        for name in QUOTED.findall(names):
+            if not path.is_file() or not is_declared(name, path):
+                yield f"`{name}` isn't declared in `{place}`"
+
+
 def faults_of_crates(crates):
     for name in ("docs/ARCHITECTURE.md", "docs/PROVED.md"):
         text = (TOP / name).read_text()
@@ -107,6 +141,8 @@ def main():
         found = [*faults_of_links(path, text), *faults_of_lengths(path, text), *faults_of_paths(text, names)]
         if name in NAMING:
             found += [*faults_of_contracts(text, code), *faults_of_names(text, names)]
+        if name == "docs/PROVED.md":
+            found += faults_of_places(text)
         faults += [f"{name}: {fault}" for fault in found]
     print(*faults, sep="\n")
     if faults:
