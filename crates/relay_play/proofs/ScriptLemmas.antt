@@ -8,10 +8,10 @@ use Rattle.std.proofs.lemmas.List.Elements.{Contains-append_left, Contains-appen
 use Rattle.std.proofs.lemmas.List.Splits.{slice_split-cons_no, slice_split-cons_yes}
 use Rattle.std.specs.Io.KnownBytes.{Consumes, Keeps}
 use Rattle.std.proofs.KnownBytes.{Consumes-kept, Consumes-nil, Consumes-trans}
-use Rattle.memchr.specs.Find.{IsFirstByte, is_byte}
 use Rattle.relay_disk.specs.Device.{DiskWords}
 use Rattle.relay_disk.specs.declared.memory.MemoryDisk.{MemoryDisk}
 use Rattle.relay_world.specs.GivingUp.{Withdrawing}
+use Rattle.relay_world.specs.Leaks.{NothingLeaks}
 use Rattle.relay_world.specs.World.{World}
 use Rattle.relay_events.specs.Happened.{Asking, HasHappenedFor, Unasked, asked_for}
 use Rattle.relay_play.specs.declared.state.PlayState.{PlayState}
@@ -23,40 +23,6 @@ use Rattle.relay_pair.specs.Promise.{KeepsItsPromise}
 use Rattle.relay_pair.proofs.Theorems.{promise_on}
 use Rattle.relay_script.specs.Line.{Spells}
 use Rattle.relay_play.specs.Script.{Does, HasNoLineFeed, HasNotBegun, HasPlayed, IsAskedIn, IsPlayed, IsRead, IsReadTo, PlaysAll, PlaysBlock, PlaysEach, PlaysLine, StartsAs, event_in, is_line_feed}
-
--- the front of octets, where no LF stands in it
-no_line_feed_in : (octets : List ℕ) (count : ℕ)
-    → ((place : ℕ) → place < count → place < length octets → is_line_feed (get_or octets place 0) ≡ false)
-    → HasNoLineFeed (take count octets)
-no_line_feed_in [] zero none = tt
-no_line_feed_in [] (suc count) none = tt
-no_line_feed_in (octet ∷ octets) zero none = tt
-no_line_feed_in (octet ∷ octets) (suc count) none =
-    (none 0 (omega arith) (omega arith), no_line_feed_in octets count (λ place low high. none (suc place) (omega (arith, low)) (omega (arith, high))))
-
--- what stands at a place, and what is after it
-split_here : (octets : List ℕ) (place : ℕ) → place < length octets → get_or octets place 0 ≡ 10
-    → octets ≡ take place octets ++ 10 ∷ drop (suc place) octets
-split_here [] place within here = absurd (omega (arith, within))
-split_here (octet ∷ octets) zero within here = ap (λ o. o ∷ octets) here
-split_here (octet ∷ octets) (suc place) within here =
-    ap (λ l. octet ∷ l) (split_here octets place (omega (arith, within)) here)
-
--- what a search for an LF answers
-pub line_found : (text : List ℕ) (answer : Option ℕ) → IsFirstByte (is_byte 10) text answer
-    → MatchOption answer (HasNoLineFeed text)
-    (λ place. HasNoLineFeed (take place text) × (text ≡ take place text ++ 10 ∷ drop (place + 1) text))
-line_found text None nowhere =
-    subst HasNoLineFeed (take_all (length text) text (omega arith))
-    (no_line_feed_in text (length text)
-    (λ place low high. false_from_ne_true (get_or text place 0 == 10) (λ h. nowhere place (omega arith) low h)))
-line_found text (Some place) found =
-    let high = found.0.high in (
-      no_line_feed_in text place
-          (λ at low within. false_from_ne_true (get_or text at 0 == 10) (λ h. found.0.before at (omega arith) low h)),
-      split_here text place high (eqb-true (get_or text place 0) 10 found.1)
-          ∙ ap (λ n. take place text ++ 10 ∷ drop n text) (sym (add-one place)),
-    )
 
 -- octets of a line, and more of it
 bare_joined : (front back : List ℕ) → HasNoLineFeed front → HasNoLineFeed back → HasNoLineFeed (front ++ back)
@@ -261,15 +227,15 @@ module _ (honest : Type 0) (words : DiskWords MemoryDisk) where
 
     event_promised : (text : List ℕ) (event : Said) → Contains (slice_split is_line_feed script) text
         → Spells text (Happens event) → (old new : World MemoryDisk) → HasHappenedFor honest words (event_in event) old new
-        → IsPromised script first old → IsPromised script first new
-    event_promised text event there spells old new (Unasked more) was = record {
+        → NothingLeaks new → IsPromised script first old → IsPromised script first new
+    event_promised text event there spells old new (Unasked more) leaks was = record {
       start = was.start;
       starts = was.starts;
       asked = was.asked;
       by_lines = was.by_lines;
-      promise = promise_on honest words is_honest keeps was.asked [] was.start old new was.promise more;
+      promise = promise_on honest words is_honest keeps was.asked [] was.start old new was.promise leaks more;
     }
-    event_promised text event there spells old new (Asking more) was = record {
+    event_promised text event there spells old new (Asking more) leaks was = record {
       start = was.start;
       starts = was.starts;
       asked = asked_for (event_in event) ++ was.asked;
@@ -277,7 +243,7 @@ module _ (honest : Type 0) (words : DiskWords MemoryDisk) where
           (each_in (IsAskedIn honest words script) (asked_for (event_in event))
           (λ one asks. record { text = text; line = there; event = event; says = spells; asks = asks })) was.by_lines;
       promise = promise_on honest words is_honest keeps was.asked (asked_for (event_in event)) was.start old new
-          was.promise more;
+          was.promise leaks more;
     }
 
     line_promised : (text : List ℕ) (line : ScriptLine) → Contains (slice_split is_line_feed script) text → Spells text line
@@ -287,7 +253,7 @@ module _ (honest : Type 0) (words : DiskWords MemoryDisk) where
     line_promised text (Nodes count) there spells old new does was =
         record { start = new.pair; starts = inr (count, does.1); asked = []; by_lines = tt; promise = does.2 }
     line_promised text (Happens event) there spells old new does was =
-        event_promised text event there spells old.pair new.pair does.1 was
+        event_promised text event there spells old.pair new.pair does.1 does.2 was
     line_promised text Ledger there spells old new does was =
         same_promised old (record old { has_begun = true }) new does refl was
     line_promised text Marks there spells old new does was =

@@ -19,6 +19,7 @@ use Rattle.relay_book.specs.declared.change.Withdrawal.TheVariants.{Return, Disc
 use Rattle.relay_events.specs.declared.fault.PairFault.{PairFault}
 use Rattle.relay_events.specs.declared.seen.Seen.{Seen}
 use Rattle.relay_world.specs.GivingUp.{Withdrawing}
+use Rattle.relay_world.specs.Leaks.{NothingLeaks}
 use Rattle.relay_events.specs.Happened.{HasHappenedFor, asked_for}
 use Rattle.relay_events.specs.Step.{Steps}
 use Rattle.relay_pair.specs.Begin.{HasBegunAsMany, HasBegunAsTwo}
@@ -101,7 +102,7 @@ module _ (honest : Type 0) (words : DiskWords MemoryDisk) where
       × (new ≡ record old { pair = new.pair; nodes = count; has_begun = true })
   Does (Happens event) old new =
       ((answer : Result Seen PairFault) × Steps honest words old.pair (event_in event) new.pair answer)
-      × HasHappenedFor honest words (event_in event) old.pair new.pair
+      × HasHappenedFor honest words (event_in event) old.pair new.pair × NothingLeaks new.pair
       × (new ≡ record old { pair = new.pair; has_begun = true })
   Does Ledger old new = new ≡ record old { has_begun = true }
   Does Marks old new = new ≡ record old { has_begun = true }

@@ -3,6 +3,7 @@ ghost use Rattle.std.specs.Prelude.{◌≡◌, Result, min};
 ghost use Rattle.relay_events.specs.Happened.{HasHappenedFor};
 ghost use Rattle.relay_events.specs.Step.{Steps};
 ghost use Rattle.relay_play.specs.Script.{event_in};
+ghost use Rattle.relay_world.specs.Leaks.{NothingLeaks};
 
 use crate::print::{print_refused, print_seen};
 use relay_book::Withdrawal;
@@ -18,6 +19,7 @@ pub(crate) fn happen(pair: &mut Pair<MemoryDisk>, said: Said, out: &mut Vec<u8>)
         ⟦<MemoryDisk as Disk>⟧.words pair.old (event_in said) pair.new answer }
     ensures happened { HasHappenedFor ⟦<MemoryDisk as Disk>⟧.honest ⟦<MemoryDisk as Disk>⟧.words (event_in said)
         pair.old pair.new }
+    ensures leaks { NothingLeaks pair.new }
 {
     let event = event_of(said);
     match pair.step(&event) {

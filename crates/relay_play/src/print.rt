@@ -37,7 +37,7 @@ pub(crate) fn print_seen<D: Disk>(
             print_change(*change, *end, out)
         }
         (Seen::Broken(link), _) => writeln!(out, "broken {link}"),
-        (Seen::Set, Event::Tick(now)) => writeln!(out, "now {}", now.seconds()),
+        (Seen::Set(now), _) => writeln!(out, "now {}", now.seconds()),
         (Seen::Started(place), _) => print_started(pair, *place, out),
         (Seen::NoRoute(number, change), Event::Give(node)) => {
             writeln!(out, "noroute {} {number} change {change}", letter(*node))
@@ -62,7 +62,7 @@ pub(crate) fn print_seen<D: Disk>(
             )
         }
         (Seen::Compacted(node, size), _) => writeln!(out, "compact {} size {size}", letter(*node)),
-        (Seen::Armed, Event::Stop { node, .. }) => writeln!(out, "armed {}", letter(*node)),
+        (Seen::Armed(node), _) => writeln!(out, "armed {}", letter(*node)),
         (Seen::Stopped(nodes), _) => print_stopped(nodes.as_slice(), out),
         // No other event has this result.
         _ => Ok(()),

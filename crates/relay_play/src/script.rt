@@ -7,7 +7,7 @@ ghost use Rattle.relay_play.specs.Script.{PlaysLine};
 
 use crate::fault::PlayFault;
 use crate::state::PlayState;
-use memchr::memchr;
+use bstr::ByteSlice;
 use relay_disk::{Disk, MemoryDisk};
 use relay_pair::Pair;
 use relay_world::passing::promise_is_kept;
@@ -173,12 +173,12 @@ impl Player {
 }
 
 /// Splits a text at its first LF.
+#[tactic(auto, using(crate::proofs::LineLemmas::first_line_is))]
 fn first_line(text: &[u8]) -> Option<(&[u8], &[u8])>
     ensures { MatchOption result (HasNoLineFeed text.now)
         (λ parts. HasNoLineFeed parts.0.now × (text.now ≡ parts.0.now ++ 10 ∷ parts.1.now)) }
 {
-    let place = memchr(b'\n', text)?;
-    Some((&text[..place], &text[place + 1..]))
+    text.split_once_str(b"\n")
 }
 
 /// Writes results, if there are any; also before a fault is returned.
