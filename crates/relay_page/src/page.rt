@@ -69,8 +69,8 @@ pub fn page_text(alloc: Global, view: &View<'_>) -> Result<Vec<u8>, AllocError> 
     push_moment(alloc, &mut text, view)?;
     push_totals(&mut text, view)?;
     push_queue(&mut text, view)?;
-    push_oldest(&mut text, view)?;
     push_day(&mut text, view.history)?;
+    push_oldest(&mut text, view)?;
     push_pieces(
         &mut text,
         &[Piece::Markup(
@@ -90,11 +90,11 @@ fn push_moment(alloc: Global, text: &mut Vec<u8>, view: &View<'_>) -> Result<(),
     push_pieces(
         text,
         &[
-            Piece::Markup(b"<p>"),
+            Piece::Markup(b"<p class=\"when\"><span>"),
             Piece::Text(date.as_slice()),
-            Piece::Markup(b" &middot; up for "),
+            Piece::Markup(b"</span> <span>up for "),
             Piece::Span(view.now.seconds().saturating_sub(view.since.seconds())),
-            Piece::Markup(b"</p>\n"),
+            Piece::Markup(b"</span></p>\n"),
         ],
     )
 }
@@ -181,8 +181,8 @@ fn push_oldest(text: &mut Vec<u8>, view: &View<'_>) -> Result<(), AllocError> {
     push_pieces(
         text,
         &[Piece::Markup(
-            b"<section>\n<h2>Waiting longest</h2>\n<table>\n<thead><tr><th>Message</th><th class=\"l\">From</th>\
-<th class=\"l\">To</th><th>Age</th><th>Tries</th><th>Next try</th></tr></thead>\n<tbody>\n",
+            b"<section>\n<h2>Waiting longest</h2>\n<table class=\"mail\">\n<thead><tr><th>Message</th>\
+<th class=\"l\">From</th><th class=\"l\">To</th><th>Age</th><th>Tries</th><th>Next try</th></tr></thead>\n<tbody>\n",
         )],
     )?;
     push_all_waiting(text, view.oldest, view.now.seconds())?;

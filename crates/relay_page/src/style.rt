@@ -17,6 +17,8 @@ main{max-width:66rem;margin:0 auto;padding:1rem}\n\
 h1{font-size:1.35rem;margin:.25rem 0;overflow-wrap:anywhere}\n\
 h2{font-size:1.05rem;margin:0 0 .6rem}\n\
 p{margin:.25rem 0 1rem;color:var(--soft)}\n\
+section p:last-child{margin-bottom:0}\n\
+.when span{display:inline-block;white-space:nowrap;margin-right:1.2rem}\n\
 section{background:var(--card);border:1px solid var(--line);border-radius:.6rem;padding:1rem;margin:0 0 1rem}\n\
 dl{display:grid;grid-template-columns:repeat(auto-fit,minmax(9rem,1fr));gap:.75rem 1rem;margin:0}\n\
 dt{color:var(--soft);font-size:.85rem}\n\
@@ -43,5 +45,6 @@ a{color:var(--came)}\n\
 @media(max-width:52rem){thead{display:none}tr{display:block;padding:.5rem 0;border-top:1px solid var(--line)}\
 tbody tr:first-child{border-top:0;padding-top:0}tbody th,td,td.l{display:flex;justify-content:space-between;gap:1rem;\
 padding:.1rem 0;border:0;text-align:right}td::before{content:attr(data-name);color:var(--soft);flex:none;\
-white-space:nowrap}}\n\
+white-space:nowrap}.mail tbody th::before{content:\"Message\";color:var(--soft);font-weight:400}\
+tbody tr:last-child{padding-bottom:0}}\n\
 </style>\n</head>\n<body>\n<main>\n<h1>";
