@@ -32,6 +32,7 @@ ACCEPTED = re.compile(r"relayd: accepted message=1 client=127\.0\.0\.1:\d+ helo=
                       r"recipients=1 size=\d+ from=<a@example\.org> to=<b@example\.org>")
 CLIENT_END = re.compile(r"relayd: client-end client=127\.0\.0\.1:\d+ messages=1 rejected=0 octets=\d+ duration=\d+s "
                         r"reason=quit")
+LISTENING = re.compile(r"relayd: listening addr=127\.0\.0\.1:\d+")
 SENT = re.compile(r"relayd: sent message=1 hop=next\.example addr=127\.0\.0\.1:\d+ delay=\d+s to=<b@example\.org> "
                   r'status=sent reply="250 [ -~]*"')
 MOMENT = re.compile(rb"\d{4}-\d\d-\d\dT\d\d:\d\d:\d\d(\.\d+)?Z [ -~]+")
@@ -68,15 +69,16 @@ def its_log_says_when_and_quiet_says_nothing(field):
             until("an empty list", lambda: relay.held() == [])
             # A line is written at the end of the turn in which its change was made.
             if not words:
-                until("three lines of its log", lambda: relay.log.read_bytes().count(b"\n") == 3)
+                until("four lines of its log", lambda: relay.log.read_bytes().count(b"\n") == 4)
         lines = relay.log.read_bytes().splitlines()
         same("lines without a time", [line for line in lines if not MOMENT.fullmatch(line)], [])
-        same(f"run {words} has a log", len(lines), 0 if words else 3)
+        same(f"run {words} has a log", len(lines), 0 if words else 4)
         if lines:
             said = sorted(line.split(b" ", 1)[1].decode() for line in lines)
             same("the line of what was accepted", bool(ACCEPTED.fullmatch(said[0])), True)
             same("the line of its client", bool(CLIENT_END.fullmatch(said[1])), True)
-            same("the line of what was sent", bool(SENT.fullmatch(said[2])), True)
+            same("the line of its address", bool(LISTENING.fullmatch(said[2])), True)
+            same("the line of what was sent", bool(SENT.fullmatch(said[3])), True)
 
 
 def what_a_client_says_is_no_line_of_the_log(field):
@@ -532,7 +534,9 @@ def what_is_risky_is_told_before_it_is_ready(field):
                 '5:1: warning: no route for the relay\'s own name, host = "relay.example": mail to its postmaster is '
                 "refused (RFC 5321, 4.5.1); add a route for host"]
     with relay.running():
-        same("findings", relay.log.read_text().splitlines(), [f"{relay.file}:{it}" for it in findings])
+        *told, last = relay.log.read_text().splitlines()
+        same("findings", told, [f"{relay.file}:{it}" for it in findings])
+        same("the line after them", bool(LISTENING.fullmatch(last.partition(" ")[2])), True)
     bad = field.relay("bad")
     bad.limits = {"client_timeout": 0}
     bad.route({"example.org": ("next.example", field.sink.port)})

@@ -265,6 +265,7 @@ def a_draining_relay_takes_no_client(field):
         drain.join()
         process.stdout.close()
         same("what was on its way", len(arrived), 1)
+        same("the log's end", lines_of(relay, "")[-1].partition(" ")[2], "relayd: stopping reason=drained")
 
 
 def a_reload_adds_a_route_and_takes_one(field):

@@ -50,6 +50,13 @@ def text_of(size):
 # The rows. Each says in its name what holds.
 
 
+def its_log_begins_with_the_address_at_which_it_listens(field):
+    """The line is there before `ready` is printed."""
+    relay = field.relay(more=own_route(field))
+    with relay.running():
+        same("the log", told(relay, ""), [f"relayd: listening addr=127.0.0.1:{relay.port}"])
+
+
 def a_next_hop_that_is_away_is_left_alone_for_longer_each_time(field):
     """A minute, two and four of its clock. One message is tried after each, and the others stay as they are."""
     away = free_port()
@@ -506,6 +513,7 @@ def a_log_that_nobody_reads_stops_no_end(field):
 
 
 ROWS = [
+    its_log_begins_with_the_address_at_which_it_listens,
     a_next_hop_that_is_away_is_left_alone_for_longer_each_time,
     a_next_hop_that_is_back_has_a_line,
     a_client_that_is_cut_off_has_a_line,

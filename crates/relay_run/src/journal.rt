@@ -7,6 +7,7 @@ use relay_routes::Config;
 use relay_trace::clock_moment;
 use std::alloc::{AllocError, Global};
 use std::io::{self, Write};
+use std::net::SocketAddrV4;
 use std::rt::Clock;
 
 /// The log of a running relay, and its counters. The lines of a turn are collected while connections are served, and
@@ -104,6 +105,16 @@ impl<'a, C: Clock, E: Write> Journal<'a, C, E> {
         if !is_short {
             log.shortage_ended();
         }
+    }
+
+    /// Logs the address at which the relay listens.
+    pub(crate) fn listens(&mut self, at: SocketAddrV4) {
+        self.at_once().listens(at);
+    }
+
+    /// Logs that the relay ends because it has drained.
+    pub(crate) fn drained(&mut self) {
+        self.at_once().stopping(&"drained");
     }
 
     /// Logs that a fault ends the relay.

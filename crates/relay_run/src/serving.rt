@@ -79,6 +79,9 @@ pub fn run<
     shell.next_hops.set_held(held);
     shell.next_hops.prepare(&shell.relay)?;
     let watch = SystemWatch::new(alloc, rt, poll, page, EVENT_COUNT)?;
+    let mut journal = Journal::new(alloc, rt, errors);
+    journal.form = form;
+    journal.listens(at);
     say_ready(alloc, &shell.relay, at, writer)?;
     let mut surroundings = Surroundings {
         clock: rt,
@@ -86,7 +89,7 @@ pub fn run<
         dial,
         watch,
     };
-    let mut journal = Journal::new(alloc, rt, errors);
     let _drained = shell.serve(&mut surroundings, &mut journal)?;
+    journal.drained();
     Ok(())
 }
