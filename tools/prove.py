@@ -11,7 +11,8 @@ above it goes first, with the lanes that no other crate takes as more jobs of th
 
 A run of the prover holds all the folders that it reads, and so keeps out every other. So each crate is proved in a
 folder of its own below build/lanes, which has links to the files of the crates that it stands on; what is proved goes
-back to crates/, and the folder goes at the end.
+back to crates/, and the folder goes at the end. There a program's version gets the commit and the toolchain that it is
+built from.
 """
 import concurrent.futures
 import contextlib
@@ -32,6 +33,8 @@ BEFORE = 100, 160
 FUNCTION = re.compile(r"\bfn \w")
 PROVED = re.compile(r"^logic=proved functions=(\d+)", re.MULTILINE)
 RUNNING = set()
+# The file of a program that has its version, and what stands there for what only a build knows.
+RELEASE, UNKNOWN = pathlib.Path("src") / "release.rt", "unknown commit"
 
 
 class Failed(Exception):
@@ -124,7 +127,7 @@ def lane(below, name):
             link(TOP / "crates" / it, root / "crates" / it, ("src", "specs", "proofs"))
             rlib = TOP / "crates" / it / "out" / "rlib"
             shutil.copytree(rlib, root / "crates" / it / "out" / "rlib", copy_function=os.link)
-        link(crate, place, ("src", "specs", "proofs"))
+        link(crate, place, ("src", "specs", "proofs", "data"))
         lines = listed()
         (root / "crates.txt").write_text("".join(f"{lines[it]}\n" for it in [*stands_on, name]))
         shutil.copy(TOP / "HANDLES", root)
@@ -157,6 +160,29 @@ def run(name, place, *words):
         raise Failed(f"{name} failed:\n{said}")
     proved = PROVED.findall(said)
     return f"{proved[-1]} functions " if proved else ""
+
+
+def name_release(place):
+    """Names the commit and the toolchain in a program's version, if it has one. The file was a link; the tree's stays
+    as it is."""
+    file = place / RELEASE
+    if file.exists():
+        text = file.read_text()
+        file.unlink()
+        file.write_text(text.replace(UNKNOWN, f"{commit()}, {toolchain()}"))
+
+
+def commit():
+    """Returns the commit of this repository, with a mark if the files that git knows differ from it."""
+    if not (TOP / ".git").exists() or shutil.which("git") is None:
+        return UNKNOWN
+    words = ["git", "describe", "--always", "--exclude=*", "--abbrev=12", "--dirty=+changes"]
+    return subprocess.run(words, cwd=TOP, stdout=subprocess.PIPE, check=True, text=True).stdout.strip()
+
+
+def toolchain():
+    """Returns the name of the toolchain's kit."""
+    return subprocess.run(["rt", "version"], stdout=subprocess.PIPE, check=True, text=True).stdout.split()[0]
 
 
 def prove(below, name, jobs):
@@ -205,7 +231,10 @@ def main(program, *words):
     try:
         prove_all(below, libraries, lanes, progress)
         progress.begins(program)
-        progress.ends(program, run(program, TOP / "crates" / program, "run", "--jobs", "1", "--", *words))
+        with lane(below, program) as place:
+            name_release(place)
+            functions = run(program, place, "run", "--jobs", "1", "--", *words)
+        progress.ends(program, functions)
     except Failed as failed:
         print(failed)
         return 1

@@ -50,7 +50,8 @@ impl ChoiceFault {
     {
         let kind = self.kind();
         let text = self.text();
-        program(alloc)?.error(kind, text)
+        // The usage doesn't show the version.
+        program(alloc, "")?.error(kind, text)
     }
 }
 

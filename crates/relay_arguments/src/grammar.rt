@@ -9,21 +9,22 @@ use crate::table::SUBCOMMANDS;
 use clap::Command;
 use std::alloc::{AllocError, Global};
 
-/// The version of the program.
-const VERSION: &str = "1.0.0";
-
-/// Returns the grammar of the program. Fails if memory runs out.
-pub(crate) fn program<'a>(alloc: Global) -> Result<Command<'a>, AllocError>
+/// Returns the grammar of the program, whose version this is. Fails if memory runs out.
+pub(crate) fn program<'a>(alloc: Global, version: &'a str) -> Result<Command<'a>, AllocError>
     ensures { IfOk result (λ command. app_of command ≡ relayd) }
 {
-    with_subcommands(alloc, &SUBCOMMANDS)
+    with_subcommands(alloc, version, &SUBCOMMANDS)
 }
 
 /// Returns the grammar of the program with these subcommands. Fails if memory runs out.
-fn with_subcommands<'a>(alloc: Global, table: &[Syntax]) -> Result<Command<'a>, AllocError>
+fn with_subcommands<'a>(
+    alloc: Global,
+    version: &'a str,
+    table: &[Syntax],
+) -> Result<Command<'a>, AllocError>
     ensures { IfOk result (λ command. app_of command ≡ program_of (map shape_in table.now)) }
 {
-    let mut command = without_subcommands(alloc);
+    let mut command = without_subcommands(alloc, version);
     for syntax in table {
         command = command.subcommand(subcommand(alloc, syntax)?)?;
     }
@@ -31,12 +32,12 @@ fn with_subcommands<'a>(alloc: Global, table: &[Syntax]) -> Result<Command<'a>, 
 }
 
 /// Returns the grammar without subcommands, one of which is required.
-fn without_subcommands<'a>(alloc: Global) -> Command<'a>
+fn without_subcommands<'a>(alloc: Global, version: &'a str) -> Command<'a>
     ensures { app_of result ≡ without_subcommands }
 {
     Command::new(alloc, "relayd")
         .about("A store-and-forward SMTP relay")
-        .version(VERSION)
+        .version(version)
         .disable_help_subcommand(true)
         .subcommand_required(true)
 }

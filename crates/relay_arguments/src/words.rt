@@ -37,12 +37,16 @@ pub(crate) const MOST_ROUNDS: u64 = 1_000_000;
 pub(crate) const MOST_WORKERS: u64 = 64;
 
 /// Reads the arguments, the first of which is the program's name. An error has a text for the user: what is wrong with
-/// the arguments, or the help that they ask for.
-pub fn arguments<'a, S: AsStr>(alloc: Global, words: &'a [S]) -> Result<Subcommand<'a>, Error>
+/// the arguments, or the help or the version that they ask for.
+pub fn arguments<'a, S: AsStr>(
+    alloc: Global,
+    version: &'a str,
+    words: &'a [S],
+) -> Result<Subcommand<'a>, Error>
     ensures faults { FailsBy (faults_in (map S.text words.now)) result }
     ensures asked { IfOk result (λ subcommand. asked subcommand ≡ asked_in (map S.text words.now)) }
 {
-    let matches = program(alloc)?.try_get_matches_from(words)?;
+    let matches = program(alloc, version)?.try_get_matches_from(words)?;
     checked(alloc, &matches)
 }
 

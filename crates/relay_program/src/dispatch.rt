@@ -23,8 +23,9 @@ use std::thread::Threads;
 
 /// Runs the subcommand that the arguments name, the first of which is the program's name. Returns the exit status: 0
 /// for success; 1 for a fault, which gets a line on `errors`, or if `check` finds an error; 2 for wrong arguments, with
-/// the argument parser's text on `errors`. `--help` and `--version` write that parser's text to `writer`, and succeed.
-/// `run` logs to `log` from a thread of its own: `log` and `errors` are two writers of one stream.
+/// the argument parser's text on `errors`. `--help` and `--version` write that parser's text to `writer`, and succeed:
+/// the second is the program's name and `version`. `run` logs to `log` from a thread of its own: `log` and `errors` are
+/// two writers of one stream.
 pub fn command<
     S: AsStr,
     F: Files<File = File>
@@ -45,6 +46,7 @@ pub fn command<
 >(
     alloc: Global,
     system: &F,
+    version: &str,
     words: &[S],
     reader: &mut R,
     writer: &mut W,
@@ -64,7 +66,7 @@ pub fn command<
     ensures unread { ¬ AskForSession (map S.text words.now) → ¬ AskForPlay (map S.text words.now)
         → R.remaining reader.new ≡ R.remaining reader.old }
 {
-    match arguments(alloc, words) {
+    match arguments(alloc, version, words) {
         Ok(Subcommand::Session) => ended(session(alloc, reader, writer), errors),
         Ok(Subcommand::Play) => ended(play_script(alloc, reader, writer), errors),
         Ok(Subcommand::Task(task)) => carry_out(alloc, system, task, writer, errors, log),

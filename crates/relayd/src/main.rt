@@ -1,7 +1,10 @@
 //! `relayd`, a store-and-forward SMTP relay.
 #![tactic(auto)]
 
+mod release;
+
 use relay_program::{command, hold_standard_streams, refuse_streams, refuse_words};
+use release::VERSION;
 use std::process::ExitCode;
 use std::{env, io};
 
@@ -14,6 +17,7 @@ fn main(rt: HostRuntime) -> ExitCode {
         Ok(words) => command(
             rt.alloc(),
             &rt,
+            VERSION,
             words.as_slice(),
             &mut rt.stdin(),
             &mut rt.stdout(),
