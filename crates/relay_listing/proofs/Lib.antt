@@ -1,2 +1,4 @@
+mod JoinLemmas
+mod LoadLemmas
 mod ObjectLemmas
 pub mod PrintableLemmas

@@ -1,6 +1,8 @@
 //! Metrics in Prometheus' text exposition format, version 0.0.4.
 ghost use Rattle.std.specs.Prelude.{◌≡◌, ◌++◌, ◌∷◌, [], OnOk, codes, decimal};
-ghost use Rattle.relay_listing.specs.Metrics.{head_of, kind_text, labelled_text, sample_text};
+ghost use Rattle.relay_listing.specs.Load.{loads_in};
+ghost use Rattle.relay_listing.specs.Metrics.{head_of, help_by_hop, kind_text, labelled_text, metric_by_hop};
+ghost use Rattle.relay_listing.specs.Metrics.{metrics_by_hop, name_by_hop, sample_text, value_by_hop};
 
 use crate::load::{Load, Loads};
 use crate::pieces::{Piece, push_pieces};
@@ -118,7 +120,9 @@ enum ByHop {
 }
 
 /// Adds the gauges of each next hop, with its name as the label `hop`, which is empty for recipients without one.
-pub fn push_loads(text: &mut Vec<u8>, loads: &Loads, now: u64) -> Result<(), AllocError> {
+pub fn push_loads(text: &mut Vec<u8>, loads: &Loads, now: u64) -> Result<(), AllocError>
+    ensures { OnOk result (text.new.items ≡ text.old.items ++ metrics_by_hop now (loads_in loads.now.entries)) }
+{
     push_by_hop(text, ByHop::Messages, loads, now)?;
     push_by_hop(text, ByHop::Recipients, loads, now)?;
     push_by_hop(text, ByHop::Octets, loads, now)?;
@@ -126,24 +130,21 @@ pub fn push_loads(text: &mut Vec<u8>, loads: &Loads, now: u64) -> Result<(), All
     push_by_hop(text, ByHop::NextTry, loads, now)
 }
 
-fn push_by_hop(
-    text: &mut Vec<u8>,
-    metric: ByHop,
-    loads: &Loads,
-    now: u64,
-) -> Result<(), AllocError> {
+fn push_by_hop(text: &mut Vec<u8>, metric: ByHop, loads: &Loads, now: u64) -> Result<(), AllocError>
+    ensures { OnOk result (text.new.items ≡ text.old.items ++ metric_by_hop metric now (loads_in loads.now.entries)) }
+{
     push_head(text, metric.name(), Course::Gauge, metric.help())?;
-    for index in 0..loads.len() {
-        if let Some((hop, load)) = loads.get_index(index) {
-            let value = metric.value(load, now);
-            push_labelled(text, metric.name(), b"hop", hop.as_slice(), value)?;
-        }
+    for (hop, load) in loads.iter() {
+        let value = metric.value(load, now);
+        push_labelled(text, metric.name(), b"hop", hop.as_slice(), value)?;
     }
     Ok(())
 }
 
 impl ByHop {
-    fn name(self) -> &'static [u8] {
+    fn name(self) -> &'static [u8]
+        ensures { result.now ≡ name_by_hop self }
+    {
         match self {
             ByHop::Messages => b"relayd_queue_messages",
             ByHop::Recipients => b"relayd_queue_recipients",
@@ -153,7 +154,9 @@ impl ByHop {
         }
     }
 
-    fn help(self) -> &'static [u8] {
+    fn help(self) -> &'static [u8]
+        ensures { result.now ≡ help_by_hop self }
+    {
         match self {
             ByHop::Messages => b"Queued messages by next hop.",
             ByHop::Recipients => b"Queued recipients by next hop.",
@@ -163,7 +166,9 @@ impl ByHop {
         }
     }
 
-    fn value(self, load: &Load, now: u64) -> u64 {
+    fn value(self, load: &Load, now: u64) -> u64
+        ensures { result ≡ value_by_hop self now load.now }
+    {
         match self {
             ByHop::Messages => load.messages,
             ByHop::Recipients => load.recipients,
