@@ -1,5 +1,6 @@
 mod GroupLemmas
 mod JoinLemmas
+mod LoadLemmas
 mod ObjectLemmas
 mod PartLemmas
 mod RowLemmas

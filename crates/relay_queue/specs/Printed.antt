@@ -1,5 +1,5 @@
 -- What `list`, `show` and `status` print: it is of the queue that files were opened to, and a terminal may see it.
-use Rattle.std.specs.Prelude.{◌≡◌, ℕ, ◌*◌, ◌/◌, ◌-◌, ◌^◌, min, max, List, ◌++◌, codes, decimal}
+use Rattle.std.specs.Prelude.{◌≡◌, ℕ, List, ◌++◌, codes, decimal}
 use Rattle.std.specs.Prelude.{Option, None, Some, Ok}
 use Rattle.std.specs.Io.KnownBytes.{Appends}
 use Rattle.relay_disk.specs.declared.file.FileDisk.{FileDisk}
@@ -17,10 +17,12 @@ use Rattle.relay_queue.specs.declared.calls.MessageForm.TheVariants.{Shown, Raw}
 use Rattle.relay_queue.specs.declared.calls.StatusForm.{StatusForm}
 use Rattle.relay_queue.specs.declared.calls.StatusForm.TheVariants.{Table as StatusTable, Metrics}
 use Rattle.relay_queue.specs.declared.filter.Filter.{Filter}
-use Rattle.relay_listing.specs.Amounts.{size_text}
+use Rattle.relay_listing.specs.Load.{queue_by_hop}
+use Rattle.relay_listing.specs.declared.load.Load.{Load}
 use Rattle.relay_queue.specs.Objects.{objects_text}
 use Rattle.relay_queue.specs.Picks.{AreListed}
 use Rattle.relay_queue.specs.Screen.{AreSafe, IsShownText}
+use Rattle.relay_queue.specs.Status.{IsSummary, fill_text, metrics_text}
 use Rattle.relay_queue.specs.Table.{IsTable}
 
 -- the recipients with these keys, in a form
@@ -71,12 +73,6 @@ pub record IsNotQueued (number : ℕ) : Type 0 where
   pub opened : IsOpened records
   pub absent : message_of records.queue.messages number ≡ None
 
--- how full a spool of a size is, by a limit, both in octets
-abbrev pub fill_text : ℕ → ℕ → List ℕ
-fill_text size limit =
-    codes "spool " ++ size_text size ++ codes " of " ++ size_text limit ++ codes ", "
-    ++ decimal (min (size * 100) (2 ^ 64 - 1) / max limit 1) ++ codes " %\n"
-
 abbrev pub spool_gauge : ℕ → List ℕ
 spool_gauge size = codes "relayd_spool_bytes " ++ decimal size ++ codes "\n"
 
@@ -85,11 +81,22 @@ abbrev pub ShowsFill : StatusForm → ℕ → List ℕ → Type 0
 ShowsFill StatusTable size text = (front : List ℕ) × (limit : ℕ) × (text ≡ front ++ fill_text size limit)
 ShowsFill Metrics size text = (front rest : List ℕ) × (text ≡ front ++ spool_gauge size ++ rest)
 
--- the state of a spool was printed, whose files were opened
+-- the loads of next hops and the size of a spool, in a form
+abbrev pub IsStatus : StatusForm → ℕ → List (List ℕ × Load) → ℕ → ℕ → List ℕ → Type 0
+IsStatus StatusTable now loads size limit text = IsSummary now loads size limit text
+IsStatus Metrics now loads size limit text = text ≡ metrics_text now loads size limit
+
+-- the queue that files were opened to was printed by next hop, by the routes of a configuration, and the size of the
+-- spool; the time is what the clock has said
 pub record IsStatusPrinted (form : StatusForm) (old new : Option (List ℕ)) : Type 0 where
   pub records : Kept FileDisk
   pub opened : IsOpened records
+  pub document : List ℕ
+  pub config : Config
+  pub reads : ReadsConfig document (Ok config)
+  pub now : ℕ
   pub text : List ℕ
+  pub by_hop : IsStatus form now (queue_by_hop config.routes records.queue) records.spool.size config.spool_limit text
   pub fill : ShowsFill form records.spool.size text
   pub safe : AreSafe text
   pub written : Appends old new text

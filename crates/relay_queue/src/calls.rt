@@ -1,7 +1,8 @@
 //! The subcommands `list --long`, `list --json`, `show` and `status`.
 ghost use Rattle.std.specs.Prelude.{◌≡◌, ℕ, IfErr, IfOk, OnOk};
+ghost use Rattle.relay_listing.specs.Load.{loads_in};
 ghost use Rattle.relay_queue.specs.Printed.{IsListPrinted, IsMessagePrinted, IsNotQueued, IsStatusPrinted};
-ghost use Rattle.relay_queue.specs.Printed.{IsList, IsTextPrinted, ShowsFill};
+ghost use Rattle.relay_queue.specs.Printed.{IsList, IsStatus, IsTextPrinted, ShowsFill};
 
 use crate::fault::QueueFault;
 use crate::filter::Filter;
@@ -172,7 +173,8 @@ fn fill_in_form<R: Files<File = File> + Env + AllocGlobal>(
     form: StatusForm,
     now: Moment,
 ) -> Result<Screen, AllocError>
-    ensures { IfOk result (ShowsFill form fill.size) }
+    ensures fill { IfOk result (ShowsFill form fill.size) }
+    ensures by_hop { IfOk result (IsStatus form now (loads_in loads.now.entries) fill.size fill.limit) }
 {
     match form {
         StatusForm::Table => status_text(alloc, loads, fill, &Zone::read(alloc, rt), now),
@@ -182,7 +184,7 @@ fn fill_in_form<R: Files<File = File> + Env + AllocGlobal>(
 
 /// Returns how full a spool is.
 fn fill_of(records: &Records<FileDisk>, config: &Config) -> Fill
-    ensures { result.size ≡ records.now.spool.size }
+    ensures { (result.size ≡ records.now.spool.size) × (result.limit ≡ config.now.spool_limit) }
 {
     Fill {
         size: records.size() as u64,

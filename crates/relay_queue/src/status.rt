@@ -1,6 +1,9 @@
 //! The summary by next hop, and how full the spool is, for people.
-ghost use Rattle.std.specs.Prelude.{◌≡◌, ℕ, ◌*◌, ◌/◌, ◌-◌, ◌^◌, min, max, List, ◌++◌, IfOk, OnOk};
-ghost use Rattle.relay_queue.specs.Printed.{fill_text};
+ghost use Rattle.std.specs.Prelude.{◌≡◌, ℕ, ◌*◌, ◌/◌, ◌-◌, ◌^◌, min, max, List, ◌++◌, codes, IfOk, OnOk};
+ghost use Rattle.relay_listing.specs.Load.{loads_in};
+ghost use Rattle.relay_queue.specs.Status.{AddsLoads, IsSummary, amount_headings, amounts_text, counts_text};
+ghost use Rattle.relay_queue.specs.Status.{fill_text, headings_of, hop_headings, load_headings, load_line};
+ghost use Rattle.relay_queue.specs.Status.{next_try_text, shown_name};
 
 use crate::columns::{push_left, push_right};
 use crate::screen::Screen;
@@ -44,30 +47,71 @@ pub(crate) fn status_text(
     zone: &Zone,
     now: Moment,
 ) -> Result<Screen, AllocError>
-    ensures { IfOk result (λ screen. (front : List ℕ) × (screen ≡ front ++ fill_text fill.size fill.limit)) }
+    ensures fill { IfOk result (λ screen. (front : List ℕ) × (screen ≡ front ++ fill_text fill.size fill.limit)) }
+    ensures summary { IfOk result (IsSummary now (loads_in loads.now.entries) fill.size fill.limit) }
 {
     let mut screen = Screen::new(alloc);
-    let mut cell = Screen::new(alloc);
-    if !loads.is_empty() {
-        push_heading(&mut screen)?;
-    }
-    for index in 0..loads.len() {
-        if let Some((name, load)) = loads.get_index(index) {
-            push_hop(&mut screen, &mut cell, name.as_slice(), load, zone, now)?;
-        }
-    }
+    push_headings(&mut screen, loads)?;
+    push_hops(alloc, &mut screen, loads, zone, now)?;
     push_fill(&mut screen, fill)?;
     Ok(screen)
 }
 
-fn push_heading(screen: &mut Screen) -> Result<(), AllocError> {
+/// Adds the line of headings, unless there are no next hops.
+fn push_headings(screen: &mut Screen, loads: &Loads) -> Result<(), AllocError>
+    ensures { OnOk result (screen.new ≡ screen.old ++ headings_of (loads_in loads.now.entries)) }
+{
+    match loads.first() {
+        Some(_) => push_load_headings(screen),
+        None => Ok(()),
+    }
+}
+
+fn push_load_headings(screen: &mut Screen) -> Result<(), AllocError>
+    ensures { OnOk result (screen.new ≡ screen.old ++ load_headings) }
+{
+    push_hop_headings(screen)?;
+    push_amount_headings(screen)?;
+    push_last_heading(screen)
+}
+
+fn push_hop_headings(screen: &mut Screen) -> Result<(), AllocError>
+    ensures { OnOk result (screen.new ≡ screen.old ++ hop_headings) }
+{
     push_left(screen, b"HOP", HOP_WIDTH)?;
     push_right(screen, b"MESSAGES", COUNT_WIDTH)?;
-    push_right(screen, b"RECIPIENTS", COUNT_WIDTH)?;
+    push_right(screen, b"RECIPIENTS", COUNT_WIDTH)
+}
+
+fn push_amount_headings(screen: &mut Screen) -> Result<(), AllocError>
+    ensures { OnOk result (screen.new ≡ screen.old ++ amount_headings) }
+{
     push_right(screen, b"SIZE", SIZE_WIDTH)?;
-    push_right(screen, b"OLDEST", AGE_WIDTH)?;
+    push_right(screen, b"OLDEST", AGE_WIDTH)
+}
+
+fn push_last_heading(screen: &mut Screen) -> Result<(), AllocError>
+    ensures { OnOk result (screen.new ≡ screen.old ++ codes "  NEXT TRY\n") }
+{
     screen.push(b"  NEXT TRY")?;
     screen.end_line()
+}
+
+/// Adds the lines of all next hops.
+fn push_hops(
+    alloc: Global,
+    screen: &mut Screen,
+    loads: &Loads,
+    zone: &Zone,
+    now: Moment,
+) -> Result<(), AllocError>
+    ensures { OnOk result (AddsLoads now (loads_in loads.now.entries) screen.old screen.new) }
+{
+    let mut cell = Screen::new(alloc);
+    for (name, load) in loads.iter() {
+        push_hop(screen, &mut cell, name.as_slice(), load, zone, now)?;
+    }
+    Ok(())
 }
 
 /// Adds the line of a next hop. `cell` is scratch space for right-aligned cells.
@@ -78,27 +122,59 @@ fn push_hop(
     load: &Load,
     zone: &Zone,
     now: Moment,
-) -> Result<(), AllocError> {
+) -> Result<(), AllocError>
+    ensures { OnOk result ((time : List ℕ)
+        × (screen.new ≡ screen.old ++ load_line now ((name.now, load.now), time))) }
+{
     push_left(screen, shown_name(name), HOP_WIDTH)?;
+    push_counts(screen, cell, load)?;
+    push_amounts(screen, cell, load, now)?;
+    let time = zone.time(load.due);
+    push_next_try(screen, &time)
+}
+
+/// Adds how many messages and recipients are queued.
+fn push_counts(screen: &mut Screen, cell: &mut Screen, load: &Load) -> Result<(), AllocError>
+    ensures { OnOk result (screen.new ≡ screen.old ++ counts_text load.now) }
+{
     cell.clear();
     cell.push_number(load.messages)?;
     push_right(screen, cell.as_slice(), COUNT_WIDTH)?;
     cell.clear();
     cell.push_number(load.recipients)?;
-    push_right(screen, cell.as_slice(), COUNT_WIDTH)?;
+    push_right(screen, cell.as_slice(), COUNT_WIDTH)
+}
+
+/// Adds how many octets the messages have, and how old the oldest is.
+fn push_amounts(
+    screen: &mut Screen,
+    cell: &mut Screen,
+    load: &Load,
+    now: Moment,
+) -> Result<(), AllocError>
+    ensures { OnOk result (screen.new ≡ screen.old ++ amounts_text now load.now) }
+{
     cell.clear();
     cell.push_size(load.octets)?;
     push_right(screen, cell.as_slice(), SIZE_WIDTH)?;
     cell.clear();
     cell.push_span(now.seconds().saturating_sub(load.oldest))?;
-    push_right(screen, cell.as_slice(), AGE_WIDTH)?;
+    push_right(screen, cell.as_slice(), AGE_WIDTH)
+}
+
+/// Adds when a recipient is due first, and ends the line.
+fn push_next_try(screen: &mut Screen, time: &[u8]) -> Result<(), AllocError>
+    ensures { OnOk result (screen.new ≡ screen.old ++ next_try_text time.now) }
+{
     screen.push_spaces(2)?;
-    screen.push(&zone.time(load.due))?;
+    screen.push(time)?;
     screen.end_line()
 }
 
 /// Returns the name of a next hop, or the text for recipients without one.
-fn shown_name(name: &[u8]) -> &[u8] {
+fn shown_name(name: &[u8]) -> &[u8]
+    ensures { result.now ≡ shown_name name.now }
+{
     if name.is_empty() { b"-" } else { name }
 }
 

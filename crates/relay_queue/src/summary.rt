@@ -1,6 +1,9 @@
 //! The queue by next hop, and that as metrics.
-ghost use Rattle.std.specs.Prelude.{◌≡◌, ℕ, List, ◌++◌, IfOk};
+ghost use Rattle.std.specs.Prelude.{◌≡◌, ℕ, List, ◌++◌, IfOk, OnOk};
+ghost use Rattle.relay_listing.specs.Load.{loads_if, loads_in, queue_by_hop};
+ghost use Rattle.relay_listing.specs.Row.{queued_at};
 ghost use Rattle.relay_queue.specs.Printed.{spool_gauge};
+ghost use Rattle.relay_queue.specs.Status.{metrics_text, spool_metrics};
 
 use crate::screen::Screen;
 use crate::status::Fill;
@@ -16,15 +19,32 @@ pub(crate) fn loads_of<D: Disk>(
     alloc: Global,
     records: &Records<D>,
     table: &Table,
-) -> Result<Loads, AllocError> {
+) -> Result<Loads, AllocError>
+    ensures { IfOk result (λ loads. loads_in loads.entries ≡ queue_by_hop table.now records.now.queue) }
+{
     let mut loads = Loads::new(alloc);
     let marks = records.held(alloc)?;
     for mark in &marks {
-        if let Some(row) = row_at(records, table, mark.0, mark.1) {
-            count_row(alloc, &mut loads, &row)?;
-        }
+        count_at(alloc, &mut loads, records, table, *mark)?;
     }
     Ok(loads)
+}
+
+/// Counts the recipient at a place, if it is held.
+fn count_at<D: Disk>(
+    alloc: Global,
+    loads: &mut Loads,
+    records: &Records<D>,
+    table: &Table,
+    mark: (u64, u8),
+) -> Result<(), AllocError>
+    ensures { OnOk result (loads_in loads.new.entries
+        ≡ loads_if (loads_in loads.old.entries) (queued_at table.now records.now.queue mark)) }
+{
+    match row_at(records, table, mark.0, mark.1) {
+        Some(row) => count_row(alloc, loads, &row),
+        None => Ok(()),
+    }
 }
 
 /// Returns the metrics: gauges of each next hop, with its name as the label `hop`, which is empty for recipients
@@ -35,7 +55,9 @@ pub(crate) fn metrics_text(
     fill: Fill,
     now: Moment,
 ) -> Result<Screen, AllocError>
-    ensures { IfOk result (λ screen. (front rest : List ℕ) × (screen ≡ front ++ spool_gauge fill.size ++ rest)) }
+    ensures gauge { IfOk result (λ screen. (front rest : List ℕ) × (screen ≡ front ++ spool_gauge fill.size ++ rest)) }
+    ensures text { IfOk result
+        (λ screen. screen ≡ metrics_text now (loads_in loads.now.entries) fill.size fill.limit) }
 {
     let mut text = Vec::new(alloc);
     push_loads(&mut text, loads, now.seconds())?;
