@@ -20,7 +20,8 @@ from relay_program import HERE, Difference, PATIENCE, built, same
 STORED = HERE.parent / "crates" / "relayd"
 COMMANDS, REPLIES = (STORED / "stdin").read_bytes(), (STORED / "stdout").read_bytes()
 # Of a program that `make relayd` has built, and of any other.
-VERSION = re.compile(rb"relayd 1\.0\.0 \((([0-9a-f]{12}(\+changes)?|unknown commit), rattle-kit-\w+|unknown commit)\)\n")
+VERSION = re.compile(rb"relayd 1\.0\.0 \("
+                     rb"(([0-9a-f]{12}(\+changes)?|unknown commit), rattle-kit-\w+|unknown commit)\)\n")
 
 
 class Program:
