@@ -4,6 +4,7 @@ mod CarriedLemmas
 mod ExchangeLemmas
 mod MatchedLemmas
 mod RelayedLemmas
+mod RepliesLemmas
 mod ServedLemmas
 mod NextLemmas
 mod DistinctLemmas

@@ -79,6 +79,26 @@ free_more old new next before here others number below = by (cases_eq number nex
   by (inl same) = subst (λ (at : ℕ). slot_at new at ≡ None) (sym same) here
   by (inr apart) = others number apart ∙ before number (omega (arith, below, apart))
 
+-- from a slot on nothing stands, also after another one is emptied
+pub still_free : {A : Type 0} (old new : List (Option A)) (number count : ℕ) → ((other : ℕ) → count ≤ other → slot_at old other ≡ None) → slot_at new number ≡ None → OthersStay old new number
+    → (other : ℕ) → count ≤ other → slot_at new other ≡ None
+still_free old new number count free here others other past = by (cases_eq other number) where
+  by : (other ≡ number) ⊎ (other ≡ number → ⊥) → slot_at new other ≡ None
+  by (inl same) = subst (λ (at : ℕ). slot_at new at ≡ None) (sym same) here
+  by (inr apart) = others other apart ∙ free other past
+
+-- where nothing stands in any slot, the table is free
+free_of : {A : Type 0} (slots : List (Option A)) → ((number : ℕ) → slot_at slots number ≡ None) → AreFree slots
+free_of [] none = tt
+free_of (None ∷ slots) none = free_of slots (λ number. none (suc number))
+free_of (Some value ∷ slots) none = absurd (cc (none zero))
+
+pub all_free : {A : Type 0} (slots : List (Option A)) (number count : ℕ) → count ≤ number → ((other : ℕ) → other < number → slot_at slots other ≡ None) → ((other : ℕ) → count ≤ other → slot_at slots other ≡ None) → AreFree slots
+all_free slots number count past before free = free_of slots (λ other. by other (below_or_after other number)) where
+  by : (other : ℕ) → (other < number) ⊎ (number ≤ other) → slot_at slots other ≡ None
+  by other (inl low) = before other low
+  by other (inr high) = free other (omega (arith, past, high))
+
 -- how many such ones stand in a slot
 abbrev one_of : {A : Type 0} → (A → Bool) → Option A → ℕ
 one_of such slot = if is_such such slot then 1 else 0

@@ -57,5 +57,6 @@ pub record HearOwn {D S : Type 0} (honest : Type 0) (words : DiskWords D)
   pub heard : group.heard ≡ hearing.heard
   pub answered : group.answered ≡ hearing.replies.answered
   pub notes : group.notes ≡ hearing.replies.notes
+  pub replied : length hearing.replies.answered.items ≡ length replies
   pub reads : (changes : List Change) → Keeps honest words old.node.records changes
       → ReadsAll honest words changes at pieces replies old new group

@@ -11,6 +11,7 @@ pub mod Leaving
 pub mod Welcome
 pub mod Share
 pub mod Hearing
+pub mod Replies
 pub mod Refusals
 pub mod HeaderFront
 pub mod Arrivals

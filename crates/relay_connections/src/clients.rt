@@ -1,13 +1,13 @@
-ghost use Rattle.std.specs.Prelude.{◌≡◌, ◌≢◌, ◌≤◌, ◌<◌, ◌↔◌, ℕ, List, None, IfErr, IfOk, IfSome, IsTrue, true, false};
+ghost use Rattle.std.specs.Prelude.{◌≡◌, ◌≢◌, ◌≤◌, ◌↔◌, ℕ, List, None, IfErr, IfOk, IfSome, IsTrue, true, false};
 ghost use Rattle.std.specs.Net.Addr.{ipv4_octets};
 ghost use Rattle.std.specs.Net.Socket.{v4_ip};
 ghost use Rattle.relay_book.specs.declared.change.Change.{Change};
 ghost use Rattle.relay_loop.specs.Outboxes.{unwritten_at};
-ghost use Rattle.relay_slots.specs.Slots.{AreFree, slot_at};
-ghost use Rattle.relay_slots.specs.declared.slots.TheConstants.{SLOT_COUNT};
+ghost use Rattle.relay_slots.specs.Slots.{AreFree};
 ghost use Rattle.relay_connections.specs.Carried.{Begins, Setting};
 ghost use Rattle.relay_connections.specs.Matched.{AreMatched, IsGreeted, Opens};
 ghost use Rattle.relay_connections.specs.Readiness.{IsLeftClient, IsNoted, clients_of};
+ghost use Rattle.relay_connections.specs.Replies.{LeavesMail};
 ghost use Rattle.relay_connections.specs.Room.{HasRoom, is_at};
 ghost use Rattle.relay_connections.specs.Served.{AreServed, StaysSaid, opened};
 ghost use Rattle.relay_connections.specs.Sessions.{IsCutFor};
@@ -85,6 +85,8 @@ impl<S: Stream + Drop> Clients<S> {
         ensures free { IfOk result (λ clients. AreFree (clients_of clients)) }
         ensures allowed { IfOk result (λ clients. allowed_of clients ≡ allowed) }
         ensures stops { IfOk result (λ clients. clients.stops ≡ false) }
+        ensures limits { IfOk result (λ clients. (clients.most ≡ limits.now.sessions_per_client)
+            × (clients.timeout ≡ limits.now.client_timeout) × (clients.retires_at ≡ None)) }
     {
         Ok(Clients {
             alloc,
@@ -199,6 +201,7 @@ impl<S: Stream + Drop> Clients<S> {
             → AreServed D.honest D.words S.remaining S.contents changes setting (clients_of self.old) relay.old
             → IfOk result (λ _. AreServed D.honest D.words S.remaining S.contents changes
             (opened S.remaining S.contents setting (clients_of self.old) peer stream) (clients_of self.new) relay.new) }
+        ensures mail { LeavesMail relay.old relay.new }
         ensures rules { KeepsRules self.old self.new }
         ensures fault { IfErr result (λ fault. fault ≡ NodeFault.Stopped) }
     {
@@ -260,10 +263,11 @@ impl<S: Stream + Drop> Clients<S> {
 
     /// Closes all connections, after writing as many of the replies held back as the clients take at once.
     pub fn clear(&mut self)
-        ensures none { (number : ℕ) → number < SLOT_COUNT → slot_at (clients_of self.new) number ≡ None }
+        ensures free { AreFree (clients_of self.new) }
         ensures rules { KeepsRules self.old self.new }
     {
-        for number in 0..SLOT_COUNT {
+        let count = self.clients.standing().len();
+        for number in 0..count {
             if let Some(taken) = self.clients.take(number) {
                 let mut client = taken;
                 client.give_held();

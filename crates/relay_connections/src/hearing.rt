@@ -3,6 +3,7 @@
 ghost use Rattle.std.specs.Prelude.{◌≡◌, ◌<◌, All, IfErr, IfOk, IfSome, MatchOption, None, Ok, Some, map};
 ghost use Rattle.relay_slots.specs.Slots.{slot_at};
 ghost use Rattle.relay_connections.specs.Hearing.{HearOwn, IsOwn, hearing_from, session_of};
+ghost use Rattle.relay_connections.specs.Replies.{OnlyRepliedTo};
 
 use crate::client::Client;
 use crate::clocks::Now;
@@ -49,6 +50,7 @@ pub(crate) fn hear_all<S: Stream, D: Disk>(
     ensures own { IfOk result (λ hearing. IfSome hearing
         (HearOwn D.honest D.words clients.now first replies.now now.now.moment relay.old relay.new)) }
     ensures none { result ≡ Ok None → relay.new ≡ relay.old }
+    ensures only { OnlyRepliedTo replies.now relay.old relay.new }
     ensures fault { IfErr result (λ fault. fault ≡ NodeFault.Stopped) }
 {
     let Ok(pieces) = pieces_of(alloc, clients, first) else {

@@ -3,7 +3,6 @@
 ghost use Rattle.std.specs.Prelude.{◌≡◌, ◌≤◌, ◌<◌, ◌+◌, ◌⊎◌, ◌↔◌, ℕ, None, IfOk, IsTrue, false, true};
 ghost use Rattle.std.specs.Prelude.{if◌then◌else◌};
 ghost use Rattle.relay_slots.specs.Slots.{AreFree, OthersStay, slot_at};
-ghost use Rattle.relay_slots.specs.declared.slots.TheConstants.{SLOT_COUNT};
 ghost use Rattle.relay_connections.specs.Channel.{held_of};
 ghost use Rattle.relay_connections.specs.declared.leaving.TheConstants.{MOST_STRANGERS};
 ghost use Rattle.relay_connections.specs.Leaving.{GoesOn, HasGone, IsOneOf, IsOver, MayTake, Stays, StaysOrCloses};
@@ -171,9 +170,10 @@ impl<S: Stream + Drop> Leaving<S> {
 
     /// Closes all connections.
     pub fn clear(&mut self)
-        ensures { (number : ℕ) → number < SLOT_COUNT → slot_at (leavers_of self.new) number ≡ None }
+        ensures { AreFree (leavers_of self.new) }
     {
-        for number in 0..SLOT_COUNT {
+        let count = self.leavers.standing().len();
+        for number in 0..count {
             let _leaver = self.leavers.take(number);
         }
     }

@@ -7,6 +7,7 @@ ghost use Rattle.relay_slots.specs.declared.slots.TheConstants.{SLOT_COUNT};
 ghost use Rattle.relay_connections.specs.Carried.{Setting};
 ghost use Rattle.relay_connections.specs.Leaving.{ClientsJoin, leavers_of};
 ghost use Rattle.relay_connections.specs.Readiness.{clients_of};
+ghost use Rattle.relay_connections.specs.Replies.{HearRepliesIf, LeavesMail};
 ghost use Rattle.relay_connections.specs.Served.{ActsOn, AreServed, AreServedAfter, HasAnswered, HasNext};
 ghost use Rattle.relay_connections.specs.Served.{HaveAnswered, LeavesRest, Serves, WorksWith, address_of};
 ghost use Rattle.relay_connections.specs.Sessions.{EndsCut, IsCutOffAfter};
@@ -51,6 +52,9 @@ impl<S: Stream + Drop> Clients<S> {
             → IfOk result (λ _. AreServedAfter D.honest D.words S.remaining S.contents changes setting
             (clients_of self.new) relay.new
             × ClientsJoin S.remaining S.contents setting (leavers_of leaving.old) (leavers_of leaving.new)) }
+        ensures heard { IfOk result (λ end. HearRepliesIf D.honest D.words replies.now now.now.moment relay.old
+            relay.new end.1) }
+        ensures config { relay.new.node.config ≡ relay.old.node.config }
         ensures rules { KeepsRules self.old self.new }
         ensures fault { IfErr result (λ fault. fault ≡ NodeFault.Stopped) }
     {
@@ -96,6 +100,7 @@ impl<S: Stream + Drop> Clients<S> {
             → IfOk result (λ _. AreServed D.honest D.words S.remaining S.contents changes setting
             (clients_of self.new) relay.new
             × ClientsJoin S.remaining S.contents setting (leavers_of leaving.old) (leavers_of leaving.new)) }
+        ensures mail { LeavesMail relay.old relay.new }
         ensures rules { KeepsRules self.old self.new }
         ensures fault { IfErr result (λ fault. fault ≡ NodeFault.Stopped) }
     {
@@ -129,6 +134,9 @@ impl<S: Stream + Drop> Clients<S> {
             → IfOk result (λ _. AreServedAfter D.honest D.words S.remaining S.contents changes setting
             (clients_of self.new) relay.new
             × ClientsJoin S.remaining S.contents setting (leavers_of leaving.old) (leavers_of leaving.new)) }
+        ensures heard { IfOk result (λ told. HearRepliesIf D.honest D.words replies.now now.now.moment relay.old
+            relay.new told.1) }
+        ensures config { relay.new.node.config ≡ relay.old.node.config }
         ensures rules { KeepsRules self.old self.new }
         ensures fault { IfErr result (λ fault. fault ≡ NodeFault.Stopped) }
     {
@@ -170,6 +178,7 @@ impl<S: Stream + Drop> Clients<S> {
             → IfOk result (λ _. AreServed D.honest D.words S.remaining S.contents changes setting
             (clients_of self.new) relay.new
             × ClientsJoin S.remaining S.contents setting (leavers_of leaving.old) (leavers_of leaving.new)) }
+        ensures mail { LeavesMail relay.old relay.new }
         ensures rules { KeepsRules self.old self.new }
         ensures fault { IfErr result (λ fault. fault ≡ NodeFault.Stopped) }
     {
@@ -200,6 +209,7 @@ impl<S: Stream + Drop> Clients<S> {
             → IfOk result (λ _. Serves S.remaining S.contents changes setting relay.new number
             (slot_at (clients_of self.new) number)
             × ClientsJoin S.remaining S.contents setting (leavers_of leaving.old) (leavers_of leaving.new)) }
+        ensures mail { LeavesMail relay.old relay.new }
         ensures rules { KeepsRules self.old self.new }
         ensures fault { IfErr result (λ fault. fault ≡ NodeFault.Stopped) }
     {
@@ -242,6 +252,7 @@ impl<S: Stream + Drop> Clients<S> {
             → IfOk result (λ _. Serves S.remaining S.contents changes setting relay.new number
             (slot_at (clients_of self.new) number)
             × ClientsJoin S.remaining S.contents setting (leavers_of leaving.old) (leavers_of leaving.new)) }
+        ensures mail { LeavesMail relay.old relay.new }
         ensures rules { KeepsRules self.old self.new }
         ensures fault { IfErr result (λ fault. fault ≡ NodeFault.Stopped) }
     {
@@ -278,6 +289,7 @@ impl<S: Stream + Drop> Clients<S> {
             → AreServed D.honest D.words S.remaining S.contents changes setting (clients_of self.old) relay.old
             → IfOk result (λ _. AreServed D.honest D.words S.remaining S.contents changes setting
             (clients_of self.new) relay.new) }
+        ensures mail { LeavesMail relay.old relay.new }
         ensures rules { KeepsRules self.old self.new }
         ensures fault { IfErr result (λ fault. fault ≡ NodeFault.Stopped) }
     {
@@ -320,6 +332,7 @@ impl<S: Stream + Drop> Clients<S> {
             → IfOk result (λ _. Serves S.remaining S.contents changes setting relay.new number
             (slot_at (clients_of self.new) number)
             × ClientsJoin S.remaining S.contents setting (leavers_of leaving.old) (leavers_of leaving.new)) }
+        ensures mail { LeavesMail relay.old relay.new }
         ensures rules { KeepsRules self.old self.new }
         ensures fault { IfErr result (λ fault. fault ≡ NodeFault.Stopped) }
     {
@@ -352,6 +365,7 @@ impl<S: Stream + Drop> Clients<S> {
             → IfOk result (HasNext S.remaining S.contents changes setting relay.new number (address_of client.now)
             client.now.channel) }
         ensures told { IfOk result (EndsCut self.now relay.old number client.now now.now.tick next) }
+        ensures mail { LeavesMail relay.old relay.new }
         ensures fault { IfErr result (λ fault. fault ≡ NodeFault.Stopped) }
     {
         match next {
@@ -381,6 +395,7 @@ impl<S: Stream + Drop> Clients<S> {
             → IfOk result (HasNext S.remaining S.contents changes setting relay.new number (address_of client.now)
             client.now.channel) }
         ensures told { IfOk result (IsCutOffAfter relay.old number client.now.channel why) }
+        ensures mail { LeavesMail relay.old relay.new }
         ensures fault { IfErr result (λ fault. fault ≡ NodeFault.Stopped) }
     {
         log.client_ended(client.peer, &client.record, cut_end(why), now.tick);

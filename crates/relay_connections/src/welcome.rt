@@ -8,6 +8,7 @@ ghost use Rattle.relay_connections.specs.Carried.{Setting};
 ghost use Rattle.relay_connections.specs.Leaving.{leavers_of};
 ghost use Rattle.relay_connections.specs.Matched.{AreMatched, Opens};
 ghost use Rattle.relay_connections.specs.Readiness.{clients_of};
+ghost use Rattle.relay_connections.specs.Replies.{LeavesMail};
 ghost use Rattle.relay_connections.specs.Served.{AreServed, opened};
 ghost use Rattle.relay_connections.specs.Welcome.{AreAllowed, IsRefusedFor, KeepsRules, LeavesWith, allowed_of, refusal_of};
 
@@ -54,6 +55,7 @@ impl<S: Stream + Drop> Clients<S> {
             (opened S.remaining S.contents setting (clients_of self.old) peer stream) (clients_of self.new) relay.new) }
         ensures fault { IfErr result (λ fault. (fault ≡ NodeFault.Stopped)
             × IsRefusedFor (ipv4_octets (v4_ip peer)) self.old None) }
+        ensures mail { LeavesMail relay.old relay.new }
         ensures rules { KeepsRules self.old self.new }
         ensures allowed { AreAllowed self.old relay.old → AreAllowed self.new relay.new }
     {

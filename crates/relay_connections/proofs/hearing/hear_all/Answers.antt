@@ -13,5 +13,6 @@ returns-in-Ok-read_all-clause-own g c = record {
   heard = refl;
   answered = refl;
   notes = refl;
+  replied = c.in-Ok-read_all.ensures.lengths.1;
   reads = λ changes keeps. subst (λ pieces. ReadsAll g.D.Disk.honest g.D.Disk.words changes c.args.now.now.moment pieces c.args.replies.now c.args.relay.now c.read_all.new.self c.in-Ok-read_all.field-0) c.as_slice-2.ensures.value (c.in-Ok-read_all.ensures.reads changes keeps);
 }

@@ -10,6 +10,7 @@ use Rattle.relay_slots.specs.Slots.{slot_at}
 use Rattle.relay_connections.specs.Served.{HasAnswered, HasAnsweredOr, HaveAnswered, WorksWith, answer_to}
 use Rattle.relay_connections.proofs.AnsweredLemmas.{answer_first, answered_end, answered_on}
 use Rattle.relay_connections.proofs.CarriedLemmas.{more_join, none_join}
+use Rattle.relay_connections.proofs.RepliesLemmas.{mail_same, mail_then}
 use Rattle.relay_connections.proofs.clients.Clients.answer_each.Goals as goal
 
 pub loop-session-init : goal.loop-session-init
@@ -27,6 +28,7 @@ loop-session-init g c =
       );
       first = search rules;
       second = search rules;
+      mail = mail_same c.args.relay.now;
       rules = (refl, refl, refl);
     }
 
@@ -55,6 +57,7 @@ loop-session-preserved g c =
           );
       first = omega (arith, i.first, ap (λ (l : List ℕ). length l) one.0, one.1);
       second = omega (arith, i.second, ap (λ (l : List (Result Heard NodeFault)). length l) other.0, other.1);
+      mail = mail_then c.args.relay.now c.loop-session.relay c.answer_one.new.relay i.mail c.in_ok-hears.ensures.mail;
       rules = (c.in_ok-hears.ensures.rules.0 ∙ i.rules.0, c.in_ok-hears.ensures.rules.1 ∙ i.rules.1, c.in_ok-hears.ensures.rules.2 ∙ i.rules.2);
     }
 

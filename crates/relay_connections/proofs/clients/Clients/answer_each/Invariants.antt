@@ -7,6 +7,7 @@ use Rattle.relay_book.specs.declared.change.Change.{Change}
 use Rattle.relay_connections.specs.Carried.{Setting}
 use Rattle.relay_connections.specs.Leaving.{ClientsJoin, leavers_of}
 use Rattle.relay_connections.specs.Readiness.{clients_of}
+use Rattle.relay_connections.specs.Replies.{LeavesMail}
 use Rattle.relay_connections.specs.Served.{HaveAnswered}
 use Rattle.relay_connections.specs.Welcome.{KeepsRules}
 use Rattle.relay_connections.proofs.clients.Clients.answer_each.Given as goal
@@ -18,5 +19,6 @@ invariant-loop-session g l = record {
       × ClientsJoin g.S.Stream.remaining g.S.Stream.contents setting (leavers_of l.fn.leaving) (leavers_of l.leaving);
   first : length (into_iter_items (zip_first l.session-iterator)) ≡ into_iter_len (zip_first l.session-iterator);
   second : length (into_iter_items (zip_second l.session-iterator)) ≡ into_iter_len (zip_second l.session-iterator);
+  mail : LeavesMail l.fn.relay l.relay;
   rules : KeepsRules l.fn.self l.self;
 }

@@ -11,6 +11,7 @@ use Rattle.relay_connections.specs.Served.{HasAnswered, HasNext, address_of}
 use Rattle.relay_connections.specs.declared.client.Next.TheVariants.{Stays, Leaves}
 use Rattle.relay_connections.proofs.CarriedLemmas.{none_join}
 use Rattle.relay_connections.proofs.NextLemmas.{answer_next, answer_works, answered_none}
+use Rattle.relay_connections.proofs.RepliesLemmas.{mail_answered, mail_then}
 use Rattle.relay_connections.proofs.clients.Clients.answer_one.Goals as goal
 
 pub returns-in_default-clause-serves : goal.returns-in_default-clause-serves
@@ -44,3 +45,18 @@ returns-clause-serves g c = λ changes setting works answered.
     (subst (λ client. HasNext g.S.Stream.remaining g.S.Stream.contents changes setting new number (address_of client) client.channel c.in_ok-next.next) (sym c.deref_mut-2.ensures.value)
     (subst (λ peer. HasNext g.S.Stream.remaining g.S.Stream.contents changes setting new number (ipv4_octets (v4_ip peer)) after c.in_ok-next.next) (sym c.answer.ensures.peer)
     (subst (λ client. HasNext g.S.Stream.remaining g.S.Stream.contents changes setting new number (address_of client) after c.in_ok-next.next) (sym c.deref_mut.ensures.value) has)))
+
+-- No attempt is touched by the answer to a client.
+pub returns-in_err-next-clause-mail : goal.returns-in_err-next-clause-mail
+returns-in_err-next-clause-mail g c =
+    mail_answered g.S.Stream.remaining g.S.Stream.contents c.args.number c.args.relay.now c.answer.new.relay c.deref_mut.result.now.channel c.answer.new.self.channel c.args.heard c.answer.result c.answer.ensures.stays c.answer.ensures.leaves c.answer.ensures.gone
+
+pub returns-in_err-settle-clause-mail : goal.returns-in_err-settle-clause-mail
+returns-in_err-settle-clause-mail g c =
+    mail_then c.args.relay.now c.answer.new.relay c.settle.new.relay
+    (mail_answered g.S.Stream.remaining g.S.Stream.contents c.args.number c.args.relay.now c.answer.new.relay c.deref_mut.result.now.channel c.answer.new.self.channel c.args.heard c.answer.result c.answer.ensures.stays c.answer.ensures.leaves c.answer.ensures.gone) c.settle.ensures.mail
+
+pub returns-clause-mail : goal.returns-clause-mail
+returns-clause-mail g c =
+    mail_then c.args.relay.now c.answer.new.relay c.settle.new.relay
+    (mail_answered g.S.Stream.remaining g.S.Stream.contents c.args.number c.args.relay.now c.answer.new.relay c.deref_mut.result.now.channel c.answer.new.self.channel c.args.heard c.answer.result c.answer.ensures.stays c.answer.ensures.leaves c.answer.ensures.gone) c.settle.ensures.mail

@@ -4,6 +4,7 @@ use Rattle.relay_slots.specs.Slots.{slot_at}
 use Rattle.relay_connections.specs.Readiness.{clients_of}
 use Rattle.relay_connections.specs.Served.{AreServed, IsUnused, Serves, address_of}
 use Rattle.relay_connections.specs.Welcome.{KeepsRules}
+use Rattle.relay_connections.proofs.RepliesLemmas.{mail_ended, mail_then}
 use Rattle.relay_connections.proofs.ServedLemmas.{frees, rest_of_end, served_on}
 use Rattle.relay_connections.proofs.clients.Clients.give_one_up.Goals as goal
 use Rattle.relay_connections.proofs.clients.Clients.give_one_up.Goals.{in-Some+else-deref, in-None-3}
@@ -16,6 +17,7 @@ loop-step-preserved g c = record {
         | in-Some+else-deref w ↦ subst (λ self. AreServed g.D.Disk.honest g.D.Disk.words g.S.Stream.remaining g.S.Stream.contents changes setting (clients_of self) c.loop-step.relay) (sym w.self-is) so
         | in-None-3 w ↦ subst (λ self. AreServed g.D.Disk.honest g.D.Disk.words g.S.Stream.remaining g.S.Stream.contents changes setting (clients_of self) c.loop-step.relay) (sym w.self-is) so
       ];
+  mail = c.loop-step.invariant.mail;
   rules = elim c.match-client_at.branch [
     | in-Some+else-deref w ↦ subst (KeepsRules c.args.self.now) (sym w.self-is) c.loop-step.invariant.rules
     | in-None-3 w ↦ subst (KeepsRules c.args.self.now) (sym w.self-is) c.loop-step.invariant.rules
@@ -33,3 +35,7 @@ returns-in-Some-clause-served g c = λ changes setting served.
     served_on g.D.Disk.honest g.D.Disk.words g.S.Stream.remaining g.S.Stream.contents changes setting c.loop-step.self.clients c.take-client.new.self c.loop-step.relay c.drop_session.new.relay number so
     (record { clients = c.take-client.ensures.others; rest = rest_of_end number c.loop-step.relay c.drop_session.new.relay c.drop_session.ensures.ends })
     (subst (λ slot. Serves g.S.Stream.remaining g.S.Stream.contents changes setting c.drop_session.new.relay number slot) (sym c.take-client.ensures.free) gone)
+
+pub returns-in-Some-clause-mail : goal.returns-in-Some-clause-mail
+returns-in-Some-clause-mail g c =
+    mail_then c.args.relay.now c.loop-step.relay c.drop_session.new.relay c.loop-step.invariant.mail (mail_ended c.turned-number.result c.loop-step.relay c.drop_session.new.relay c.drop_session.ensures.ends)

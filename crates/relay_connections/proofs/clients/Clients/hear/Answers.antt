@@ -1,9 +1,10 @@
 -- What was heard is answered, each client in turn.
-use Rattle.std.proofs.Common.{rules, ◌≡◌, ◌++◌, sym, subst}
+use Rattle.std.proofs.Common.{rules, ◌≡◌, [], ◌++◌, sym, subst}
 use Rattle.relay_connections.specs.Readiness.{clients_of}
 use Rattle.relay_connections.specs.Served.{AreServed}
 use Rattle.relay_connections.proofs.AnsweredLemmas.{hears_answered}
 use Rattle.relay_connections.proofs.CarriedLemmas.{none_join}
+use Rattle.relay_connections.proofs.RepliesLemmas.{mail_is, mail_same, mail_then, only_mail}
 use Rattle.relay_connections.proofs.ServedLemmas.{served_at_once}
 use Rattle.relay_connections.proofs.clients.Clients.hear.Goals as goal
 
@@ -21,3 +22,27 @@ returns-clause-served g c = λ changes setting served.
     c.standing-clients.ensures.slots served own in
     let answered = c.in_ok-hears.ensures.served (changes ++ after.pending) setting after.answered in
     (record { added = after.pending; served = answered.0 }, answered.1)
+
+-- Replies were heard with what clients sent, or nothing was heard.
+pub returns-in_default-clause-heard : goal.returns-in_default-clause-heard
+returns-in_default-clause-heard g c =
+    let same : c.hear_all.new.relay ≡ c.args.relay.now = search rules in
+    only_mail [] c.args.relay.now c.give_one_up.new.relay
+    (mail_then c.args.relay.now c.hear_all.new.relay c.give_one_up.new.relay (mail_is c.args.relay.now c.hear_all.new.relay same) c.give_one_up.ensures.mail)
+
+pub returns-clause-heard : goal.returns-clause-heard
+returns-clause-heard g c =
+    let own = rw c.in-Some.is at c.in_ok-sessions.ensures.own in
+    record {
+      before = c.args.relay.now;
+      first = mail_same c.args.relay.now;
+      pieces = own.pieces;
+      group = own.group;
+      answered = own.answered;
+      notes = own.notes;
+      each = own.replied;
+      after = c.hear_all.new.relay;
+      reads = own.reads;
+      only = c.hear_all.ensures.only;
+      last = only_mail [] c.hear_all.new.relay c.answer_each.new.relay c.answer_each.ensures.mail;
+    }

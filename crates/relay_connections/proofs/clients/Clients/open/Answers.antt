@@ -7,6 +7,7 @@ use Rattle.relay_connections.proofs.MatchedLemmas.{greeted_none, is_live, nobody
 use Rattle.relay_loop.specs.Clients.{TalksTo}
 use Rattle.relay_loop.specs.Outboxes.{unwritten_at}
 use Rattle.relay_node.specs.Node.{greeted_by}
+use Rattle.relay_connections.proofs.RepliesLemmas.{mail_greeted, mail_opened, mail_refused, mail_then}
 use Rattle.relay_connections.proofs.ServedLemmas as served
 use Rattle.relay_connections.proofs.clients.Clients.open.Goals as goal
 
@@ -65,3 +66,22 @@ returns-in-Err-clause-served g c = λ changes setting all.
     served.none_opened g.D.Disk.honest g.D.Disk.words g.S.Stream.remaining g.S.Stream.contents changes setting c.args.peer c.args.stream c.args.self.now.clients mid
     (served.still_served g.D.Disk.honest g.D.Disk.words g.S.Stream.remaining g.S.Stream.contents changes setting c.args.self.now.clients c.args.relay.now mid c.in-Err.ensures.unchanged.0 c.in-Err.ensures.unchanged.1
     (refused_same c.args.relay.now.node mid.node c.in-Err.field-0 c.in-Err.ensures.refused) all)
+
+-- No attempt is touched where a client comes.
+pub returns-in-Some-clause-mail : goal.returns-in-Some-clause-mail
+returns-in-Some-clause-mail g c =
+    mail_then c.args.relay.now c.accept.new.self c.greet.new.relay (mail_opened c.in-Ok.session c.args.relay.now c.accept.new.self c.in-Ok.ensures.only c.in-Ok.ensures.records)
+    (mail_greeted c.in-Ok.session c.args.peer c.accept.new.self c.greet.new.relay c.greet.result c.greet.ensures.greeted)
+
+pub returns-in_default-clause-mail : goal.returns-in_default-clause-mail
+returns-in_default-clause-mail g c =
+    mail_then c.args.relay.now c.accept.new.self c.greet.new.relay (mail_opened c.in-Ok.session c.args.relay.now c.accept.new.self c.in-Ok.ensures.only c.in-Ok.ensures.records)
+    (mail_greeted c.in-Ok.session c.args.peer c.accept.new.self c.greet.new.relay c.greet.result c.greet.ensures.greeted)
+
+pub returns-in-Err-Stopped-clause-mail : goal.returns-in-Err-Stopped-clause-mail
+returns-in-Err-Stopped-clause-mail g c =
+    mail_refused c.args.relay.now c.accept.new.self c.in-Err-Stopped.field-0 c.in-Err-Stopped.ensures.unchanged.1 c.in-Err-Stopped.ensures.refused
+
+pub returns-in-Err-clause-mail : goal.returns-in-Err-clause-mail
+returns-in-Err-clause-mail g c =
+    mail_refused c.args.relay.now c.accept.new.self c.in-Err.field-0 c.in-Err.ensures.unchanged.1 c.in-Err.ensures.refused

@@ -4,6 +4,7 @@ use Rattle.relay_book.specs.declared.change.Change.{Change}
 use Rattle.relay_connections.specs.Carried.{Setting}
 use Rattle.relay_connections.specs.Leaving.{ClientsJoin, leavers_of}
 use Rattle.relay_connections.specs.Readiness.{clients_of}
+use Rattle.relay_connections.specs.Replies.{LeavesMail}
 use Rattle.relay_connections.specs.Served.{AreServed}
 use Rattle.relay_connections.specs.Welcome.{KeepsRules}
 use Rattle.relay_connections.proofs.clients.Clients.read_each.Given as goal
@@ -12,5 +13,6 @@ abbrev pub invariant-loop-step : goal.invariant-loop-step
 invariant-loop-step g l = record {
   served : (changes : List Change) (setting : Setting) → AreServed g.D.Disk.honest g.D.Disk.words g.S.Stream.remaining g.S.Stream.contents changes setting (clients_of l.fn.self) l.fn.relay
       → AreServed g.D.Disk.honest g.D.Disk.words g.S.Stream.remaining g.S.Stream.contents changes setting (clients_of l.self) l.relay × ClientsJoin g.S.Stream.remaining g.S.Stream.contents setting (leavers_of l.fn.leaving) (leavers_of l.leaving);
+  mail : LeavesMail l.fn.relay l.relay;
   rules : KeepsRules l.fn.self l.self;
 }

@@ -7,6 +7,7 @@ use Rattle.relay_connections.specs.Exchange.{IsRead}
 use Rattle.relay_connections.specs.Served.{HasNext, HasSession, Serves, StaysOrEnds, address_of}
 use Rattle.relay_connections.proofs.CarriedLemmas.{none_join}
 use Rattle.relay_connections.proofs.NextLemmas.{read_none, serves_none, stays_none}
+use Rattle.relay_connections.proofs.RepliesLemmas.{mail_read, mail_then}
 use Rattle.relay_connections.proofs.ServedLemmas.{next_has, read_rest, session_reads, works_on}
 use Rattle.relay_connections.proofs.clients.Clients.read_one.Goals as goal
 
@@ -53,3 +54,22 @@ returns-clause-serves g c = λ changes setting works serves.
     (subst (λ client. HasNext g.S.Stream.remaining g.S.Stream.contents changes setting new number (address_of client) client.channel c.in-Some-next.next) (sym c.deref_mut-2.ensures.value)
     (subst (λ peer. HasNext g.S.Stream.remaining g.S.Stream.contents changes setting new number (ipv4_octets (v4_ip peer)) c.read.new.self.channel c.in-Some-next.next) (sym c.read.ensures.peer)
     (subst (λ client. HasNext g.S.Stream.remaining g.S.Stream.contents changes setting new number (address_of client) c.read.new.self.channel c.in-Some-next.next) (sym c.deref_mut.ensures.value) has)))
+
+-- No attempt is touched by what is read of a client.
+pub returns-in_default-next-clause-mail : goal.returns-in_default-next-clause-mail
+returns-in_default-next-clause-mail g c =
+    mail_read g.S.Stream.remaining g.S.Stream.contents c.args.number c.args.relay.now c.read.new.relay c.deref_mut.result.now.channel c.read.new.self.channel c.read.result c.read.ensures.read c.read.ensures.ended
+
+pub returns-in_err-next-clause-mail : goal.returns-in_err-next-clause-mail
+returns-in_err-next-clause-mail g c =
+    mail_read g.S.Stream.remaining g.S.Stream.contents c.args.number c.args.relay.now c.read.new.relay c.deref_mut.result.now.channel c.read.new.self.channel c.read.result c.read.ensures.read c.read.ensures.ended
+
+pub returns-in_err-settle-clause-mail : goal.returns-in_err-settle-clause-mail
+returns-in_err-settle-clause-mail g c =
+    mail_then c.args.relay.now c.read.new.relay c.settle.new.relay
+    (mail_read g.S.Stream.remaining g.S.Stream.contents c.args.number c.args.relay.now c.read.new.relay c.deref_mut.result.now.channel c.read.new.self.channel c.read.result c.read.ensures.read c.read.ensures.ended) c.settle.ensures.mail
+
+pub returns-clause-mail : goal.returns-clause-mail
+returns-clause-mail g c =
+    mail_then c.args.relay.now c.read.new.relay c.settle.new.relay
+    (mail_read g.S.Stream.remaining g.S.Stream.contents c.args.number c.args.relay.now c.read.new.relay c.deref_mut.result.now.channel c.read.new.self.channel c.read.result c.read.ensures.read c.read.ensures.ended) c.settle.ensures.mail

@@ -1,9 +1,11 @@
 -- All are served after each call of the turn.
-use Rattle.std.proofs.Common.{◌++◌, sym, subst}
+use Rattle.std.proofs.Common.{[], ◌++◌, sym, subst}
 use Rattle.relay_connections.specs.Leaving.{ClientsJoin, leavers_of}
 use Rattle.relay_connections.specs.Readiness.{clients_of}
+use Rattle.relay_connections.specs.Replies.{HearRepliesIf}
 use Rattle.relay_connections.specs.Served.{AreServedAfter}
 use Rattle.relay_connections.proofs.CarriedLemmas.{more_join}
+use Rattle.relay_connections.proofs.RepliesLemmas.{heard_after, heard_before, heard_none, only_mail}
 use Rattle.relay_connections.proofs.ServedLemmas.{served_at_once, served_after}
 use Rattle.relay_connections.proofs.clients.Clients.serve.Goals as goal
 use Rattle.relay_connections.proofs.clients.Clients.serve.Goals.{then-hears+in_ok-_none+in-Some-1, then-hears+in_ok-_none+in-None-1, else-hears}
@@ -40,4 +42,24 @@ returns-clause-served g c = λ changes setting served.
             (subst (λ relay. AreServedAfter g.D.Disk.honest g.D.Disk.words g.S.Stream.remaining g.S.Stream.contents changes setting (clients_of c.hear.new.self) relay) (sym w.relay-is) second.0),
         subst (λ leaving. ClientsJoin g.S.Stream.remaining g.S.Stream.contents setting c.args.leaving.now.leavers (leavers_of leaving)) (sym w.leaving-is) joined,
       )
+    ]
+
+-- Attempts hear their replies in the first call, and nothing in the second.
+pub returns-then-is_empty-clause-heard : goal.returns-then-is_empty-clause-heard
+returns-then-is_empty-clause-heard g c = only_mail [] c.args.relay.now c.read_each.new.relay c.read_each.ensures.mail
+
+pub returns-clause-heard : goal.returns-clause-heard
+returns-clause-heard g c =
+    let at = c.args.now.now.moment in
+    let heard = heard_after g.D.Disk.honest g.D.Disk.words c.args.replies.now at c.args.relay.now c.read_each.new.relay c.hear.new.relay c.in_ok-hears-2.replied c.read_each.ensures.mail c.in_ok-hears-2.ensures.heard in
+    elim c.if-hears.branch [
+      | then-hears+in_ok-_none+in-Some-1 w ↦
+          subst (λ relay. HearRepliesIf g.D.Disk.honest g.D.Disk.words c.args.replies.now at c.args.relay.now relay c.in_ok-hears-2.replied) (sym w.relay-is)
+          (heard_before g.D.Disk.honest g.D.Disk.words c.args.replies.now at c.args.relay.now c.hear.new.relay w.hear-then-hears.new.relay c.in_ok-hears-2.replied heard
+          (heard_none g.D.Disk.honest g.D.Disk.words at c.hear.new.relay w.hear-then-hears.new.relay _ w.in_ok-_none.ensures.heard))
+      | then-hears+in_ok-_none+in-None-1 w ↦
+          subst (λ relay. HearRepliesIf g.D.Disk.honest g.D.Disk.words c.args.replies.now at c.args.relay.now relay c.in_ok-hears-2.replied) (sym w.relay-is)
+          (heard_before g.D.Disk.honest g.D.Disk.words c.args.replies.now at c.args.relay.now c.hear.new.relay w.hear-then-hears.new.relay c.in_ok-hears-2.replied heard
+          (heard_none g.D.Disk.honest g.D.Disk.words at c.hear.new.relay w.hear-then-hears.new.relay _ w.in_ok-_none.ensures.heard))
+      | else-hears w ↦ subst (λ relay. HearRepliesIf g.D.Disk.honest g.D.Disk.words c.args.replies.now at c.args.relay.now relay c.in_ok-hears-2.replied) (sym w.relay-is) heard
     ]
