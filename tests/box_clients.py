@@ -63,11 +63,9 @@ class Stream:
     def shut(self, now):
         self.is_shut, self.shut_at = True, now
 
-    def is_left(self, now, turn):
-        """Returns whether it is over for so long that it must have been closed before."""
-        if self.is_closed:
-            return False
-        return self.is_shut and now >= self.shut_at + LEAVING or self.is_reset and self.is_known(turn)
+    def is_left(self, turn):
+        """Returns whether it is broken for so long that it must have been closed before."""
+        return not self.is_closed and self.is_reset and self.is_known(turn)
 
     def is_at_end(self):
         """Returns whether nothing is left to be read, and nothing follows."""
@@ -110,6 +108,8 @@ class ClientMessage(Message):
 class Talk(Stream):
     """A client's connection."""
 
+    SILENCE = "idle"
+
     def __init__(self, number, address, setup, now):
         super().__init__(number, address, now)
         self.setup, self.host = setup, setup.host
@@ -121,11 +121,25 @@ class Talk(Stream):
         self.is_cut, self.crowd, self.ended = False, (0, 0), None
         self.total = self.last_count = self.last_place = self.accepted = 0
         self.has_accepted, self.greeted_in, self.tail_since = now, 0, now
+        # The turn in which it came, and whether a balancer's header said so then.
+        self.came_in, self.is_behind = None, False
         # How many replies were written whole, and how many of them refuse something.
         self.answered = self.refused = 0
         # What may refuse something and isn't in the log yet, each with its place among the replies; how many refusals
         # the log has; how many lines it has for them in this minute, and when that ends.
         self.untold, self.told, self.lines, self.minute_end = collections.deque(), 0, 0, None
+
+    def note_coming(self, now, turn):
+        """Notes the turn in which it comes."""
+        if self.came_in is None:
+            self.came_in, self.minute_end, self.has_accepted, self.active = turn, now + MINUTE, now, now
+
+    def is_before(self, other):
+        """Returns whether it surely came before another one: in a turn the relay takes those first that have no
+        header."""
+        if self.came_in != other.came_in:
+            return self.came_in < other.came_in
+        return not self.is_behind and (other.is_behind or self.number < other.number)
 
     def own_lines(self):
         """Returns the lines of the relay's own, each with its cause (RFC 5321, 3.1 and 3.8)."""
@@ -293,9 +307,11 @@ class Talk(Stream):
         elif not self.dialogue.is_closed and not self.is_at_end():
             self.require(late and self.room is not None, "it was closed without a cause")
 
-    def is_overdue(self, now):
-        """Returns whether it must have been cut off before, since it was idle, or closed, since it didn't take its last
-        octets."""
-        since = self.active if self.ended is None else self.ended
-        is_over = self.ended is None and now >= self.has_accepted + LONGEST_SESSION
-        return not self.is_closed and self.is_greeted and (is_over or now >= since + self.setup.timeout)
+    def deadline(self):
+        """Returns when it must be cut off at the latest, since it is idle; or closed, since it doesn't take its last
+        octets, or is read for a second after it has taken them."""
+        if self.is_shut:
+            return self.shut_at + LEAVING
+        if self.ended is not None:
+            return self.ended + self.setup.timeout
+        return min(self.active + self.setup.timeout, self.has_accepted + LONGEST_SESSION)

@@ -1,6 +1,7 @@
 """A day of a relay in a box: a script that is made line by line, from a seed and from what the relay does."""
 import random
 
+from box_headers import header
 from box_peers import Client, Hop
 from box_setup import text_of
 from box_texts import Texts
@@ -9,6 +10,7 @@ from relay_program import Difference
 MORNING = 1_764_489_600
 HOPS = ["192.0.2.1:25", "192.0.2.2:25", "192.0.2.3:25", "192.0.2.4:25"]
 CLIENTS = ["127.0.0.1", "127.0.0.1", "127.0.0.2", "10.0.0.5", "203.0.113.9"]
+BALANCERS = ["192.0.2.200", "198.51.100.7"]
 # How far the clock goes in the evening, while mail is queued, and how often.
 EVENING_STEP, EVENING_STEPS = 4 * 3_600_000 + 1_000, 60
 # The most turns after a step until the relay must be at rest.
@@ -23,6 +25,7 @@ def configuration(chance):
         "trusted_clients": [["127.0.0.0/8"], ["10.0.0.5", "127.0.0.1"], []], "sessions_per_client": [1, 2, 64],
         "attempts_per_hop": [1, 2], "recipients_per_attempt": [1, 2, 3], "client_timeout": [5, 60], "log": ["json"],
         "clients": [["127.0.0.0/8"], ["127.0.0.1", "10.0.0.0/16"]], "spool_limit": [4_000, 20_000],
+        "balancers": [BALANCERS[:1], ["192.0.2.200/30", "198.51.100.0/24"]],
     }
     for key, values in choices.items():
         if chance.random() < 0.2:
@@ -50,12 +53,15 @@ class Day:
         """Plays the day: busy turns first, and then an evening in which all goes well."""
         chance = self.chance
         text, self.places = configuration(chance)
+        self.has_balancers = "balancers" in text
         self.ask(f"begin {text.encode().hex()}")
         self.texts = Texts(chance, chance.choice([3, 5, 5, 9, 20]))
         self.most = chance.choices([1, 2, 3, 6, 12, 70], [5, 6, 6, 3, 1, 0.15])[0]
         self.span = chance.choices([0, 50, 5_000, 600_000, 20_000_000], [3, 4, 2, 1, 1])[0]
         self.turns = chance.choice([8, 15, 25, 40])
         self.has_faults, self.has_rooms = chance.random() < 0.25, chance.random() < 0.3
+        # How often a call on the disks fails, and how many calls pass before at most.
+        self.failing, self.passing = chance.choice([(0.1, 30), (0.1, 30), (0.5, 12)])
         self.sets_clock = chance.random() < 0.12
         self.tell(f"clock {self.wall} {self.now}")
         for place in self.places:
@@ -90,17 +96,18 @@ class Day:
         for client in self.clients.values():
             if chance.random() < 0.85:
                 client.act(lines)
+        fails = self.has_faults and not self.is_short and chance.random() < self.failing
         for hop in self.hops.values():
             if hop.is_pending:
                 if chance.random() < 0.3:
                     hop.is_pending = False
                     lines.append(f"connected {hop.number}" if chance.random() < 0.8 else f"reset {hop.number}")
-            elif chance.random() < 0.85:
+            elif fails or chance.random() < 0.85:
                 hop.act(lines)
         if self.has_rooms:
             self.change_room(lines)
-        if self.has_faults and not self.is_short and chance.random() < 0.1:
-            lines.append(f"fail {chance.randint(0, 30)}")
+        if fails:
+            lines.append(f"fail {chance.randint(0, self.passing)}")
         self.send(lines)
         self.turn()
         if self.has_faults and chance.random() < 0.06:
@@ -128,9 +135,13 @@ class Day:
         """Lets a client come."""
         self.port += 1
         parts, ending = self.texts.session()
+        address = self.chance.choice(CLIENTS)
+        if self.has_balancers and self.chance.random() < 0.6:
+            parts.insert(0, header(self.chance, address, self.port))
+            address = self.chance.choice(BALANCERS)
         self.clients[self.count] = Client(self.chance, self.count, parts, ending)
         self.count += 1
-        self.tell(f"client {self.chance.choice(CLIENTS)}:{self.port}")
+        self.tell(f"client {address}:{self.port}")
 
     def turn(self):
         """Takes a turn, and lets clients and next hops see what the relay did."""

@@ -1,7 +1,7 @@
 """A next hop's stream of a relay in a box: whether what the relay writes is the course of an attempt for queued mail,
 and what its outcome is."""
 from box_answer import require
-from box_clients import Stream
+from box_clients import LEAVING, Stream
 from box_course import DATA, GREETING, LATER, Course
 from relay_program import Difference
 
@@ -13,6 +13,8 @@ CONNECTING, COMMAND, DATA_REPLY, CONTENT_ROOM, CONTENT_REPLY = 30_000, 300_000, 
 
 class Link(Stream):
     """A connection to a next hop, and its attempt."""
+
+    SILENCE = "silent"
 
     def __init__(self, number, address, judge, is_pending):
         super().__init__(number, address, judge.now)
@@ -46,6 +48,10 @@ class Link(Stream):
     def is_known(self, turn):
         """Returns whether the relay knew it before this turn."""
         return self.dialled_in < turn - 1
+
+    def is_answering(self):
+        """Returns whether it has said something that the relay hasn't read before this turn."""
+        return bool(self.unread) or self.read_in == self.judge.counts["turns"]
 
     def has_ended(self):
         """Returns whether its replies have decided, or are none."""
@@ -243,9 +249,11 @@ class Link(Stream):
             return otherwise
         return DATA_REPLY if waits[0] == DATA else COMMAND
 
-    def is_overdue(self, now):
-        """Returns whether the relay has waited for so long that it must have given up before."""
-        return not self.is_closed and not self.is_settled and now >= self.active + self.patience(COMMAND)
+    def deadline(self):
+        """Returns when the relay must give it up at the latest, or close it after it has ended."""
+        if self.is_settled:
+            return self.shut_at + LEAVING if self.is_shut else None
+        return self.active + self.patience(COMMAND)
 
     def closed(self, now, has_failed):
         """Requires a cause for the end of a connection whose attempt hasn't ended."""

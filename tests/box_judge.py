@@ -4,6 +4,7 @@ by the verdict table, and custody by the list of changes. It knows nothing else,
 A line of the script that begins with `#!` asks for a check: `#! drained` requires an empty queue.
 """
 from box_answer import Answer, octets_of, require
+from box_arrivals import MOST_HEADERS, Arrival
 from box_clients import CROWD, CROWDED_TIMEOUT, LONGEST_SESSION, MINUTE, MOST_SESSIONS, Talk
 from box_custody import Custody
 from box_hops import Link, Paces
@@ -15,7 +16,7 @@ from box_setup import Setup
 LONGEST_WAIT, MOST_IDLE = 60_000, 200
 # What is counted, to show that days have all of it.
 COUNTS = ["turns", "accepted", "full", "sent", "deferred", "delayed", "failed", "expired", "reports", "turned away",
-          "cut off", "failures", "stops"]
+          "cut off", "behind balancers", "headers refused", "failures", "replies cut off", "stops"]
 
 
 class Judge:
@@ -23,12 +24,16 @@ class Judge:
 
     def __init__(self):
         self.setup = self.custody = self.outcomes = self.paces = None
-        self.streams, self.talks, self.links, self.peers = [], {}, {}, {}
+        self.forget_streams()
         self.wall, self.now, self.highest, self.went_back = 0, 0, 0, False
         self.modes, self.may_fail, self.is_running, self.idle, self.has_failed = {}, False, False, 0, False
         # Of the turn that is judged.
-        self.touched, self.unrecorded, self.ends_all = set(), set(), False
+        self.touched, self.unrecorded, self.ends_all, self.headers = set(), set(), False, 0
         self.counts = dict.fromkeys(COUNTS, 0)
+
+    def forget_streams(self):
+        """Begins without connections: of clients, those whose headers aren't whole apart; and of next hops."""
+        self.streams, self.talks, self.arrivals, self.links, self.peers = [], {}, {}, {}, {}
 
     # Lines of the script.
 
@@ -55,10 +60,16 @@ class Judge:
         self.wall, self.now, self.highest = wall, now, max(wall, self.highest)
 
     def take_client(self, address):
-        talk = Talk(len(self.streams), address, self.setup, self.now)
-        self.streams.append(talk)
-        self.talks[talk.number] = talk
-        self.peers[address] = talk
+        number = len(self.streams)
+        if address.partition(":")[0] in self.setup.balancers:
+            self.arrivals[number] = Arrival(number, address, self.now)
+            self.streams.append(self.arrivals[number])
+        else:
+            self.streams.append(None)
+            self.add_client(Talk(number, address, self.setup, self.now))
+
+    def add_client(self, talk):
+        self.streams[talk.number] = self.talks[talk.number] = self.peers[talk.address] = talk
 
     def take_input(self, number, octets):
         stream = self.stream(int(number))
@@ -93,7 +104,7 @@ class Judge:
         self.setup = Setup(octets_of(config).decode())
         self.custody = Custody(self.setup)
         self.outcomes, self.paces = Outcomes(self), Paces()
-        self.streams, self.talks, self.links, self.peers = [], {}, {}, {}
+        self.forget_streams()
         self.may_fail, self.is_running, self.went_back = False, len(lines) == 1, False
         require(lines == ["done 1"], f"a relay isn't begun: {lines}")
 
@@ -131,7 +142,9 @@ class Judge:
             if link.course.message:
                 link.course.message.running.discard(link.hop)
             link.is_closed = link.is_settled = link.is_ended = True
-        self.talks, self.links, self.peers = {}, {}, {}
+        for arrival in self.arrivals.values():
+            arrival.is_closed = arrival.is_ended = True
+        self.talks, self.arrivals, self.links, self.peers = {}, {}, {}, {}
         self.paces = Paces()
 
     def after_turn(self, lines):
@@ -153,6 +166,8 @@ class Judge:
         self.take_reads(answer)
         for address in [*(address for _, address in answer.dials), *answer.refused]:
             self.paces.check_dial(address, self.now)
+        if self.has_failed:
+            self.counts["replies cut off"] += sum(link.is_answering() for link in self.links.values())
         self.take_accepted(answer)
         self.take_writes(answer)
         self.take_events(answer)
@@ -177,9 +192,11 @@ class Judge:
 
     def note_beginnings(self):
         """Notes which clients come in this turn, and which connections the relay now knows to be made."""
+        for arrival in self.arrivals.values():
+            arrival.note_coming(self.now)
+        self.headers = len(self.arrivals)
         for talk in self.talks.values():
-            if talk.minute_end is None:
-                talk.minute_end, talk.has_accepted = self.now + MINUTE, self.now
+            talk.note_coming(self.now, self.counts["turns"])
         for link in self.links.values():
             link.note_connected(self.now)
 
@@ -201,9 +218,24 @@ class Judge:
             stream.begin_turn(self.counts["turns"])
             octets = stream.take(count, self.now)
             self.touched.add(stream)
+            if isinstance(stream, Arrival):
+                self.take_header(stream, octets)
+                continue
             stream.read(octets, self.wall)
             if isinstance(stream, Link):
                 self.paces.answer(stream.address)
+
+    def take_header(self, arrival, octets):
+        """Takes what was read of a balancer's connection, and its client, if the header is whole."""
+        talk, rest = arrival.read(octets, self)
+        if talk:
+            self.counts["behind balancers"] += 1
+            del self.arrivals[arrival.number]
+            self.add_client(talk)
+            talk.note_coming(self.now, self.counts["turns"])
+            talk.begin_turn(self.counts["turns"])
+            if rest:
+                talk.read(rest, self.wall)
 
     def stream(self, number):
         require(number < len(self.streams), f"it has no connection {number}")
@@ -265,6 +297,8 @@ class Judge:
                 if stream.is_greeted and not was_greeted:
                     stream.greeted_in = self.counts["turns"]
                     self.check_welcome(stream)
+            elif isinstance(stream, Arrival):
+                stream.wrote(octets, self)
             else:
                 stream.wrote(octets)
         for stream in self.touched:
@@ -279,6 +313,11 @@ class Judge:
         for event, fields in answer.log:
             if event == "client-end" and "messages" in fields and fields["client"] in self.peers:
                 self.peers[fields["client"]].check_end(fields, self.now)
+            elif event == "client-end" and "balancer" in fields:
+                arrival = next((one for one in self.arrivals.values() if one.address == fields["balancer"]), None)
+                require(arrival, f"the log tells of a balancer's connection that isn't there: {fields}")
+                arrival.tell(fields["reason"], self)
+                self.counts["headers refused"] += 1
             elif event == "rejected":
                 require(fields["client"] in self.peers, f"the log tells of a client that isn't there: {fields}")
                 self.peers[fields["client"]].tell(fields, self.now)
@@ -293,12 +332,12 @@ class Judge:
 
     def served(self, before):
         """Returns the clients that surely have a session, and came before this one."""
-        return [talk for talk in self.talks.values() if talk.number < before and talk.is_served()]
+        return [talk for talk in self.talks.values() if talk.is_before(before) and talk.is_served()]
 
     def check_welcome(self, talk):
         """Requires that a client that is greeted may connect, and that there was room."""
         talk.require(self.setup.may_connect(talk.client), "it may not connect, and was greeted")
-        served = self.served(talk.number)
+        served = self.served(talk)
         same = sum(other.client == talk.client for other in served)
         talk.require(len(served) < MOST_SESSIONS and same < self.setup.keys["sessions_per_client"],
                      f"it was greeted beside {len(served)} sessions, {same} of its own address")
@@ -355,6 +394,8 @@ class Judge:
                         self.custody.add(message, doubt=True)
                 self.talks.pop(number, None)
                 self.peers.pop(stream.address, None)
+            elif isinstance(stream, Arrival):
+                self.arrivals.pop(number, None)
             else:
                 self.links.pop(number, None)
 
@@ -368,10 +409,22 @@ class Judge:
                 # What was there when it was greeted makes it ready for the next turn.
                 talk.require(not (talk.unread and talk.is_served() and talk.greeted_in < self.counts["turns"]),
                              "what it has sent isn't read, and the relay waits")
-            talk.require(not talk.is_overdue(self.now), f"it is idle since {talk.active}, and still there")
-            talk.require(not talk.is_left(self.now, self.counts["turns"]), "it is over, and still there")
+            self.check_wait(talk, answer.wait)
+        require(len(self.arrivals) <= MOST_HEADERS, f"{len(self.arrivals)} headers are waited for")
+        for arrival in self.arrivals.values():
+            arrival.check(self, answer.wait)
         for link in self.links.values():
             link.require(link.room is not None or link.is_reset or not link.course.owes(),
                          f"it waits, and must write {link.course.expected[:80]!r} or a command to a next hop")
-            link.require(not link.is_left(self.now, self.counts["turns"]), "it is over, and still there")
-            link.require(not link.is_overdue(self.now), f"it is silent since {link.active}, and still there")
+            self.check_wait(link, answer.wait)
+
+    def check_wait(self, stream, wait):
+        """Requires that a connection that is over is closed, and that the relay waits no longer than it may stay."""
+        end = stream.deadline()
+        if stream.is_closed:
+            return
+        stream.require(not stream.is_left(self.counts["turns"]) and not (stream.is_shut and self.now >= end),
+                       "it is over, and still there")
+        if end is not None:
+            stream.require(self.now < end, f"it is {stream.SILENCE} since {stream.active}, and still there")
+            stream.require(self.now + wait <= end, f"the relay waits until {self.now + wait}, and it ends at {end}")

@@ -6,7 +6,7 @@ import json
 DEFAULTS = {
     "max_content": 1_048_576, "spool_limit": 67_108_864, "bare_newlines": "pass", "routed_paths": "pass",
     "reports": "plain", "sessions_per_client": 32, "attempts_per_hop": 20, "recipients_per_attempt": 15,
-    "client_timeout": 300, "log": "text", "trusted_clients": None, "clients": None,
+    "client_timeout": 300, "log": "text", "trusted_clients": None, "clients": None, "balancers": [],
 }
 
 
@@ -53,7 +53,7 @@ class Setup:
         self.max_content = self.keys["max_content"]
         self.refuses_bare = self.keys["bare_newlines"] == "refuse"
         self.trusted = self.networks("trusted_clients")
-        self.allowed = self.networks("clients")
+        self.allowed, self.balancers = self.networks("clients"), self.networks("balancers")
         self.timeout = self.keys["client_timeout"] * 1000
 
     def networks(self, key):
