@@ -291,8 +291,8 @@ class Talk(Stream):
 
     def is_served(self):
         """Returns whether it surely counts as a session: it is greeted, and nothing has ended it yet."""
-        return (self.is_greeted and not self.own_line and not self.is_closed and not self.dialogue.is_closed
-                and not self.has_end and not self.is_reset)
+        return (self.is_greeted and not self.is_cut and self.ended is None and not self.is_closed
+                and not self.dialogue.is_closed and not self.has_end and not self.is_reset)
 
     def closed(self, now, has_failed):
         """Requires a cause for the end of the connection."""

@@ -33,6 +33,10 @@ class Replies:
         self.rest = text[at:]
         return found
 
+    def begins_with(self, digit):
+        """Returns whether the reply that isn't whole yet begins with a digit."""
+        return (b"%d" % self.code if self.lines else self.rest)[:1] == digit
+
     def take_line(self, line, found):
         """Takes a line, and adds its reply to those found if it is the last one."""
         code, mark = line[:3], line[3:4]
@@ -79,7 +83,8 @@ class Course:
     def __init__(self, host, finder):
         self.host, self.finder = host, finder
         self.replies, self.waits, self.queue = Replies(), collections.deque([GREETING]), collections.deque()
-        self.expected, self.out, self.question = b"", b"", None
+        # What must be written: at once, and after a text that isn't known yet.
+        self.expected, self.after_text, self.out, self.question = b"", b"", b"", None
         self.has_pipelining = self.has_chunking = self.has_dsn = False
         self.in_group = self.has_asked_all = self.is_turned_away = False
         self.mail_line, self.message, self.text = b"", None, None
@@ -106,7 +111,10 @@ class Course:
             self.compare()
             while self.in_group and self.ask_recipient():
                 self.question = None
-            if self.question:
+            if self.question == self.ask_mail_data and self.queue and not self.has_ended:
+                # A reply that comes before the end of the text settles the attempt, and the text still follows.
+                self.take_reply(*self.queue.popleft())
+            elif self.question:
                 if self.expected or not self.question():
                     break
             elif self.queue and self.waits and not self.has_ended:
@@ -130,7 +138,10 @@ class Course:
 
     def end(self, last):
         """Ends with QUIT; recipients whose RCPT doesn't decide have the last verdict."""
-        self.expected += QUIT
+        if self.question == self.ask_mail_data:
+            self.after_text = QUIT
+        else:
+            self.expected += QUIT
         self.has_ended, self.in_group, self.last = True, False, last
 
     def verdicts(self):
@@ -216,11 +227,9 @@ class Course:
             self.end(LATER)
         elif self.text is None:
             self.question = self.ask_unknown_content
-        elif self.text.endswith(CRLF) or not self.text:
-            self.command(b"DATA\r\n", DATA)
         else:
-            self.command(b"BDAT %d LAST\r\n" % len(self.text) + self.text, CONTENT)
-            self.has_content = True
+            self.begin_text(self.text)
+            self.has_content = self.waits[-1] == CONTENT
 
     def ask_unknown_content(self):
         """Reads how a text is begun that isn't known."""
@@ -245,7 +254,7 @@ class Course:
     def write_content(self):
         """Expects the mail data, or reads it if it isn't known."""
         if self.text is not None:
-            self.expected += with_dots(self.text)
+            self.expected += with_dots(self.text) + self.after_text
             self.has_content = True
         else:
             self.question = self.ask_mail_data
@@ -263,6 +272,12 @@ class Course:
     def owes(self):
         """Returns whether something must be written before anything else is read."""
         return bool(self.expected or self.question)
+
+    def is_sending(self):
+        """Returns whether some of the content is still to be written, whether its text is known or not."""
+        if self.question == self.ask_unknown_content:
+            return self.out.startswith(b"BDAT")
+        return self.question == self.ask_mail_data or self.has_content and bool(self.expected)
 
     def are_all_refused(self):
         """Returns whether each recipient that was asked for is refused, and the next command is still to be seen."""
@@ -283,13 +298,19 @@ class Course:
             self.question = None
             self.begin_content()
         if self.question:
-            # The text of a report ends with a line end.
             self.question = None
-            self.waits.append(CONTENT if self.message.text and not self.message.text.endswith(CRLF) else DATA)
+            self.begin_text(self.message.text)
         while self.queue and self.waits and not self.has_ended:
             self.take_reply(*self.queue.popleft())
         if not self.has_ended:
             raise Difference("an attempt has ended whose recipients were accepted, without their content")
+
+    def begin_text(self, text):
+        """Expects the beginning of a content. The text of a report, which may be unknown, ends with a line end."""
+        if text and not text.endswith(CRLF):
+            self.command(b"BDAT %d LAST\r\n" % len(text) + text, CONTENT)
+        else:
+            self.command(b"DATA\r\n", DATA)
 
     def cut_line(self):
         """Takes a whole line of what was written, or returns None."""

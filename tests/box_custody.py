@@ -16,13 +16,31 @@ def wants(notify, word, default):
     return default if notify is None else word in notify
 
 
+def wait_after(laters):
+    """Returns how long a recipient waits after it was deferred so often."""
+    return min(FIRST_WAIT << (laters - 1), LONGEST_WAIT)
+
+
 class Place:
     """A recipient of a message: where it goes, and what is known of it. From `due` on it may be tried; `due_surely` is
     later if it isn't known whether it was deferred."""
 
     def __init__(self, recipient, hop, at):
         self.recipient, self.hop, self.due, self.due_surely = recipient, hop, at, at
-        self.laters, self.is_delayed, self.has_left, self.doubt, self.delay_doubt = 0, False, None, None, False
+        self.is_delayed, self.has_left, self.doubt, self.delay_doubt = False, None, None, False
+        # How often it was deferred, and how often at most, if that is in doubt.
+        self.laters = self.laters_at_most = 0
+
+    def defer(self, at):
+        """Lets it be due again, after it was deferred once more."""
+        self.laters, self.laters_at_most = self.laters + 1, self.laters_at_most + 1
+        self.due, self.due_surely = at + wait_after(self.laters), at + wait_after(self.laters_at_most)
+
+    def doubt_deferral(self, at):
+        """Notes that it may have been deferred once more."""
+        self.laters_at_most += 1
+        self.due = min(self.due, at + wait_after(self.laters + 1))
+        self.due_surely = max(self.due_surely, at + wait_after(self.laters_at_most))
 
 
 class Message:
@@ -126,7 +144,7 @@ class Custody:
                 one = message.places[place]
                 one.doubt = change if leaves else one.doubt
                 one.delay_doubt = one.delay_doubt or "delayed" in told.get(one.recipient.path, ())
-                one.due_surely = max(one.due_surely, at + LONGEST_WAIT)
+                one.doubt_deferral(at)
             if not any(leaves for _, _, leaves in effects) and told:
                 self.report(message, told, at, True)
             return events, None
@@ -174,8 +192,7 @@ class Custody:
             if leaves:
                 self.leave(message, place, leaves)
             else:
-                one.laters += 1
-                one.due = one.due_surely = at + min(FIRST_WAIT << (one.laters - 1), LONGEST_WAIT)
+                one.defer(at)
                 one.is_delayed = one.is_delayed or "delayed" in told.get(one.recipient.path, ())
         return self.report(message, told, at, False) if told else None
 

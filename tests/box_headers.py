@@ -24,7 +24,7 @@ FAMILIES = [block(PROXY, 0x21, bytes(36)), block(PROXY, 0x12, bytes(12)), block(
             line(b"TCP6 2001:db8::77 2001:db8::1 54321 25"), line(b"TCP6 ")]
 OWN = [line(b"UNKNOWN"), line(b"UNKNOWN ffff::1 ffff::2 1 2"), line(b"UNKNOWN " + b"x" * 91), block(LOCAL, 0, b""),
        block(LOCAL, TCP4, b"abc"), block(PROXY, 0, b"")]
-NONE = [b"", b"EHLO c.example\r\n", b"PROXY\r\n", b"proxy UNKNOWN\r\n", line(b"TCP4 192.0.2.77 192.0.2.1 54321"),
+NONE = [b"EHLO c.example\r\n", b"PROXY\r\n", b"proxy UNKNOWN\r\n", line(b"TCP4 192.0.2.77 192.0.2.1 54321"),
         line(b"TCP4 192.0.2.077 192.0.2.1 1 25"), line(b"TCP4 192.0.2.77 192.0.2.256 1 25"),
         line(b"TCP4 192.0.2.77 192.0.2.1 65536 25"), line(b"TCP4 192.0.2.77  192.0.2.1 1 25"),
         line(b"TCP4 192.0.2.77 192.0.2.1 1 025"), line(b"TCP4 192.0.2 192.0.2.1 1 25"), line(b"UNKNOWN " + b"x" * 92),
@@ -47,5 +47,5 @@ def header(chance, client, port):
         return chance.choice(FAMILIES)
     if kind < 0.9:
         whole = line(b"TCP4 %b 192.0.2.201 %d 25" % (client.encode(), port))
-        return whole[:chance.randint(0, len(whole) - 1)]
+        return whole[:chance.randint(1, len(whole) - 1)]
     return chance.choice(NONE)

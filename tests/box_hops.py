@@ -215,7 +215,8 @@ class Link(Stream):
     def content(self, course, text):
         """Takes a text that isn't known before it is sent: that of a report, or of one of several messages."""
         message = course.message
-        fits = [one for one in self.judge.outcomes.alike(self) if self.is_text(one, text)]
+        alike = [message] if self.is_settled else self.judge.outcomes.alike(self)
+        fits = [one for one in alike if self.is_text(one, text)]
         self.require(fits, f"{message} is sent as {text[:2000]!r}, and must "
                            + (f"tell of {message.told}" if message.is_report() else f"be {message.text!r}"))
         if message not in fits:
@@ -243,8 +244,10 @@ class Link(Stream):
         if not self.is_connected:
             return CONNECTING
         waits = self.course.waits
+        if self.course.is_sending():
+            return CONTENT_ROOM
         if self.course.has_content:
-            return CONTENT_ROOM if self.course.expected else CONTENT_REPLY
+            return CONTENT_REPLY
         if not waits:
             return otherwise
         return DATA_REPLY if waits[0] == DATA else COMMAND
@@ -261,7 +264,7 @@ class Link(Stream):
         # A next hop that takes no more connections says so by the first digit of its greeting.
         course = self.course
         is_turned_away = course.is_turned_away or (course.waits and course.waits[0] == GREETING
-                                                   and course.replies.rest[:1] == b"4")
+                                                   and course.replies.begins_with(b"4"))
         is_void = self.address in self.judge.unrecorded and not course.mail_line
         may_leave_out = has_failed or self.is_reset or is_turned_away or is_void or self.room is not None
         self.require(not course.has_ended or not course.expected or may_leave_out,

@@ -12,10 +12,12 @@ EVENT_KINDS = {"sent": "sent", "failed": "failed", "deferred": "later", "delayed
 OVERDUE = 14_400
 
 
-def kind_of(report):
-    """Returns of what a report tells first."""
-    actions = {action for actions in report.told.values() for action in actions}
-    return next((kind for kind in ("failed", "delayed", "relayed") if kind in actions), "failed")
+def kind_of(events):
+    """Returns what the log says of the report that an outcome with these events owes: what is true first of one of its
+    recipients, whether or not it asked for a report."""
+    if {"failed", "expired"} & {*events}:
+        return "failed"
+    return "delayed" if "delayed" in events else "relayed"
 
 
 class Outcomes:
@@ -55,8 +57,8 @@ class Outcomes:
         if message:
             message.running.discard(link.hop)
         if one is not None:
-            if not link.has_ended() and not link.is_at_end() and (not is_closed or self.judge.has_failed
-                                                                  and link.is_unseen()):
+            if not link.has_ended() and not link.is_at_end() and not one.is_lost() and (
+                    not is_closed or self.judge.has_failed and link.is_unseen()):
                 link.end_unseen()
             message = message or self.known(one)
             if message.number is None:
@@ -99,26 +101,33 @@ class Outcomes:
         """Returns what the log tells of an attempt, by its message and address."""
         message = link.course.message
         rest = [one for one in told if one.address == link.address and not one.is_taken
-                and not (one.is_unmade and link.began is not None)]
-        if message and message.number is not None:
+                and not (one.is_unmade and (link.began is not None or not link.is_reset))]
+        is_closed = link.number in self.closed and not self.judge.has_failed
+        if not message or message.number is None:
+            rest = [one for one in rest if one.is_lost() != link.has_ended() or not (is_closed or one.is_lost())]
+        if message:
             for other in self.alike(link):
-                one = next((one for one in rest if (one.number, one.hop) == (other.number, link.hop.decode())), None)
+                one = next((one for one in rest if one.hop == link.hop.decode() and self.tells_of(one, other)), None)
                 if one and (other is message or not link.course.has_content):
                     if other is not message:
                         self.exchange(link, other)
                     return one
             return None
-        kinds = {link.verdicts()[1].kind} if not message else {"sent", "failed", "later"}
-        is_lost = link.is_at_end() or link.number in self.closed and not self.judge.has_failed
-        if link.is_unseen() and not is_lost:
+        kinds = {link.verdicts()[1].kind}
+        if link.is_unseen() and not link.is_at_end() and not is_closed:
             kinds = {"failed"} if link.may_be_unable() else set()
-        found = [one for one in rest if all(EVENT_KINDS.get(event) in kinds for event, _ in one.lines)
-                 and (not message or one.number not in self.custody.numbered)
-                 and not (one.is_lost() and link.has_ended())]
+        found = [one for one in rest if all(EVENT_KINDS.get(event) in kinds for event, _ in one.lines)]
         # Of several the first that can't be of an attempt of the other kind, which may be another link's otherwise.
         has_begun = link.began is not None
         return min(found, key=lambda one: (not self.may_have(one, has_begun), self.may_have(one, not has_begun)),
                    default=None)
+
+    def tells_of(self, told, message):
+        """Returns whether lines are, or may be, of a message."""
+        if message.number is not None:
+            return told.number == message.number
+        paths = {one.recipient.path for one in message.places}
+        return told.number not in self.custody.numbered and all(path in paths for _, path in told.lines)
 
     def may_have(self, told, has_begun):
         """Returns whether an attempt may have these recipients: one that has begun is for a few of those that are due,
@@ -178,16 +187,15 @@ class Outcomes:
         require(found == wanted, f"the log says {found} of {message}, whose attempt gives {wanted}")
         for event in wanted:
             self.judge.counts[event] += 1
-        self.take_report(message, report, told.report)
+        self.take_report(message, report, told.report, kind_of(wanted))
 
-    def take_report(self, message, report, fields):
+    def take_report(self, message, report, fields, kind):
         """Numbers the report that an outcome owes, which is the one that the log has after its lines."""
         if report is None:
             require(fields is None, f"the log has a report of {message}, which owes none")
             return
         require(fields, f"{message} owes a report of {report.told}, and none is logged")
-        require(fields["kind"] == kind_of(report),
-                f"the report of {message} is {fields['kind']}, and not {kind_of(report)}")
+        require(fields["kind"] == kind, f"the report of {message} is {fields['kind']}, and not {kind}")
         self.custody.name(report, int(fields["message"]))
         self.judge.counts["reports"] += 1
 
@@ -198,10 +206,11 @@ class Outcomes:
             if index < len(asked):
                 place = asked[index]
             else:
-                place = next((place for place, one in enumerate(message.places)
-                              if one.recipient.path == path and place not in places and one.has_left is None
-                              and (one.hop[1] if one.hop else "") == address
-                              and (not places or place > places[-1])), None)
+                found = [place for place, one in enumerate(message.places)
+                         if one.recipient.path == path and place not in places and one.has_left is None
+                         and (one.hop[1] if one.hop else "") == address and (not places or place > places[-1])]
+                # A path may be there more than once: one that is due is tried.
+                place = min(found, key=lambda place: message.places[place].due > self.judge.highest, default=None)
             require(place is not None and message.places[place].recipient.path == path,
                     f"the log has {path!r} of {message}, which isn't tried at {address or 'no address'}")
             places.append(place)
@@ -225,7 +234,7 @@ class Outcomes:
         places = self.places_of(message, [], told)
         require({event for event, _ in told.lines} == {"no-route"}, f"{message} without an address: {told.lines}")
         _, report = self.custody.outcome(message, [(place, FAILED) for place in places], self.judge.wall, False)
-        self.take_report(message, report, told.report)
+        self.take_report(message, report, told.report, "failed")
 
     def doubt(self, link):
         """Notes an attempt that has ended while the device failed: nobody knows whether its outcome was recorded."""
