@@ -222,9 +222,14 @@ class Custody:
 
     def listed(self, lines, next_number):
         """Compares what is queued with what the relay lists: the number, the place and the path of each."""
-        found = set()
-        for number, place, path in lines:
-            message = self.numbered.get(number) or self.nameless_for(number, place, path)
+        found, known = set(), {*self.numbered.values()}
+        # Numbers that aren't known come last: what has left of the other messages may owe a report, which has one of
+        # them.
+        for number, place, path in sorted(lines, key=lambda line: line[0] not in self.numbered):
+            message = self.numbered.get(number)
+            if message is None:
+                self.settle_places(found, known)
+                message = self.nameless_for(number, place, path)
             self.require(place < len(message.places) and message.places[place].recipient.path == path,
                          f"{path!r} is queued as recipient {place} of {message}, which has no such recipient")
             self.require(number < next_number, f"message {number} is queued, and the next number is {next_number}")
@@ -251,12 +256,16 @@ class Custody:
 
     def settle_doubts(self, found):
         """Decides of each change in doubt, by what is queued, whether it has happened."""
-        for message, place in list(self.queued):
-            change = message.places[place].doubt
-            if change:
-                change.settle((message, place) not in found)
+        self.settle_places(found, {message for message, _ in self.queued})
         for message in [one for one in self.nameless if one.doubt]:
             message.doubt.settle(False)
+
+    def settle_places(self, found, messages):
+        """Decides the same of each change of recipients of these messages."""
+        for message, place in list(self.queued):
+            change = message.places[place].doubt
+            if change and message in messages:
+                change.settle((message, place) not in found)
 
     def settle_reports(self, path):
         """Decides, if no report to a path is there, that a change in doubt has happened which owes one."""

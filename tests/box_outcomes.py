@@ -34,9 +34,10 @@ class Outcomes:
         closed = self.closed = set(answer.closes)
         ended = [link for link in self.judge.links.values() if not link.is_settled
                  and (link.has_ended() or link.number in closed or link.is_at_end() or link.is_unseen())]
-        # Lines that may be of several attempts are of one whose message is known, or that has surely ended.
+        # Lines that may be of several attempts are of one whose message is known, that has surely ended, or has begun.
         for link in sorted(ended, key=lambda link: (link.course.message is None,
-                                                    not link.has_ended() and link.number not in closed)):
+                                                    not link.has_ended() and link.number not in closed,
+                                                    link.began is None)):
             self.settle(link, told, link.number in closed)
         for one in told:
             if not one.is_taken and one.address:
