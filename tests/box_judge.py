@@ -133,9 +133,7 @@ class Judge:
     def end_all(self):
         """Ends all connections, since the relay is stopped or its device has failed."""
         for talk in self.talks.values():
-            for message in talk.offers:
-                if not message.is_logged and self.has_failed:
-                    self.custody.add(message, doubt=True)
+            self.doubt_offers(talk)
             talk.offers.clear()
             talk.is_closed = talk.is_ended = True
         for link in self.links.values():
@@ -146,6 +144,13 @@ class Judge:
             arrival.is_closed = arrival.is_ended = True
         self.talks, self.arrivals, self.links, self.peers = {}, {}, {}, {}
         self.paces = Paces()
+
+    def doubt_offers(self, talk):
+        """Notes that messages of a client may have been recorded in this turn, if the device has failed in it."""
+        for message in talk.offers:
+            if self.has_failed and not message.is_logged:
+                message.set_time(self.wall)
+                self.custody.add(message, doubt=True)
 
     def after_turn(self, lines):
         answer = Answer(lines)
@@ -389,9 +394,7 @@ class Judge:
             if isinstance(stream, Talk):
                 stream.require(self.ends_all or not stream.is_greeted or stream.ended is not None,
                                "it was closed, and the log has no line for its end")
-                for message in stream.offers:
-                    if self.ends_all and not message.is_logged:
-                        self.custody.add(message, doubt=True)
+                self.doubt_offers(stream)
                 self.talks.pop(number, None)
                 self.peers.pop(stream.address, None)
             elif isinstance(stream, Arrival):

@@ -255,7 +255,8 @@ class Outcomes:
 
     def doubt_all(self, address, last):
         """Notes that an attempt for any of the mail at an address may have ended with this verdict."""
-        for other in {message for message, _ in self.custody.queued}:
+        maybe = (one for one in self.custody.nameless if one.doubt)
+        for other in {*(message for message, _ in self.custody.queued), *maybe}:
             hops = {one.hop for one in other.places if one.hop and one.hop[1] == address}
             for hop in hops:
                 places = [place for place, one in enumerate(other.places)
