@@ -285,16 +285,18 @@ class Course:
 
     def is_asking(self):
         """Returns whether it depends on what is written next whether it ends with QUIT."""
-        return self.question in (self.ask_mail, self.ask_next, self.ask_unknown_content) and not self.expected
+        return self.question in (self.ask_mail, self.ask_next, self.ask_unknown_content)
 
-    def end_unseen(self):
-        """Ends with a QUIT that isn't written yet."""
+    def end_unseen(self, places=()):
+        """Ends with a QUIT that isn't written yet, after the lines of these recipients, which aren't either."""
         if self.question == self.ask_mail:
             self.finder.cannot_send(self)
             self.end(FAILED)
             self.question = None
             return
         if self.question == self.ask_next:
+            for place in places:
+                self.ask_unseen(place)
             self.question = None
             self.begin_content()
         if self.question:
@@ -304,6 +306,14 @@ class Course:
             self.take_reply(*self.queue.popleft())
         if not self.has_ended:
             raise Difference("an attempt has ended whose recipients were accepted, without their content")
+
+    def ask_unseen(self, place):
+        """Asks for a recipient whose line isn't written yet, and takes the reply."""
+        self.lines.append(self.finder.rcpt_line(self, place))
+        self.places.append(place)
+        self.command(self.lines[-1], RCPT)
+        if self.queue:
+            self.take_reply(*self.queue.popleft())
 
     def begin_text(self, text):
         """Expects the beginning of a content. The text of a report, which may be unknown, ends with a line end."""

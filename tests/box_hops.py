@@ -60,16 +60,16 @@ class Link(Stream):
     def is_unseen(self):
         """Returns whether it may have ended by a QUIT for which there was no room."""
         has_no_room = self.room is not None or self.judge.has_failed
-        return has_no_room and self.course.is_asking() and not self.course.out
+        return has_no_room and self.course.is_asking() and b"\r\n" not in self.course.out
 
     def may_be_unable(self):
         """Returns whether the next hop may be unable to take the text."""
         return self.course.question == self.course.ask_mail and not self.course.has_chunking
 
-    def end_unseen(self):
-        """Ends by such a QUIT."""
+    def end_unseen(self, places=()):
+        """Ends by such a QUIT, after these recipients, whose lines aren't seen yet either."""
         try:
-            self.course.end_unseen()
+            self.course.end_unseen(places)
         except Difference as difference:
             self.require(False, str(difference))
 
@@ -187,6 +187,11 @@ class Link(Stream):
             most = max(most // 2, 1)
         return found
 
+    def may_have_asked_all(self):
+        """Returns whether no recipient may be left to be asked for."""
+        message, places = self.course.message, self.course.places
+        return len(places) in self.portions(message) or {*self.due_places(message, self.hop)} <= {*places}
+
     def asked_all(self, course):
         """Requires that the recipients are the first ones that are due there, and as many as there may be. Returns the
         text that follows, if it is known which message it is."""
@@ -207,6 +212,10 @@ class Link(Stream):
                                                       len(places) == len(due) and len(due) < max(portions)),
                      f"the recipients {places} of {message} were tried, and {due} were due, "
                      f"{sorted(portions)} at a time")
+
+    def rcpt_line(self, course, place):
+        """Returns the line of RCPT of a place of its message."""
+        return course.message.places[place].recipient.line(course.has_dsn)
 
     def cannot_send(self, course):
         """Notes QUIT after EHLO or HELO: the text needs CHUNKING, which isn't offered."""
@@ -279,7 +288,7 @@ class Paces:
     """Which next hops have answered since the relay began, and how long each is left alone (relay_limits/specs)."""
 
     def __init__(self):
-        self.answered, self.answered_now, self.holds = set(), set(), {}
+        self.answered, self.answered_now, self.holds, self.ends = set(), set(), {}, {}
 
     def has_answered(self, address):
         return address in self.answered
@@ -300,9 +309,12 @@ class Paces:
             wanted.add(60)
         require(seconds in wanted, f"{address} is left alone for {seconds} s, after {before[1]} s")
         self.holds[address] = now + seconds * 1_000, seconds
+        self.ends[address] = now + seconds * 1_000
 
-    def is_held(self, address, now):
-        return self.holds.get(address, (0, 0))[0] > now
+    def may_be_held(self, address, now):
+        """Returns whether a next hop may be left alone still: one may go on in connections that were open before, and
+        its hold not end by that."""
+        return self.ends.get(address, 0) > now
 
     def check_dial(self, address, now):
         until = self.holds.get(address, (0, 0))[0]

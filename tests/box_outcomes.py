@@ -47,6 +47,9 @@ class Outcomes:
         if self.judge.has_failed:
             for address in answer.refused:
                 self.doubt_all(address, LATER)
+            for address in self.judge.paces.ends:
+                if self.judge.paces.may_be_held(address, self.judge.now):
+                    self.doubt_all(address, LATER, is_late=True)
 
     def settle(self, link, told, is_closed):
         """Ends an attempt, if it has ended."""
@@ -60,7 +63,8 @@ class Outcomes:
         if one is not None:
             if not link.has_ended() and not link.is_at_end() and not one.is_lost() and (
                     not is_closed or self.judge.has_failed and link.is_unseen()):
-                link.end_unseen()
+                asked = link.course.places
+                link.end_unseen(self.places_of(message, asked, one)[len(asked):] if asked else ())
             message = message or self.known(one)
             if message.number is None:
                 self.custody.name(message, one.number)
@@ -68,15 +72,15 @@ class Outcomes:
             one.is_taken = True
             self.conclude(message, link, one, is_sure)
         elif self.judge.has_failed:
-            if link.is_unseen() and link.course.are_all_refused():
+            if link.is_unseen() and link.course.are_all_refused() and link.may_have_asked_all():
                 link.end_unseen()
             self.doubt(link)
         elif not self.judge.ends_all or link.has_ended():
             # A next hop may turn one connection away beside others, and one may fail that began before its next hop was
             # left alone: these have no outcome.
-            may_turn_away = (self.is_shared(link.address, link)
-                             or self.judge.paces.is_held(link.address, self.judge.now))
-            is_none = link.course.last is not FAILED and may_turn_away or link.address in self.judge.unrecorded
+            may_fail = link.began is None and self.judge.paces.may_be_held(link.address, self.judge.now)
+            may_be_none = link.course.last is not FAILED and (may_fail or self.is_shared(link.address, link))
+            is_none = may_be_none or link.address in self.judge.unrecorded
             link.require(link.course.mail_line == b"" and is_none,
                          f"an attempt for {message} has ended, and the log has no line for it")
         if message and not link.has_ended() and link.began is not None:
@@ -117,7 +121,8 @@ class Outcomes:
         kinds = {link.verdicts()[1].kind}
         if link.is_unseen() and not link.is_at_end() and not is_closed:
             kinds = {"failed"} if link.may_be_unable() else set()
-        found = [one for one in rest if all(EVENT_KINDS.get(event) in kinds for event, _ in one.lines)]
+        found = [one for one in rest if one.is_lost() and link.number in self.closed
+                 or all(EVENT_KINDS.get(event) in kinds for event, _ in one.lines)]
         # Of several the first that can't be of an attempt of the other kind, which may be another link's otherwise.
         has_begun = link.began is not None
         return min(found, key=lambda one: (not self.may_have(one, has_begun), self.may_have(one, not has_begun)),
@@ -223,9 +228,7 @@ class Outcomes:
         """Records an outcome of no connection: a refused one, or mail whose next hop has been left alone for long."""
         message = self.known(told)
         refused = told.reasons == {"connection refused"} and told.address in answer.refused
-        # Of a message of which a place has been due for so long, each hop on hold is recorded as tried.
-        late = told.reasons == {"unreachable"} and any(one.has_left is None and one.due + OVERDUE < self.judge.wall
-                                                       for one in message.places)
+        late = told.reasons == {"unreachable"} and self.is_late(message)
         require((refused or late) and all(EVENT_KINDS[event] == "later" for event, _ in told.lines),
                 f"the log says {told.lines} of {message} at {told.address}, where no attempt has ended")
         self.conclude(message, None, told)
@@ -253,10 +256,17 @@ class Outcomes:
                 found = [(place, verdict) for place, (_, verdict) in zip(places, verdicts)]
                 self.custody.outcome(one, found, self.judge.wall, True)
 
-    def doubt_all(self, address, last):
-        """Notes that an attempt for any of the mail at an address may have ended with this verdict."""
+    def is_late(self, message):
+        """Returns whether a place of a message has been due for so long that each next hop on hold counts as tried."""
+        return any(one.has_left is None and one.due + OVERDUE < self.judge.wall for one in message.places)
+
+    def doubt_all(self, address, last, is_late=False):
+        """Notes that an attempt for any of the mail at an address, or of what is late, may have ended with this verdict.
+        """
         maybe = (one for one in self.custody.nameless if one.doubt)
         for other in {*(message for message, _ in self.custody.queued), *maybe}:
+            if is_late and not self.is_late(other):
+                continue
             hops = {one.hop for one in other.places if one.hop and one.hop[1] == address}
             for hop in hops:
                 places = [place for place, one in enumerate(other.places)
