@@ -118,7 +118,7 @@ class Talk(Stream):
         self.expected = collections.deque([self.dialogue.greeting()])
         # What was written since the last whole reply; messages that aren't accepted yet.
         self.tail, self.is_greeted, self.own_line, self.offers = b"", False, None, collections.deque()
-        self.is_cut, self.crowd, self.ended = False, (0, 0), None
+        self.is_cut, self.crowd, self.ended, self.was_crowded = False, (0, 0), None, None
         self.total = self.last_count = self.last_place = self.accepted = 0
         self.has_accepted, self.greeted_in, self.tail_since = now, 0, now
         # The turn in which it came, and whether a balancer's header said so then.
@@ -281,7 +281,7 @@ class Talk(Stream):
                 self.is_cut = True
                 if line == self.tail:
                     self.own_line, self.tail = line, b""
-                    judge.own_line(self, cause)
+                    judge.sessions.own_line(self, cause)
                 return
         self.require(False, f"it got {self.tail[:100]!r}, and is owed {wanted[:100]!r}")
 
@@ -307,11 +307,18 @@ class Talk(Stream):
         elif not self.dialogue.is_closed and not self.is_at_end():
             self.require(late and self.room is not None, "it was closed without a cause")
 
-    def deadline(self):
+    def is_idle(self):
+        """Returns whether it surely owes nothing and is owed nothing: it is between commands, or hasn't begun its mail
+        data."""
+        return not (self.dialogue.rest or self.expected or self.unread or self.tail)
+
+    def deadline(self, is_crowded):
         """Returns when it must be cut off at the latest, since it is idle; or closed, since it doesn't take its last
         octets, or is read for a second after it has taken them."""
         if self.is_shut:
             return self.shut_at + LEAVING
         if self.ended is not None:
             return self.ended + self.setup.timeout
-        return min(self.active + self.setup.timeout, self.has_accepted + LONGEST_SESSION)
+        has_less_time = is_crowded and self.is_served() and self.is_idle() and not self.accepted
+        timeout = min(CROWDED_TIMEOUT, self.setup.timeout) if has_less_time else self.setup.timeout
+        return min(self.active + timeout, self.has_accepted + LONGEST_SESSION)

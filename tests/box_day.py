@@ -56,9 +56,11 @@ class Day:
         self.has_balancers = "balancers" in text
         self.ask(f"begin {text.encode().hex()}")
         self.texts = Texts(chance, chance.choice([3, 5, 5, 9, 20]))
-        self.most = chance.choices([1, 2, 3, 6, 12, 70], [5, 6, 6, 3, 1, 0.15])[0]
+        self.most = chance.choices([1, 2, 3, 6, 12, 70], [5, 6, 6, 3, 1, 0.4])[0]
         self.span = chance.choices([0, 50, 5_000, 600_000, 20_000_000], [3, 4, 2, 1, 1])[0]
         self.turns = chance.choice([8, 15, 25, 40])
+        # In a crowd most clients say little, and stay.
+        self.is_crowd = self.most > 64 and chance.random() < 0.5
         self.has_faults, self.has_rooms = chance.random() < 0.25, chance.random() < 0.3
         # How often a call on the disks fails, and how many calls pass before at most.
         self.failing, self.passing = chance.choice([(0.1, 30), (0.1, 30), (0.5, 12)])
@@ -135,6 +137,8 @@ class Day:
         """Lets a client come."""
         self.port += 1
         parts, ending = self.texts.session()
+        if self.is_crowd and self.chance.random() < 0.9:
+            parts, ending = parts[:self.chance.choice([0, 1, 1, 2])], "silence"
         address = self.chance.choice(CLIENTS)
         if self.has_balancers and self.chance.random() < 0.6:
             parts.insert(0, header(self.chance, address, self.port))

@@ -261,7 +261,7 @@ class Link(Stream):
             return otherwise
         return DATA_REPLY if waits[0] == DATA else COMMAND
 
-    def deadline(self):
+    def deadline(self, _):
         """Returns when the relay must give it up at the latest, or close it after it has ended."""
         if self.is_settled:
             return self.shut_at + LEAVING if self.is_shut else None

@@ -5,10 +5,11 @@ A line of the script that begins with `#!` asks for a check: `#! drained` requir
 """
 from box_answer import Answer, octets_of, require
 from box_arrivals import MOST_HEADERS, Arrival
-from box_clients import CROWD, CROWDED_TIMEOUT, LONGEST_SESSION, MINUTE, MOST_SESSIONS, Talk
+from box_clients import Talk
 from box_custody import Custody
 from box_hops import Link, Paces
 from box_outcomes import Outcomes
+from box_sessions import Sessions
 from box_setup import Setup
 
 # The longest wait between two turns, in milliseconds, and how often a relay may say that it has more to do and do
@@ -16,7 +17,7 @@ from box_setup import Setup
 LONGEST_WAIT, MOST_IDLE = 60_000, 200
 # What is counted, to show that days have all of it.
 COUNTS = ["turns", "accepted", "full", "sent", "deferred", "delayed", "failed", "expired", "reports", "turned away",
-          "cut off", "behind balancers", "headers refused", "failures", "replies cut off", "stops"]
+          "cut off", "turns in a crowd", "behind balancers", "headers refused", "failures", "replies cut off", "stops"]
 
 
 class Judge:
@@ -24,6 +25,7 @@ class Judge:
 
     def __init__(self):
         self.setup = self.custody = self.outcomes = self.paces = None
+        self.sessions = Sessions(self)
         self.forget_streams()
         self.wall, self.now, self.highest, self.went_back = 0, 0, 0, False
         self.modes, self.may_fail, self.is_running, self.idle, self.has_failed = {}, False, False, 0, False
@@ -178,7 +180,7 @@ class Judge:
         self.take_events(answer)
         for talk in self.talks.values():
             if not talk.is_greeted and not talk.own_line:
-                self.note_crowd(talk)
+                self.sessions.note_crowd(talk)
         self.outcomes.settle_attempts(answer)
         for address in early:
             require(self.has_due(address) or address in answer.refused or self.has_failed,
@@ -301,7 +303,7 @@ class Judge:
                 stream.wrote(octets, self)
                 if stream.is_greeted and not was_greeted:
                     stream.greeted_in = self.counts["turns"]
-                    self.check_welcome(stream)
+                    self.sessions.check_welcome(stream)
             elif isinstance(stream, Arrival):
                 stream.wrote(octets, self)
             else:
@@ -317,6 +319,7 @@ class Judge:
         self.unrecorded = set()
         for event, fields in answer.log:
             if event == "client-end" and "messages" in fields and fields["client"] in self.peers:
+                self.sessions.note_end(self.peers[fields["client"]])
                 self.peers[fields["client"]].check_end(fields, self.now)
             elif event == "client-end" and "balancer" in fields:
                 arrival = next((one for one in self.arrivals.values() if one.address == fields["balancer"]), None)
@@ -334,53 +337,6 @@ class Judge:
                 self.paces.answer(fields["addr"])
             elif event == "hop-held":
                 self.paces.hold(fields["addr"], int(fields["retry_in"].rstrip("s")), self.now)
-
-    def served(self, before):
-        """Returns the clients that surely have a session, and came before this one."""
-        return [talk for talk in self.talks.values() if talk.is_before(before) and talk.is_served()]
-
-    def check_welcome(self, talk):
-        """Requires that a client that is greeted may connect, and that there was room."""
-        talk.require(self.setup.may_connect(talk.client), "it may not connect, and was greeted")
-        served = self.served(talk)
-        same = sum(other.client == talk.client for other in served)
-        talk.require(len(served) < MOST_SESSIONS and same < self.setup.keys["sessions_per_client"],
-                     f"it was greeted beside {len(served)} sessions, {same} of its own address")
-
-    def own_line(self, talk, cause):
-        """Requires the cause of a line of the relay's own."""
-        talk.cut_in = self.counts["turns"]
-        self.counts["cut off" if cause == "timeout" else "turned away"] += 1
-        if cause == "no service":
-            talk.require(not self.setup.may_connect(talk.client), "it may connect, and got no service")
-        elif cause == "too many":
-            self.note_crowd(talk)
-            total, same = talk.crowd
-            talk.require(total >= MOST_SESSIONS or same >= self.setup.keys["sessions_per_client"],
-                         f"it was turned away beside {total} sessions, {same} of its own address")
-        elif cause == "storage":
-            talk.require(self.has_failed, "it got 421 for storage, and the device hasn't failed")
-        else:
-            self.check_timeout(talk)
-
-    def others(self, talk):
-        """Returns the clients that may have had a session beside this one in this turn."""
-        return [other for other in self.talks.values() if other is not talk
-                and (not other.own_line or other.is_greeted and other.cut_in == self.counts["turns"])]
-
-    def note_crowd(self, talk):
-        """Notes how many sessions there are at most beside a client that isn't greeted yet, or was cut off."""
-        others = self.others(talk)
-        same = sum(other.client == talk.client for other in others)
-        talk.crowd = max(talk.crowd[0], len(others)), max(talk.crowd[1], same)
-
-    def check_timeout(self, talk):
-        """Requires that a client that was cut off was idle for long enough."""
-        # Whether there is a crowd is counted once in a turn, before any client is cut off.
-        is_crowded = len(self.others(talk)) + 1 > CROWD and not talk.accepted
-        idle = self.now - talk.tail_since
-        talk.require(idle >= self.setup.timeout or is_crowded and idle >= CROWDED_TIMEOUT
-                     or self.now >= talk.has_accepted + LONGEST_SESSION, f"it was cut off after {idle} ms")
 
     # The end of a turn.
 
@@ -406,13 +362,15 @@ class Judge:
         """Requires that what could be done was done, if the relay waits now."""
         if not answer.wait:
             return
+        is_crowded = self.sessions.are_surely_crowded()
+        self.counts["turns in a crowd"] += is_crowded
         for talk in self.talks.values():
             if talk.room is None and not talk.is_reset:
                 talk.require(not talk.owes(), f"it is owed {talk.expected and talk.expected[0]!r}, and the relay waits")
                 # What was there when it was greeted makes it ready for the next turn.
                 talk.require(not (talk.unread and talk.is_served() and talk.greeted_in < self.counts["turns"]),
                              "what it has sent isn't read, and the relay waits")
-            self.check_wait(talk, answer.wait)
+            self.check_wait(talk, answer.wait, is_crowded)
         require(len(self.arrivals) <= MOST_HEADERS, f"{len(self.arrivals)} headers are waited for")
         for arrival in self.arrivals.values():
             arrival.check(self, answer.wait)
@@ -421,9 +379,9 @@ class Judge:
                          f"it waits, and must write {link.course.expected[:80]!r} or a command to a next hop")
             self.check_wait(link, answer.wait)
 
-    def check_wait(self, stream, wait):
+    def check_wait(self, stream, wait, is_crowded=False):
         """Requires that a connection that is over is closed, and that the relay waits no longer than it may stay."""
-        end = stream.deadline()
+        end = stream.deadline(is_crowded)
         if stream.is_closed:
             return
         stream.require(not stream.is_left(self.counts["turns"]) and not (stream.is_shut and self.now >= end),
