@@ -88,8 +88,9 @@ class Custody:
 
     def __init__(self, setup):
         self.setup, self.numbered, self.nameless, self.by_line, self.next = setup, {}, [], {}, 1
-        # What is surely queued, as messages and places.
-        self.queued = set()
+        # What is surely queued: messages and places, in the order in which they were added, so that a script is judged
+        # alike each time.
+        self.queued = {}
 
     def add(self, message, doubt=False):
         """Adds a message, which is queued, or may be."""
@@ -104,7 +105,7 @@ class Custody:
 
     def confirm(self, message):
         message.doubt = None
-        self.queued.update((message, place) for place in range(len(message.places)))
+        self.queued.update(((message, place), True) for place in range(len(message.places)))
 
     def forget(self, message):
         """Drops a message that was never accepted."""
@@ -162,7 +163,7 @@ class Custody:
 
     def leave(self, message, place, way):
         message.places[place].has_left, message.places[place].doubt = way, None
-        self.queued.discard((message, place))
+        self.queued.pop((message, place), None)
 
     def effect(self, message, place, verdict, at, told, events):
         """Notes the event of a place and the report of it, and returns how it leaves, if it does."""
@@ -206,7 +207,7 @@ class Custody:
         report.told, report.of = told, message
         self.add(report, doubt)
         if report.places[0].hop is None:
-            self.queued.discard((report, 0))
+            self.queued.pop((report, 0), None)
         return report
 
     def find(self, line, fits):
@@ -238,11 +239,11 @@ class Custody:
         self.require(next_number >= self.next, f"the next number was {self.next}, and is {next_number}")
         self.next = next_number
         self.settle_doubts(found)
-        for message, place in found - self.queued:
+        for message, place in found - self.queued.keys():
             one = message.places[place]
             self.require(one.hop is None and one.has_left is None,
                          f"{one.recipient.path!r} of {message} is queued, and has left: {one.has_left}")
-        for message, place in self.queued - found:
+        for message, place in self.queued.keys() - found:
             raise Difference(f"{message.places[place].recipient.path!r} of {message} isn't queued, and hasn't left")
 
     def nameless_for(self, number, place, path):

@@ -30,7 +30,7 @@ class Judge:
         self.wall, self.now, self.highest, self.went_back = 0, 0, 0, False
         self.modes, self.may_fail, self.is_running, self.idle, self.has_failed = {}, False, False, 0, False
         # Of the turn that is judged.
-        self.touched, self.unrecorded, self.ends_all, self.headers = set(), set(), False, 0
+        self.touched, self.unrecorded, self.ends_all, self.headers = {}, set(), False, 0
         self.counts = dict.fromkeys(COUNTS, 0)
 
     def forget_streams(self):
@@ -166,7 +166,7 @@ class Judge:
         require(answer.fault is not None or answer.wait is not None and answer.wait <= LONGEST_WAIT,
                 f"it waits {answer.wait} ms")
         self.watch_progress(answer)
-        self.touched, self.paces.answered_now = set(), set()
+        self.touched, self.paces.answered_now = {}, set()
         self.note_beginnings()
         early = {address for address in {*(one for _, one in answer.dials), *answer.refused}
                  if not self.has_due(address)}
@@ -224,7 +224,7 @@ class Judge:
             stream = self.stream(number)
             stream.begin_turn(self.counts["turns"])
             octets = stream.take(count, self.now)
-            self.touched.add(stream)
+            self.touched[stream] = True
             if isinstance(stream, Arrival):
                 self.take_header(stream, octets)
                 continue
@@ -297,7 +297,7 @@ class Judge:
             stream = self.stream(number)
             stream.begin_turn(self.counts["turns"])
             stream.give(octets, self.now)
-            self.touched.add(stream)
+            self.touched[stream] = True
             if isinstance(stream, Talk):
                 was_greeted = stream.is_greeted
                 stream.wrote(octets, self)

@@ -65,7 +65,10 @@ class Outcomes:
                     not is_closed or self.judge.has_failed and link.is_unseen()):
                 asked = link.course.places
                 link.end_unseen(self.places_of(message, asked, one)[len(asked):] if asked else ())
-            message = message or self.known(one)
+            if message is None:
+                message = self.known(one)
+                # Another attempt that was taken to be for this message isn't.
+                self.free(message, one.hop.encode())
             if message.number is None:
                 self.custody.name(message, one.number)
             is_sure = sum(other.address == link.address for other in told if not other.is_taken) == 1
@@ -111,13 +114,13 @@ class Outcomes:
         if not message or message.number is None:
             rest = [one for one in rest if one.is_lost() != link.has_ended() or not (is_closed or one.is_lost())]
         if message:
-            for other in self.alike(link):
-                one = next((one for one in rest if one.hop == link.hop.decode() and self.tells_of(one, other)), None)
-                if one and (other is message or not link.course.has_content):
-                    if other is not message:
-                        self.exchange(link, other)
-                    return one
-            return None
+            found = [(other, one) for other in self.alike(link) if other is message or not link.course.has_content
+                     for one in rest if one.hop == link.hop.decode() and self.tells_of(one, other)]
+            # An attempt that has ended by a reply isn't one whose connection failed, if there are lines of both.
+            other, one = min(found, key=lambda both: both[1].is_lost() == link.has_ended(), default=(message, None))
+            if other is not message:
+                self.exchange(link, other)
+            return one
         kinds = {link.verdicts()[1].kind}
         if link.is_unseen() and not link.is_at_end() and not is_closed:
             kinds = {"failed"} if link.may_be_unable() else set()
@@ -264,11 +267,11 @@ class Outcomes:
         """Notes that an attempt for any of the mail at an address, or of what is late, may have ended with this verdict.
         """
         maybe = (one for one in self.custody.nameless if one.doubt)
-        for other in {*(message for message, _ in self.custody.queued), *maybe}:
+        for other in dict.fromkeys([*(message for message, _ in self.custody.queued), *maybe]):
             if is_late and not self.is_late(other):
                 continue
-            hops = {one.hop for one in other.places if one.hop and one.hop[1] == address}
-            for hop in hops:
+            hops = (one.hop for one in other.places if one.hop and one.hop[1] == address)
+            for hop in dict.fromkeys(hops):
                 places = [place for place, one in enumerate(other.places)
                           if one.hop == hop and one.has_left is None and one.doubt is None
                           and one.due <= self.judge.highest]
