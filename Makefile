@@ -22,11 +22,12 @@ interop: relayd
 	tests/interop.sh build/relayd
 
 # Plays a thousand random scripts, and puts stops of every kind before each event of the scripts of docs/plays/. Then
-# plays ten thousand networks of running relays in boxes.
+# plays ten thousand networks of running relays in boxes, and for ten minutes days of one, after those of the gate.
 hostile: relayd relay_box_tests
 	tests/random_plays.py build/relayd 1000
 	tests/stops_in_plays.py build/relayd all
 	tests/networks_in_a_box.py build/relay_box_tests 10000
+	tests/days_in_a_box.py build/relay_box_tests 1000000 2001 --seconds 600
 
 # Measures the program and library calls beside `wc` on the same octets (docs/PERFORMANCE.md).
 bench: relayd relay_rows_tests

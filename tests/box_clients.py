@@ -29,7 +29,7 @@ class Stream:
         self.opened = self.active = self.base = self.idle_since = self.quiet_since = self.written = now
         # Whether something was read since the last write; whether the relay was stopped, or all connections ended.
         self.has_heard = self.is_ended = False
-        self.turn = self.read_in = 0
+        self.turn = self.read_in = self.wrote_in = 0
 
     def require(self, holds, what):
         if not holds:
@@ -56,7 +56,7 @@ class Stream:
         if self.room is not None:
             self.require(len(octets) <= self.room, f"it wrote {len(octets)} octets into room for {self.room}")
             self.room -= len(octets)
-        self.written = now
+        self.written, self.wrote_in = now, self.turn
         # Which came first in a turn, what was read or what was written, nobody sees: the earlier deadline counts.
         self.base, self.has_heard, self.active = now, self.read_in == self.turn, now
 
@@ -118,7 +118,7 @@ class Talk(Stream):
         self.expected = collections.deque([self.dialogue.greeting()])
         # What was written since the last whole reply; messages that aren't accepted yet.
         self.tail, self.is_greeted, self.own_line, self.offers = b"", False, None, collections.deque()
-        self.is_cut, self.crowd, self.ended, self.was_crowded = False, (0, 0), None, None
+        self.is_cut, self.crowd, self.ended, self.was_crowded, self.has_begun = False, (0, 0), None, None, False
         self.total = self.last_count = self.last_place = self.accepted = 0
         self.has_accepted, self.greeted_in, self.tail_since = now, 0, now
         # The turn in which it came, and whether a balancer's header said so then.
@@ -128,6 +128,12 @@ class Talk(Stream):
         # What may refuse something and isn't in the log yet, each with its place among the replies; how many refusals
         # the log has; how many lines it has for them in this minute, and when that ends.
         self.untold, self.told, self.lines, self.minute_end = collections.deque(), 0, 0, None
+
+    def begin_turn(self, turn):
+        if self.turn != turn:
+            # It has surely begun to send something if that was read after the last reply.
+            self.has_begun = bool(self.dialogue.rest) and self.read_in > self.wrote_in
+        super().begin_turn(turn)
 
     def note_coming(self, now, turn):
         """Notes the turn in which it comes."""

@@ -167,6 +167,7 @@ class Judge:
                 f"it waits {answer.wait} ms")
         self.watch_progress(answer)
         self.touched, self.paces.answered_now = {}, set()
+        self.sessions.begin_turn()
         self.note_beginnings()
         early = {address for address in {*(one for _, one in answer.dials), *answer.refused}
                  if not self.has_due(address)}

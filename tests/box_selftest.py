@@ -3,7 +3,7 @@ difference, and each with a planted fault shows the difference that it must.
 
 In a transcript, tests/days/NAME.day, `> ` stands before a line of the script and `< ` before one of an answer; octets
 are a text in quotes. NAME.plants has the faults: after `= ` words of the difference, after `- ` a text of the
-transcript (its occurrence after `@ `, from 0), and after `+ ` what stands in its place.
+transcript (its occurrence after `@ `, from 0), and after `+ ` what stands in its place; further such pairs may follow.
 """
 import json
 import pathlib
@@ -15,13 +15,11 @@ DAYS = pathlib.Path(__file__).resolve().parent / "days"
 ANSWERED = ("begin", "turn", "stop", "queue")
 
 
-class Plant:
-    """A fault: a text of a transcript, what stands in its place, and words of the difference that follows."""
+class Edit:
+    """A text of a transcript, its occurrence, and what stands in its place."""
 
-    def __init__(self, block):
-        lines = [(line[:1], line[2:]) for line in block.splitlines()]
-        self.old, self.new, self.words, at = ("\n".join(text for mark, text in lines if mark == wanted)
-                                              for wanted in "-+=@")
+    def __init__(self, lines):
+        self.old, self.new, at = ("\n".join(text for mark, text in lines if mark == wanted) for wanted in "-+@")
         self.at = int(at or 0)
 
     def apply(self, text):
@@ -29,6 +27,23 @@ class Plant:
         if len(parts) < self.at + 2:
             raise Difference(f"the transcript has no such text: {self.old}")
         return self.old.join(parts[:self.at + 1]) + self.new + self.old.join(parts[self.at + 1:])
+
+
+class Plant:
+    """A fault: one edit or more of a transcript, and words of the difference that follows."""
+
+    def __init__(self, block):
+        lines = [(line[:1], line[2:]) for line in block.splitlines()]
+        self.words = "\n".join(text for mark, text in lines if mark == "=")
+        begins = [index for index, (mark, _) in enumerate(lines)
+                  if mark in "@-" and lines[index - 1][0] in "=+"]
+        ends = [*begins[1:], len(lines)]
+        self.edits = [Edit(lines[begin:end]) for begin, end in zip(begins, ends)]
+
+    def apply(self, text):
+        for edit in self.edits:
+            text = edit.apply(text)
+        return text
 
 
 def plants_of(file):
@@ -67,7 +82,8 @@ def judge(text):
 def require_noticed(plant, text):
     found = judge(plant.apply(text))
     if found is None or plant.words not in found:
-        raise Difference(f"{plant.old[:200]!r}, replaced by {plant.new[:200]!r}, gives {found!r}, and not "
+        edit = plant.edits[-1]
+        raise Difference(f"{edit.old[:200]!r}, replaced by {edit.new[:200]!r}, gives {found!r}, and not "
                          f"{plant.words!r}")
 
 

@@ -7,7 +7,12 @@ class Sessions:
     """The sessions of a judge's clients."""
 
     def __init__(self, judge):
-        self.judge = judge
+        # How many clients surely had a session when the relay began to serve clients in this turn.
+        self.judge, self.standing = judge, 0
+
+    def begin_turn(self):
+        """Counts the sessions before a turn."""
+        self.standing = len(self.served())
 
     def served(self):
         """Returns the clients that surely have a session."""
@@ -21,7 +26,7 @@ class Sessions:
 
     def are_surely_crowded(self):
         """Returns whether there surely were so many sessions in this turn that idle clients have less time."""
-        return len(self.served()) > CROWD
+        return self.standing > CROWD
 
     def note_crowd(self, talk):
         """Notes how many sessions there are at most beside a client that isn't greeted yet, or was cut off."""
@@ -37,6 +42,7 @@ class Sessions:
         same = sum(other.client == talk.client for other in served)
         talk.require(len(served) < MOST_SESSIONS and same < setup.keys["sessions_per_client"],
                      f"it was greeted beside {len(served)} sessions, {same} of its own address")
+        self.standing += 1
 
     def own_line(self, talk, cause):
         """Requires the cause of a line of the relay's own."""
@@ -67,4 +73,5 @@ class Sessions:
         """Notes whether an idle client had less time when it was cut off: it may get its line for that later."""
         if talk.was_crowded is None:
             # Whether there is a crowd is counted once in a turn, before any client is cut off.
-            talk.was_crowded = len(self.others(talk)) + 1 > CROWD and not talk.accepted
+            talk.begin_turn(self.judge.counts["turns"])
+            talk.was_crowded = len(self.others(talk)) + 1 > CROWD and not talk.accepted and not talk.has_begun
