@@ -4,17 +4,20 @@ by the verdict table, and custody by the list of changes. It knows nothing else,
 A line of the script that begins with `#!` asks for a check: `#! drained` requires an empty queue.
 """
 from box_answer import Answer, octets_of, require
-from box_arrivals import MOST_HEADERS, Arrival
+from box_arrivals import Arrival
 from box_clients import Talk
 from box_custody import Custody
 from box_hops import Link, Paces
 from box_outcomes import Outcomes
 from box_sessions import Sessions
 from box_setup import Setup
+from box_waits import Waits
 
 # The longest wait between two turns, in milliseconds, and how often a relay may say that it has more to do and do
 # nothing.
 LONGEST_WAIT, MOST_IDLE = 60_000, 200
+# By how many seconds the wall clock may differ from the other one and not be set.
+MOST_DRIFT = 2
 # What is counted, to show that days have all of it.
 COUNTS = ["turns", "accepted", "full", "sent", "deferred", "delayed", "failed", "expired", "reports", "turned away",
           "cut off", "turns in a crowd", "behind balancers", "headers refused", "failures", "replies cut off", "stops"]
@@ -24,10 +27,10 @@ class Judge:
     """Takes the lines of a script and the answers to them, in order."""
 
     def __init__(self):
-        self.setup = self.custody = self.outcomes = self.paces = None
+        self.setup = self.custody = self.outcomes = self.paces = self.waits = None
         self.sessions = Sessions(self)
         self.forget_streams()
-        self.wall, self.now, self.highest, self.went_back = 0, 0, 0, False
+        self.wall, self.now, self.highest, self.went_back, self.was_set = 0, 0, 0, False, False
         self.modes, self.may_fail, self.is_running, self.idle, self.has_failed = {}, False, False, 0, False
         # Of the turn that is judged.
         self.touched, self.unrecorded, self.ends_all, self.headers = {}, set(), False, 0
@@ -59,6 +62,8 @@ class Judge:
 
     def set_clock(self, wall, now):
         self.went_back = self.went_back or wall < self.wall
+        moved = wall - self.wall - (now - self.now) / 1_000
+        self.was_set = self.was_set or self.now > 0 and abs(moved) > MOST_DRIFT
         self.wall, self.now, self.highest = wall, now, max(wall, self.highest)
 
     def take_client(self, address):
@@ -98,16 +103,16 @@ class Judge:
         self.may_fail = True
 
     def take_ballast(self, count):
-        pass
+        self.waits.note_room(int(count))
 
     # Answers.
 
     def after_begin(self, lines, config):
         self.setup = Setup(octets_of(config).decode())
         self.custody = Custody(self.setup)
-        self.outcomes, self.paces = Outcomes(self), Paces()
+        self.outcomes, self.paces, self.waits = Outcomes(self), Paces(), Waits(self)
         self.forget_streams()
-        self.may_fail, self.is_running, self.went_back = False, len(lines) == 1, False
+        self.may_fail, self.is_running, self.went_back, self.was_set = False, len(lines) == 1, False, False
         require(lines == ["done 1"], f"a relay isn't begun: {lines}")
 
     def after_stop(self, lines, pick):
@@ -146,6 +151,7 @@ class Judge:
             arrival.is_closed = arrival.is_ended = True
         self.talks, self.arrivals, self.links, self.peers = {}, {}, {}, {}
         self.paces = Paces()
+        self.waits.forget()
 
     def doubt_offers(self, talk):
         """Notes that messages of a client may have been recorded in this turn, if the device has failed in it."""
@@ -190,7 +196,8 @@ class Judge:
         if not self.has_failed:
             for _, address in answer.dials:
                 self.check_attempts(address)
-            self.after_good_turn(answer)
+            if answer.wait:
+                self.waits.check(answer.wait)
         if self.has_failed or answer.fault:
             self.end_all()
         self.is_running = answer.fault is None
@@ -358,35 +365,3 @@ class Judge:
                 self.arrivals.pop(number, None)
             else:
                 self.links.pop(number, None)
-
-    def after_good_turn(self, answer):
-        """Requires that what could be done was done, if the relay waits now."""
-        if not answer.wait:
-            return
-        is_crowded = self.sessions.are_surely_crowded()
-        self.counts["turns in a crowd"] += is_crowded
-        for talk in self.talks.values():
-            if talk.room is None and not talk.is_reset:
-                talk.require(not talk.owes(), f"it is owed {talk.expected and talk.expected[0]!r}, and the relay waits")
-                # What was there when it was greeted makes it ready for the next turn.
-                talk.require(not (talk.unread and talk.is_served() and talk.greeted_in < self.counts["turns"]),
-                             "what it has sent isn't read, and the relay waits")
-            self.check_wait(talk, answer.wait, is_crowded)
-        require(len(self.arrivals) <= MOST_HEADERS, f"{len(self.arrivals)} headers are waited for")
-        for arrival in self.arrivals.values():
-            arrival.check(self, answer.wait)
-        for link in self.links.values():
-            link.require(link.room is not None or link.is_reset or not link.course.owes(),
-                         f"it waits, and must write {link.course.expected[:80]!r} or a command to a next hop")
-            self.check_wait(link, answer.wait)
-
-    def check_wait(self, stream, wait, is_crowded=False):
-        """Requires that a connection that is over is closed, and that the relay waits no longer than it may stay."""
-        end = stream.deadline(is_crowded)
-        if stream.is_closed:
-            return
-        stream.require(not stream.is_left(self.counts["turns"]) and not (stream.is_shut and self.now >= end),
-                       "it is over, and still there")
-        if end is not None:
-            stream.require(self.now < end, f"it is {stream.SILENCE} since {stream.active}, and still there")
-            stream.require(self.now + wait <= end, f"the relay waits until {self.now + wait}, and it ends at {end}")
