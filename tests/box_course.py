@@ -86,7 +86,7 @@ class Course:
         # What must be written: at once, and after a text that isn't known yet.
         self.expected, self.after_text, self.out, self.question = b"", b"", b"", None
         self.has_pipelining = self.has_chunking = self.has_dsn = False
-        self.in_group = self.has_asked_all = self.is_turned_away = False
+        self.in_group = self.has_asked_all = self.is_turned_away = self.is_closing = False
         self.mail_line, self.message, self.text = b"", None, None
         # The lines of RCPT, the places that they are for, and the codes of their replies.
         self.lines, self.places, self.rcpt_codes = [], [], []
@@ -153,6 +153,8 @@ class Course:
         """Does what the table says of a reply to what waits first."""
         waited, kind = self.waits.popleft(), code // 100
         self.is_turned_away = waited == GREETING and kind == 4
+        # A next hop that closes the connection says so (RFC 5321, 3.8). RCPT may be sent with MAIL.
+        self.is_closing = self.is_closing or code == 421 and waited in (MAIL, RCPT, DATA, CONTENT)
         last = FAILED if kind == 5 else LATER
         if waited == GREETING and kind == 2:
             self.command(b"EHLO " + self.host + CRLF, EHLO)

@@ -86,7 +86,7 @@ class Outcomes:
             is_none = may_be_none or link.address in self.judge.unrecorded
             link.require(link.course.mail_line == b"" and is_none,
                          f"an attempt for {message} has ended, and the log has no line for it")
-        if message and not link.has_ended() and link.began is not None:
+        if message and link.began is not None and (link.course.is_closing or not link.has_ended()):
             message.cuts += 1
 
     def is_shared(self, address, link=None):
