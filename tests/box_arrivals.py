@@ -1,6 +1,6 @@
-"""Connections of a balancer to a relay in a box: each begins with a header of the PROXY protocol, which says whose it is
-(HAProxy's specification, versions 1 and 2, with the profile of relay_proxy/specs, written again from these). The relay
-takes the client, or closes the connection and logs why.
+"""Connections of a balancer to a relay in a box: each begins with a header of the PROXY protocol, which says whose it
+is (HAProxy's specification, versions 1 and 2, with the profile of relay_proxy/specs, written again from these). The
+relay takes the client, or closes the connection and logs why.
 """
 from box_clients import Stream, Talk
 

@@ -26,7 +26,7 @@ class Stream:
     def __init__(self, number, address, now):
         self.number, self.address, self.unread, self.room = number, address, b"", None
         self.has_end = self.is_reset = self.is_shut = self.is_closed = False
-        self.opened = self.active = self.base = self.idle_since = self.quiet_since = self.written = now
+        self.opened = self.active = self.base = self.idle_since = self.quiet_since = self.written = self.read_at = now
         # Whether something was read since the last write; whether the relay was stopped, or all connections ended.
         self.has_heard = self.is_ended = False
         self.turn = self.read_in = self.wrote_in = 0
@@ -45,7 +45,7 @@ class Stream:
         self.require(count <= len(self.unread), f"it read {count} octets, where {len(self.unread)} were there")
         octets, self.unread = self.unread[:count], self.unread[count:]
         self.base, self.has_heard, self.read_in = self.base if self.has_heard else now, True, self.turn
-        self.active = now
+        self.active = self.read_at = now
         return octets
 
     def give(self, octets, now):
@@ -118,7 +118,9 @@ class Talk(Stream):
         self.expected = collections.deque([self.dialogue.greeting()])
         # What was written since the last whole reply; messages that aren't accepted yet.
         self.tail, self.is_greeted, self.own_line, self.offers = b"", False, None, collections.deque()
-        self.is_cut, self.crowd, self.ended, self.was_crowded, self.has_begun = False, (0, 0), None, None, False
+        self.is_cut, self.crowd, self.ended, self.was_crowded = False, (0, 0), None, None
+        # Whether it surely had begun a command, and was owed replies, before this turn.
+        self.has_begun = self.was_owed = False
         self.total = self.last_count = self.last_place = self.accepted = 0
         self.has_accepted, self.greeted_in, self.tail_since = now, 0, now
         # The turn in which it came, and whether a balancer's header said so then.
@@ -133,6 +135,7 @@ class Talk(Stream):
         if self.turn != turn:
             # It has surely begun to send something if that was read after the last reply.
             self.has_begun = bool(self.dialogue.rest) and self.read_in > self.wrote_in
+            self.was_owed = bool(self.expected or self.tail)
         super().begin_turn(turn)
 
     def note_coming(self, now, turn):
@@ -235,6 +238,8 @@ class Talk(Stream):
         while self.tail and not self.own_line:
             if not self.expected or not self.take_reply(self.expected[0], judge):
                 break
+        # What follows of a unit that was begun before these replies isn't its first octet.
+        self.has_heard = self.has_heard or bool(self.dialogue.rest or self.expected)
         if self.tail:
             self.compare_rest(judge)
 

@@ -281,10 +281,6 @@ class Course:
             return self.out.startswith(b"BDAT")
         return self.question == self.ask_mail_data or self.has_content and bool(self.expected)
 
-    def are_all_refused(self):
-        """Returns whether each recipient that was asked for is refused, and the next command is still to be seen."""
-        return self.question == self.ask_next and bool(self.rcpt_codes) and min(self.rcpt_codes) >= 300
-
     def is_asking(self):
         """Returns whether it depends on what is written next whether it ends with QUIT."""
         return self.question in (self.ask_mail, self.ask_next, self.ask_unknown_content)

@@ -74,8 +74,9 @@ class Message:
 class Change:
     """A change in doubt: what it does if it has happened, and if it hasn't."""
 
-    def __init__(self, happens, fails=lambda: None):
-        self.happens, self.fails, self.is_settled = happens, fails, False
+    def __init__(self, happens, fails=lambda: None, told=None):
+        # What the report tells of that it owes, if it has happened.
+        self.happens, self.fails, self.is_settled, self.told = happens, fails, False, told
 
     def settle(self, has_happened):
         if not self.is_settled:
@@ -140,7 +141,7 @@ class Custody:
             effects.append((place, verdict, self.effect(message, place, verdict, at, told, events)))
         if doubt:
             change = Change(lambda: self.happen(message, effects, told, at),
-                            lambda: self.stay(message, effects))
+                            lambda: self.stay(message, effects), told)
             for place, _, leaves in effects:
                 one = message.places[place]
                 one.doubt = change if leaves else one.doubt
@@ -274,6 +275,19 @@ class Custody:
             for message, place in list(self.queued):
                 if message.mail.path == path and message.places[place].doubt:
                     message.places[place].doubt.settle(True)
+
+    def may_owe(self, path):
+        """Returns whether a change in doubt may owe a report to a path."""
+        return any(message.mail.path == path and message.places[place].doubt for message, place in self.queued)
+
+    def report_in_doubt(self, path, fits):
+        """Returns the report to a path that is owed by a change in doubt, if what it tells of fits: it has happened."""
+        for message, place in list(self.queued):
+            change = message.places[place].doubt
+            if change and message.mail.path == path and change.told and fits(change.told, message):
+                change.settle(True)
+                return self.nameless[-1]
+        return None
 
     def require(self, holds, what):
         if not holds:

@@ -28,7 +28,7 @@ class Link(Stream):
 
     def note_connected(self, now):
         """Notes that the relay learns in this turn that it was made: it takes octets now."""
-        if not self.is_connected and not self.is_pending and self.room != 0:
+        if not self.is_connected and not self.is_pending and self.room != 0 and not self.is_reset:
             self.is_connected, self.active = True, now
 
     def read(self, octets, wall):
@@ -48,6 +48,10 @@ class Link(Stream):
     def is_known(self, turn):
         """Returns whether the relay knew it before this turn."""
         return self.dialled_in < turn - 1
+
+    def may_be_unmade(self):
+        """Returns whether it may have failed before it was made."""
+        return self.is_reset and self.began is None and not self.is_connected
 
     def is_answering(self):
         """Returns whether it has said something that the relay hasn't read before this turn."""
@@ -120,8 +124,13 @@ class Link(Stream):
         else:
             self.require(outcomes.choose_again(self),
                          f"{line!r} is of no recipient of {course.message} that is due there")
-        if len(outcomes.alike(self)) == 1:
+        if len(outcomes.alike(self)) == 1 and not self.may_be_other_report():
             self.settle_queued()
+
+    def may_be_other_report(self):
+        """Returns whether its message is a report in doubt, and may be another one that a change in doubt owes."""
+        message = self.course.message
+        return message.is_report() and message.doubt and self.custody.may_owe(message.places[0].recipient.path)
 
     def settle_queued(self):
         """Notes that its recipients are queued."""
@@ -226,6 +235,10 @@ class Link(Stream):
         message = course.message
         alike = [message] if self.is_settled else self.judge.outcomes.alike(self)
         fits = [one for one in alike if self.is_text(one, text)]
+        if not fits and message.is_report():
+            path = message.places[0].recipient.path
+            report = self.custody.report_in_doubt(path, lambda told, of: tells_of(told, of, text))
+            fits = [report] if report and self.is_text(report, text) else []
         self.require(fits, f"{message} is sent as {text[:2000]!r}, and must "
                            + (f"tell of {message.told}" if message.is_report() else f"be {message.text!r}"))
         if message not in fits:
@@ -355,13 +368,15 @@ def actions_of(text):
 
 def tells(message, text):
     """Returns whether a text is a report to the message's sender that tells of just these recipients."""
-    found = actions_of(text)
-    if not found:
+    if not actions_of(text):
         return False
-    for told, of in [(message.told, message.of), *message.may_tell]:
-        numbers = (b"message %d." % of.number, b"as number %d," % of.number) if of.number else (b"",)
-        # Where it isn't known which recipients have failed, a report may tell of any of them.
-        is_vague = [] in told.values() and set(found) <= set(told)
-        if (found == told or is_vague) and any(number in text for number in numbers):
-            return True
-    return False
+    return any(tells_of(told, of, text) for told, of in [(message.told, message.of), *message.may_tell])
+
+
+def tells_of(told, of, text):
+    """Returns whether a text is a report of a message that tells of just these recipients."""
+    found = actions_of(text)
+    numbers = (b"message %d." % of.number, b"as number %d," % of.number) if of.number else (b"",)
+    # Where it isn't known which recipients have failed, a report may tell of any of them.
+    is_vague = [] in told.values() and set(found) <= set(told)
+    return (found == told or is_vague) and any(number in text for number in numbers)

@@ -3,9 +3,12 @@ connection, and which lines of the log it must have.
 
 A line of the log names its message, so an attempt that has ended before its message showed is known by its lines.
 """
+import contextlib
+
 from box_answer import require
 from box_course import FAILED, LATER
 from box_log import attempts_of
+from relay_program import Difference
 
 EVENT_KINDS = {"sent": "sent", "failed": "failed", "deferred": "later", "delayed": "later", "expired": "later"}
 # Mail on hold is recorded as tried after so many seconds.
@@ -75,8 +78,10 @@ class Outcomes:
             one.is_taken = True
             self.conclude(message, link, one, is_sure)
         elif self.judge.has_failed:
-            if link.is_unseen() and link.course.are_all_refused() and link.may_have_asked_all():
-                link.end_unseen()
+            if message and link.is_unseen() and link.may_have_asked_all():
+                # It may have ended, by replies to what isn't seen any more.
+                with contextlib.suppress(Difference):
+                    link.course.end_unseen()
             self.doubt(link)
         elif not self.judge.ends_all or link.has_ended():
             # A next hop may turn one connection away beside others, and one may fail that began before its next hop was
@@ -109,7 +114,7 @@ class Outcomes:
         """Returns what the log tells of an attempt, by its message and address."""
         message = link.course.message
         rest = [one for one in told if one.address == link.address and not one.is_taken
-                and not (one.is_unmade and (link.began is not None or not link.is_reset))]
+                and not (one.is_unmade and not link.may_be_unmade())]
         is_closed = link.number in self.closed and not self.judge.has_failed
         if not message or message.number is None:
             rest = [one for one in rest if one.is_lost() != link.has_ended() or not (is_closed or one.is_lost())]
@@ -126,10 +131,12 @@ class Outcomes:
             kinds = {"failed"} if link.may_be_unable() else set()
         found = [one for one in rest if one.is_lost() and link.number in self.closed
                  or all(EVENT_KINDS.get(event) in kinds for event, _ in one.lines)]
-        # Of several the first that can't be of an attempt of the other kind, which may be another link's otherwise.
+        # Of several the first that can't be of an attempt of the other kind, which may be another link's otherwise. A
+        # connection that has ended isn't one on which the relay has waited for too long.
         has_begun = link.began is not None
-        return min(found, key=lambda one: (not self.may_have(one, has_begun), self.may_have(one, not has_begun)),
-                   default=None)
+        return min(found, key=lambda one: (not self.may_have(one, has_begun),
+                                           one.is_lost() and ("timeout" in one.reasons) == link.is_at_end(),
+                                           self.may_have(one, not has_begun)), default=None)
 
     def tells_of(self, told, message):
         """Returns whether lines are, or may be, of a message."""
@@ -142,6 +149,8 @@ class Outcomes:
         """Returns whether an attempt may have these recipients: one that has begun is for a few of those that are due,
         and one that hasn't for all."""
         message = self.custody.numbered.get(told.number)
+        if told.is_unmade and has_begun:
+            return False
         if message is None or self.judge.went_back:
             return True
         there = [one for one in message.places if one.hop and one.hop[0] == told.hop.encode() and one.has_left is None]
@@ -264,8 +273,8 @@ class Outcomes:
         return any(one.has_left is None and one.due + OVERDUE < self.judge.wall for one in message.places)
 
     def doubt_all(self, address, last, is_late=False):
-        """Notes that an attempt for any of the mail at an address, or of what is late, may have ended with this verdict.
-        """
+        """Notes that an attempt for any of the mail at an address, or of what is late there, may have ended with this
+        verdict."""
         maybe = (one for one in self.custody.nameless if one.doubt)
         for other in dict.fromkeys([*(message for message, _ in self.custody.queued), *maybe]):
             if is_late and not self.is_late(other):

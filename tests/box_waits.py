@@ -18,8 +18,8 @@ class Waits:
         self.forget()
 
     def forget(self):
-        """Begins anew, since the relay is started, or its spool is opened: by when due mail at an address must be tried,
-        and whether the relay surely knew before the turn what becomes due next."""
+        """Begins anew, since the relay is started, or its spool is opened: by when due mail at an address must be
+        tried, and whether the relay surely knew before the turn what becomes due next."""
         self.limits, self.knows_next = {}, False
 
     def note_room(self, count):
@@ -64,9 +64,9 @@ class Waits:
             stream.require(now + wait <= end, f"the relay waits until {now + wait}, and it ends at {end}")
 
     def check_due(self, wait):
-        """Requires that mail at an address to which nothing is open, and which isn't left alone, is tried when it is due,
-        and that the relay waits no longer than until then. While it connects, while other mail is due, and after its
-        clock was set, it looks only once a minute."""
+        """Requires that mail at an address to which nothing is open, and which isn't left alone, is tried when it is
+        due, and that the relay waits no longer than until then. While it connects, while other mail is due, and after
+        its clock was set, it looks only once a minute."""
         judge, due, is_quiet = self.judge, {}, not self.judge.was_set
         busy = {link.address for link in judge.links.values()}
         for message, place in judge.custody.queued:
@@ -93,7 +93,7 @@ class Waits:
             if at > judge.wall:
                 most = (at - judge.wall) * 1_000 + slack
             else:
-                limit = judge.now + LISTING_PAUSE + (0 if self.knows_next else LOOK_PAUSE)
+                limit = judge.now + LISTING_PAUSE + (0 if self.knows_next and not judge.was_set else LOOK_PAUSE)
                 limits[address] = self.limits.get(address, limit)
                 most = limits[address] - judge.now
                 require(most > 0, f"mail for {address} is due since {at}, and isn't tried")
