@@ -162,6 +162,45 @@ class Strict:
             link.sendall(b"221 bye\r\n")
 
 
+class Closing:
+    """A next hop that answers 421 to the last command of this word on its first connection, or to the mail data, and
+    closes the connection; of two recipients it refuses the first then, if the word is RCPT. It takes mail on others. It
+    keeps how many recipients each connection has had."""
+
+    def __init__(self, word):
+        self.word, self.lock, self.asked = word, threading.Lock(), []
+
+    def __call__(self, link):
+        with self.lock:
+            number = len(self.asked)
+            self.asked.append(0)
+        link.sendall(b"220 hop.example\r\n")
+        with link.makefile("rb") as lines:
+            for line in lines:
+                word = line[:4].decode()
+                if word == "RCPT":
+                    with self.lock:
+                        self.asked[number] += 1
+                link.sendall(self.reply(word, number))
+                if word == "DATA" and not self.closes(word, number):
+                    while lines.readline() not in (b".\r\n", b""):
+                        pass
+                    word = "text"
+                    link.sendall(self.reply(word, number))
+                if self.closes(word, number) or word == "QUIT":
+                    return
+
+    def closes(self, word, number):
+        return number == 0 and word == self.word and (word != "RCPT" or self.asked[0] == 2)
+
+    def reply(self, word, number):
+        if self.closes(word, number):
+            return b"421 hop.example closing\r\n"
+        if word == "RCPT" and number == 0 and self.word == "RCPT":
+            return b"550 no such user\r\n"
+        return b"354 go on\r\n" if word == "DATA" else b"250 ok\r\n"
+
+
 def hand_in_to(client, paths):
     """A message to these; the number that it was queued as."""
     for command in ("MAIL FROM:<a@example.org>", *[f"RCPT TO:<{path}>" for path in paths]):
@@ -303,6 +342,24 @@ def an_attempt_that_is_cut_off_leaves_half_as_many_for_the_next(field):
         same("recipients that were put off", len(lines_of(relay, "status=deferred")), 24)
 
 
+def a_transaction_that_a_hop_closes_leaves_half_as_many_for_the_next(field):
+    """By 421 to the last RCPT, to DATA or to the mail data. To EHLO it says nothing of how many recipients there are."""
+    asked = {"RCPT": [2, 1, 1], "DATA": [2, 1, 1], "text": [2, 1, 1], "EHLO": [0, 2]}
+    hops = {word: Closing(word) for word in asked}
+    with contextlib.ExitStack() as stack:
+        more = {f"{word}.example".lower(): (f"{word}.hop".lower(), stack.enter_context(hop_that(hop)))
+                for word, hop in hops.items()}
+        relay = field.relay(more=more, recipients_per_attempt=2)
+        with relay.running() as process, clients_of(relay, 1) as [client]:
+            for word in asked:
+                hand_in_to(client, [f"b{number}@{word}.example".lower() for number in range(4)])
+            until("the others of each message", lambda: all(sum(hop.asked) >= sum(asked[word]) for word, hop in
+                                                            hops.items()))
+            until("those that were put off", lambda: sorted(row[1] for row in relay.held()) == [0, 0, 0, 1, 1, 1, 1])
+            comes_to_rest(process, "after transactions that a next hop has closed")
+        same("recipients of each attempt", {word: hop.asked for word, hop in hops.items()}, asked)
+
+
 def a_hop_that_takes_no_connection_is_lost_after_half_a_minute(field):
     """With a clock twenty times as fast; then it is on hold."""
     with hop_that_takes_no_connection() as port:
@@ -387,6 +444,7 @@ ROWS = [
     refused_recipients_cost_no_other,
     recipients_of_one_message_wait_for_no_listing,
     an_attempt_that_is_cut_off_leaves_half_as_many_for_the_next,
+    a_transaction_that_a_hop_closes_leaves_half_as_many_for_the_next,
     a_hop_that_takes_no_connection_is_lost_after_half_a_minute,
     bad_next_hops_delay_no_reply,
     clients_that_are_reset_delay_no_reply,

@@ -10,5 +10,7 @@ mod RoundLemmas
 mod DueLemmas
 mod GoingOnLemmas
 mod BegunLemmas
+mod BeginningLemmas
 mod ReadLemmas
 mod LeaveLemmas
+mod LossLemmas

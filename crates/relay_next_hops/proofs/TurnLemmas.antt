@@ -61,6 +61,7 @@ only_then lane old between new one other = record {
   paces = λ number apart. other.paces number apart ∙ one.paces number apart;
   silent = λ silent. other.silent (one.silent silent);
   opened = other.opened ∙ one.opened;
+  stale = λ is. other.stale (one.stale is);
 }
 
 -- a lane that another takes the place of leaves the others' tasks

@@ -1,8 +1,9 @@
 -- What connections to next hops are for, and where they lead.
-use Rattle.std.specs.Prelude.{◌≡◌, ℕ, max, min, Bool, true, false, List, [], ◌∷◌, Option, None, Some}
-use Rattle.std.specs.Prelude.{if◌then◌else◌, slice_set}
+use Rattle.std.specs.Prelude.{◌≡◌, ◌==◌, ◌&&◌, ℕ, max, min, Bool, true, false, List, [], ◌∷◌, Option, None, Some}
+use Rattle.std.specs.Prelude.{if◌then◌else◌, length, slice_set}
 use Rattle.std.specs.declared.net.socket_addr.SocketAddrV4.{SocketAddrV4}
 use Rattle.relay_slots.specs.Slots.{slot_at}
+use Rattle.relay_lines.specs.Reply.{Reply}
 use Rattle.relay_trace.specs.DateTime.{last_second}
 use Rattle.relay_routes.specs.Routes.{Route, place_of}
 use Rattle.relay_book.specs.Queue.{message_of}
@@ -20,6 +21,7 @@ use Rattle.relay_next_hops.specs.declared.delivery.Aim.{Aim}
 use Rattle.relay_next_hops.specs.declared.delivery.Course.{Course}
 use Rattle.relay_next_hops.specs.declared.delivery.Course.TheVariants.{Stays, Ended, Lost, TurnedAway, Void}
 use Rattle.relay_next_hops.specs.declared.hop.Hop.{Hop}
+use Rattle.relay_next_hops.specs.Phases.{is_in_transaction}
 
 -- the connection is for the same message and next hop, in the same lane, to the same address
 pub record KeepsDelivery {S : Type 0} (old new : Hop S) : Type 0 where
@@ -52,13 +54,24 @@ portions_after_loss Silent attempt message portions = portions
 portions_after_loss Cut None message portions = portions
 portions_after_loss Cut (Some attempt) message portions = halved_for message portions
 
--- the most recipients of each message in an attempt, after a connection for a message that has come to this
-abbrev pub portions_after : Course → Option ℕ → ℕ → Shares → Shares
-portions_after Stays attempt message portions = portions
-portions_after (Ended outbox noted) attempt message portions = portions
-portions_after (Lost loss) attempt message portions = portions_after_loss loss attempt message portions
-portions_after TurnedAway attempt message portions = portions
-portions_after Void attempt message portions = portions
+-- RFC 5321, section 3.8: by a reply of code 421 the next hop closes the connection
+abbrev pub is_closing : Option Reply → Bool
+is_closing None = false
+is_closing (Some reply) = reply.code == 421
+
+-- the next hop has ended a mail transaction by 421: that is its last reply, and nothing follows it
+abbrev pub closes : {S : Type 0} → Hop S → Bool
+closes hop = (length (unread_of hop.channel) == 0) && is_in_transaction hop.phase && is_closing hop.heard.last
+
+-- The most recipients of each message in an attempt, after a connection for a message that has come to this: half as
+-- many if its attempt was cut off, or if the next hop has ended its mail transaction by 421.
+abbrev pub portions_after : Course → Option ℕ → Bool → ℕ → Shares → Shares
+portions_after Stays attempt closed message portions = portions
+portions_after (Ended outbox noted) attempt closed message portions =
+    if closed then halved_for message portions else portions
+portions_after (Lost loss) attempt closed message portions = portions_after_loss loss attempt message portions
+portions_after TurnedAway attempt closed message portions = portions
+portions_after Void attempt closed message portions = portions
 
 -- the last moment at which one of these places is due that is held, or now if that is later
 abbrev pub last_due : List Place → ℕ → ℕ

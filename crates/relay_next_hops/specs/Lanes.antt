@@ -69,7 +69,7 @@ abbrev pub IsNth : ℕ → ℕ → ℕ → ℕ → Type 0
 IsNth first count step lane = (first + step ≡ lane) ⊎ (first + step ≡ lane + count)
 
 -- A call for one lane: each other lane keeps its tasks and its pace, no next hop counts as having answered that didn't
--- before, and lanes that were open stay open. A postmaster holds the same mail.
+-- before, and lanes that were open stay open. A postmaster holds the same mail, and a requested listing stays so.
 pub record OnlyLane (lane : ℕ) (old new : Lanes) : Type 0 where
   pub held : new.held ≡ old.held
   pub most : new.most ≡ old.most
@@ -77,6 +77,7 @@ pub record OnlyLane (lane : ℕ) (old new : Lanes) : Type 0 where
   pub paces : (other : ℕ) → other ≢ lane → slice_get new.paces other ≡ slice_get old.paces other
   pub silent : has_answered_at old.paces lane ≡ false → has_answered_at new.paces lane ≡ false
   pub opened : new.is_open ≡ old.is_open
+  pub stale : old.is_stale ≡ true → new.is_stale ≡ true
 
 -- nothing may begin that couldn't before
 abbrev pub closed : Lanes → Lanes

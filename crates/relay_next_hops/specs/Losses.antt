@@ -1,5 +1,5 @@
 -- How the loss of a connection to a next hop is recorded at the node.
-use Rattle.std.specs.Prelude.{◌≡◌, ◌⊎◌, ℕ, List, Option, None, Some, Err}
+use Rattle.std.specs.Prelude.{◌≡◌, ◌⊎◌, ℕ, Bool, true, List, Option, None, Some, Err}
 use Rattle.relay_disk.specs.Device.{DiskWords}
 use Rattle.relay_slots.specs.Slots.{slot_at}
 use Rattle.relay_records.specs.declared.fault.NodeFault.{NodeFault}
@@ -89,9 +89,21 @@ abbrev pub IsRecordedOrRefused : {D : Type 0} → DiskWords D → ℕ → Delive
 IsRecordedOrRefused words at delivery old new =
     IsRecorded words at delivery old new ⊎ LosesNot words at delivery old new delivery.attempt
 
+-- the loss of the running attempt of this number is recorded, and its note was taken; or the node refuses it
+abbrev pub LosesRunning : {D : Type 0} → DiskWords D → ℕ → ℕ → RelayState D → RelayState D → Type 0
+LosesRunning {D} words at attempt old new =
+    ((between : RelayState D) × LosesAttempt words at old between attempt × TakesNote between new)
+    ⊎ RefusesLoss words at old new attempt
+
 -- A delivery has ended as lost: that is recorded, or refused. If its attempt hasn't begun, and its next hop is on hold,
 -- it stays due instead, and nothing changes.
 abbrev pub EndsLost : {D : Type 0} → DiskWords D → Now → Delivery → List Pace → RelayState D → RelayState D → Type 0
 EndsLost words now delivery paces old new =
     ((delivery.attempt ≡ None) × IsHeldAt now.tick paces delivery.aim.lane × (new ≡ old))
     ⊎ IsRecordedOrRefused words now.moment delivery old new
+
+-- The same; or the attempt hasn't begun, its next hop has other connections, and nothing changes.
+abbrev pub EndsLostOrTurnedAway
+    : {D : Type 0} → DiskWords D → Now → Delivery → Bool → List Pace → RelayState D → RelayState D → Type 0
+EndsLostOrTurnedAway words now delivery shared paces old new =
+    ((delivery.attempt ≡ None) × (shared ≡ true) × (new ≡ old)) ⊎ EndsLost words now delivery paces old new

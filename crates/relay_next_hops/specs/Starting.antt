@@ -91,6 +91,11 @@ IsGivenUp words at message old new lanes false =
     new.node.records NotDue
     ⊎ (lanes.is_stale ≡ true)
 
+-- The message was given up, by the first change of a call; or else for the same reasons it wasn't.
+abbrev pub HasGivenUp : {D : Type 0} → DiskWords D → ℕ → ℕ → RelayState D → Lanes → Bool → Type 0
+HasGivenUp {D} words at message old lanes gave_up =
+    (between : RelayState D) × IsGivenUp words at message old between lanes gave_up
+
 -- No more may begin for a lane: its pace lets none begin, or no task is left, or its next hop hasn't answered yet and
 -- no more connections to such next hops may begin.
 abbrev pub IsDone : {S : Type 0} → ℕ → List (Option (Hop S)) → Lanes → ℕ → Type 0

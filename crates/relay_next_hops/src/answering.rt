@@ -65,6 +65,7 @@ impl<S: Stream> Hop<S> {
         } = answered;
         self.channel.used(used);
         if let Some(outbox) = last {
+            self.phase = self.phase.after(outbox.as_slice());
             return Course::Ended(outbox, noted);
         }
         self.phase = self.phase.after(relay.to_hop(attempt));

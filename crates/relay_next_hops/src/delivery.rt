@@ -55,6 +55,8 @@ pub(crate) struct Delivery {
     pub(crate) has_spoken: bool,
     /// Whether the next hop has greeted with a 2yz reply.
     pub(crate) is_welcome: bool,
+    /// Whether the next hop has ended its mail transaction by 421 (RFC 5321, section 3.8).
+    pub(crate) is_closed: bool,
     /// What the next hop has replied, for the log, where a connection to it was begun.
     pub(crate) talk: Option<Talk>,
 }
@@ -69,6 +71,7 @@ impl Drop for Delivery {
             attempt: _,
             has_spoken: _,
             is_welcome: _,
+            is_closed: _,
             talk: _talk,
         } = self;
     }
@@ -86,6 +89,7 @@ impl Delivery {
             attempt: _,
             has_spoken: _,
             is_welcome: _,
+            is_closed: _,
             talk: _talk,
         } = self;
         Task {

@@ -1,13 +1,13 @@
 //! What is left to be done where the connection to a next hop has ended.
-ghost use Rattle.std.specs.Prelude.{◌≡◌, None, Ok, OnOk, Option, false, true};
+ghost use Rattle.std.specs.Prelude.{◌≡◌, ◌≢◌, ℕ, None, Ok, OnOk, Option, Some, false, true};
 ghost use Rattle.relay_loop.specs.declared.outbox.Outbox.{Outbox};
 ghost use Rattle.relay_records.specs.declared.noted.Noted.{Noted};
 ghost use Rattle.relay_connections.specs.Served.{LeavesClients};
 ghost use Rattle.relay_next_hops.specs.Deliveries.{portions_after};
 ghost use Rattle.relay_next_hops.specs.GoingOn.{ComesNext};
 ghost use Rattle.relay_next_hops.specs.Lanes.{KeepsCounts, KeepsPlaces, OnlyLane};
-ghost use Rattle.relay_next_hops.specs.Losses.{EndsLost, IsRecordedOrRefused, Loses, LosesAttempt, LosesNot};
-ghost use Rattle.relay_next_hops.specs.Losses.{RefusesLoss, StartsAndLoses, StartsNothing};
+ghost use Rattle.relay_next_hops.specs.Losses.{EndsLost, EndsLostOrTurnedAway, IsRecordedOrRefused, Loses, LosesAttempt};
+ghost use Rattle.relay_next_hops.specs.Losses.{LosesNot, LosesRunning, RefusesLoss, StartsAndLoses, StartsNothing};
 ghost use Rattle.relay_lanes.specs.Paces.{RunsOneLess};
 
 use crate::delivery::{Course, Delivery};
@@ -37,9 +37,13 @@ pub(crate) fn conclude<S: Stream + Drop, D: Disk>(
 ) -> Result<(), Fault>
     ensures runs { RunsOneLess ended.1.aim.lane lanes.old.paces lanes.new.paces }
     ensures places { KeepsPlaces lanes.old lanes.new }
-    ensures portions { portions.new ≡ portions_after course ended.1.attempt ended.1.message portions.old }
+    ensures portions { portions.new
+        ≡ portions_after course ended.1.attempt ended.1.is_closed ended.1.message portions.old }
     ensures next { (outbox : Outbox) (noted : Option Noted) → course ≡ Course.Ended outbox noted
         → ComesNext now.now.moment ended.1 relay.new lanes.new }
+    ensures lost { (loss : Loss) (attempt : ℕ) → course ≡ Course.Lost loss → ended.1.attempt ≡ Some attempt
+        → OnOk result (LosesRunning D.words now.now.moment attempt relay.old relay.new) }
+    ensures same { ((loss : Loss) → course ≢ Course.Lost loss) → relay.new ≡ relay.old }
     ensures leaves { OnOk result (LeavesClients D.honest D.words relay.old relay.new) }
 {
     let (channel, delivery) = ended;
@@ -51,21 +55,22 @@ pub(crate) fn conclude<S: Stream + Drop, D: Disk>(
     )
 }
 
-/// Takes note of an attempt that was cut off: the next ones for its message have half as many recipients.
+/// Takes note of an attempt that was cut off, or whose mail transaction the next hop has ended by 421: the next ones for
+/// its message have half as many recipients.
 fn note_cut(portions: &mut Portions, delivery: &Delivery, course: &Course)
-    ensures { portions.new ≡ portions_after course.now delivery.now.attempt delivery.now.message portions.old }
+    ensures { portions.new ≡ portions_after course.now delivery.now.attempt delivery.now.is_closed
+        delivery.now.message portions.old }
 {
-    match course {
-        Course::Lost(Loss::Cut) => {
-            if delivery.attempt.is_some() {
-                portions.halve(delivery.message);
-            }
-        }
+    let is_cut = match course {
+        Course::Lost(Loss::Cut) => delivery.attempt.is_some(),
+        Course::Ended(_, _) => delivery.is_closed,
         Course::Lost(Loss::Refused | Loss::Unreachable | Loss::Silent)
         | Course::Stays
-        | Course::Ended(_, _)
         | Course::TurnedAway
-        | Course::Void => {}
+        | Course::Void => false,
+    };
+    if is_cut {
+        portions.halve(delivery.message);
     }
 }
 
@@ -85,6 +90,9 @@ fn finish<S: Stream + Drop, D: Disk>(
     ensures counts { KeepsCounts lanes.old lanes.new }
     ensures next { (outbox : Outbox) (noted : Option Noted) → course ≡ Course.Ended outbox noted
         → ComesNext now.now.moment delivery relay.new lanes.new }
+    ensures lost { (loss : Loss) → course ≡ Course.Lost loss → OnOk result
+        (EndsLostOrTurnedAway D.words now.now delivery is_shared lanes.old.paces relay.old relay.new) }
+    ensures same { ((loss : Loss) → course ≢ Course.Lost loss) → relay.new ≡ relay.old }
     ensures leaves { OnOk result (LeavesClients D.honest D.words relay.old relay.new) }
 {
     let lane = delivery.aim.lane;
@@ -147,6 +155,7 @@ fn end_badly<D: Disk>(
     now: &Now,
     log: &mut Log<'_, Vec<u8>>,
 ) -> Result<(), Fault>
+    ensures lost { OnOk result (EndsLost D.words now.now delivery lanes.old.paces relay.old relay.new) }
     ensures counts { KeepsCounts lanes.old lanes.new }
     ensures leaves { OnOk result (LeavesClients D.honest D.words relay.old relay.new) }
 {

@@ -26,6 +26,7 @@ pub(crate) fn give_up_next<D: Disk>(
         → IfOk result (IsGivenUp D.words now.now.moment message relay.old relay.new lanes.new)
         × (lanes.new.unroutable.items ≡ rest) }
     ensures counts { KeepsCounts lanes.old lanes.new }
+    ensures tasks { (lanes.new.lanes ≡ lanes.old.lanes) × (lanes.new.is_open ≡ lanes.old.is_open) }
     ensures config { relay.new.node.config ≡ relay.old.node.config }
     ensures leaves { OnOk result (LeavesClients D.honest D.words relay.old relay.new) }
 {
@@ -47,6 +48,7 @@ fn give_up<D: Disk>(
     ensures gives_up { IfOk result (IsGivenUp D.words now.now.moment message relay.old relay.new lanes.new) }
     ensures others { lanes.new.unroutable ≡ lanes.old.unroutable }
     ensures counts { KeepsCounts lanes.old lanes.new }
+    ensures tasks { (lanes.new.lanes ≡ lanes.old.lanes) × (lanes.new.is_open ≡ lanes.old.is_open) }
     ensures config { relay.new.node.config ≡ relay.old.node.config }
     ensures leaves { OnOk result (LeavesClients D.honest D.words relay.old relay.new) }
 {

@@ -1,6 +1,12 @@
 //! The replies of a next hop on one connection.
+ghost use Rattle.std.specs.Prelude.{◌≡◌};
+ghost use Rattle.relay_next_hops.specs.Deliveries.{is_closing};
+
 use relay_lines::{Reply, ReplyReader};
 use std::alloc::Global;
+
+/// The code by which a server closes the connection (RFC 5321, section 3.8).
+const CLOSING: u16 = 421;
 
 /// Reads the replies of a next hop as they come, and keeps the last one.
 pub(crate) struct Heard {
@@ -25,6 +31,16 @@ impl Heard {
         Heard {
             reader: ReplyReader::new(alloc),
             last: None,
+        }
+    }
+
+    /// Returns whether the next hop closes the connection by the last reply.
+    pub(crate) fn is_closing(&self) -> bool
+        ensures { result ≡ is_closing self.now.last }
+    {
+        match &self.last {
+            Some(reply) => reply.code() == CLOSING,
+            None => false,
         }
     }
 

@@ -5,7 +5,7 @@ ghost use Rattle.relay_connections.specs.Channel.{unread_of};
 ghost use Rattle.relay_connections.specs.Served.{LeavesClients};
 ghost use Rattle.relay_book.specs.Queue.{message_of};
 ghost use Rattle.relay_trace.specs.DateTime.{last_second};
-ghost use Rattle.relay_next_hops.specs.Deliveries.{KeepsDelivery, StartsFor, last_due, starting_moment};
+ghost use Rattle.relay_next_hops.specs.Deliveries.{KeepsDelivery, StartsFor, closes, last_due, starting_moment};
 ghost use Rattle.relay_next_hops.specs.Hearing.{IsLate, hearing_of};
 
 use crate::delivery::{Aim, Course, Delivery};
@@ -113,7 +113,9 @@ impl<S: Stream> Hop<S> {
         ensures aim { result.1.aim ≡ self.aim }
         ensures delivery { (result.1.message ≡ self.message) × (result.1.name ≡ self.name) }
         ensures attempt { result.1.attempt ≡ self.attempt }
+        ensures closed { result.1.is_closed ≡ closes self }
     {
+        let is_closed = self.closes();
         let Hop {
             channel,
             aim,
@@ -136,9 +138,18 @@ impl<S: Stream> Hop<S> {
             attempt,
             has_spoken,
             is_welcome: greeting == Some(b'2'),
+            is_closed,
             talk: Some(talk),
         };
         (channel, delivery)
+    }
+
+    /// Returns whether the next hop has ended a mail transaction by 421: whether that is its last reply, and nothing
+    /// follows it.
+    fn closes(&self) -> bool
+        ensures { result ≡ closes self.now }
+    {
+        self.channel.piece().is_empty() && self.phase.is_in_transaction() && self.heard.is_closing()
     }
 
     /// Returns whether it is for this message and next hop, in this lane.

@@ -6,10 +6,11 @@ ghost use Rattle.relay_connections.specs.Served.{LeavesClients};
 ghost use Rattle.relay_limits.specs.declared.pace.Pace.{Pace};
 ghost use Rattle.relay_next_hops.specs.Counts.{CountsMatch, CountsMatchWith, is_unanswered, unanswered_of};
 ghost use Rattle.relay_next_hops.specs.Deliveries.{AreAimed, IsAimed, IsOpenedTo, PutsFor, StartsFor};
-ghost use Rattle.relay_next_hops.specs.Deliveries.{left_of, portions_after};
+ghost use Rattle.relay_next_hops.specs.Deliveries.{closes, left_of, portions_after};
 ghost use Rattle.relay_next_hops.specs.Lanes.{KeepsCounts};
 ghost use Rattle.relay_next_hops.specs.Listing.{HasConnection};
 ghost use Rattle.relay_lanes.specs.Portions.{fresh, portion_of};
+ghost use Rattle.relay_next_hops.specs.Losses.{LosesRunning};
 ghost use Rattle.relay_next_hops.specs.Readiness.{IsLeftHop};
 
 use crate::delivery::{Aim, Course};
@@ -21,7 +22,7 @@ use relay_connections::{Channel, Leaving, Now, Readiness, Stream, Table, holds, 
 use relay_disk::Disk;
 use relay_files::Fault;
 use relay_lanes::{Portions, Task};
-use relay_log::Log;
+use relay_log::{Log, Loss};
 use relay_loop::Relay;
 use relay_routes::HostName;
 use relay_slots::SLOT_COUNT;
@@ -265,9 +266,11 @@ impl<S: Stream + Drop> Hops<S> {
             → slot_at self.new.hops number ≡ left_of course hop }
         ensures others { OthersStay self.old.hops self.new.hops number }
         ensures first { self.new.first ≡ self.old.first }
-        ensures stays { course ≡ Course.Stays → relay.new ≡ relay.old }
         ensures portions { self.new.portions
-            ≡ portions_after course hop.attempt hop.message self.old.portions }
+            ≡ portions_after course hop.attempt (closes hop) hop.message self.old.portions }
+        ensures lost { (loss : Loss) (attempt : ℕ) → course ≡ Course.Lost loss → hop.attempt ≡ Some attempt
+            → OnOk result (LosesRunning D.words now.now.moment attempt relay.old relay.new) }
+        ensures same { ((loss : Loss) → course ≢ Course.Lost loss) → relay.new ≡ relay.old }
         ensures counts { CountsMatchWith hop self.old.hops lanes.old.paces → slot_at self.old.hops number ≡ None
             → number < length self.old.hops → OnOk result (CountsMatch self.new.hops lanes.new.paces) }
         ensures aimed { (routes : List Route) → IsAimed routes hop → AreAimed routes self.old.hops

@@ -241,6 +241,7 @@ impl Lanes {
         ensures next { self.old.unroutable.items ≡ option_to_list result ++ self.new.unroutable.items }
         ensures none { result ≡ None → self.old.unroutable.items ≡ [] }
         ensures counts { KeepsCounts self.old self.new }
+        ensures tasks { (self.new.lanes ≡ self.old.lanes) × (self.new.is_open ≡ self.old.is_open) }
     {
         self.unroutable.pop_front()
     }
@@ -250,6 +251,7 @@ impl Lanes {
         ensures stale { self.new.is_stale ≡ true }
         ensures unroutable { self.new.unroutable ≡ self.old.unroutable }
         ensures counts { KeepsCounts self.old self.new }
+        ensures tasks { (self.new.lanes ≡ self.old.lanes) × (self.new.is_open ≡ self.old.is_open) }
     {
         self.is_stale = true;
     }

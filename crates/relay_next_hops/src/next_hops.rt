@@ -1,4 +1,4 @@
-ghost use Rattle.std.specs.Prelude.{◌≡◌, ◌≤◌, ℕ, IfOk, IfSome, List, OnOk, false, map, true};
+ghost use Rattle.std.specs.Prelude.{◌≡◌, ◌<◌, ◌≤◌, ◌∷◌, ℕ, IfOk, IfSome, List, OnOk, map, true};
 ghost use Rattle.relay_routes.specs.Routes.{Route};
 ghost use Rattle.relay_slots.specs.Slots.{AreFree};
 ghost use Rattle.relay_control.specs.Held.{HoldsNothing};
@@ -6,10 +6,12 @@ ghost use Rattle.relay_connections.specs.Table.{count_of};
 ghost use Rattle.relay_connections.specs.Served.{LeavesClients};
 ghost use Rattle.relay_next_hops.specs.Hearing.{AnswersEach, order_of, replies_of, told_of};
 ghost use Rattle.relay_next_hops.specs.Lanes.{IsNew, next_due_of};
+ghost use Rattle.relay_next_hops.specs.Listing.{AreListedFrom, KeepsListed, ListsPart};
 ghost use Rattle.relay_lanes.specs.Portions.{fresh};
 ghost use Rattle.relay_next_hops.specs.Readiness.{IsLeftHop, hops_of};
-ghost use Rattle.relay_next_hops.specs.Starting.{OpensUnheld};
+ghost use Rattle.relay_next_hops.specs.Starting.{HasGivenUp, OpensUnheld};
 ghost use Rattle.relay_next_hops.specs.Tables.{TablesMatch};
+ghost use Rattle.relay_next_hops.specs.Turns.{BeginsAll};
 
 use crate::dial::Dial;
 use crate::giving_up::give_up_next;
@@ -175,20 +177,51 @@ impl<S: Stream + Drop> NextHops<S> {
         self.lanes.note_leaving(leaving);
     }
 
-    /// Begins due attempts, as far as they may begin, with the spare file descriptors, but opens no connection for mail
-    /// that is held; and gives up the places of one message that have no next hop. Returns whether it gave any up. Does
-    /// nothing unless `may_begin` is set. Fails only if the device has failed.
-    pub fn begin<C: Clock, N: Dial<Stream = S>, D: Disk>(
+    /// Lists the messages that have arrived, and a part of all due mail, if a listing is in progress or has to begin. If
+    /// memory runs out, the next call tries again. Fails only if the device has failed.
+    pub fn list<C: Clock, D: Disk>(
         &mut self,
         clock: &C,
+        relay: &Relay<D>,
+        now: &Now,
+    ) -> Result<(), Fault>
+        ensures part { self.old.lanes.is_listing ≡ true → OnOk result (ListsPart (hops_of self.old) now.now.moment
+            relay.now.node self.old.lanes self.new.lanes) }
+        ensures hops { hops_of self.new ≡ hops_of self.old }
+        ensures matches { (routes : List Route) → TablesMatch routes self.old → TablesMatch routes self.new }
+        ensures held { self.new.lanes.held ≡ self.old.lanes.held }
+    {
+        self.lanes.refresh(clock, relay, &self.hops, now)
+    }
+
+    /// Lists the messages that have arrived since the last listing, and asks the node when mail is next due. Fails only
+    /// if the device has failed.
+    pub fn look_ahead<D: Disk>(&mut self, relay: &Relay<D>, now: &Now) -> Result<(), Fault>
+        ensures listed { 0 < self.old.lanes.next_number → AreListedFrom (hops_of self.old) now.now.moment
+            relay.now.node self.old.lanes.next_number relay.now.node.records.queue.next self.new.lanes }
+        ensures kept { KeepsListed self.old.lanes self.new.lanes }
+        ensures hops { hops_of self.new ≡ hops_of self.old }
+        ensures matches { (routes : List Route) → TablesMatch routes self.old → TablesMatch routes self.new }
+        ensures held { self.new.lanes.held ≡ self.old.lanes.held }
+    {
+        self.lanes.look_ahead(relay, &self.hops, now)
+    }
+
+    /// Begins listed attempts, as far as they may begin, with the spare file descriptors, but opens no connection for
+    /// mail that is held; and gives up the places of one message that have no next hop. Returns whether it gave any up.
+    /// Fails only if the device has failed.
+    pub fn begin<N: Dial<Stream = S>, D: Disk>(
+        &mut self,
         dial: &mut N,
         registry: &S::Registry,
         relay: &mut Relay<D>,
-        may_begin: bool,
         now: &Now,
         log: &mut Log<'_, Vec<u8>>,
     ) -> Result<bool, Fault>
-        ensures idle { may_begin ≡ false → (relay.new ≡ relay.old) × (self.new ≡ self.old) }
+        ensures begins { self.old.lanes.is_open ≡ true → OnOk result (BeginsAll now.now.tick self.old.starts.paused_until
+            (N.spares dial.old) (N.spares dial.new) self.old.lanes self.new.lanes (hops_of self.new)) }
+        ensures unroutable { (message : ℕ) (rest : List ℕ) → self.old.lanes.unroutable.items ≡ message ∷ rest
+            → IfOk result (HasGivenUp D.words now.now.moment message relay.old self.new.lanes) }
         ensures matches { TablesMatch relay.old.node.config.routes.routes self.old
             → OnOk result (TablesMatch relay.old.node.config.routes.routes self.new) }
         ensures unheld { OnOk result (OpensUnheld self.old.lanes.held (hops_of self.old) (hops_of self.new)) }
@@ -196,10 +229,6 @@ impl<S: Stream + Drop> NextHops<S> {
         ensures config { relay.new.node.config ≡ relay.old.node.config }
         ensures leaves { OnOk result (LeavesClients D.honest D.words relay.old relay.new) }
     {
-        if !may_begin {
-            return Ok(false);
-        }
-        self.lanes.refresh(clock, relay, &self.hops, now)?;
         let gave_up = give_up_next(relay, &mut self.lanes, now, log)?;
         start_tasks(
             dial,
@@ -211,7 +240,6 @@ impl<S: Stream + Drop> NextHops<S> {
             now,
             log,
         )?;
-        self.lanes.look_ahead(relay, &self.hops, now)?;
         Ok(gave_up)
     }
 

@@ -318,6 +318,7 @@ pub(crate) fn delivery_of(task: Task, aim: Aim) -> Delivery
         attempt: None,
         has_spoken: false,
         is_welcome: false,
+        is_closed: false,
         talk: None,
     }
 }

@@ -5,7 +5,7 @@ ghost use Rattle.relay_next_hops.specs.Counts.{CountsMatch};
 ghost use Rattle.relay_next_hops.specs.Deliveries.{AreAimed};
 ghost use Rattle.relay_next_hops.specs.Lanes.{IsNth, KeepsCounts, OnlyLane, tasks_at, turned_to};
 ghost use Rattle.relay_next_hops.specs.Starting.{IsDone, IsStoppedBy, OpensUnheld};
-ghost use Rattle.relay_next_hops.specs.Turns.{IsGoneOver, IsStopped};
+ghost use Rattle.relay_next_hops.specs.Turns.{BeginsAll};
 
 use crate::dial::Dial;
 use crate::hops::Hops;
@@ -108,12 +108,11 @@ pub(crate) fn start_tasks<S: Stream + Drop, N: Dial<Stream = S>, D: Disk>(
         → OnOk result (CountsMatch hops.new.hops lanes.new.paces) }
     ensures aimed { AreAimed relay.old.node.config.routes.routes hops.old.hops
         → OnOk result (AreAimed relay.old.node.config.routes.routes hops.new.hops) }
-    ensures whole { lanes.old.is_open ≡ true → OnOk result ((now.now.tick < starts.old.paused_until)
-        ⊎ IsStopped hops.new.hops (N.spares dial.new)
-        ⊎ ((lane : ℕ) → lane < length lanes.old.lanes.items
-        → IsGoneOver now.now.tick (N.spares dial.old) lanes.old hops.new.hops lanes.new lane)) }
+    ensures whole { lanes.old.is_open ≡ true → OnOk result (BeginsAll now.now.tick starts.old.paused_until
+        (N.spares dial.old) (N.spares dial.new) lanes.old lanes.new hops.new.hops) }
     ensures closes { lanes.old.is_open ≡ true → OnOk result ((lanes.new.is_open ≡ true)
         ⊎ ((lane : ℕ) → lane < length lanes.old.lanes.items → IsDone now.now.tick hops.new.hops lanes.new lane)) }
+    ensures stale { lanes.old.is_stale ≡ true → OnOk result (lanes.new.is_stale ≡ true) }
     ensures unheld { OnOk result (OpensUnheld lanes.old.held hops.old.hops hops.new.hops) }
     ensures held { lanes.new.held ≡ lanes.old.held }
     ensures config { relay.new.node.config ≡ relay.old.node.config }

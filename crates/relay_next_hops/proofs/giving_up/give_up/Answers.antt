@@ -29,6 +29,7 @@ returns g c = record {
   gives_up = inr (inr c.list_anew.ensures.stale);
   others = c.list_anew.ensures.unroutable;
   counts = c.list_anew.ensures.counts;
+  tasks = c.list_anew.ensures.tasks;
   config = c.give_up_unroutable.ensures.rest.0;
   leaves =
       ungiven_leaves g.D.Disk.honest g.D.Disk.words _ _ c.args.message c.args.now.now.moment c.args.relay.now c.give_up_unroutable.new.self c.in-Err.fault c.in_default.not-Stopped

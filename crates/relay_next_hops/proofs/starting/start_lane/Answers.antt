@@ -13,7 +13,7 @@ loop-init g c = record {
   config = refl;
   counts = λ match_is. match_is;
   aimed = λ aimed. aimed;
-  only = record { held = refl; most = refl; tasks = λ other apart. refl; paces = λ other apart. refl; silent = λ silent. silent; opened = refl };
+  only = record { held = refl; most = refl; tasks = λ other apart. refl; paces = λ other apart. refl; silent = λ silent. silent; opened = refl; stale = λ is. is };
   unheld = same_unheld c.args.lanes.now.held c.args.hops.now.hops c.args.hops.now.hops refl;
   more = omega arith;
   kept = omega arith;

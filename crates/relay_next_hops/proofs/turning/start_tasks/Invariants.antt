@@ -1,6 +1,6 @@
 -- The lanes so far were gone over, and all of them are done where none has more; where counts and aims matched before,
 -- they do.
-use Rattle.std.proofs.Common.{◌≡◌, ◌+◌, ◌<◌, ◌≤◌, ℕ, false, length, min}
+use Rattle.std.proofs.Common.{◌≡◌, ◌+◌, ◌<◌, ◌≤◌, ℕ, false, length, min, true}
 use Rattle.relay_connections.specs.Served.{LeavesClients}
 use Rattle.relay_next_hops.specs.Counts.{CountsMatch}
 use Rattle.relay_next_hops.specs.Deliveries.{AreAimed}
@@ -19,6 +19,7 @@ invariant-loop-step g l = record {
   unheld : OpensUnheld l.initial.lanes.held l.initial.hops.hops l.hops.hops;
   held : l.lanes.held ≡ l.initial.lanes.held;
   opened : l.lanes.is_open ≡ l.initial.lanes.is_open;
+  stale : l.initial.lanes.is_stale ≡ true → l.lanes.is_stale ≡ true;
   kept : g.N.Dial.spares l.dial ≤ g.N.Dial.spares l.initial.dial;
   fewer : (lane : ℕ) → length (tasks_at l.lanes lane) ≤ length (tasks_at l.initial.lanes lane);
   gone : (lane past : ℕ) → past + 1 < l.step → lane < l.count → IsNth (min l.first l.count) l.count past lane

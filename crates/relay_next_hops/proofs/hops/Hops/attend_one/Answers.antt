@@ -1,4 +1,5 @@
 -- The connection that is taken out keeps its delivery, and is counted until it is settled.
+use Rattle.std.proofs.Common.{sym, ◌∙◌}
 use Rattle.relay_slots.specs.Slots.{slot_at}
 use Rattle.relay_next_hops.proofs.BegunLemmas.{begun_there}
 use Rattle.relay_next_hops.proofs.HearingLemmas.{on_ok}
@@ -34,7 +35,7 @@ returns-clause-starts g c =
     (λ old new was is none some.
     begun_there c.args.now.now.moment c.most_of-most.result c.args.self.now.portions taken old hop new c.in_ok-course.course c.args.relay.now c.attend.new.relay c.settle.new.relay
     (slot_at hops number) (slot_at c.settle.new.self.hops number) c.in-Some.ensures.taken was own is
-    c.most_of-most.ensures c.attend.ensures.starts c.settle.ensures.stays none some)
+    c.most_of-most.ensures c.attend.ensures.starts (λ is. c.settle.ensures.same (λ loss lost. absurd (cc (sym is ∙ lost)))) none some)
 
 pub returns-clause-leaves : goal.returns-clause-leaves
 returns-clause-leaves g c = leaves_on g.D.Disk.honest g.D.Disk.words c.settle.result c.args.relay.now c.attend.new.relay c.settle.new.relay c.in_ok-course.ensures.leaves c.settle.ensures.leaves

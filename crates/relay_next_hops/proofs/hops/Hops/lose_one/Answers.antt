@@ -31,3 +31,11 @@ returns-in_default-clause-leaves g c = leaves_same g.D.Disk.honest g.D.Disk.word
 
 pub returns-in_default-take-clause-leaves : goal.returns-in_default-take-clause-leaves
 returns-in_default-take-clause-leaves g c = leaves_same g.D.Disk.honest g.D.Disk.words c.args.relay.now
+
+pub returns-in_err-settle-clause-aimed : goal.returns-in_err-settle-clause-aimed
+returns-in_err-settle-clause-aimed g c = λ routes aimed.
+    let hops = c.args.self.now.hops in
+    let hop = c.in-Some-take.hop in
+    c.settle.ensures.aimed routes
+    (out_aim hops c.take.new.self c.in-Some.number hop hop c.in-Some-take.ensures.taken c.take.ensures.rest (same hop) routes aimed)
+    (out_aimed hops c.take.new.self c.in-Some.number hop hop c.in-Some-take.ensures.taken c.take.ensures.rest (same hop) routes aimed)

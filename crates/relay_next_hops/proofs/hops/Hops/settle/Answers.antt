@@ -1,6 +1,6 @@
 -- A connection that stays is counted in the table again; of one that doesn't, its lane has one less.
 use Rattle.std.proofs.Common.{refl, sym, ◌∙◌, ap, subst}
-use Rattle.relay_next_hops.specs.Deliveries.{portions_after}
+use Rattle.relay_next_hops.specs.Deliveries.{closes, portions_after}
 use Rattle.relay_lanes.specs.Paces.{RunsOneLess}
 use Rattle.relay_next_hops.specs.declared.delivery.Aim.{Aim}
 use Rattle.relay_next_hops.proofs.LeaveLemmas.{leaves_same}
@@ -20,10 +20,12 @@ returns-in_ok-conclude-in_default g c = record {
   own = λ free low. free ∙ sym (left_none c.args.course c.args.hop c.in_default.not-Stays);
   others = λ other apart. refl;
   first = refl;
-  stays = λ is. absurd (c.in_default.not-Stays is);
+  lost = λ loss attempt is some. c.in_ok-conclude-in_default.ensures.lost loss attempt is (c.into_parts-ended.ensures.attempt ∙ some);
+  same = c.conclude.ensures.same;
   portions = c.conclude.ensures.portions
-      ∙ ap (λ attempt. portions_after c.args.course attempt c.into_parts-ended.result.1.message c.args.self.now.portions) c.into_parts-ended.ensures.attempt
-      ∙ ap (λ message. portions_after c.args.course c.args.hop.attempt message c.args.self.now.portions) c.into_parts-ended.ensures.delivery.0;
+      ∙ ap (λ attempt. portions_after c.args.course attempt c.into_parts-ended.result.1.is_closed c.into_parts-ended.result.1.message c.args.self.now.portions) c.into_parts-ended.ensures.attempt
+      ∙ ap (λ closed. portions_after c.args.course c.args.hop.attempt closed c.into_parts-ended.result.1.message c.args.self.now.portions) c.into_parts-ended.ensures.closed
+      ∙ ap (λ message. portions_after c.args.course c.args.hop.attempt (closes c.args.hop) message c.args.self.now.portions) c.into_parts-ended.ensures.delivery.0;
   counts = λ match_is free low. counts_ended c.args.hop c.args.self.now.hops c.args.lanes.now.paces c.conclude.new.lanes.paces
       (subst (λ (aim : Aim). RunsOneLess aim.lane c.args.lanes.now.paces c.conclude.new.lanes.paces) c.into_parts-ended.ensures.aim c.conclude.ensures.runs) match_is;
   aimed = λ routes is aimed. aimed;

@@ -1,10 +1,21 @@
--- Nothing leaves clients alone, and so do what is given up, and the attempts that begin or are lost.
+-- What is given up, and the attempts that begin or are lost, leave clients alone.
+use Rattle.std.proofs.Common.{◌∙◌}
 use Rattle.relay_connections.proofs.Theorems.{leaves_then}
-use Rattle.relay_next_hops.proofs.LeaveLemmas.{leaves_same}
+use Rattle.relay_next_hops.proofs.BeginningLemmas.{begins_from, given_later}
 use Rattle.relay_next_hops.proofs.next_hops.NextHops.begin.Goals as goal
 
-pub returns-then-not-may_begin-clause-leaves : goal.returns-then-not-may_begin-clause-leaves
-returns-then-not-may_begin-clause-leaves g c = leaves_same g.D.Disk.honest g.D.Disk.words c.args.relay.now
+pub returns-clause-begins : goal.returns-clause-begins
+returns-clause-begins g c = λ opened.
+    begins_from c.args.now.now.tick c.args.self.now.starts.paused_until (g.N.Dial.spares c.args.dial.now) (g.N.Dial.spares c.start_tasks.new.dial)
+    c.args.self.now.lanes c.give_up_next.new.lanes c.start_tasks.new.lanes c.start_tasks.new.hops.hops
+    c.in_ok-gave_up.ensures.tasks.0 (c.in_ok-start_tasks.ensures.whole (c.in_ok-gave_up.ensures.tasks.1 ∙ opened))
+
+pub returns-clause-unroutable : goal.returns-clause-unroutable
+returns-clause-unroutable g c = λ message rest is. (
+  c.give_up_next.new.relay,
+  given_later g.D.Disk.words c.args.now.now.moment message c.args.relay.now c.give_up_next.new.relay
+      c.give_up_next.new.lanes c.start_tasks.new.lanes c.in_ok-gave_up.gave_up c.in_ok-start_tasks.ensures.stale (c.in_ok-gave_up.ensures.first message rest is).0,
+)
 
 pub returns-clause-leaves : goal.returns-clause-leaves
 returns-clause-leaves g c = leaves_then g.D.Disk.honest g.D.Disk.words c.args.relay.now c.give_up_next.new.relay c.start_tasks.new.relay c.in_ok-gave_up.ensures.leaves c.in_ok-start_tasks.ensures.leaves
