@@ -10,3 +10,4 @@ mod TidyLemmas
 mod LeavingLemmas
 mod TurnsLemmas
 mod FreeLemmas
+mod HopsLemmas

@@ -1,5 +1,6 @@
 pub mod Answers
 pub mod Found
+pub mod Hops
 pub mod Reopening
 pub mod Room
 pub mod Serving

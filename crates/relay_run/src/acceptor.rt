@@ -164,6 +164,7 @@ impl<S: Stream + Drop> Acceptor<S> {
             → AreServed D.honest D.words S.remaining S.contents changes setting (clients_of clients.old) relay.old
             → OnOk result (AreServedWithMore D.honest D.words S.remaining S.contents changes setting
             (clients_of clients.old) (clients_of clients.new) relay.new) }
+        ensures config { relay.new.node.config ≡ relay.old.node.config }
     {
         self.refusals.tell(now, log);
         self.strangers.tell(now, log);
@@ -214,6 +215,7 @@ impl<S: Stream + Drop> Acceptor<S> {
             → AreServed D.honest D.words S.remaining S.contents changes setting (clients_of clients.old) relay.old
             → OnOk result (AreServedWithMore D.honest D.words S.remaining S.contents changes setting
             (clients_of clients.old) (clients_of clients.new) relay.new) }
+        ensures config { relay.new.node.config ≡ relay.old.node.config }
     {
         if !self.balancers.contains(*peer.ip()) {
             return self.welcome(registry, relay, clients, leaving, stream, peer, now, log);
@@ -240,6 +242,7 @@ impl<S: Stream + Drop> Acceptor<S> {
             → AreServed D.honest D.words S.remaining S.contents changes setting (clients_of clients.old) relay.old
             → OnOk result (AreServedWithMore D.honest D.words S.remaining S.contents changes setting
             (clients_of clients.old) (clients_of clients.new) relay.new) }
+        ensures config { relay.new.node.config ≡ relay.old.node.config }
     {
         for _ in 0..MOST_AT_ONCE {
             match self.arrivals.next(registry, now) {
@@ -278,6 +281,7 @@ impl<S: Stream + Drop> Acceptor<S> {
             → AreServed D.honest D.words S.remaining S.contents changes setting (clients_of clients.old) relay.old
             → OnOk result (AreServedWithMore D.honest D.words S.remaining S.contents changes setting
             (clients_of clients.old) (clients_of clients.new) relay.new) }
+        ensures config { relay.new.node.config ≡ relay.old.node.config }
     {
         match clients.welcome(registry, relay, leaving, stream, peer, now)? {
             None => log.connected(),

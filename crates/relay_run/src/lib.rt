@@ -9,6 +9,7 @@ mod device;
 mod documents;
 mod draining;
 mod failures;
+mod hearing;
 mod held_mail;
 mod holding;
 mod journal;

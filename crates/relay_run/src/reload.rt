@@ -6,6 +6,7 @@ ghost use Rattle.relay_slots.specs.Slots.{AreFree};
 ghost use Rattle.relay_connections.specs.Readiness.{clients_of};
 ghost use Rattle.relay_next_hops.specs.Readiness.{hops_of};
 ghost use Rattle.relay_run.specs.Answers.{IsError};
+ghost use Rattle.relay_run.specs.Hops.{HopsMatch};
 ghost use Rattle.relay_run.specs.Reloading.{HoldsAlike, IsIdle, IsReloadable, IsReloading, KeepsPlaces, MayReload};
 ghost use Rattle.relay_run.specs.Reloading.{RetiresFor, ServesReload, TakesEffect};
 ghost use Rattle.relay_run.specs.Reopening.{GoesOnOrHasNoHops, HasOpened, IsWhole, KeepsConfig};
@@ -175,6 +176,8 @@ impl<S: Stream + Drop, D: Device + Drop, F: Ballast + Drop> Shell<S, D, F> {
         ensures served { IfOk result (λ shell. GoesOnOrServesNone D.Disk.honest D.Disk.words (clients_of self.clients)
             (clients_of shell.clients) self.relay shell.relay) }
         ensures hops { IfOk result (λ shell. GoesOnOrHasNoHops self.next_hops shell.next_hops self.relay shell.relay) }
+        ensures matches { IfOk result (λ shell. HopsMatch self.next_hops self.relay
+            → HopsMatch shell.next_hops shell.relay) }
     {
         let alloc = journal.alloc;
         let Some(reload) = self.steering.reload.take() else {
@@ -216,6 +219,7 @@ impl<S: Stream + Drop, D: Device + Drop, F: Ballast + Drop> Shell<S, D, F> {
         ensures opened { IfOk result (λ shell. (clients_of shell.clients ≡ clients_of self.clients)
             × HasOpened D.Disk.honest D.Disk.words shell.relay) }
         ensures hops { IfOk result (λ shell. AreFree (hops_of shell.next_hops)) }
+        ensures matches { IfOk result (λ shell. HopsMatch shell.next_hops shell.relay) }
     {
         let Settings {
             config,

@@ -2,10 +2,12 @@ ghost use Rattle.std.specs.Prelude.{◌≡◌, ◌↔◌, List, None, IfOk, IsEr
 ghost use Rattle.relay_slots.specs.Slots.{AreFree};
 ghost use Rattle.relay_book.specs.declared.change.Change.{Change};
 ghost use Rattle.relay_connections.specs.Carried.{Setting};
+ghost use Rattle.relay_connections.specs.Leaving.{leavers_of};
 ghost use Rattle.relay_connections.specs.Readiness.{clients_of};
 ghost use Rattle.relay_connections.specs.Served.{AreServed, AreServedAfter};
 ghost use Rattle.relay_connections.specs.Welcome.{KeepsRules};
 ghost use Rattle.relay_next_hops.specs.Readiness.{hops_of};
+ghost use Rattle.relay_run.specs.Hops.{HopsHear, HopsMatch};
 ghost use Rattle.relay_run.specs.Reloading.{IsReloadable, IsReloading, MayReload};
 ghost use Rattle.relay_run.specs.Reopening.{GoesOnOrHasNoHops, HasFailedToSync, HasOpened, IsWhole, KeepsConfig};
 ghost use Rattle.relay_run.specs.Reopening.{config_for};
@@ -15,6 +17,7 @@ ghost use Rattle.relay_run.specs.Steering.{IsDraining, MayBegin, TurnsAway};
 
 use crate::acceptor::Acceptor;
 use crate::device::Device;
+use crate::hearing::hear;
 use crate::journal::Journal;
 use crate::known::Known;
 use crate::listen::Listen;
@@ -25,14 +28,13 @@ use crate::start::log_form;
 use crate::steering::Steering;
 use crate::tidying::Tidying;
 use mio::net::TcpStream;
-use relay_connections::{Clients, Intake, Leaving, Now, Replied, Stream};
+use relay_connections::{Clients, Leaving, Now, Stream};
 use relay_disk::{Disk, FileDisk};
 use relay_files::Fault;
 use relay_limits::{AllowedClients, Limits};
 use relay_log::{Form, Log};
 use relay_loop::Relay;
 use relay_next_hops::{Dial, NextHops};
-use relay_node::NodeFault;
 use relay_room::RoomFile;
 use std::alloc::{AllocError, Global};
 use std::io::Write;
@@ -90,7 +92,8 @@ impl<S: Stream + Drop, D: Disk + Drop, F: Disk + Drop> Shell<S, D, F> {
         limits: &Limits,
         allowed: AllowedClients,
     ) -> Result<Self, AllocError>
-        ensures { ¬ IsDraining steering → IfOk result (λ shell. TurnsAway shell.steering shell.clients) }
+        ensures away { ¬ IsDraining steering → IfOk result (λ shell. TurnsAway shell.steering shell.clients) }
+        ensures matches { IfOk result (λ shell. HopsMatch shell.next_hops shell.relay) }
     {
         let clients = Clients::new(alloc, limits, allowed)?;
         let next_hops = NextHops::new(alloc, limits)?;
@@ -155,6 +158,8 @@ impl<S: Stream + Drop, D: Disk + Drop, F: Disk + Drop> Shell<S, D, F> {
             → AreServed D.honest D.words S.remaining S.contents changes setting (clients_of self.old.clients)
             self.old.relay → OnOk result (AreServedOn D.honest D.words S.remaining S.contents changes setting
             (clients_of self.old.clients) (clients_of self.new.clients) self.new.relay) }
+        ensures matches { HopsMatch self.old.next_hops self.old.relay
+            → OnOk result (HopsMatch self.new.next_hops self.new.relay) }
     {
         journal.form = self.form;
         let clock = journal.clock;
@@ -185,6 +190,8 @@ impl<S: Stream + Drop, D: Disk + Drop, F: Disk + Drop> Shell<S, D, F> {
             → AreServed D.honest D.words S.remaining S.contents changes setting (clients_of self.old.clients)
             self.old.relay → OnOk result (AreServedOn D.honest D.words S.remaining S.contents changes setting
             (clients_of self.old.clients) (clients_of self.new.clients) self.new.relay) }
+        ensures matches { HopsMatch self.old.next_hops self.old.relay
+            → OnOk result (HopsMatch self.new.next_hops self.new.relay) }
     {
         let node = self.relay.node();
         if self.room.look(node.size(), node.config().spool_limit, now) {
@@ -216,6 +223,8 @@ impl<S: Stream + Drop, D: Disk + Drop, F: Disk + Drop> Shell<S, D, F> {
             → AreServed D.honest D.words S.remaining S.contents changes setting (clients_of self.old.clients)
             self.old.relay → OnOk result (AreServedWithMore D.honest D.words S.remaining S.contents changes setting
             (clients_of self.old.clients) (clients_of self.new.clients) self.new.relay) }
+        ensures config { self.new.relay.node.config ≡ self.old.relay.node.config }
+        ensures hops { self.new.next_hops ≡ self.old.next_hops }
     {
         if self.steering.is_reloading() {
             return Ok(());
@@ -244,6 +253,8 @@ impl<S: Stream + Drop, D: Disk + Drop, F: Disk + Drop> Shell<S, D, F> {
             → AreServed D.honest D.words S.remaining S.contents changes setting (clients_of self.old.clients)
             self.old.relay → OnOk result (AreServedAfter D.honest D.words S.remaining S.contents changes setting
             (clients_of self.new.clients) self.new.relay) }
+        ensures matches { HopsMatch self.old.next_hops self.old.relay
+            → OnOk result (HopsMatch self.new.next_hops self.new.relay) }
     {
         let closed = self
             .next_hops
@@ -265,8 +276,21 @@ impl<S: Stream + Drop, D: Disk + Drop, F: Disk + Drop> Shell<S, D, F> {
             → AreServed D.honest D.words S.remaining S.contents changes setting (clients_of self.old.clients)
             self.old.relay → OnOk result (AreServedAfter D.honest D.words S.remaining S.contents changes setting
             (clients_of self.new.clients) self.new.relay) }
+        ensures hears { OnOk result (HopsHear D.honest D.words now.now.moment now.now.tick self.old.next_hops
+            self.new.next_hops self.old.relay self.new.relay) }
+        ensures matches { HopsMatch self.old.next_hops self.old.relay
+            → OnOk result (HopsMatch self.new.next_hops self.new.relay) }
     {
-        let (intake, replied) = self.hear(registry, now, log)?;
+        let gathered = self.next_hops.replies();
+        let (intake, replied) = hear(
+            gathered,
+            &mut self.clients,
+            registry,
+            &mut self.relay,
+            &mut self.leaving,
+            now,
+            log,
+        )?;
         if intake.was_full {
             self.tidying.note_full(now, log);
         }
@@ -285,44 +309,11 @@ impl<S: Stream + Drop, D: Disk + Drop, F: Disk + Drop> Shell<S, D, F> {
         Ok(())
     }
 
-    /// Passes what was read to sessions and attempts, in one call. If there is no memory to gather the replies, they
-    /// wait, or one of their attempts is given up if no client was heard either.
-    fn hear(
-        &mut self,
-        registry: &S::Registry,
-        now: &Now,
-        log: &mut Log<'_, Vec<u8>>,
-    ) -> Result<(Intake, Option<Replied>), NodeFault>
-        ensures rules { (self.new.steering ≡ self.old.steering) × KeepsRules self.old.clients self.new.clients }
-        ensures served { (changes : List Change) (setting : Setting)
-            → AreServed D.honest D.words S.remaining S.contents changes setting (clients_of self.old.clients)
-            self.old.relay → OnOk result (AreServedAfter D.honest D.words S.remaining S.contents changes setting
-            (clients_of self.new.clients) self.new.relay) }
-    {
-        match self.next_hops.replies() {
-            Ok(replies) => self.clients.serve(
-                registry,
-                &mut self.relay,
-                replies.as_slice(),
-                &mut self.leaving,
-                now,
-                log,
-            ),
-            Err(_) => self.clients.serve(
-                registry,
-                &mut self.relay,
-                &[],
-                &mut self.leaving,
-                now,
-                log,
-            ),
-        }
-    }
-
     /// Notes whether connections to next hops were closed.
     fn note_ends(&mut self, closed: bool)
         ensures rules { (self.new.steering ≡ self.old.steering) × KeepsRules self.old.clients self.new.clients }
-        ensures same { (self.new.relay ≡ self.old.relay) × (self.new.clients ≡ self.old.clients) }
+        ensures same { (self.new.relay ≡ self.old.relay) × (self.new.clients ≡ self.old.clients)
+            × (self.new.next_hops ≡ self.old.next_hops) }
     {
         if closed {
             self.tidying.note_shrunk();
@@ -347,17 +338,17 @@ impl<S: Stream + Drop, D: Disk + Drop, F: Disk + Drop> Shell<S, D, F> {
             → AreServed D.honest D.words S.remaining S.contents changes setting (clients_of self.old.clients)
             self.old.relay → OnOk result (AreServedAfter D.honest D.words S.remaining S.contents changes setting
             (clients_of self.new.clients) self.new.relay) }
+        ensures matches { HopsMatch self.old.next_hops self.old.relay
+            → OnOk result (HopsMatch self.new.next_hops self.new.relay) }
     {
-        let may_start = self.may_start();
-        let gave_up = self.next_hops.begin(
-            clock,
-            dial,
-            registry,
-            &mut self.relay,
-            may_start,
-            now,
-            log,
-        )?;
+        if !self.may_start() {
+            return Ok(());
+        }
+        self.next_hops.list(clock, &self.relay, now)?;
+        let gave_up = self
+            .next_hops
+            .begin(dial, registry, &mut self.relay, now, log)?;
+        self.next_hops.look_ahead(&self.relay, now)?;
         if gave_up {
             self.tidying.note_shrunk();
         }
@@ -384,6 +375,8 @@ impl<S: Stream + Drop, D: Device + Drop, F: Ballast + Drop> Shell<S, D, F> {
         ensures none { IsErr end → IfOk result (λ after. ServesNoneYet D.Disk.honest D.Disk.words
             (clients_of after.clients) after.relay) }
         ensures hops { IfOk result (λ after. GoesOnOrHasNoHops self.next_hops after.next_hops self.relay after.relay) }
+        ensures matches { IfOk result (λ after. (IsOk end → HopsMatch self.next_hops self.relay)
+            → HopsMatch after.next_hops after.relay) }
     {
         journal.form = self.form;
         let after = self.kept_or_reopened(journal, listener, end, now);
@@ -410,6 +403,8 @@ impl<S: Stream + Drop, D: Device + Drop, F: Ballast + Drop> Shell<S, D, F> {
         ensures none { IsErr end → IfOk result (λ after. ServesNoneYet D.Disk.honest D.Disk.words
             (clients_of after.clients) after.relay) }
         ensures hops { IfOk result (λ after. GoesOnOrHasNoHops self.next_hops after.next_hops self.relay after.relay) }
+        ensures matches { IfOk result (λ after. (IsOk end → HopsMatch self.next_hops self.relay)
+            → HopsMatch after.next_hops after.relay) }
     {
         match end {
             Ok(()) if self.may_reload(now) => self.reloaded(journal, listener, now),
@@ -439,15 +434,13 @@ impl<S: Stream + Drop, D: Device + Drop, F: Ballast + Drop> Shell<S, D, F> {
             shell.relay.node.config) }
         ensures none { IfOk result (λ shell. ServesNoneYet D.Disk.honest D.Disk.words (clients_of shell.clients)
             shell.relay) }
+        ensures left { IfOk result (λ shell. AreFree (leavers_of shell.leaving)) }
         ensures hops { IfOk result (λ shell. AreFree (hops_of shell.next_hops)) }
+        ensures matches { IfOk result (λ shell. HopsMatch shell.next_hops shell.relay) }
     {
         self.clients.clear();
         self.leaving.clear();
         self.acceptor.clear();
-        if !self.clients.is_empty() {
-            // A client that stayed would have no session. It never does: all numbers were cleared.
-            return Err(Fault::Device);
-        }
         self.opened(journal, listener, why)
     }
 
@@ -463,11 +456,12 @@ impl<S: Stream + Drop, D: Device + Drop, F: Ballast + Drop> Shell<S, D, F> {
             shell.relay.node.records.spool.size) }
         ensures tested { why ≡ Why.Failed → IfOk result (λ shell. MayStart shell.room self.known.size) }
         ensures same { IfOk result (λ shell. (shell.steering ≡ self.steering) × (shell.clients ≡ self.clients)
-            × (shell.next_hops.lanes.held ≡ self.next_hops.lanes.held)) }
+            × (shell.next_hops.lanes.held ≡ self.next_hops.lanes.held) × (shell.leaving ≡ self.leaving)) }
         ensures config { IfOk result (λ shell. KeepsConfig (config_for why self.relay.node.config)
             shell.relay.node.config) }
         ensures opened { IfOk result (λ shell. HasOpened D.Disk.honest D.Disk.words shell.relay) }
         ensures hops { IfOk result (λ shell. AreFree (hops_of shell.next_hops)) }
+        ensures matches { IfOk result (λ shell. HopsMatch shell.next_hops shell.relay) }
     {
         let Shell {
             relay,

@@ -5,7 +5,10 @@ ghost use Rattle.relay_book.specs.declared.change.Change.{Change};
 ghost use Rattle.relay_connections.specs.Carried.{Setting};
 ghost use Rattle.relay_connections.specs.Readiness.{clients_of};
 ghost use Rattle.relay_connections.specs.Served.{AreServed};
+ghost use Rattle.relay_next_hops.specs.Tables.{TablesMatch};
+ghost use Rattle.relay_routes.specs.Routes.{Route};
 ghost use Rattle.relay_run.specs.Answers.{IsText};
+ghost use Rattle.relay_run.specs.Hops.{HopsMatch};
 ghost use Rattle.relay_run.specs.Reloading.{ReloadsBy};
 ghost use Rattle.relay_run.specs.Requests.{Flushes, FlushesThere, HoldsThere, Releases, Steers, is_there, missing_text};
 ghost use Rattle.relay_run.specs.Serving.{AreServedOn};
@@ -124,6 +127,8 @@ impl<S: Stream + Drop, D: Disk + Drop, F: Disk + Drop> Shell<S, D, F> {
             → AreServed D.honest D.words S.remaining S.contents changes setting (clients_of self.old.clients)
             self.old.relay → OnOk result (AreServedOn D.honest D.words S.remaining S.contents changes setting
             (clients_of self.old.clients) (clients_of self.new.clients) self.new.relay) }
+        ensures matches { HopsMatch self.old.next_hops self.old.relay
+            → OnOk result (HopsMatch self.new.next_hops self.new.relay) }
     {
         let Some((caller, request)) = self.steering.socket.serve(registry, now) else {
             return Ok(());
@@ -161,6 +166,8 @@ impl<S: Stream + Drop, D: Disk + Drop, F: Disk + Drop> Shell<S, D, F> {
             (λ _. self.new.steering.reload ≡ self.old.steering.reload) }
         ensures rest { (self.new.leaving ≡ self.old.leaving) × (self.new.acceptor ≡ self.old.acceptor)
             × (self.new.room ≡ self.old.room) }
+        ensures matches { (routes : List Route) → TablesMatch routes self.old.next_hops
+            → TablesMatch routes self.new.next_hops }
     {
         match request {
             Request::Flush(scope) => match &scope {
@@ -196,6 +203,8 @@ impl<S: Stream + Drop, D: Disk + Drop, F: Disk + Drop> Shell<S, D, F> {
             × (self.new.steering.reload ≡ self.old.steering.reload) }
         ensures rest { (self.new.clients ≡ self.old.clients) × (self.new.leaving ≡ self.old.leaving)
             × (self.new.acceptor ≡ self.old.acceptor) × (self.new.room ≡ self.old.room) }
+        ensures matches { (routes : List Route) → TablesMatch routes self.old.next_hops
+            → TablesMatch routes self.new.next_hops }
     {
         if let Some(answer) = self.refusal(scope) {
             return Ok(answer);
@@ -215,6 +224,8 @@ impl<S: Stream + Drop, D: Disk + Drop, F: Disk + Drop> Shell<S, D, F> {
             × (self.new.steering.reload ≡ self.old.steering.reload) }
         ensures rest { (self.new.clients ≡ self.old.clients) × (self.new.leaving ≡ self.old.leaving)
             × (self.new.acceptor ≡ self.old.acceptor) × (self.new.room ≡ self.old.room) }
+        ensures matches { (routes : List Route) → TablesMatch routes self.old.next_hops
+            → TablesMatch routes self.new.next_hops }
     {
         let alloc = self.steering.alloc;
         match self.next_hops.flush(&self.relay, scope, now) {
@@ -235,6 +246,8 @@ impl<S: Stream + Drop, D: Disk + Drop, F: Disk + Drop> Shell<S, D, F> {
             × (self.new.steering.reload ≡ self.old.steering.reload) }
         ensures rest { (self.new.clients ≡ self.old.clients) × (self.new.leaving ≡ self.old.leaving)
             × (self.new.acceptor ≡ self.old.acceptor) × (self.new.room ≡ self.old.room) }
+        ensures matches { (routes : List Route) → TablesMatch routes self.old.next_hops
+            → TablesMatch routes self.new.next_hops }
     {
         if let Some(answer) = self.refusal(&scope) {
             return answer;
@@ -264,6 +277,8 @@ impl<S: Stream + Drop, D: Disk + Drop, F: Disk + Drop> Shell<S, D, F> {
             × (self.new.steering.reload ≡ self.old.steering.reload) }
         ensures rest { (self.new.clients ≡ self.old.clients) × (self.new.leaving ≡ self.old.leaving)
             × (self.new.acceptor ≡ self.old.acceptor) × (self.new.room ≡ self.old.room) }
+        ensures matches { (routes : List Route) → TablesMatch routes self.old.next_hops
+            → TablesMatch routes self.new.next_hops }
     {
         let alloc = self.steering.alloc;
         // Mail that has left the queue since can be released too.

@@ -6,6 +6,7 @@ ghost use Rattle.relay_connections.specs.Readiness.{IsLeftClient, clients_of};
 ghost use Rattle.relay_connections.specs.Served.{AreServed};
 ghost use Rattle.relay_next_hops.specs.Lanes.{next_due_of};
 ghost use Rattle.relay_next_hops.specs.Readiness.{IsLeftHop, hops_of};
+ghost use Rattle.relay_run.specs.Hops.{HopsMatch};
 ghost use Rattle.relay_run.specs.Room.{next_look};
 ghost use Rattle.relay_run.specs.Serving.{AreServedLater, AreServedLaterOrAgain, AreServedOn, ServesNoneOrOn};
 ghost use Rattle.relay_run.specs.Steering.{HasDrained, MayBegin};
@@ -104,6 +105,8 @@ impl<S: Stream + Drop, D: Device + Drop, F: Ballast + Drop> Shell<S, D, F> {
             → AreServed D.Disk.honest D.Disk.words S.remaining S.contents changes setting (clients_of self.clients)
             self.relay → IfOk result (λ after. AreServedLaterOrAgain D.Disk.honest D.Disk.words S.remaining S.contents
             changes setting (clients_of after.clients) after.relay) }
+        ensures matches { HopsMatch self.next_hops self.relay
+            → IfOk result (λ after. HopsMatch after.next_hops after.relay) }
     {
         let mut shell = self;
         for _ in 0..u64::MAX {
@@ -129,6 +132,8 @@ impl<S: Stream + Drop, D: Device + Drop, F: Ballast + Drop> Shell<S, D, F> {
             → AreServed D.Disk.honest D.Disk.words S.remaining S.contents changes setting (clients_of self.clients)
             self.relay → IfOk result (λ after. AreServedLaterOrAgain D.Disk.honest D.Disk.words S.remaining S.contents
             changes setting (clients_of after.clients) after.relay) }
+        ensures matches { HopsMatch self.next_hops self.relay
+            → IfOk result (λ after. HopsMatch after.next_hops after.relay) }
     {
         let mut shell = self;
         for _ in 0..count {
@@ -145,6 +150,8 @@ impl<S: Stream + Drop, D: Device + Drop, F: Ballast + Drop> Shell<S, D, F> {
     ) -> Result<Self, Fault>
         ensures served { IfOk result (λ after. ServesNoneOrOn D.Disk.honest D.Disk.words S.remaining S.contents
             (clients_of self.clients) (clients_of after.clients) self.relay after.relay) }
+        ensures matches { HopsMatch self.next_hops self.relay
+            → IfOk result (λ after. HopsMatch after.next_hops after.relay) }
     {
         let mut shell = self;
         shell.hear_reports(around);
@@ -162,6 +169,8 @@ impl<S: Stream + Drop, D: Device + Drop, F: Ballast + Drop> Shell<S, D, F> {
             → AreServed D.Disk.honest D.Disk.words S.remaining S.contents changes setting (clients_of self.old.clients)
             self.old.relay → AreServed D.Disk.honest D.Disk.words S.remaining S.contents changes setting
             (clients_of self.new.clients) self.new.relay }
+        ensures matches { HopsMatch self.old.next_hops self.old.relay
+            → HopsMatch self.new.next_hops self.new.relay }
     {
         let wait = self.next_wait(&around.watch, &Now::of(around.clock));
         around.watch.wait(wait);
@@ -192,6 +201,8 @@ impl<S: Stream + Drop, D: Device + Drop, F: Ballast + Drop> Shell<S, D, F> {
             → AreServed D.Disk.honest D.Disk.words S.remaining S.contents changes setting (clients_of self.old.clients)
             self.old.relay → AreServed D.Disk.honest D.Disk.words S.remaining S.contents changes setting
             (clients_of self.new.clients) self.new.relay }
+        ensures matches { HopsMatch self.old.next_hops self.old.relay
+            → HopsMatch self.new.next_hops self.new.relay }
     {
         if token < ControlSocket::TOKEN {
             self.note(token, ready);
@@ -212,6 +223,8 @@ impl<S: Stream + Drop, D: Device + Drop, F: Ballast + Drop> Shell<S, D, F> {
             → AreServed D.Disk.honest D.Disk.words S.remaining S.contents changes setting (clients_of self.old.clients)
             self.old.relay → OnOk result (AreServedLater D.Disk.honest D.Disk.words S.remaining S.contents changes
             setting (clients_of self.new.clients) self.new.relay) }
+        ensures matches { HopsMatch self.old.next_hops self.old.relay
+            → OnOk result (HopsMatch self.new.next_hops self.new.relay) }
     {
         let now = Now::of(around.clock);
         self.advance(
@@ -248,6 +261,8 @@ impl<S: Stream + Drop, D: Device + Drop, F: Ballast + Drop> Shell<S, D, F> {
             → AreServed D.Disk.honest D.Disk.words S.remaining S.contents changes setting (clients_of self.old.clients)
             self.old.relay → OnOk result (AreServedOn D.Disk.honest D.Disk.words S.remaining S.contents changes setting
             (clients_of self.old.clients) (clients_of self.new.clients) self.new.relay) }
+        ensures matches { HopsMatch self.old.next_hops self.old.relay
+            → OnOk result (HopsMatch self.new.next_hops self.new.relay) }
     {
         let Some(Control { registry, files }) = watch.control() else {
             return Ok(());
@@ -263,7 +278,8 @@ impl<S: Stream + Drop, D: Device + Drop, F: Ballast + Drop> Shell<S, D, F> {
         around: &Surroundings<'_, C, L, N, W>,
     ) -> bool
         ensures drained { IsTrue result → (tick : ℕ) × HasDrained self.new.steering self.new.next_hops tick }
-        ensures rest { (self.new.relay ≡ self.old.relay) × (self.new.clients ≡ self.old.clients) }
+        ensures rest { (self.new.relay ≡ self.old.relay) × (self.new.clients ≡ self.old.clients)
+            × (self.new.next_hops ≡ self.old.next_hops) }
     {
         match around.watch.control() {
             Some(Control { registry, files: _ }) => {

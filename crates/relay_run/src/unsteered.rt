@@ -1,4 +1,7 @@
 //! A running relay without a system: over any streams, disks and ballast file, without a control socket and a page.
+ghost use Rattle.std.specs.Prelude.{IfOk};
+ghost use Rattle.relay_run.specs.Hops.{HopsMatch};
+
 use crate::acceptor::Acceptor;
 use crate::control::ControlSocket;
 use crate::device::Device;
@@ -22,7 +25,9 @@ impl<S: Stream + Drop, D: Device + Drop, F: Ballast + Drop> Shell<S, D, F> {
         settings: Settings,
         disks: Disks<D>,
         ballast: F,
-    ) -> Result<Self, Fault> {
+    ) -> Result<Self, Fault>
+        ensures { IfOk result (λ shell. HopsMatch shell.next_hops shell.relay) }
+    {
         let Settings {
             config,
             limits,

@@ -6,6 +6,7 @@ ghost use Rattle.relay_connections.specs.Served.{AreServed};
 ghost use Rattle.relay_connections.specs.Readiness.{IsLeftClient, clients_of};
 ghost use Rattle.relay_next_hops.specs.Lanes.{next_due_of};
 ghost use Rattle.relay_next_hops.specs.Readiness.{IsLeftHop, hops_of};
+ghost use Rattle.relay_run.specs.Hops.{HopsMatch};
 ghost use Rattle.relay_run.specs.Room.{next_look};
 ghost use Rattle.relay_run.specs.Steering.{MayBegin};
 ghost use Rattle.relay_run.specs.declared.waiting.TheConstants.{LONGEST_WAIT};
@@ -29,6 +30,8 @@ impl<S: Stream + Drop, D: Disk + Drop, F: Disk + Drop> Shell<S, D, F> {
             self.old.relay → AreServed D.honest D.words S.remaining S.contents changes setting
             (clients_of self.new.clients) self.new.relay }
         ensures relay { self.new.relay ≡ self.old.relay }
+        ensures matches { HopsMatch self.old.next_hops self.old.relay
+            → HopsMatch self.new.next_hops self.new.relay }
     {
         noted_are_served::<S, D>();
         if token < NextHops::FIRST_TOKEN {

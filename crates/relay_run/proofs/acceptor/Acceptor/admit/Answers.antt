@@ -1,5 +1,6 @@
 -- Another client was received, or none.
-use Rattle.std.proofs.Common.{refl}
+use Rattle.std.proofs.Common.{refl, ap, ◌∙◌}
+use Rattle.relay_loop.specs.Relay.{RelayState}
 use Rattle.relay_connections.specs.Readiness.{clients_of}
 use Rattle.relay_connections.specs.Welcome.{AreAllowed, KeepsRules}
 use Rattle.relay_run.proofs.AcceptorLemmas.{kept_on, kept_still}
@@ -12,6 +13,7 @@ loop-init g c = (
   λ allowed. allowed,
   (refl, refl, refl),
   λ changes setting served. more_none g.D.Disk.honest g.D.Disk.words g.S.Stream.remaining g.S.Stream.contents changes setting (clients_of c.args.clients.now) (clients_of c.args.clients.now) c.args.relay.now c.args.relay.now refl refl served,
+  refl,
 )
 
 pub loop-preserved : goal.loop-preserved
@@ -25,16 +27,17 @@ loop-preserved g c =
             kept.1,
             serves_still g.D.Disk.honest g.D.Disk.words g.S.Stream.remaining g.S.Stream.contents c.args.clients.now w.receive.new.clients c.match-accept.clients c.args.relay.now w.receive.new.relay c.match-accept.relay w.clients-is w.relay-is
                 (serves_on g.D.Disk.honest g.D.Disk.words g.S.Stream.remaining g.S.Stream.contents c.args.clients.now c.loop.clients w.receive.new.clients c.args.relay.now c.loop.relay w.receive.new.relay c.loop.invariant.2 w.in_ok-receive-in-Client.ensures.served),
+            ap (λ (it : RelayState _). it.node.config) w.relay-is ∙ w.receive.ensures.config ∙ c.loop.invariant.3,
           )
       | in-Missed w ↦
           let kept = kept_still c.args.clients.now c.args.relay.now c.loop.clients c.match-accept.clients c.loop.relay c.match-accept.relay w.clients-is w.relay-is before in
-          (kept.0, kept.1, serves_still g.D.Disk.honest g.D.Disk.words g.S.Stream.remaining g.S.Stream.contents c.args.clients.now c.loop.clients c.match-accept.clients c.args.relay.now c.loop.relay c.match-accept.relay w.clients-is w.relay-is c.loop.invariant.2)
+          (kept.0, kept.1, serves_still g.D.Disk.honest g.D.Disk.words g.S.Stream.remaining g.S.Stream.contents c.args.clients.now c.loop.clients c.match-accept.clients c.args.relay.now c.loop.relay c.match-accept.relay w.clients-is w.relay-is c.loop.invariant.2, ap (λ (it : RelayState _). it.node.config) w.relay-is ∙ c.loop.invariant.3)
       | in-Nobody w ↦
           let kept = kept_still c.args.clients.now c.args.relay.now c.loop.clients c.match-accept.clients c.loop.relay c.match-accept.relay w.clients-is w.relay-is before in
-          (kept.0, kept.1, serves_still g.D.Disk.honest g.D.Disk.words g.S.Stream.remaining g.S.Stream.contents c.args.clients.now c.loop.clients c.match-accept.clients c.args.relay.now c.loop.relay c.match-accept.relay w.clients-is w.relay-is c.loop.invariant.2)
+          (kept.0, kept.1, serves_still g.D.Disk.honest g.D.Disk.words g.S.Stream.remaining g.S.Stream.contents c.args.clients.now c.loop.clients c.match-accept.clients c.args.relay.now c.loop.relay c.match-accept.relay w.clients-is w.relay-is c.loop.invariant.2, ap (λ (it : RelayState _). it.node.config) w.relay-is ∙ c.loop.invariant.3)
       | in-Want w ↦
           let kept = kept_still c.args.clients.now c.args.relay.now c.loop.clients c.match-accept.clients c.loop.relay c.match-accept.relay w.clients-is w.relay-is before in
-          (kept.0, kept.1, serves_still g.D.Disk.honest g.D.Disk.words g.S.Stream.remaining g.S.Stream.contents c.args.clients.now c.loop.clients c.match-accept.clients c.args.relay.now c.loop.relay c.match-accept.relay w.clients-is w.relay-is c.loop.invariant.2)
+          (kept.0, kept.1, serves_still g.D.Disk.honest g.D.Disk.words g.S.Stream.remaining g.S.Stream.contents c.args.clients.now c.loop.clients c.match-accept.clients c.args.relay.now c.loop.relay c.match-accept.relay w.clients-is w.relay-is c.loop.invariant.2, ap (λ (it : RelayState _). it.node.config) w.relay-is ∙ c.loop.invariant.3)
     ]
 
 pub returns-clause-served : goal.returns-clause-served

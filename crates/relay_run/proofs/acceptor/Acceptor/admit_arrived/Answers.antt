@@ -1,5 +1,6 @@
 -- Another client of a balancer was received, or a connection was closed.
-use Rattle.std.proofs.Common.{refl}
+use Rattle.std.proofs.Common.{refl, ap, ◌∙◌}
+use Rattle.relay_loop.specs.Relay.{RelayState}
 use Rattle.relay_connections.specs.Readiness.{clients_of}
 use Rattle.relay_connections.specs.Welcome.{AreAllowed, KeepsRules}
 use Rattle.relay_run.proofs.AcceptorLemmas.{kept_on, kept_still}
@@ -12,6 +13,7 @@ loop-init g c = (
   λ allowed. allowed,
   (refl, refl, refl),
   λ changes setting served. more_none g.D.Disk.honest g.D.Disk.words g.S.Stream.remaining g.S.Stream.contents changes setting (clients_of c.args.clients.now) (clients_of c.args.clients.now) c.args.relay.now c.args.relay.now refl refl served,
+  refl,
 )
 
 pub loop-preserved : goal.loop-preserved
@@ -25,10 +27,11 @@ loop-preserved g c =
             kept.1,
             serves_still g.D.Disk.honest g.D.Disk.words g.S.Stream.remaining g.S.Stream.contents c.args.clients.now w.welcome.new.clients c.match-next-2.clients c.args.relay.now w.welcome.new.relay c.match-next-2.relay w.clients-is w.relay-is
                 (serves_on g.D.Disk.honest g.D.Disk.words g.S.Stream.remaining g.S.Stream.contents c.args.clients.now c.loop.clients w.welcome.new.clients c.args.relay.now c.loop.relay w.welcome.new.relay c.loop.invariant.2 w.in_ok-welcome-in-Some-Client.ensures.served),
+            ap (λ (it : RelayState _). it.node.config) w.relay-is ∙ w.welcome.ensures.config ∙ c.loop.invariant.3,
           )
       | in-Some-Refused w ↦
           let kept = kept_still c.args.clients.now c.args.relay.now c.loop.clients c.match-next-2.clients c.loop.relay c.match-next-2.relay w.clients-is w.relay-is before in
-          (kept.0, kept.1, serves_still g.D.Disk.honest g.D.Disk.words g.S.Stream.remaining g.S.Stream.contents c.args.clients.now c.loop.clients c.match-next-2.clients c.args.relay.now c.loop.relay c.match-next-2.relay w.clients-is w.relay-is c.loop.invariant.2)
+          (kept.0, kept.1, serves_still g.D.Disk.honest g.D.Disk.words g.S.Stream.remaining g.S.Stream.contents c.args.clients.now c.loop.clients c.match-next-2.clients c.args.relay.now c.loop.relay c.match-next-2.relay w.clients-is w.relay-is c.loop.invariant.2, ap (λ (it : RelayState _). it.node.config) w.relay-is ∙ c.loop.invariant.3)
     ]
 
 pub returns-in-None-clause-served : goal.returns-in-None-clause-served

@@ -1,5 +1,5 @@
 -- A reload that takes effect waits no longer.
-use Rattle.std.proofs.Common.{inl, inr}
+use Rattle.std.proofs.Common.{inl, inr, refl}
 use Rattle.relay_run.proofs.RequestLemmas.{fault_is_none, if_ok_then}
 use Rattle.relay_run.proofs.shell.Shell.kept_or_reopened.Goals as goal
 
@@ -34,3 +34,17 @@ returns-in-Ok-2-clause-hops g c = if_ok_then c.reopened.result _ _ c.reopened.en
 
 pub returns-in-Err-Device-clause-hops : goal.returns-in-Err-Device-clause-hops
 returns-in-Err-Device-clause-hops g c = if_ok_then c.reopened-in-Err-Device.result _ _ c.reopened-in-Err-Device.ensures.hops (λ after free. inr free)
+
+-- Its tables match: they did, or they are new.
+pub returns-in-Ok-clause-matches : goal.returns-in-Ok-clause-matches
+returns-in-Ok-clause-matches g c =
+    if_ok_then c.reloaded.result _ _ c.reloaded.ensures.matches (λ after goes. λ matches. goes (matches (rw c.in-Ok.is refl)))
+
+pub returns-in-Ok-2-clause-matches : goal.returns-in-Ok-2-clause-matches
+returns-in-Ok-2-clause-matches g c = if_ok_then c.reopened.result _ _ c.reopened.ensures.matches (λ after now. λ matches. now)
+
+pub returns-in-Ok-3-clause-matches : goal.returns-in-Ok-3-clause-matches
+returns-in-Ok-3-clause-matches g c = λ matches. matches (rw c.in-Ok-3.is refl)
+
+pub returns-in-Err-Device-clause-matches : goal.returns-in-Err-Device-clause-matches
+returns-in-Err-Device-clause-matches g c = if_ok_then c.reopened-in-Err-Device.result _ _ c.reopened-in-Err-Device.ensures.matches (λ after now. λ matches. now)

@@ -36,3 +36,6 @@ returns-clause-served g c =
       none = subst (λ (table : List (Option (Box (Client _) Global))). AreFree table) (sym opened.0) (free_of_count (clients_of c.args.self.clients) c.requires.effect.sessions);
       opened = opened.1;
     })
+
+pub returns-clause-matches : goal.returns-clause-matches
+returns-clause-matches g c = λ matches. c.in_ok-shell.ensures.matches

@@ -2,8 +2,10 @@
 use Rattle.std.proofs.Common.{◌≡◌, ap}
 use Rattle.relay_connections.specs.Readiness.{clients_of}
 use Rattle.relay_connections.specs.declared.clients.Clients.{Clients}
+use Rattle.relay_run.specs.Hops.{HopsMatch}
 use Rattle.relay_run.specs.declared.shell.Shell.{Shell}
 use Rattle.relay_run.proofs.ServedLemmas.{after_same, after_then, turned}
+use Rattle.relay_run.proofs.HopsLemmas.{hops_same, hops_still}
 use Rattle.relay_run.proofs.shell.Shell.turn.Goals as goal
 use Rattle.relay_run.proofs.shell.Shell.turn.Goals.{then-serve-gt0, else-serve-gt0}
 
@@ -30,3 +32,20 @@ returns-clause-served g c = λ changes setting served.
     (after_then honest words remaining contents changes setting (clients_of attended.clients) (clients_of exchanged.clients) attended.relay exchanged.relay
     (c.in_ok-attend_to_next_hops.ensures.served changes setting served) (λ changes served. c.in_ok-exchange.ensures.served changes setting served)))
     (λ changes setting served. c.begin.ensures.served changes setting served)
+
+-- The tables match after each of the calls.
+pub returns-clause-matches : goal.returns-clause-matches
+returns-clause-matches g c = λ matches.
+    let came = c.admit.new.self in
+    let exchanged = c.exchange.new.self in
+    let left = c.if-serve-gt0.self in
+    let before = hops_same c.args.self.now.next_hops came.next_hops c.args.self.now.relay came.relay c.admit.ensures.hops c.admit.ensures.config matches in
+    let heard = c.in_ok-exchange.ensures.matches (c.in_ok-attend_to_next_hops.ensures.matches before) in
+    let noted : HopsMatch left.next_hops left.relay = elim c.if-serve-gt0.branch [
+      | then-serve-gt0 w ↦
+          hops_still w.note_leaving.new.self left.next_hops exchanged.relay left.relay (ap (λ (it : Shell _ _ _). it.next_hops) w.self-is) (ap (λ (it : Shell _ _ _). it.relay) w.self-is)
+          (w.note_leaving.ensures exchanged.relay.node.config.routes.routes heard)
+      | else-serve-gt0 w ↦
+          hops_still exchanged.next_hops left.next_hops exchanged.relay left.relay (ap (λ (it : Shell _ _ _). it.next_hops) w.self-is) (ap (λ (it : Shell _ _ _). it.relay) w.self-is) heard
+    ] in
+    c.begin.ensures.matches noted
