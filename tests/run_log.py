@@ -203,7 +203,7 @@ def what_came_of_each_recipient_has_a_line(field):
     with relay.running():
         same("refused", hand_in(relay, recipients=("b@example.org", "r@example.org", "l@example.org")), {})
         read_report(field.arrived(2)[1], 2, 1)
-        until("their lines", lambda: [line for line in told(relay, "relayd: ") if "client" not in line] == lines)
+        until("their lines", lambda: [line for line in told(relay, "message=") if "accepted" not in line] == lines)
 
 
 def each_recipient_has_the_reply_that_settles_it(field):
@@ -279,11 +279,12 @@ def lines_of_json_have_the_same_fields(field):
                 ("addr", f"127.0.0.1:{field.sink.port}"), ("to", path), ("status", event), ("reply", reply)]
 
     octets = len(b"EHLO client.example\r\nNONSENSE\r\nQUIT\r\n")
-    same("the first lines", lines[:2],
-         [[("event", "rejected"), ("client", peer), ("command", "unknown"), ("reply", "500 unknown command")],
+    same("the first lines", lines[:3],
+         [[("event", "listening"), ("addr", f"127.0.0.1:{relay.port}")],
+          [("event", "rejected"), ("client", peer), ("command", "unknown"), ("reply", "500 unknown command")],
           [("event", "client-end"), ("client", peer), ("messages", 0), ("rejected", 1), ("octets", octets),
            ("reason", "quit")]])
-    others = [line for line in lines[2:] if line[0][1] not in ("accepted", "client-end")]
+    others = [line for line in lines[3:] if line[0][1] not in ("accepted", "client-end")]
     same("the others", others,
          [result("sent", 1, "<b@example.org>", "250 queued\tas 77"),
           result("failed", 1, "<r@example.org>", '550 no "user" \\'),
@@ -451,9 +452,10 @@ def a_log_that_nobody_reads_stops_no_mail(field):
     same("lines without a time", [line for line in read if not MOMENT.match(line)], [])
     [place] = [place for place, line in enumerate(read) if "log-dropped" in line]
     dropped = int(re.fullmatch(r"relayd: log-dropped lines=(\d+)", MOMENT.sub("", read[place]))[1])
-    # Of each of the flood 100 recipients in lines of 320 octets, and a line for each; of each of the others two lines.
+    # Of each of the flood 100 recipients in lines of 320 octets, and a line for each; of each of the others two lines;
+    # and the line of the address.
     paths = [f"<{'x' * 60}{number}@example.org>" for number in range(100)]
-    same("lines, and dropped ones", len(read) - 1 + dropped, messages * (100 + lines_of_paths(paths)) + 2 * 21)
+    same("lines, and dropped ones", len(read) - 1 + dropped, messages * (100 + lines_of_paths(paths)) + 2 * 21 + 1)
     same("the lines after them", [line.split()[2:4] for line in read[place + 1:]],
          [["accepted", f"message={last}"], ["sent", f"message={last}"]])
     field.sink.take_all()
@@ -473,7 +475,8 @@ def dropped_lines_of_json_have_a_line_of_json(field):
         reader.join()
     same("its fields", list(read[-1]), ["time", "event", "lines"])
     paths = [f"<{'x' * 60}{number}@example.org>" for number in range(100)]
-    same("lines, and dropped ones", len(read) - 1 + read[-1]["lines"], messages * (100 + lines_of_paths(paths)))
+    # Those of the messages, as above, and the line of the address.
+    same("lines, and dropped ones", len(read) - 1 + read[-1]["lines"], messages * (100 + lines_of_paths(paths)) + 1)
     field.sink.take_all()
 
 
