@@ -504,7 +504,8 @@ def a_next_hop_is_waited_for_by_what_it_was_told(field):
             same("next hops that are lost late", late, {})
             del waited["text"]
             order = sorted(waited, key=waited.get)
-            same("the first of the others' losses, and the last", ({*order[:2]}, order[-1]), ({"data", "early"}, "reply"))
+            same("the first of the others' losses", {*order[:2]}, {"data", "early"})
+            same("the last of them", order[-1], "reply")
             same("what waits", len(relay.held()), len(silent))
 
 

@@ -343,7 +343,7 @@ def an_attempt_that_is_cut_off_leaves_half_as_many_for_the_next(field):
 
 
 def a_transaction_that_a_hop_closes_leaves_half_as_many_for_the_next(field):
-    """By 421 to the last RCPT, to DATA or to the mail data. To EHLO it says nothing of how many recipients there are."""
+    """By 421 to the last RCPT, to DATA or to the mail data. To EHLO, 421 says nothing of the number of recipients."""
     asked = {"RCPT": [2, 1, 1], "DATA": [2, 1, 1], "text": [2, 1, 1], "EHLO": [0, 2]}
     hops = {word: Closing(word) for word in asked}
     with contextlib.ExitStack() as stack:
