@@ -184,8 +184,7 @@ class Plays:
 
 # What comes of a refusal in each play, but of the mail of one client alone: its link breaks as if nothing was said.
 OUTCOMES = {"no memory for the play", "as if it had not been said", "as if its link had broken",
-            "as if its link had broken after it", "as if the node had been stopped", "down until its next stop",
-            "not stopped"}
+            "as if its link had broken after it", "as if the node had been stopped", "down until its next stop"}
 OF_AN_ATTEMPT = OUTCOMES - {"as if its link had broken"} | {"as if its attempt had not begun"}
 
 
@@ -227,9 +226,8 @@ def nodes(program, folder):
             if is_down(shown, whole):
                 return "down until its next stop"
             place = next(it for it, (one, other) in enumerate(zip(shown, whole)) if one != other)
-            if place >= len(lines):
-                same(what, shown, [*whole[:place], "refused NoMemory", *whole[place + 1:]])
-                return "not stopped"
+            # Stopping a node takes no memory, so none of its last stops is refused.
+            same(f"{what}: whether a line of the play differs", place < len(lines), True)
             for name, wanted in plays.outcomes(lines, place):
                 if shown == wanted:
                     return name
