@@ -4,6 +4,8 @@ layout in docs/ alone, octets that a terminal must not get, 100,000 messages, an
 the first difference.
 
     tests/looks_at_the_queue.py build/relayd
+
+The time limit is multiplied by half the environment variable TIMES (2).
 """
 import json
 import pathlib
@@ -20,14 +22,14 @@ sys.dont_write_bytecode = True
 
 from mail_checks import hand_in
 from relay_program import Difference, Relay, same
-from running_relay import Field
+from running_relay import TIMES, Field
 from spool_files import file_of
 
 ROUTES = {"example.org": ("next.example", 2526), "example.net": ("other.example", 2527)}
 HOUR, DAY = 3600, 86400
 SAFE = re.compile(rb"[\n -~]*")
-# How long a look at 100,000 messages may take, in seconds, and how many there are.
-SECONDS, MANY = 10.0, 100_000
+# How long a look at 100,000 messages may take, in seconds (one, and longer in the gate), and how many there are.
+SECONDS, MANY = 0.5 * TIMES, 100_000
 
 
 def sized(octets):
