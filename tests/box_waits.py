@@ -13,7 +13,7 @@ class Waits:
     """What a judge requires of a relay that waits."""
 
     def __init__(self, judge):
-        # Whether the relay may begin no attempt for want of room.
+        # Whether the relay may begin no attempt because it has too little room.
         self.judge, self.is_tight = judge, False
         self.forget()
 

@@ -109,7 +109,7 @@ def is_declared(name, path):
 
 
 def faults_of_places(text):
-    """A name that is placed in a file, in parentheses behind it, is declared there."""
+    """A name that is placed in a file, in parentheses after it, is declared there."""
     for names, place in PLACED.findall(text):
         path = TOP / "crates" / (place if "/" in place else f"{HOME}/{place}")
         for name in QUOTED.findall(names):
