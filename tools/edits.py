@@ -145,7 +145,7 @@ class Trial:
                                      stderr=subprocess.STDOUT)
                 if ran.returncode != -signal.SIGKILL:
                     break
-                # The system has most likely killed it for want of memory, which others take for a while.
+                # The system has most likely killed it because memory ran out, which others take for a while.
             return ran.returncode, ran.stdout
 
     def refused_among(self, edits):
