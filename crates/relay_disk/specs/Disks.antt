@@ -1,5 +1,5 @@
 -- Two disks that are stopped together: an image of them is a pair, one of each, and one fuse counts the calls of both.
-use Rattle.std.specs.Prelude.{◌≡◌, ◌⊎◌, ℕ, List, [], Option, Result, OnOk, OnErr}
+use Rattle.std.specs.Prelude.{◌≡◌, ◌⊎◌, ℕ, List, [], Option, None, Result, OnOk, OnErr}
 use Rattle.relay_disk.specs.declared.disk.DiskFault.{DiskFault}
 use Rattle.relay_disk.specs.declared.disks.Disks.{Disks}
 use Rattle.relay_disk.specs.declared.disks.Side.{Side}
@@ -43,6 +43,10 @@ module _ {D : Type 0} (words : DiskWords D) where
   -- how many calls of both pass before each one fails: the fuse of the first counts them all
   abbrev pub calls_left_of : Disks D → Option ℕ
   calls_left_of disks = words.calls_left disks.first
+
+  -- the fuse is gone, or it's as before: no stop sets one
+  abbrev pub LosesFuseOrNot : Disks D → Disks D → Type 0
+  LosesFuseOrNot old new = (calls_left_of new ≡ None) ⊎ (calls_left_of new ≡ calls_left_of old)
 
   -- a stop leaves just what reads give
   abbrev pub IsSettled : Disks D → Type 0

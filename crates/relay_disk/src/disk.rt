@@ -127,7 +127,7 @@ pub trait Reboot: Disk {
         ensures same { OnlyFuseChanges Self.Disk.honest Self.Disk.words self.old self.new };
 
     /// Returns the disk after a stop at this time, without a fuse. `pick` chooses the image among those that a stop may
-    /// leave. If memory runs out, the disk comes back.
+    /// leave. If memory runs out, the disk comes back, with the fuse that it had.
     fn after_stop(self, pick: u64) -> Result<Self, AllocFailed<Self>>
         ensures left { Self.Disk.honest → IfOk result
             (λ disk. Self.Disk.words.may_leave self (Self.Disk.words.seen disk)) }
@@ -136,6 +136,7 @@ pub trait Reboot: Disk {
         ensures within { Self.Disk.honest → MatchResult result
             (λ disk. ImagesWithin Self.Disk.words self disk)
             (λ refused. ImagesWithin Self.Disk.words self refused.value) }
-        ensures fuse { IfOk result (λ disk. Self.Disk.words.calls_left disk ≡ None) }
+        ensures fuse { MatchResult result (λ disk. Self.Disk.words.calls_left disk ≡ None)
+            (λ refused. Self.Disk.words.calls_left refused.value ≡ Self.Disk.words.calls_left self) }
         ensures failures { IfOk result (FailsNot Self.Disk.words self) };
 }

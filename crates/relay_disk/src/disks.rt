@@ -1,8 +1,8 @@
 // Two disks that are stopped together.
 ghost use Rattle.std.specs.Prelude.{◌≡◌, None, Some, IfOk, MatchResult};
 ghost use Rattle.relay_disk.specs.Device.{OnlyFuseChanges};
-ghost use Rattle.relay_disk.specs.Disks.{AddsNoImage, FailsNot, ImagesWithin, IsSettled, IsTurned, calls_left_of};
-ghost use Rattle.relay_disk.specs.Disks.{may_leave_of, seen_of};
+ghost use Rattle.relay_disk.specs.Disks.{AddsNoImage, FailsNot, ImagesWithin, IsSettled, IsTurned, LosesFuseOrNot};
+ghost use Rattle.relay_disk.specs.Disks.{calls_left_of, may_leave_of, seen_of};
 
 use crate::{Disk, Reboot};
 use std::alloc::AllocFailed;
@@ -67,7 +67,8 @@ impl<D: Reboot> Disks<D> {
     }
 
     /// Returns the disks after a stop at this time, without fuses: of each the image that `pick` chooses among those
-    /// that a stop may leave. If memory runs out, both come back; the first may be stopped then.
+    /// that a stop may leave. If memory runs out, both come back; the first may be stopped then, and else it has the
+    /// fuse that it had.
     pub fn after_stop(self, pick: u64) -> Result<Self, AllocFailed<Self>>
         ensures left { D.Disk.honest → IfOk result
             (λ disks. may_leave_of D.Disk.words self (seen_of D.Disk.words disks)) }
@@ -75,7 +76,8 @@ impl<D: Reboot> Disks<D> {
         ensures within { D.Disk.honest → MatchResult result
             (λ disks. ImagesWithin D.Disk.words self disks)
             (λ refused. ImagesWithin D.Disk.words self refused.value) }
-        ensures fuse { IfOk result (λ disks. calls_left_of D.Disk.words disks ≡ None) }
+        ensures fuse { MatchResult result (λ disks. calls_left_of D.Disk.words disks ≡ None)
+            (λ refused. LosesFuseOrNot D.Disk.words self refused.value) }
         ensures failures { IfOk result (FailsNot D.Disk.words self) }
     {
         let Disks { first, second } = self;

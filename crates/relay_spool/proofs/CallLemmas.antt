@@ -64,7 +64,7 @@ module _ {D : Type 0} (words : DiskWords D) where
   pub makes_one : {T : Type 0} (result : Result T DiskFault) (old new : D) → Burns words old new result → Makes words 1 old new result
   makes_one result old new burns = record { at_most = (1, omega arith, burns.burnt); ok = passes_one result old new burns }
 
-  calls_none : (left : Option ℕ) → left ≡ option_map (λ calls. calls - 0) left
+  pub calls_none : (left : Option ℕ) → left ≡ option_map (λ calls. calls - 0) left
   calls_none None = refl
   calls_none (Some left) = let e : left ≡ left - 0 = omega arith in ap (λ (n : ℕ). Some n) e
 

@@ -7,6 +7,7 @@ use Rattle.relay_spool.specs.declared.fault.ReadFault.{ReadFault}
 use Rattle.relay_spool.specs.declared.fault.ReadFault.TheVariants.{Device, NoMemory, Damaged}
 use Rattle.relay_spool.specs.Blocks.{GoesOn, IsAt}
 use Rattle.relay_spool.specs.Run.{FailsBy, fault_of}
+use Rattle.relay_spool.proofs.PassLemmas.{any_none, any_then}
 use Rattle.relay_spool.proofs.RunLemmas.{OnlyNow, kept, kept_on}
 use Rattle.relay_spool.proofs.TurnLemmas.{on_ok}
 
@@ -36,6 +37,7 @@ module _ {D : Type 0} (honest : Type 0) (words : DiskWords D) where
     at = λ h. tt;
     keeps = λ h. kept words disk (only h);
     failures = let e : Damaged gate ≡ fault = cc in subst (λ (f : ReadFault). FailsBy words disk disk (fault_of f)) e refl;
+    calls = any_none words disk;
   }
 
   -- a call that has failed
@@ -49,6 +51,7 @@ module _ {D : Type 0} (honest : Type 0) (words : DiskWords D) where
     at = λ h. tt;
     keeps = goes.keeps;
     failures = subst (λ (f : ReadFault). FailsBy words disk now (fault_of f)) (cc) goes.failures;
+    calls = goes.calls;
   }
 
   -- a call that is answered otherwise
@@ -62,6 +65,7 @@ module _ {D : Type 0} (honest : Type 0) (words : DiskWords D) where
     at = goes.at;
     keeps = goes.keeps;
     failures = goes.failures;
+    calls = goes.calls;
   }
 
   -- a call after which the disk is found damaged
@@ -75,6 +79,7 @@ module _ {D : Type 0} (honest : Type 0) (words : DiskWords D) where
     at = λ h. tt;
     keeps = goes.keeps;
     failures = let e : Damaged gate ≡ fault = cc in subst (λ (f : ReadFault). FailsBy words disk now (fault_of f)) e goes.failures;
+    calls = goes.calls;
   }
 
   failures_on : {T : Type 0} (result : Result T ReadFault) (disk mid now : D) → FailsNot words disk mid
@@ -95,4 +100,5 @@ module _ {D : Type 0} (honest : Type 0) (words : DiskWords D) where
     at = λ h. on_ok result (subst (λ (image : List ℕ). IsAt image new) (one.keeps h).reads) (two.at h);
     keeps = λ h. kept_on words disk mid now (one.keeps h) (two.keeps h);
     failures = failures_on result disk mid now one.failures two.failures;
+    calls = any_then words disk mid now one.calls two.calls;
   }

@@ -1,5 +1,6 @@
 mod RunLemmas
 mod CallLemmas
+mod PassLemmas
 mod GoesLemmas
 mod TurnLemmas
 mod ImageLemmas

@@ -1,5 +1,5 @@
 -- Calls of one disk of a spool: what a stop leaves of it at each time, and what they keep.
-use Rattle.std.specs.Prelude.{◌≡◌, ℕ, ◌-◌, ◌≤◌, List, length, Result, OnOk, Some}
+use Rattle.std.specs.Prelude.{◌≡◌, ℕ, ◌+◌, ◌-◌, ◌≤◌, List, length, Result, OnOk, Some}
 use Rattle.std.specs.Option.{option_map}
 use Rattle.relay_disk.specs.declared.disks.Disks.{Disks}
 use Rattle.relay_disk.specs.Device.{DiskWords, EachImage, EachImageSince, Fails, FailsNot, IsSettled}
@@ -52,6 +52,19 @@ module _ {D : Type 0} (words : DiskWords D) where
   pub record Passes (count : ℕ) (old new : D) : Type 0 where
     pub calls : Calls count old new
     pub had : (left : ℕ) → words.calls_left old ≡ Some left → count ≤ left
+
+  -- any number went there, or none, and the fuse let all of them pass
+  abbrev pub PassesAny : D → D → Type 0
+  PassesAny old new = (count : ℕ) × Passes count old new
+
+  -- one at least did
+  abbrev pub PassesSome : D → D → Type 0
+  PassesSome old new = (count : ℕ) × Passes (count + 1) old new
+
+  -- any number passed, and one at least where the answer isn't a fault
+  pub record MakesSome {T E : Type 0} (old new : D) (result : Result T E) : Type 0 where
+    pub any : PassesAny old new
+    pub ok : OnOk result (PassesSome old new)
 
   -- this many, which all passed, and fewer where the answer is a fault
   pub record Makes {T E : Type 0} (count : ℕ) (old new : D) (result : Result T E) : Type 0 where

@@ -5,7 +5,7 @@ ghost use Rattle.relay_disk.specs.Disks.{CountsFailure, FailsNot, Images, IsSett
 ghost use Rattle.relay_spool.specs.Image.{size_of};
 ghost use Rattle.relay_spool.specs.Opening.{Chooses, IsHeadOf};
 ghost use Rattle.relay_spool.specs.Run.{EachOnlyReads};
-ghost use Rattle.relay_spool.specs.Spool.{FailsBy, RefusesToOpen, Rests, texts_of};
+ghost use Rattle.relay_spool.specs.Spool.{FailsBy, MakesSome, PassesAny, RefusesToOpen, Rests, texts_of};
 
 use crate::SpoolFault;
 use crate::chain::{Found, read_bodies};
@@ -35,6 +35,7 @@ pub(crate) fn open_disks<D: Disk>(
     ensures keeps { D.honest → EachOnlyReads D.words disks.old disks.new }
     ensures failures { MatchResult result (λ _. FailsNot D.words disks.old disks.new)
         (FailsBy D.words disks.old disks.new) }
+    ensures calls { MakesSome D.words disks.old disks.new result }
 {
     let first = read_head(&mut disks.first)?;
     let second = read_second_head(disks)?;
@@ -60,6 +61,7 @@ fn read_chosen<D: Disk>(
     ensures keeps { D.honest → EachOnlyReads D.words disks.old disks.new }
     ensures failures { MatchResult result (λ _. FailsNot D.words disks.old disks.new)
         (FailsBy D.words disks.old disks.new) }
+    ensures calls { PassesAny D.words disks.old disks.new }
 {
     let found = read_bodies(alloc, disks, choice.taken.side, choice.head.size)?;
     Ok(Opening {
@@ -74,6 +76,7 @@ fn read_second_head<D: Disk>(disks: &mut Disks<D>) -> Result<Head, DiskFault>
     ensures settled { D.honest → OnOk result (IsDiskSettled D.words disks.new.second) }
     ensures keeps { D.honest → EachOnlyReads D.words disks.old disks.new }
     ensures failures { CountsFailure D.words disks.old disks.new result }
+    ensures calls { PassesAny D.words disks.old disks.new }
 {
     disks.turn(Side::Second);
     let head = read_head(&mut disks.first);

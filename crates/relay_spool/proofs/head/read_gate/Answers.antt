@@ -4,6 +4,7 @@ use Rattle.std.proofs.lemmas.Bool.Decides.{Decides-eqb}
 use Rattle.std.proofs.lemmas.Result.{IfOk-from_err}
 use Rattle.std.proofs.lemmas.Slice.Eq.{slice_eq-Decides}
 use Rattle.relay_spool.proofs.CallLemmas.{counts_fault, counts_none}
+use Rattle.relay_spool.proofs.PassLemmas.{any_one}
 use Rattle.relay_spool.proofs.head.read_gate.Goals as goal
 
 -- the first eight octets of what was read, and the ninth
@@ -81,3 +82,15 @@ returns-clause-stop g c = c.read.ensures.stop
 pub returns-clause-failures : goal.returns-clause-failures
 returns-clause-failures g c =
     counts_none g.D.Disk.words c.args.disk.now c.read.new.self _ c.in_ok-read.ensures.failures.ok
+
+pub returns-in_err-read-clause-calls : goal.returns-in_err-read-clause-calls
+returns-in_err-read-clause-calls g c = any_one g.D.Disk.words c.args.disk.now c.read.new.self c.read.ensures.fuse.burnt
+
+pub returns-then-not-is_signed-clause-calls : goal.returns-then-not-is_signed-clause-calls
+returns-then-not-is_signed-clause-calls g c = any_one g.D.Disk.words c.args.disk.now c.read.new.self c.read.ensures.fuse.burnt
+
+pub returns-then-front-eq-OPEN-clause-calls : goal.returns-then-front-eq-OPEN-clause-calls
+returns-then-front-eq-OPEN-clause-calls g c = any_one g.D.Disk.words c.args.disk.now c.read.new.self c.read.ensures.fuse.burnt
+
+pub returns-clause-calls : goal.returns-clause-calls
+returns-clause-calls g c = any_one g.D.Disk.words c.args.disk.now c.read.new.self c.read.ensures.fuse.burnt

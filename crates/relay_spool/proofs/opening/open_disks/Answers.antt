@@ -7,6 +7,7 @@ use Rattle.relay_spool.specs.Opening.{Chooses}
 use Rattle.relay_spool.specs.Pair.{IsDamagedAt, IsNoSpool, IsTooLarge}
 use Rattle.relay_spool.specs.Spool.{RefusesToOpen}
 use Rattle.relay_spool.proofs.SpoolLemmas.{same_images}
+use Rattle.relay_spool.proofs.PassLemmas.{any_then, makes_more}
 use Rattle.relay_spool.proofs.opening.open_disks.Goals as goal
 
 pub read_chosen-requires-clause-chosen : goal.read_chosen-requires-clause-chosen
@@ -48,3 +49,19 @@ returns-in-Some-clause-refused g c =
     let keeps = c.read_second_head.ensures.keeps honest in
     same_images (seen_of words new) (seen_of words old) (keeps.0.reads ∙ (c.read_head.ensures.keeps honest).reads) keeps.1.reads)
     c.read_chosen.ensures.refused
+
+pub returns-in_err-second-clause-calls : goal.returns-in_err-second-clause-calls
+returns-in_err-second-clause-calls g c =
+    makes_more g.D.Disk.words c.from_residual-in_err-second.result c.args.disks.now.first c.read_head.new.disk c.read_second_head.new.disks.first c.in_ok-first.ensures.calls.ok
+    c.read_second_head.ensures.calls
+
+pub returns-in-None-clause-calls : goal.returns-in-None-clause-calls
+returns-in-None-clause-calls g c =
+    makes_more g.D.Disk.words _ c.args.disks.now.first c.read_head.new.disk c.read_second_head.new.disks.first c.in_ok-first.ensures.calls.ok
+    c.read_second_head.ensures.calls
+
+pub returns-in-Some-clause-calls : goal.returns-in-Some-clause-calls
+returns-in-Some-clause-calls g c =
+    makes_more g.D.Disk.words c.read_chosen.result c.args.disks.now.first c.read_head.new.disk c.read_chosen.new.disks.first c.in_ok-first.ensures.calls.ok
+    (any_then g.D.Disk.words c.read_head.new.disk c.read_second_head.new.disks.first c.read_chosen.new.disks.first
+    c.read_second_head.ensures.calls c.read_chosen.ensures.calls)

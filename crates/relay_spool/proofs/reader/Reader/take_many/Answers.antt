@@ -3,6 +3,7 @@ use Rattle.std.proofs.Common.{◌≡◌, ◌+◌, ◌≤◌, ℕ, List, ◌++◌
 use Rattle.relay_pieces.specs.Pieces.{text_of}
 use Rattle.relay_spool.specs.Blocks.{IsAt, Lies}
 use Rattle.relay_spool.proofs.ChainLemmas.{lies_in, lies_on}
+use Rattle.relay_spool.proofs.PassLemmas.{any_none, any_then}
 use Rattle.relay_spool.proofs.RunLemmas.{kept_on}
 use Rattle.relay_spool.proofs.reader.Reader.take_many.Goals as goal
 
@@ -37,4 +38,38 @@ loop-left-preserved g c =
       given_is = omega (arith, given_is, counted, count, fewer);
       size_is = c.in_ok-piece.ensures.goes_on.size ∙ before.size_is;
       failures = c.in_ok-piece.ensures.goes_on.failures ∙ before.failures;
+      calls = any_then g.D.Disk.words c.args.disk.now c.loop-left.disk c.take_one.new.disk before.calls c.take_one.ensures.goes_on.calls;
+    }
+
+pub loop-left-init : goal.loop-left-init
+loop-left-init g c =
+    record {
+      stands = search rules;
+      octets = search rules;
+      kept = search rules;
+      place_is = search rules;
+      given_is = search rules;
+      size_is = search rules;
+      failures = search rules;
+      calls = any_none g.D.Disk.words c.args.disk.now;
+    }
+
+pub returns-in_err-piece-clause-goes_on : goal.returns-in_err-piece-clause-goes_on
+returns-in_err-piece-clause-goes_on g c =
+    record {
+      size = search rules;
+      at = search rules;
+      keeps = search rules;
+      failures = search rules;
+      calls = any_then g.D.Disk.words c.args.disk.now c.loop-left.disk c.take_one.new.disk c.loop-left.invariant.calls c.take_one.ensures.goes_on.calls;
+    }
+
+pub returns-in_err-push-clause-goes_on : goal.returns-in_err-push-clause-goes_on
+returns-in_err-push-clause-goes_on g c =
+    record {
+      size = search rules;
+      at = search rules;
+      keeps = search rules;
+      failures = search rules;
+      calls = any_then g.D.Disk.words c.args.disk.now c.loop-left.disk c.take_one.new.disk c.loop-left.invariant.calls c.take_one.ensures.goes_on.calls;
     }
