@@ -76,6 +76,6 @@ pub data HasNoRoom {D : Type 0} (reporter : Reporter) (outcome : Outcome) (old :
 -- what is left where no outcome is added
 abbrev pub RefusesOutcome : {D : Type 0} → DiskWords D → Reporter → Outcome → Kept D → Kept D → NodeFault → Type 0
 RefusesOutcome words reporter outcome old new NoMemory = new ≡ old
-RefusesOutcome words reporter outcome old new Stopped = IsStopped words old new
+RefusesOutcome words reporter outcome old new Stopped = IsStopped words 4 old new
 RefusesOutcome words reporter outcome old new Full = (new ≡ old) × HasNoRoom reporter outcome old
 RefusesOutcome words reporter outcome old new other = ⊥

@@ -91,7 +91,7 @@ module _ {D : Type 0} (words : DiskWords D) (reporter : Reporter) (table : Route
   -- why none has ended: the first of these, and lack of memory or of room after them
   abbrev pub RefusesToGiveUp : Kept D → Kept D → NodeFault → Type 0
   RefusesToGiveUp old new NoMemory = (old.spool.live ≡ true) × HasStranded old × (new ≡ old)
-  RefusesToGiveUp old new Stopped = ((old.spool.live ≡ false) × (new ≡ old)) ⊎ IsStopped words old new
+  RefusesToGiveUp old new Stopped = ((old.spool.live ≡ false) × (new ≡ old)) ⊎ IsStopped words 4 old new
   RefusesToGiveUp old new Unknown =
       (old.spool.live ≡ true) × (message_of old.queue.messages number ≡ None) × (new ≡ old)
   RefusesToGiveUp old new NotDue = (old.spool.live ≡ true) × HasHops old × (new ≡ old)

@@ -158,7 +158,7 @@ abbrev pub RefusesToHear
 RefusesToHear words number before after old new NoMemory = IsGone number before after old × (new ≡ old)
 RefusesToHear words number before after old new Stopped =
     ((old.spool.live ≡ false) × (after ≡ before) × (new ≡ old))
-    ⊎ (IsGone number before after old × IsStopped words old new)
+    ⊎ (IsGone number before after old × IsStopped words 4 old new)
 RefusesToHear words number before after old new Unknown =
     (old.spool.live ≡ true) × (slot_at before.runs number ≡ None) × (after ≡ before) × (new ≡ old)
 RefusesToHear words number before after old new Full = IsGone number before after old × (new ≡ old)

@@ -116,7 +116,7 @@ module _ {D : Type 0} (words : DiskWords D) (reporter : Reporter) (runs : List (
   abbrev pub RefusesToWithdraw : Kept D → Kept D → NodeFault → Type 0
   RefusesToWithdraw old new NoMemory =
       (old.spool.live ≡ true) × HasNamed old × (is_tried runs number names ≡ false) × (new ≡ old)
-  RefusesToWithdraw old new Stopped = ((old.spool.live ≡ false) × (new ≡ old)) ⊎ IsStopped words old new
+  RefusesToWithdraw old new Stopped = ((old.spool.live ≡ false) × (new ≡ old)) ⊎ IsStopped words 4 old new
   RefusesToWithdraw old new Unknown =
       (old.spool.live ≡ true) × ((message_of old.queue.messages number ≡ None) ⊎ LacksNamed old) × (new ≡ old)
   RefusesToWithdraw old new Busy =

@@ -117,7 +117,7 @@ module _ {D : Type 0} (words : DiskWords D) (old mid new : NodeState D) (config 
   left_since Output left = left ∙ same
   left_since NoMemory left = left ∙ same
   left_since Full left = left ∙ same
-  left_since Device (inl stopped) = inl (subst (λ (records : Kept D). IsStopped words records new.records) same stopped)
+  left_since Device (inl stopped) = inl (subst (λ (records : Kept D). IsStopped words 4 records new.records) same stopped)
   left_since Device (inr before) = inr (subst (λ (records : Kept D). records.spool.live ≡ false) same before.0, before.1 ∙ same)
 
   pub moves_since : (result : Result Way LinkFault) → Moves words mid new result → Moves words old new result

@@ -155,7 +155,7 @@ HasGrown words old new =
 -- A fault of the device has stopped them, or they were stopped before; at any other fault they are the same.
 abbrev pub LeavesRecords : {D : Type 0} → DiskWords D → NodeState D → NodeState D → LinkFault → Type 0
 LeavesRecords words old new Device =
-    IsStopped words old.records new.records ⊎ ((old.records.spool.live ≡ false) × (new.records ≡ old.records))
+    IsStopped words 4 old.records new.records ⊎ ((old.records.spool.live ≡ false) × (new.records ≡ old.records))
 LeavesRecords words old new other = new.records ≡ old.records
 
 -- what a link that has ended, or one that has gone some way, did to them

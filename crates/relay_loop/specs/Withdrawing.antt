@@ -127,7 +127,7 @@ module _ {D : Type 0} (honest : Type 0) (words : DiskWords D) (at : ℕ) (withdr
     pub row : Row
     pub all : List Change
     pub some : WithdrawsSome words at withdrawal choices results is_short old no_row before row all
-    pub stopped : IsStopped words before.node.records new.node.records
+    pub stopped : IsStopped words 4 before.node.records new.node.records
     pub rest : KeepsAllButMail old new
     pub cuts : (changes : List Change) → Keeps honest words old.node.records changes
         → CutsAll honest words new.node.records changes all row.notes

@@ -9,7 +9,7 @@ ghost use Rattle.relay_records.specs.Records.{Compacts, Halted, IsStopped, Keeps
 ghost use Rattle.relay_slots.specs.Slots.{AreFree};
 ghost use Rattle.relay_spool.specs.Pair.{HasBodies};
 ghost use Rattle.relay_spool.specs.Spool.{AtEachMoment};
-ghost use Rattle.relay_spool.specs.Trim.{IsTrimmed};
+ghost use Rattle.relay_spool.specs.Trim.{IsTrimmed, trim_calls};
 
 use crate::outboxes::Outboxes;
 use relay_book::Withdrawal;
@@ -150,7 +150,8 @@ impl<D: Disk> Relay<D> {
         ensures stopped { self.old.node.records.spool.live ≡ false
             → (result ≡ Err NodeFault.Stopped) × (self.new.node ≡ self.old.node) }
         ensures refused { self.old.node.records.spool.live ≡ true → IfErr result (λ fault.
-            (fault ≡ NodeFault.Stopped) × IsStopped D.words self.old.node.records self.new.node.records) }
+            (fault ≡ NodeFault.Stopped) × IsStopped D.words (trim_calls self.old.node.records.spool.taken.other)
+            self.old.node.records self.new.node.records) }
     {
         self.node.trim(most)
     }

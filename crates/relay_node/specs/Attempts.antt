@@ -114,7 +114,7 @@ pub record IsDropped {D : Type 0} (number : ℕ) (old new : NodeState D) : Type 
 -- what a live node leaves where it refuses a reply to an attempt, or the loss of its connection
 abbrev pub RefusesToReply : {D : Type 0} → DiskWords D → ℕ → NodeState D → NodeState D → NodeFault → Type 0
 RefusesToReply words number old new NoMemory = IsDropped number old new
-RefusesToReply words number old new Stopped = IsStopped words old.records new.records
+RefusesToReply words number old new Stopped = IsStopped words 4 old.records new.records
 RefusesToReply words number old new Unknown = new ≡ old
 RefusesToReply words number old new Full = IsDropped number old new
 RefusesToReply words number old new other = ⊥

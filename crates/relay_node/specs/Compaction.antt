@@ -2,6 +2,7 @@
 use Rattle.std.specs.Prelude.{◌≡◌, ◌≢◌, ◌↔◌, true, false, None, length, Result, Err, IfErr}
 use Rattle.relay_disk.specs.Device.{DiskWords}
 use Rattle.relay_book.specs.Snapshot.{snapshot}
+use Rattle.relay_spool.specs.Head.{renewal_calls}
 use Rattle.relay_spool.specs.Pair.{IsTooMuch}
 use Rattle.relay_records.specs.declared.fault.NodeFault.{NodeFault}
 use Rattle.relay_records.specs.declared.fault.NodeFault.TheVariants.{NoMemory, Stopped, Full, NoSecond}
@@ -11,7 +12,8 @@ use Rattle.relay_node.specs.Node.{NodeState}
 -- what a compaction leaves that a live node refuses: all is as it was, unless the device failed
 abbrev pub LeavesUncompacted : {D : Type 0} → DiskWords D → NodeState D → NodeState D → NodeFault → Type 0
 LeavesUncompacted words old new NoMemory = new ≡ old
-LeavesUncompacted words old new Stopped = IsStopped words old.records new.records
+LeavesUncompacted words old new Stopped =
+    IsStopped words (renewal_calls old.records.spool.taken.other) old.records new.records
 LeavesUncompacted words old new Full = new ≡ old
 LeavesUncompacted words old new NoSecond = new ≡ old
 LeavesUncompacted words old new other = ⊥

@@ -240,7 +240,7 @@ pub record IsGone {D : Type 0} (number : ℕ) (old new : NodeState D) : Type 0 w
 -- what a `receive` leaves that is refused by a live node
 abbrev pub RefusesToReceive : {D : Type 0} → DiskWords D → ℕ → NodeState D → NodeState D → NodeFault → Type 0
 RefusesToReceive words number old new NoMemory = IsGone number old new
-RefusesToReceive words number old new Stopped = IsStopped words old.records new.records
+RefusesToReceive words number old new Stopped = IsStopped words 4 old.records new.records
 RefusesToReceive words number old new Unknown = new ≡ old
 RefusesToReceive words number old new Full = IsGone number old new × (2 ^ 62 < old.records.queue.next)
 RefusesToReceive words number old new other = ⊥
@@ -248,6 +248,6 @@ RefusesToReceive words number old new other = ⊥
 -- the same of the records alone
 abbrev pub RefusesToHear : {D : Type 0} → DiskWords D → Kept D → Kept D → NodeFault → Type 0
 RefusesToHear words old new NoMemory = new ≡ old
-RefusesToHear words old new Stopped = IsStopped words old new
+RefusesToHear words old new Stopped = IsStopped words 4 old new
 RefusesToHear words old new Full = (new ≡ old) × (2 ^ 62 < old.queue.next)
 RefusesToHear words old new other = ⊥

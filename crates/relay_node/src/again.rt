@@ -4,7 +4,7 @@ ghost use Rattle.relay_disk.specs.Disks.{FailsNot, seen_of};
 ghost use Rattle.relay_node.specs.Node.{IsIdle};
 ghost use Rattle.relay_records.specs.Open.{FailsFor, Opens, RefusesImage};
 ghost use Rattle.relay_records.specs.declared.fault.Cause.TheVariants.{Spool};
-ghost use Rattle.relay_spool.specs.Spool.{OnlyReads};
+ghost use Rattle.relay_spool.specs.Spool.{OnlyReads, PassesAny};
 ghost use Rattle.relay_spool.specs.declared.fault.SpoolFault.TheVariants.{NoMemory};
 
 use crate::node::{Node, out_of_memory};
@@ -35,6 +35,7 @@ impl<D: Disk> Node<D> {
             (λ not. OnlyReads D.words disk not.refused.disk) }
         ensures failures { MatchResult result (λ node. FailsNot D.words disk node.records.spool.disk)
             (λ not. FailsFor D.words disk not.refused.disk not.refused.cause) }
+        ensures calls { IfErr result (λ not. PassesAny D.words disk not.refused.disk) }
     {
         match Records::open(alloc, disk) {
             Ok(records) => Node::of_records(alloc, config, records),

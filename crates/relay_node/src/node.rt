@@ -17,7 +17,7 @@ ghost use Rattle.relay_records.specs.Records.{Halted, Keeps, Stays};
 ghost use Rattle.relay_server.specs.Dialogue.{Said};
 ghost use Rattle.relay_server.specs.Setup.{setup_for};
 ghost use Rattle.relay_spool.specs.Pair.{HasNoBody};
-ghost use Rattle.relay_spool.specs.Spool.{AtEachMoment, OnlyReads};
+ghost use Rattle.relay_spool.specs.Spool.{AtEachMoment, OnlyReads, Passes, PassesAny};
 
 use crate::attempts::note;
 use crate::receive::{Received, hear};
@@ -96,6 +96,7 @@ impl<D: Disk> Node<D> {
             (λ refused. RefusesToMake D.honest D.words disk refused.disk refused.cause) }
         ensures failures { MatchResult result (λ node. FailsNot D.words disk node.records.spool.disk)
             (λ refused. FailsFor D.words disk refused.disk refused.cause) }
+        ensures calls { IfOk result (λ node. Passes D.words 8 disk node.records.spool.disk) }
         // Where a stop left nothing of the disks before, it leaves no change at any time of this call.
         ensures stop { D.honest → LeavesNothing D.words disk → MatchResult result
             (λ node. AtEachMoment D.words disk node.records.spool.disk HasNoBody)
@@ -130,6 +131,7 @@ impl<D: Disk> Node<D> {
             (λ refused. OnlyReads D.words disk refused.disk) }
         ensures failures { MatchResult result (λ node. FailsNot D.words disk node.records.spool.disk)
             (λ refused. FailsFor D.words disk refused.disk refused.cause) }
+        ensures calls { IfErr result (λ refused. PassesAny D.words disk refused.disk) }
     {
         match Node::open_again(alloc, config, disk) {
             Ok(node) => Ok(node),

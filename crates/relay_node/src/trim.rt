@@ -36,7 +36,8 @@ impl<D: Disk> Node<D> {
         ensures stopped { self.old.records.spool.live ≡ false
             → (result ≡ Err NodeFault.Stopped) × (self.new ≡ self.old) }
         ensures refused { self.old.records.spool.live ≡ true → IfErr result (λ fault.
-            (fault ≡ NodeFault.Stopped) × IsStopped D.words self.old.records self.new.records) }
+            (fault ≡ NodeFault.Stopped) × IsStopped D.words (trim_calls self.old.records.spool.taken.other)
+            self.old.records self.new.records) }
         ensures calls { self.old.records.spool.live ≡ true
             → Makes D.words (trim_calls self.old.records.spool.taken.other)
             self.old.records.spool.disk self.new.records.spool.disk result }

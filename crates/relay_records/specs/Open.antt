@@ -5,7 +5,7 @@ use Rattle.relay_disk.specs.Device.{DiskWords}
 use Rattle.relay_disk.specs.Disks.{FailsNot, Images}
 use Rattle.relay_spool.specs.Image.{size_of}
 use Rattle.relay_spool.specs.Pair.{HasBodies}
-use Rattle.relay_spool.specs.Spool.{EveryImageHas, FailsBy, ReadsAs, RefusesToCreate, RefusesToOpen}
+use Rattle.relay_spool.specs.Spool.{EveryImageHas, FailsBy, PassesSome, ReadsAs, RefusesToCreate, RefusesToOpen}
 use Rattle.relay_spool.specs.declared.fault.SpoolFault.TheVariants.{NoMemory}
 use Rattle.relay_book.specs.Queue.{Queue}
 use Rattle.relay_book.specs.StandsFor.{ReadsAll}
@@ -46,7 +46,8 @@ FailsFor words old new (BadRecord number) = FailsNot words old new
 
 module _ {D : Type 0} (honest : Type 0) (words : DiskWords D) where
   -- the records have the queue that the disks held, as all images have that a stop may leave, in a spool of the size of
-  -- the bodies there, and no note. So they keep each list of changes that the disks stood for.
+  -- the bodies there, and no note. So they keep each list of changes that the disks stood for. The fuse let all calls
+  -- of the opening pass, one at least, and has as many less left; if the disks had none, none is set.
   pub record Opens (disk : Disks D) (records : Kept D) : Type 0 where
     pub live : records.spool.live ≡ true
     pub reads : honest → ReadsAs words disk (λ bodies. ReadsAll bodies records.queue)
@@ -54,3 +55,4 @@ module _ {D : Type 0} (honest : Type 0) (words : DiskWords D) where
     pub bodies : honest → ReadsAll records.spool.bodies records.queue
     pub images : honest → EveryImageHas words records.spool.disk (λ bodies. ReadsAll bodies records.queue)
     pub noted : records.noted ≡ None
+    pub calls : PassesSome words disk records.spool.disk

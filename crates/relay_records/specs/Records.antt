@@ -4,7 +4,7 @@ use Rattle.relay_disk.specs.Device.{DiskWords}
 use Rattle.relay_disk.specs.Disks.{Fails, FailsNot}
 use Rattle.relay_spool.specs.Head.{renewal_calls}
 use Rattle.relay_spool.specs.Pair.{renewed_taken}
-use Rattle.relay_spool.specs.Spool.{EveryImageHas, Passes, Stored}
+use Rattle.relay_spool.specs.Spool.{CallsUpTo, EveryImageHas, Passes, Stored}
 use Rattle.relay_book.specs.declared.change.Change.{Change}
 use Rattle.relay_book.specs.Record.{encode}
 use Rattle.relay_book.specs.Queue.{Queue, FitsQueue, Fitting, queue_of, step}
@@ -72,16 +72,18 @@ pub record Grows {D : Type 0} (words : DiskWords D) (old : Kept D) (change : Cha
   pub failures : FailsNot words old.spool.disk new.spool.disk
   pub calls : Passes words 4 old.spool.disk new.spool.disk
 
--- the device failed, and nothing was committed
-pub record IsStopped {D : Type 0} (words : DiskWords D) (old new : Kept D) : Type 0 where
+-- the device failed in one of this many calls at most, and nothing was committed; a fuse has as many calls less left as
+-- were made, and is neither set nor taken away
+pub record IsStopped {D : Type 0} (words : DiskWords D) (most : ℕ) (old new : Kept D) : Type 0 where
   pub live : new.spool.live ≡ false
   pub queue : new.queue ≡ old.queue
   pub failures : Fails words old.spool.disk new.spool.disk
+  pub calls : CallsUpTo words most old.spool.disk new.spool.disk
 
 -- what a call leaves that adds no change
 abbrev pub RefusesToAdd : {D : Type 0} → DiskWords D → Kept D → Kept D → NodeFault → Type 0
 RefusesToAdd words old new NoMemory = new ≡ old
-RefusesToAdd words old new Stopped = IsStopped words old new
+RefusesToAdd words old new Stopped = IsStopped words 4 old new
 RefusesToAdd words old new Full = new ≡ old
 RefusesToAdd words old new other = ⊥
 
@@ -98,7 +100,7 @@ pub record Compacts {D : Type 0} (honest : Type 0) (words : DiskWords D) (old ne
 -- what a compaction leaves that wasn't made
 abbrev pub RefusesToCompact : {D : Type 0} → DiskWords D → Kept D → Kept D → NodeFault → Type 0
 RefusesToCompact words old new NoMemory = new ≡ old
-RefusesToCompact words old new Stopped = IsStopped words old new
+RefusesToCompact words old new Stopped = IsStopped words (renewal_calls old.spool.taken.other) old new
 RefusesToCompact words old new Full = new ≡ old
 RefusesToCompact words old new NoSecond = new ≡ old
 RefusesToCompact words old new other = ⊥

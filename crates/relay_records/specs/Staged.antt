@@ -95,6 +95,6 @@ pub record GrowsAll {D : Type 0} (words : DiskWords D) (old : Kept D) (row : Row
 
 -- what a call leaves that adds no row
 abbrev pub RefusesToSettle : {D : Type 0} → DiskWords D → Kept D → Kept D → NodeFault → Type 0
-RefusesToSettle words old new Stopped = IsStopped words old new
+RefusesToSettle words old new Stopped = IsStopped words 4 old new
 RefusesToSettle words old new Full = new ≡ old
 RefusesToSettle words old new other = ⊥

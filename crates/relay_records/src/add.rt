@@ -3,7 +3,7 @@ ghost use Rattle.std.specs.Prelude.{◌≡◌, ◌↔◌, ◌⊎◌, ◌+◌, �
 ghost use Rattle.std.specs.Prelude.{IfOk, IsErrOf, IsTrue, MatchResult, OnOk};
 ghost use Rattle.relay_disk.specs.Disks.{Fails};
 ghost use Rattle.relay_spool.specs.Pair.{HasBodies};
-ghost use Rattle.relay_spool.specs.Spool.{AtEachMoment, IsAppended, IsBeforeOrWith, Passes};
+ghost use Rattle.relay_spool.specs.Spool.{AtEachMoment, CallsUpTo, IsAppended, IsBeforeOrWith, Passes};
 ghost use Rattle.relay_book.specs.declared.change.Change.{Change};
 ghost use Rattle.relay_book.specs.Queue.{FitsQueue, step};
 ghost use Rattle.relay_book.specs.Ready.{IsReady};
@@ -106,6 +106,7 @@ fn append<D: Disk>(
     requires ready { IsReady book.old ready }
     ensures appended { OnOk result (IsAppended D.honest D.words spool.old octets.now spool.new) }
     ensures calls { OnOk result (Passes D.words 4 spool.old.disk spool.new.disk) }
+    ensures at_most { CallsUpTo D.words 4 spool.old.disk spool.new.disk }
     ensures committed { MatchResult result (λ _. book.new.queue ≡ step book.old.queue ready.change)
         (λ _. book.new.queue ≡ book.old.queue) }
     ensures stop { D.honest → AtEachMoment D.words spool.old.disk spool.new.disk

@@ -2,7 +2,7 @@
 ghost use Rattle.std.specs.Prelude.{◌≡◌, [], None, IfErr, IfOk, MatchResult, OnOk};
 ghost use Rattle.relay_disk.specs.Disks.{FailsNot, LeavesNothing, no_octets, seen_of};
 ghost use Rattle.relay_spool.specs.Pair.{HasNoBody};
-ghost use Rattle.relay_spool.specs.Spool.{AtEachMoment, OnlyReads};
+ghost use Rattle.relay_spool.specs.Spool.{AtEachMoment, CallsUpTo, OnlyReads, Passes, PassesAny};
 ghost use Rattle.relay_records.specs.Records.{Keeps};
 ghost use Rattle.relay_records.specs.Open.{FailsFor, Opens, RefusesDisk, RefusesImage};
 
@@ -28,6 +28,8 @@ impl<D: Disk> Records<D> {
             (λ refused. AtEachMoment D.words disk refused.disk HasNoBody) }
         ensures failures { MatchResult result (λ records. FailsNot D.words disk records.spool.disk)
             (λ refused. FailsFor D.words disk refused.disk refused.cause) }
+        ensures calls { MatchResult result (λ records. Passes D.words 8 disk records.spool.disk)
+            (λ refused. CallsUpTo D.words 8 disk refused.disk) }
     {
         match Spool::create(alloc, disk) {
             Ok(spool) => Ok(Records {
@@ -53,6 +55,7 @@ impl<D: Disk> Records<D> {
             (λ refused. OnlyReads D.words disk refused.disk) }
         ensures failures { MatchResult result (λ records. FailsNot D.words disk records.spool.disk)
             (λ refused. FailsFor D.words disk refused.disk refused.cause) }
+        ensures calls { IfErr result (λ refused. PassesAny D.words disk refused.disk) }
     {
         match Spool::open(alloc, disk) {
             Ok(Opened { spool, bodies }) => match read_bodies(alloc, bodies) {

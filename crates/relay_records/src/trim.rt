@@ -29,7 +29,8 @@ impl<D: Disk> Records<D> {
         ensures trimmed { IfOk result (IsTrimmed D.honest D.words most self.old.spool self.new.spool) }
         ensures same { (self.new.queue ≡ self.old.queue) × (self.new.noted ≡ self.old.noted) }
         ensures refused { IfErr result (λ fault.
-            (fault ≡ NodeFault.Stopped) × IsStopped D.words self.old self.new) }
+            (fault ≡ NodeFault.Stopped)
+            × IsStopped D.words (trim_calls self.old.spool.taken.other) self.old self.new) }
         ensures calls { Makes D.words (trim_calls self.old.spool.taken.other)
             self.old.spool.disk self.new.spool.disk result }
     {
