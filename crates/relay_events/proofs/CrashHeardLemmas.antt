@@ -59,7 +59,7 @@ module _ {D : Type 0} (honest : Type 0) (words : DiskWords D) (old called : Worl
     crash_heard = record {
       of = record calls.of { before = calls.hears.before; up = calls.hears.runs.up };
       stopped = crashes.before.records;
-      failed = subst (λ (n : NodeState D). IsStopped words calls.hears.before.records n.records) same calls.hears.failed;
+      failed = subst (λ (n : NodeState D). IsStopped words 4 calls.hears.before.records n.records) same calls.hears.failed;
       cuts = λ changes said keeps says. subst
           (λ (n : NodeState D). CutsTalk honest words calls.hears.before.config changes calls.of.end.peer old.clock said
           (waiting_up count calls.of.link) calls.hears.before.records n.records)

@@ -186,7 +186,7 @@ module _ {D : Type 0} (honest : Type 0) (words : DiskWords D) (reason : Reason) 
         before = calls.gives.before;
         up = calls.gives.runs.up;
         stopped = crashes.before.records;
-        failed = subst (λ (n : NodeState D). IsStopped words calls.gives.before.records n.records) after_same
+        failed = subst (λ (n : NodeState D). IsStopped words 4 calls.gives.before.records n.records) after_same
             calls.gives.failed;
         cuts = λ changes keeps. subst
             (λ (n : NodeState D). CutsGivenUp honest words (reporter_of calls.gives.before.config) calls.gives.before.config.routes

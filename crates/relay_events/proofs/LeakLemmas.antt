@@ -220,7 +220,7 @@ module _ {D : Type 0} (honest : Type 0) (words : DiskWords D) (is_honest : hones
   stopped_on old new node is was = opened_on is.down new node is.opened (elim is.stops [
     | inl crash ↦ crash_rest_on old is.down node crash was
     | inr again ↦
-        one_on old is.down was (IsNotOpened node again) (down_still_leaks honest words old is.down node again was.leaks)
+        one_on old is.down was (IsNotOpened node again.stays) (down_still_leaks honest words old is.down node again.stays was.leaks)
   ])
 
   acted_on : (old : World D) (event : Event) (new : World D) (did : Did) → Acts honest words old event new did → AreSound old

@@ -118,7 +118,7 @@ module _ {D : Type 0} (honest : Type 0) (words : DiskWords D) (old called : Worl
           of = attempt_of honest words old number end.place end.slot it runs.on calls.was calls.now host_is calls.tells.before
               calls.tells.runs.up;
           stopped = crashes.before.records;
-          failed = subst (λ (n : NodeState D). IsStopped words calls.tells.before.records n.records) after_same
+          failed = subst (λ (n : NodeState D). IsStopped words 4 calls.tells.before.records n.records) after_same
               calls.tells.failed;
           cuts = λ changes told keeps tells. subst
               (λ (n : NodeState D). CutsLoss honest words (reporter_of calls.tells.before.config) old.clock changes end.slot told n.records)

@@ -190,7 +190,7 @@ module _ {D : Type 0} (honest : Type 0) (words : DiskWords D) (old called : Worl
         of = attempt_of honest words old number end.place end.slot halted runs.on calls.was calls.now was_same stops.before
             stops.runs.up;
         stopped = crashes.before.records;
-        failed = subst (λ (n : NodeState D). IsStopped words stops.before.records n.records) after_same stops.failed;
+        failed = subst (λ (n : NodeState D). IsStopped words 4 stops.before.records n.records) after_same stops.failed;
         cuts = λ changes told keeps tells. subst
             (λ (n : NodeState D). CutsReply honest words (reporter_of stops.before.config) old.clock changes end.slot told
             (waiting_down count runs.on.link) n.records) after_same (stops.cuts changes told keeps tells);

@@ -119,6 +119,7 @@ module _ {D : Type 0} (honest : Type 0) (words : DiskWords D) (old : World D) (n
         cause = refused.cause;
         why = refused.why;
         failures = refused.failures;
+        calls = refused.calls;
         not_octets = λ is_honest. never is_honest refused.cause stays.disk stays.undecided stays.down refused.why;
       })
 

@@ -62,31 +62,36 @@ module _ {D : Type 0} (honest : Type 0) (words : DiskWords D) where
           new_is = rest.1;
         };
       })
-      | inr again ↦ inr (record {
-        host = taken.was;
-        host_at = taken.was_at;
-        disk = again.0.disk;
-        undecided = again.0.undecided;
-        down = again.0.down;
-        again = again.0.again;
-        left = again.0.left;
-        hosts = subst (λ hs. IsPut old.hosts hs node (record taken.was { state = world.Down again.0.again again.0.undecided }))
-            (sym (ap (λ (w : World D). w.hosts) again.1))
-            (put_by (record taken.was { state = world.Down again.0.again again.0.undecided }) again.0.new_is);
-        rest = (
-          ap (λ (w : World D). w.links) again.1,
-          ap (λ (w : World D). w.attempts) again.1,
-          ap (λ (w : World D). w.ledger) again.1,
-          ap (λ (w : World D). w.clock) again.1,
-          ap (λ (w : World D). length w.hosts) again.1 ∙ length-set old.hosts node taken.now,
-        );
-      })
+      | inr again ↦
+          let stays = again.0.stays in
+          inr (record {
+            stays = record {
+              host = taken.was;
+              host_at = taken.was_at;
+              disk = stays.disk;
+              undecided = stays.undecided;
+              down = stays.down;
+              again = stays.again;
+              left = stays.left;
+              hosts = subst (λ hs. IsPut old.hosts hs node (record taken.was { state = world.Down stays.again stays.undecided }))
+                  (sym (ap (λ (w : World D). w.hosts) again.1))
+                  (put_by (record taken.was { state = world.Down stays.again stays.undecided }) stays.new_is);
+              rest = (
+                ap (λ (w : World D). w.links) again.1,
+                ap (λ (w : World D). w.attempts) again.1,
+                ap (λ (w : World D). w.ledger) again.1,
+                ap (λ (w : World D). w.clock) again.1,
+                ap (λ (w : World D). length w.hosts) again.1 ∙ length-set old.hosts node taken.now,
+              );
+            };
+            fuse = again.0.fuse;
+          })
     ]
 
     pub taken_happened : RestingCrashHappens honest words → HasHappened honest words old new
     taken_happened happens = elim taken_stops [
       | inl rest ↦ run_happened honest words [] 2 old new ((happens old new NoHop node 0).0 rest)
-      | inr again ↦ one_happened honest words old new (IsNotOpened node again)
+      | inr again ↦ one_happened honest words old new (IsNotOpened node again.stays)
     ]
 
     pub taken_bound : honest → RunsKeepAll honest words → RestingCrashHappens honest words → AreBound honest words old
@@ -107,7 +112,7 @@ module _ {D : Type 0} (honest : Type 0) (words : DiskWords D) where
       | inr again ↦ record {
         host = taken.now;
         host_at = ap (λ (w : World D). slice_get w.hosts node) again.1 ∙ now_there;
-        down = ap (λ (h : Host D). holds_up h.state) again.0.new_is;
+        down = ap (λ (h : Host D). holds_up h.state) again.0.stays.new_is;
       }
     ]
 
@@ -124,7 +129,7 @@ module _ {D : Type 0} (honest : Type 0) (words : DiskWords D) where
       | inr again ↦
           let put = held_put old.hosts node 0 node taken.was taken.now (omega arith) taken.was_at in
           let same : lines_held node taken.now.state ≡ lines_held node taken.was.state =
-          ap (λ (h : Host D). lines_held node h.state) again.0.new_is ∙ ap (λ h. lines_held node h) (sym again.0.down) in
+          ap (λ (h : Host D). lines_held node h.state) again.0.stays.new_is ∙ ap (λ h. lines_held node h) (sym again.0.stays.down) in
           let attempts = ap (λ (w : World D). lines_to_come w.attempts) again.1 in
           let hosts = ap (λ (w : World D). lines_left 0 w.hosts) again.1 in
           omega (arith, room, put, same, attempts, hosts)

@@ -3,7 +3,7 @@ use Rattle.std.specs.Prelude.{◌≡◌, ◌⊎◌, ℕ, None, Some, slice_get, 
 use Rattle.relay_disk.specs.Device.{DiskWords}
 use Rattle.relay_world.specs.Crashes.{let_go}
 use Rattle.relay_world.specs.World.{Host, World}
-use Rattle.relay_hosts.specs.Crash.{StaysSo, StopsAtRest}
+use Rattle.relay_hosts.specs.Crash.{StopsAgain, StopsAtRest}
 
 module _ {D : Type 0} (honest : Type 0) (words : DiskWords D) where
   -- A node that was up has stopped between two calls, and has let go of its ends of links; or one that was down has
@@ -14,4 +14,4 @@ module _ {D : Type 0} (honest : Type 0) (words : DiskWords D) where
     pub now : Host D
     pub stops : (StopsAtRest honest words was now
         × (new ≡ let_go node (record old { hosts = slice_set old.hosts node now })))
-        ⊎ (StaysSo honest words was now None × (new ≡ record old { hosts = slice_set old.hosts node now }))
+        ⊎ (StopsAgain honest words was now × (new ≡ record old { hosts = slice_set old.hosts node now }))

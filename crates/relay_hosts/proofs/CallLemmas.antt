@@ -75,12 +75,12 @@ module _ {D : Type 0} (before after : NodeState D) (records : List (List ℕ)) (
 
     -- a call that stopped the node is one in which its device failed
     pub session_stopped : (session : ℕ) (fault : NodeFault) → is_stop fault ≡ true
-        → RefusesToReceive words session before after fault → IsStopped words before.records after.records
+        → RefusesToReceive words session before after fault → IsStopped words 4 before.records after.records
     session_stopped session fault stop refuses =
         subst (λ f. RefusesToReceive words session before after f) (stop_is fault stop) refuses
 
     pub attempt_stopped : (slot : ℕ) (fault : NodeFault) → is_stop fault ≡ true
-        → RefusesToReply words slot before after fault → IsStopped words before.records after.records
+        → RefusesToReply words slot before after fault → IsStopped words 4 before.records after.records
     attempt_stopped slot fault stop refuses =
         subst (λ f. RefusesToReply words slot before after f) (stop_is fault stop) refuses
 
@@ -243,7 +243,7 @@ module _ {D : Type 0} (honest : Type 0) (words : DiskWords D) (before after : No
 -- a call for an attempt that stopped its node
 module _ {D : Type 0} (honest : Type 0) (words : DiskWords D) (before after : NodeState D) (records : List (List ℕ)) (slot now : ℕ)
     (knows : KnowsAttempt honest words before slot) (config : after.config ≡ before.config)
-    (failed : IsStopped words before.records after.records) where
+    (failed : IsStopped words 4 before.records after.records) where
   pub stops_losing : ((changes : List Change) (told : Told) → Keeps honest words before.records changes
       → Tells before.config.host changes before.attempts slot told
       → CutsLoss honest words (reporter_of before.config) now changes slot told after.records)
@@ -308,7 +308,7 @@ module _ {D : Type 0} (honest : Type 0) (words : DiskWords D) (before after : No
 -- a call on a session that stopped its node
 pub stops_hearing : {D : Type 0} (honest : Type 0) (words : DiskWords D) (before after : NodeState D) (old new : List (List ℕ))
     (session now : ℕ) (piece : List ℕ) → KnowsSession honest words before session → new ≡ old → after.config ≡ before.config
-    → IsStopped words before.records after.records → ((changes : List Change) (peer : List ℕ) (said : Said) → Keeps honest words before.records changes
+    → IsStopped words 4 before.records after.records → ((changes : List Change) (peer : List ℕ) (said : Said) → Keeps honest words before.records changes
     → SeatHasSaid before.config before.seats session peer said
     → CutsTalk honest words before.config changes peer now said piece before.records after.records)
     → StopsHearing honest words now (host_of before old) (host_of after new) session piece

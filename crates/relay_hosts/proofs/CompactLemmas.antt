@@ -2,7 +2,7 @@
 use Rattle.std.proofs.Common.{inl, inr, ◌≡◌, ◌≤◌, ℕ, true, false, List, length, Option, None, refl, ap, arith}
 use Rattle.std.proofs.lemmas.Bool.{true≢false}
 use Rattle.relay_disk.specs.Device.{DiskWords}
-use Rattle.relay_disk.specs.Disks.{ImagesWithin}
+use Rattle.relay_spool.specs.Head.{renewal_calls}
 use Rattle.relay_spool.specs.Pair.{IsTooMuch}
 use Rattle.relay_book.specs.declared.change.Change.{Change}
 use Rattle.relay_book.specs.Snapshot.{snapshot}
@@ -12,6 +12,7 @@ use Rattle.relay_records.specs.Records.{Compacts, Halted, IsStopped, Keeps}
 use Rattle.relay_attempts.specs.declared.runs.Run.{Run}
 use Rattle.relay_node.specs.Compaction.{LeavesUncompacted}
 use Rattle.relay_node.specs.Node.{NodeState}
+use Rattle.relay_world.specs.Stops.{IsLeftBy}
 use Rattle.relay_hosts.specs.declared.host.DownNode.{DownNode}
 use Rattle.relay_hosts.specs.declared.host.HostState.{HostState}
 use Rattle.relay_hosts.specs.declared.host.HostState.TheVariants.{Down, Up}
@@ -45,10 +46,10 @@ module _ {D : Type 0} (honest : Type 0) (words : DiskWords D) (before after : No
 
   -- one that has stopped in that, and gone down
   pub halts_down : (down : DownNode D) → down.config ≡ before.config → down.undecided ≡ None
-      → IsStopped words before.records after.records
+      → IsStopped words (renewal_calls before.records.spool.taken.other) before.records after.records
       → ((changes : List Change) → Keeps honest words before.records changes
       → Halted honest words after.records changes None)
-      → (honest → ImagesWithin words after.records.spool.disk down.disk)
+      → IsLeftBy honest words after.records down.disk
       → HaltsRewriting honest words (host_of before records) (host_in (Down down) records)
   halts_down down config none failed halts left = record {
     before = before;

@@ -3,11 +3,14 @@ use Rattle.std.proofs.Common.{inl, inr, ◌≡◌, ℕ, List, Option, None, Some
 use Rattle.std.specs.Option.{option_map}
 use Rattle.relay_disk.specs.Device.{DiskWords}
 use Rattle.relay_disk.specs.declared.disks.Disks.{Disks}
-use Rattle.relay_disk.specs.Disks.{ImagesWithin, seen_of}
+use Rattle.relay_disk.specs.Disks.{ImagesWithin, LosesFuseOrNot, seen_of}
+use Rattle.relay_spool.specs.Spool.{PassesAny}
 use Rattle.relay_records.specs.declared.fault.Cause.{Cause}
 use Rattle.relay_records.specs.Open.{FailsFor, Opens, RefusesImage}
+use Rattle.relay_records.specs.Records.{Kept}
 use Rattle.relay_node.specs.Node.{IsIdle, NodeState}
 use Rattle.relay_routes.specs.declared.config.Config.{Config}
+use Rattle.relay_world.specs.Stops.{IsLeftBy}
 use Rattle.relay_world.specs.World as world
 use Rattle.relay_hosts.specs.declared.host.DownNode.{DownNode}
 use Rattle.relay_hosts.specs.declared.host.HostState.{HostState}
@@ -28,6 +31,14 @@ module _ {D : Type 0} (honest : Type 0) (words : DiskWords D) where
       → NodeCrashes honest words before down origin → StateCrashes honest words was (Down down) origin
   state_crashes was before down origin is crashes =
       subst (λ h. StateCrashes honest words h (Down down) origin) (sym is) crashes
+
+  -- disks that were taken from a node and stopped
+  pub left_by_stop : (stopped : Kept D) (disk left : Disks D) → disk ≡ stopped.spool.disk
+      → (honest → ImagesWithin words disk left) → LosesFuseOrNot words disk left → IsLeftBy honest words stopped left
+  left_by_stop stopped disk left same images fuse = record {
+    images = λ h. subst (λ d. ImagesWithin words d left) same (images h);
+    fuse = subst (λ d. LosesFuseOrNot words d left) same fuse;
+  }
 
   -- the host of a node that is down
   pub same_down : (before : NodeState D) (down : DownNode D) (records : List (List ℕ)) (undecided : Option Undecided)
@@ -92,10 +103,10 @@ module _ {D : Type 0} (honest : Type 0) (words : DiskWords D) (down : DownNode D
 
   pub stays_down : (config : Config) (again : Disks D) (cause : Cause) → config ≡ down.config
       → (honest → ImagesWithin words down.disk again) → RefusesImage honest (seen_of words down.disk) cause
-      → FailsFor words down.disk again cause
+      → FailsFor words down.disk again cause → PassesAny words down.disk again
       → OpensOrNot honest words (host_in (Down down) records)
       (host_in (Down (record { config = config; disk = again; undecided = down.undecided })) records) None
-  stays_down config again cause same left why failures = inr (record {
+  stays_down config again cause same left why failures calls = inr (record {
     stays = record {
       disk = down.disk;
       undecided = option_map undecided_in down.undecided;
@@ -112,4 +123,5 @@ module _ {D : Type 0} (honest : Type 0) (words : DiskWords D) (down : DownNode D
     cause = cause;
     why = why;
     failures = failures;
+    calls = calls;
   })

@@ -178,7 +178,7 @@ module _ {D : Type 0} (honest : Type 0) (words : DiskWords D) where
     pub cuts : (changes : List Change) (peer : List ℕ) (said : Said) → Keeps honest words before.records changes
         → SeatHasSaid before.config before.seats session peer said
         → CutsTalk honest words before.config changes peer now said piece before.records after.records
-    pub failed : IsStopped words before.records after.records
+    pub failed : IsStopped words 4 before.records after.records
     pub noted : Noted
     pub note_is : after.records.noted ≡ Some noted
 
@@ -213,7 +213,7 @@ module _ {D : Type 0} (honest : Type 0) (words : DiskWords D) where
     pub cuts : (changes : List Change) (told : Told) → Keeps honest words before.records changes
         → Tells before.config.host changes before.attempts slot told
         → CutsReply honest words (reporter_of before.config) now changes slot told piece after.records
-    pub failed : IsStopped words before.records after.records
+    pub failed : IsStopped words 4 before.records after.records
     pub noted : Noted
     pub note_is : after.records.noted ≡ Some noted
 
@@ -246,7 +246,7 @@ module _ {D : Type 0} (honest : Type 0) (words : DiskWords D) where
     pub cuts : (changes : List Change) (told : Told) → Keeps honest words before.records changes
         → Tells before.config.host changes before.attempts slot told
         → CutsLoss honest words (reporter_of before.config) now changes slot told after.records
-    pub failed : IsStopped words before.records after.records
+    pub failed : IsStopped words 4 before.records after.records
     pub noted : Noted
     pub note_is : after.records.noted ≡ Some noted
 

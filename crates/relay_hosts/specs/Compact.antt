@@ -7,6 +7,7 @@ use Rattle.relay_book.specs.declared.change.Change.{Change}
 use Rattle.relay_book.specs.Snapshot.{snapshot}
 use Rattle.relay_records.specs.declared.fault.NodeFault.{NodeFault}
 use Rattle.relay_records.specs.declared.fault.NodeFault.TheVariants as node_fault
+use Rattle.relay_spool.specs.Head.{renewal_calls}
 use Rattle.relay_records.specs.Records.{Compacts, Halted, IsStopped, Keeps, Kept}
 use Rattle.relay_node.specs.Node.{NodeState}
 use Rattle.relay_world.specs.Stops.{IsLeftBy}
@@ -59,7 +60,7 @@ module _ {D : Type 0} (honest : Type 0) (words : DiskWords D) where
     pub before : NodeState D
     pub up : old.state ≡ Up before
     pub stopped : Kept D
-    pub failed : IsStopped words before.records stopped
+    pub failed : IsStopped words (renewal_calls before.records.spool.taken.other) before.records stopped
     pub halts : (changes : List Change) → Keeps honest words before.records changes
         → Halted honest words stopped changes None
     pub disk : Disks D

@@ -3,7 +3,8 @@ use Rattle.std.specs.Prelude.{◌≡◌, ◌⊎◌, ◌≤◌, ◌<◌, ℕ, Boo
 use Rattle.std.specs.Option.{is_some, option_map}
 use Rattle.relay_disk.specs.Device.{DiskWords}
 use Rattle.relay_disk.specs.declared.disks.Disks.{Disks}
-use Rattle.relay_disk.specs.Disks.{ImagesWithin, seen_of}
+use Rattle.relay_disk.specs.Disks.{ImagesWithin, LosesFuseOrNot, seen_of}
+use Rattle.relay_spool.specs.Spool.{PassesAny}
 use Rattle.relay_records.specs.declared.noted.Noted.{Noted}
 use Rattle.relay_records.specs.declared.fault.Cause.{Cause}
 use Rattle.relay_records.specs.Open.{FailsFor, Opens, RefusesImage}
@@ -113,12 +114,19 @@ module _ {D : Type 0} (honest : Type 0) (words : DiskWords D) (old new : world.H
     pub new_is : new ≡ record old { state = world.Down again undecided }
     pub none : found ≡ None
 
+  -- A host that is down has stopped again. A device fault that was set for a later call is gone; if memory ran out, it
+  -- is as it was.
+  pub record StopsAgain : Type 0 where
+    pub stays : StaysSo None
+    pub fuse : LosesFuseOrNot words stays.disk stays.again
+
   -- A host that is down couldn't be opened: its disks were refused, for this cause.
   pub record IsRefused (found : Option Undecided) : Type 0 where
     pub stays : StaysSo found
     pub cause : Cause
     pub why : RefusesImage honest (seen_of words stays.disk) cause
     pub failures : FailsFor words stays.disk stays.again cause
+    pub calls : PassesAny words stays.disk stays.again
 
   abbrev pub OpensOrNot : Option Undecided → Type 0
   OpensOrNot found = ComesUp found ⊎ IsRefused found

@@ -1,7 +1,7 @@
 -- A node that is down and stops again, and a device fault that is set for a later call.
 use Rattle.std.specs.Prelude.{◌≡◌, ℕ, List, Some}
 use Rattle.relay_disk.specs.Device.{DiskWords}
-use Rattle.relay_disk.specs.Disks.{ImagesWithin, calls_left_of}
+use Rattle.relay_disk.specs.Disks.{ImagesWithin, LosesFuseOrNot, calls_left_of}
 use Rattle.relay_book.specs.declared.change.Change.{Change}
 use Rattle.relay_records.specs.Records.{Keeps}
 use Rattle.relay_node.specs.Node.{IsFused, NodeState}
@@ -16,6 +16,7 @@ pub record DownStops {D : Type 0} (honest : Type 0) (words : DiskWords D) (old n
   pub config : new.config ≡ old.config
   pub undecided : new.undecided ≡ old.undecided
   pub left : honest → ImagesWithin words old.disk new.disk
+  pub fuse : LosesFuseOrNot words old.disk new.disk
 
 abbrev pub StateStopsAgain : {D : Type 0} → Type 0 → DiskWords D → HostState D → HostState D → Type 0
 StateStopsAgain honest words (Up before) new = ⊥

@@ -153,7 +153,7 @@ module _ {D : Type 0} (honest : Type 0) (words : DiskWords D) where
     pub cuts : (changes : List Change) → Keeps honest words before.records changes
         → CutsGivenUp honest words (reporter_of before.config) before.config.routes reason message now changes
         before.records after.records
-    pub failed : IsStopped words before.records after.records
+    pub failed : IsStopped words 4 before.records after.records
     pub noted : Noted
     pub note_is : after.records.noted ≡ Some noted
 

@@ -4,9 +4,9 @@ ghost use Rattle.std.specs.Prelude.{vec_len};
 ghost use Rattle.std.specs.List.{Contains};
 ghost use Rattle.relay_book.specs.declared.change.Change.{Change};
 ghost use Rattle.relay_book.specs.Marks.{Held};
-ghost use Rattle.relay_disk.specs.Disks.{ImagesWithin};
+ghost use Rattle.relay_disk.specs.Disks.{ImagesWithin, LosesFuseOrNot};
 ghost use Rattle.relay_hosts.specs.Call.{HasAttempt, HasSession, HearsOrNot, IsToldLoss, LosesSession, ReadsOrNot};
-ghost use Rattle.relay_hosts.specs.Crash.{CrashesInCall, StateCrashes, StateStops, IsCutShort, OpensOrNot, StaysSo};
+ghost use Rattle.relay_hosts.specs.Crash.{CrashesInCall, StateCrashes, StateStops, IsCutShort, OpensOrNot, StopsAgain};
 ghost use Rattle.relay_hosts.specs.Crash.{StopsAtRest, WasCutShort, is_up_now};
 ghost use Rattle.relay_hosts.specs.Compact.{KnowsNow, RewritesOrNot};
 ghost use Rattle.relay_hosts.specs.Host.{OwesWithin, count_some, holds_up, host_in, notes_to_come};
@@ -370,7 +370,7 @@ impl<D: Reboot + Drop> Host<D> {
     /// Stops a node again that is down. If memory runs out, its disks are unchanged.
     pub fn stop_again(self, pick: u64) -> Self
         requires { holds_up self.state ≡ false }
-        ensures { StaysSo D.Disk.honest D.Disk.words self result None }
+        ensures { StopsAgain D.Disk.honest D.Disk.words self result }
     {
         let Host {
             state,
@@ -470,9 +470,11 @@ impl<D: Reboot + Drop> DownNode<D> {
     }
 }
 
-/// Returns two disks after a stop. If memory runs out, they are unchanged, or only the first has stopped.
+/// Returns two disks after a stop, without a fuse. If memory runs out, they are unchanged, or only the first has
+/// stopped.
 pub(crate) fn stopped<D: Reboot>(disk: Disks<D>, pick: u64) -> Disks<D>
-    ensures { D.Disk.honest → ImagesWithin D.Disk.words disk result }
+    ensures images { D.Disk.honest → ImagesWithin D.Disk.words disk result }
+    ensures fuse { LosesFuseOrNot D.Disk.words disk result }
 {
     match disk.after_stop(pick) {
         Ok(stopped) => stopped,

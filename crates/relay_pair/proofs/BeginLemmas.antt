@@ -1,12 +1,13 @@
 -- Relays that have just begun are bound.
-use Rattle.std.proofs.Common.{◌≡◌, ℕ, zero, suc, Bool, true, false, Option, None, List, [], ◌∷◌, ◌++◌, map, length, Some, ◌<◌, ◌≤◌, ◌+◌, refl, sym, subst, ap, ◌∙◌, arith, inl, inr}
+use Rattle.std.proofs.Common.{◌≡◌, ℕ, zero, suc, Bool, true, false, Option, None, List, [], ◌∷◌, ◌++◌, map, length, Some, ◌<◌, ◌≤◌, ◌+◌, ◌-◌, refl, sym, subst, ap, ◌∙◌, arith, inl, inr}
 use Rattle.std.specs.Prelude.{codes, slice_get}
 use Rattle.std.proofs.Math.ListN.{get_or}
-use Rattle.std.specs.Option.{is_some}
+use Rattle.std.specs.Option.{is_some, option_map}
 use Rattle.std.proofs.lemmas.Bool.{cases_lt, false≢true}
 use Rattle.std.proofs.lemmas.Option.{same_Some}
 use Rattle.std.specs.declared.net.socket_addr.SocketAddrV4.{SocketAddrV4}
 use Rattle.relay_disk.specs.Device.{DiskWords}
+use Rattle.relay_disk.specs.Disks.{calls_left_of}
 use Rattle.relay_disk.specs.declared.disks.Disks.{Disks}
 use Rattle.relay_routes.specs.declared.config.Config.{Config}
 use Rattle.relay_book.specs.declared.change.Change.{Change}
@@ -19,8 +20,8 @@ use Rattle.relay_slots.specs.Slots.{AreFree, slot_at}
 use Rattle.relay_world.specs.Leaks.{NothingLeaks}
 use Rattle.relay_world.specs.Once.{OnceAtFirst}
 use Rattle.relay_world.specs.HopLinks.{HopLinksAtFirst}
-use Rattle.relay_pair.specs.Begin.{AreNew}
-use Rattle.relay_hosts.specs.Begin.{IsNew}
+use Rattle.relay_pair.specs.Begin.{AreNew, HasNoneSet, NoneIsSet}
+use Rattle.relay_hosts.specs.Begin.{IsMadeOf, IsNew}
 use Rattle.relay_pair.specs.Profiles.{address_of, at_place, mail_at}
 use Rattle.relay_events.specs.Begin.{begun_with}
 use Rattle.relay_pair.specs.Network.{HaveOneHost, IsHostBefore}
@@ -274,3 +275,17 @@ module _ {D : Type 0} (honest : Type 0) (words : DiskWords D) where
 
     pub begun_has_room : (free : ℕ) → HasRoom (begun_with hosts) free
     begun_has_room free = subst (λ (lines : ℕ). 0 + lines ≤ free) (sym (none_left 0 0 configs hosts are)) (omega arith)
+
+module _ {D : Type 0} (words : DiskWords D) where
+  -- a node that was made of disks without a fuse has none
+  pub made_with_none : (disk : Disks D) (state : HostState D) → IsMadeOf words disk state → calls_left_of words disk ≡ None
+      → HasNoneSet words state
+  made_with_none disk (Up node) made none =
+      made.calls ∙ ap (λ (left : Option ℕ). option_map (λ calls. calls - 8) left) none
+  made_with_none disk (Down left undecided) made none = absurd made
+
+  -- one node more
+  pub none_more : (hosts : List (Host D)) (host : Host D) → NoneIsSet words hosts → HasNoneSet words host.state
+      → NoneIsSet words (hosts ++ host ∷ [])
+  none_more [] host none one = (one, tt)
+  none_more (first ∷ hosts) host none one = (none.0, none_more hosts host none.1 one)

@@ -1,6 +1,6 @@
 //! Networks of relays: which configurations make one, and how its nodes begin.
 ghost use Rattle.std.specs.Prelude.{◌≡◌, ◌<◌, ◌≤◌, IfOk, MatchBool, MatchOption, length};
-ghost use Rattle.relay_pair.specs.Begin.{AreNew};
+ghost use Rattle.relay_pair.specs.Begin.{AreNew, NoneIsSet};
 ghost use Rattle.relay_pair.specs.Profiles.{at_place};
 ghost use Rattle.relay_pair.specs.Network.{AreNetwork, HasOwnHop, HaveOneHost, IsHostBefore, IsNoNetwork, SendsHome};
 
@@ -102,8 +102,9 @@ pub(crate) fn begin_hosts(
     configs: Vec<Config>,
 ) -> Result<Vec<Host<MemoryDisk>>, AllocError>
     requires { length configs.items ≤ 16 }
-    ensures { IfOk result (λ hosts. AreNew ⟦<MemoryDisk as Disk>⟧.honest ⟦<MemoryDisk as Disk>⟧.words 0 configs.items
-        hosts.items) }
+    ensures new { IfOk result (λ hosts. AreNew ⟦<MemoryDisk as Disk>⟧.honest ⟦<MemoryDisk as Disk>⟧.words 0
+        configs.items hosts.items) }
+    ensures none_set { IfOk result (λ hosts. NoneIsSet ⟦<MemoryDisk as Disk>⟧.words hosts.items) }
 {
     let mut hosts = Vec::new(alloc);
     for config in configs {

@@ -1,6 +1,6 @@
 //! A run of simulated relays.
-ghost use Rattle.std.specs.Prelude.{◌≡◌, ◌≤◌, IfErr, IfOk, List, length};
-ghost use Rattle.relay_pair.specs.Begin.{AreNew, HasBegun, HasBegunAsMany, HasBegunAsTwo};
+ghost use Rattle.std.specs.Prelude.{◌≡◌, ◌≤◌, [], ◌∷◌, IfErr, IfOk, List, length};
+ghost use Rattle.relay_pair.specs.Begin.{AreMadeOf, AreNew, HasBegun, HasBegunAsMany, HasBegunAsTwo, NoneIsSet};
 ghost use Rattle.relay_events.specs.Begin.{begun_with};
 ghost use Rattle.relay_pair.specs.Copied.{CountsCopies};
 ghost use Rattle.relay_pair.specs.Marks.{marks_from};
@@ -59,7 +59,8 @@ impl Pair<MemoryDisk> {
     /// Returns two relays on disks in memory, at time 0: node 0 is `a.example` at 10.0.0.1, node 1 `b.example` at
     /// 10.0.0.2, with the routes that a play gives them. Fails if memory runs out.
     pub fn new(alloc: Global) -> Result<Self, AllocError>
-        ensures { IfOk result (HasBegunAsTwo ⟦<MemoryDisk as Disk>⟧.honest ⟦<MemoryDisk as Disk>⟧.words) }
+        ensures begun { IfOk result (HasBegunAsTwo ⟦<MemoryDisk as Disk>⟧.honest ⟦<MemoryDisk as Disk>⟧.words) }
+        ensures none_set { IfOk result (λ pair. NoneIsSet ⟦<MemoryDisk as Disk>⟧.words pair.hosts) }
     {
         let mut configs = Vec::new(alloc);
         configs.push(first_profile(alloc)?)?;
@@ -75,7 +76,9 @@ impl Pair<MemoryDisk> {
     /// 10.0.0.2, and so on, with the routes that a play of this many gives them. Fails if memory runs out.
     pub fn nodes(alloc: Global, count: usize) -> Result<Self, AllocError>
         requires { count ≤ 16 }
-        ensures { IfOk result (HasBegunAsMany ⟦<MemoryDisk as Disk>⟧.honest ⟦<MemoryDisk as Disk>⟧.words count) }
+        ensures begun { IfOk result (HasBegunAsMany ⟦<MemoryDisk as Disk>⟧.honest ⟦<MemoryDisk as Disk>⟧.words
+            count) }
+        ensures none_set { IfOk result (λ pair. NoneIsSet ⟦<MemoryDisk as Disk>⟧.words pair.hosts) }
     {
         match Pair::network(alloc, profiles_of(alloc, count)?) {
             Ok(pair) => Ok(pair),
@@ -90,6 +93,7 @@ impl Pair<MemoryDisk> {
     pub fn network(alloc: Global, configs: Vec<Config>) -> Result<Self, NetFault>
         ensures begun { IfOk result (λ pair. AreNetwork configs.items
             × HasBegun ⟦<MemoryDisk as Disk>⟧.honest ⟦<MemoryDisk as Disk>⟧.words configs.items pair) }
+        ensures none_set { IfOk result (λ pair. NoneIsSet ⟦<MemoryDisk as Disk>⟧.words pair.hosts) }
         ensures refused { IfErr result (IsNoNetwork configs.items) }
     {
         if let Some(fault) = fault_of_network(configs.as_slice()) {
@@ -106,7 +110,8 @@ impl<D: Disk + Drop> Pair<D> {
     /// Returns the two relays of [`Pair::new`], each on two empty disks. Fails if memory runs out, or if a disk fails
     /// or isn't empty.
     pub fn begin(alloc: Global, first: Disks<D>, second: Disks<D>) -> Result<Self, AllocError>
-        ensures { IfOk result (HasBegunAsTwo D.Disk.honest D.Disk.words) }
+        ensures begun { IfOk result (HasBegunAsTwo D.Disk.honest D.Disk.words) }
+        ensures calls { IfOk result (λ pair. AreMadeOf D.Disk.words (first ∷ second ∷ []) pair.hosts) }
     {
         let Ok(first) = Host::create(alloc, first_profile(alloc)?, first) else {
             return Err(AllocError);

@@ -111,7 +111,7 @@ module _ {D : Type 0} (honest : Type 0) (words : DiskWords D) where
       → IsLeftBy honest words records disk
       → StateKeeps honest words host.config (Down disk (Some (record { note = noted; origin = origin }))) changes
   down_halted changes change records disk noted origin host halted octets left is image may =
-      let found = halted.images is image (left is image may) in (
+      let found = halted.images is image (left.images is image may) in (
         found.0,
         found.1,
         elim found.2 [

@@ -1,8 +1,10 @@
 -- How a stop that is set for a later call of a node's device comes nearer.
-use Rattle.std.proofs.Common.{◌≡◌, ℕ, ◌-◌, List, take, Option, None, Some, refl, sym, subst, ap, arith}
+use Rattle.std.proofs.Common.{◌≡◌, ℕ, ◌+◌, ◌-◌, List, take, Option, None, Some, refl, sym, subst, ap, ◌∙◌, arith}
+use Rattle.std.proofs.lemmas.Option.{none-some, same_Some}
 use Rattle.std.specs.Prelude.{slice_get}
 use Rattle.std.specs.Option.{option_map}
 use Rattle.relay_disk.specs.Device.{DiskWords}
+use Rattle.relay_disk.specs.Disks.{calls_left_of}
 use Rattle.relay_spool.specs.Spool.{Passes}
 use Rattle.relay_server.specs.Dialogue.{Said}
 use Rattle.relay_book.specs.declared.change.Change.{Change}
@@ -13,10 +15,11 @@ use Rattle.relay_node.specs.Attempts.{RepliesBy, Tells}
 use Rattle.relay_node.specs.Node.{Makes, Receives}
 use Rattle.relay_world.specs.GivingUp.{AddsGivenUp, Reason}
 use Rattle.relay_world.specs.Bound.{HostKeeps, IsBound, NodeKeeps, told_by}
-use Rattle.relay_world.specs.Fuses.{CountsDown, StopsCountDown, calls_of}
+use Rattle.relay_world.specs.Fuses.{CountsDown, OpeningSetsNone, SetsFaultAnew, StoppingSetsNone, StopsCountDown, calls_of}
 use Rattle.relay_world.specs.Steps.{HasGivenUp, HasHeard, HasLost, HasRead, waiting_down, waiting_up}
 use Rattle.relay_world.specs.World.{World}
 use Rattle.relay_world.proofs.AttemptLemmas.{KnowsAttempt, known}
+use Rattle.relay_world.proofs.CrashRestLemmas.{gone_at_rest, gone_or_nearer}
 use Rattle.relay_world.proofs.OpenLemmas.{list_there, node_kept}
 use Rattle.relay_world.proofs.TalkLemmas.{its_node, listed, says_before, was}
 use Rattle.relay_report.specs.Report.{reporter_of}
@@ -117,3 +120,43 @@ stops_count_down honest words old new lists reason number count node message cha
   given_counts honest words old new lists bound reason node message change,
   λ compacted. compacted.compacts.calls,
 )
+
+pub stopping_sets_none : {D : Type 0} (honest : Type 0) (words : DiskWords D) → StoppingSetsNone honest words
+stopping_sets_none honest words old new reason number count node message = (
+  λ crash. gone_at_rest words 0 crash.before.records.spool.disk crash.disk crash.left.fuse,
+  λ crash. gone_or_nearer words 4 crash.of.before.records.spool.disk crash.stopped.spool.disk crash.disk
+      crash.failed.calls crash.left.fuse,
+  λ crash. gone_or_nearer words 4 crash.of.before.records.spool.disk crash.stopped.spool.disk crash.crash.disk
+      crash.failed.calls crash.crash.left.fuse,
+  λ crash. gone_or_nearer words 4 crash.of.before.records.spool.disk crash.stopped.spool.disk crash.crash.disk
+      crash.failed.calls crash.crash.left.fuse,
+  λ crash. gone_or_nearer words 4 crash.before.records.spool.disk crash.stopped.spool.disk crash.disk
+      crash.failed.calls crash.left.fuse,
+  λ crash. gone_or_nearer words _ crash.before.records.spool.disk crash.stopped.spool.disk crash.disk
+      crash.failed.calls crash.left.fuse,
+)
+
+-- the calls of an opening bring a pending fault nearer
+none_set_anew : {D : Type 0} (honest : Type 0) (words : DiskWords D) (old new : World D) (node : ℕ)
+    → SetsFaultAnew honest words old new node → ⊥
+none_set_anew honest words old new node sets = by (calls_left_of words sets.opened.disk) refl
+  where
+    by : (pending : Option ℕ) → calls_left_of words sets.opened.disk ≡ pending → ⊥
+    by None is =
+        let none : None ≡ Some sets.left =
+        sym (ap (λ (o : Option ℕ). option_map (λ calls. calls - (sets.opened.opens.calls.0 + 1)) o) is)
+        ∙ sym sets.opened.opens.calls.1.calls ∙ sets.pending in
+        absurd (none-some sets.left none)
+    by (Some before) is =
+        let count = sets.opened.opens.calls.0 in
+        let now : Some (before - (count + 1)) ≡ Some sets.left =
+        sym (ap (λ (o : Option ℕ). option_map (λ calls. calls - (count + 1)) o) is)
+        ∙ sym sets.opened.opens.calls.1.calls ∙ sets.pending in
+        let less : before - (count + 1) ≡ sets.left = same_Some (before - (count + 1)) sets.left now in
+        let had = sets.opened.opens.calls.1.had before is in
+        let was = sets.was before is in
+        absurd (omega (arith, less, had, was))
+
+pub opening_sets_none : {D : Type 0} (honest : Type 0) (words : DiskWords D) → OpeningSetsNone honest words
+opening_sets_none honest words old new node =
+    (λ opened. opened.opens.calls, none_set_anew honest words old new node, λ refused. refused.calls)

@@ -74,11 +74,11 @@ mod LeakLemmas
 mod LeakEventLemmas
 mod PromiseLemmas
 mod UnsoundLemmas
-mod FuseLemmas
 mod CrashLemmas
 mod CrashEndLemmas
 mod CrashRunLemmas
 mod CrashRestLemmas
+mod FuseLemmas
 mod UnsettledLemmas
 mod GroupHearLemmas
 mod GroupReadLemmas

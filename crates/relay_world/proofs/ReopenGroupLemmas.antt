@@ -67,7 +67,7 @@ module _ {D : Type 0} (honest : Type 0) (words : DiskWords D)
   either : Keeps honest words opens.after.records changes ⊎ Keeps honest words opens.after.records (changes ++ pending)
   either = halted_all_is_opened honest words sees_now h opens.stopped opens.after.records changes pending opens.disk
       cuts.halted
-      (opens.left h) opens.opens
+      (opens.left.images h) opens.opens
 
   before_next : opens.before.now.records.queue.next ≡ length changes + 1
   before_next = next_of honest words opens.before.now.records changes

@@ -4,6 +4,7 @@ use Rattle.std.specs.Prelude.{◌≡◌, ℕ, nat_eq, Bool, true, false, List, l
 use Rattle.std.specs.Prelude.{slice_get}
 use Rattle.relay_disk.specs.Device.{DiskWords}
 use Rattle.relay_disk.specs.declared.disks.Disks.{Disks}
+use Rattle.relay_spool.specs.Head.{renewal_calls}
 use Rattle.relay_server.specs.Dialogue.{Said}
 use Rattle.relay_book.specs.declared.change.Change.{Change}
 use Rattle.relay_records.specs.declared.noted.Noted.{Noted}
@@ -80,7 +81,7 @@ pub record CrashesCompacting {D : Type 0} (honest : Type 0) (words : DiskWords D
   pub before : NodeState D
   pub up : host.state ≡ Up before
   pub stopped : Kept D
-  pub failed : IsStopped words before.records stopped
+  pub failed : IsStopped words (renewal_calls before.records.spool.taken.other) before.records stopped
   pub halts : (changes : List Change) → Keeps honest words before.records changes
       → Halted honest words stopped changes None
   pub disk : Disks D
@@ -98,7 +99,7 @@ pub record CrashesGivingUp {D : Type 0} (honest : Type 0) (words : DiskWords D) 
     pub before : NodeState D
     pub up : host.state ≡ Up before
     pub stopped : Kept D
-    pub failed : IsStopped words before.records stopped
+    pub failed : IsStopped words 4 before.records stopped
     pub cuts : (changes : List Change) → Keeps honest words before.records changes
         → CutsGivenUp honest words (reporter_of before.config) before.config.routes reason message old.clock changes
         before.records stopped
@@ -113,7 +114,7 @@ pub record CrashesHearing {D : Type 0} (honest : Type 0) (words : DiskWords D) (
     : Type 0 where
   pub of : SessionOf old number
   pub stopped : Kept D
-  pub failed : IsStopped words of.before.records stopped
+  pub failed : IsStopped words 4 of.before.records stopped
   pub cuts : (changes : List Change) (said : Said) → Keeps honest words of.before.records changes
       → SeatHasSaid of.before.config of.before.seats of.session of.end.peer said
       → CutsTalk honest words of.before.config changes of.end.peer old.clock said (waiting_up count of.link)
@@ -139,7 +140,7 @@ pub record CrashesReading {D : Type 0} (honest : Type 0) (words : DiskWords D) (
     : Type 0 where
   pub of : AttemptOf old number
   pub stopped : Kept D
-  pub failed : IsStopped words of.before.records stopped
+  pub failed : IsStopped words 4 of.before.records stopped
   pub cuts : (changes : List Change) (told : Told) → Keeps honest words of.before.records changes
       → Tells of.before.config.host changes of.before.attempts of.slot told
       → CutsReply honest words (reporter_of of.before.config) old.clock changes of.slot told (waiting_down count
@@ -151,7 +152,7 @@ pub record CrashesLosing {D : Type 0} (honest : Type 0) (words : DiskWords D) (o
     : Type 0 where
   pub of : AttemptOf old number
   pub stopped : Kept D
-  pub failed : IsStopped words of.before.records stopped
+  pub failed : IsStopped words 4 of.before.records stopped
   pub cuts : (changes : List Change) (told : Told) → Keeps honest words of.before.records changes
       → Tells of.before.config.host changes of.before.attempts of.slot told
       → CutsLoss honest words (reporter_of of.before.config) old.clock changes of.slot told stopped

@@ -13,7 +13,7 @@ use Rattle.relay_node.specs.Node.{IsIdle, NodeState}
 use Rattle.relay_node.specs.Staging.{ReceivesAfter}
 use Rattle.relay_records.specs.declared.noted.Noted.{Noted}
 use Rattle.relay_records.specs.Open.{Opens}
-use Rattle.relay_records.specs.Records.{Kept}
+use Rattle.relay_records.specs.Records.{IsStopped, Kept}
 use Rattle.relay_records.specs.Staged.{Awaits, CutsAll, Row, Settles, no_row}
 use Rattle.relay_slots.specs.Slots.{OthersStay}
 use Rattle.relay_world.specs.declared.attempt.Fate.TheVariants.{Replied as RepliedBy}
@@ -180,6 +180,7 @@ module _ {D : Type 0} (honest : Type 0) (words : DiskWords D) where
     pub each : HasHeardEach at old heard node pieces no_row row
     pub staged : IsUp heard node
     pub stopped : Kept D
+    pub failed : IsStopped words 4 staged.now.records stopped
     pub cuts : (changes pending : List Change) → Awaits honest words staged.now.records changes pending row
         → CutsAll honest words stopped changes pending row.notes
     pub disk : Disks D

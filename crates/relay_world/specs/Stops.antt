@@ -4,8 +4,9 @@ use Rattle.std.specs.Prelude.{◌≡◌, ◌≢◌, ◌⊎◌, ℕ, ◌+◌, ◌
 use Rattle.std.specs.Prelude.{slice_get}
 use Rattle.relay_disk.specs.Device.{DiskWords}
 use Rattle.relay_disk.specs.declared.disks.Disks.{Disks}
-use Rattle.relay_disk.specs.Disks.{ImagesWithin, seen_of}
-use Rattle.relay_spool.specs.Spool.{EveryImageHas}
+use Rattle.relay_disk.specs.Disks.{ImagesWithin, LosesFuseOrNot, calls_left_of, seen_of}
+use Rattle.relay_spool.specs.Head.{renewal_calls}
+use Rattle.relay_spool.specs.Spool.{CallsUpTo, EveryImageHas, PassesAny}
 use Rattle.relay_server.specs.Dialogue.{Said}
 use Rattle.relay_book.specs.declared.change.Change.{Change}
 use Rattle.relay_book.specs.StandsFor.{StandsFor}
@@ -56,15 +57,22 @@ NoAttempt world node =
     (place : ℕ) (attempt : Attempt) (slot : ℕ) → slice_get world.attempts place ≡ Some attempt
     → HasSlot attempt node slot → ⊥
 
--- the disks of a stopped node; a further stop leaves no image that this one doesn't leave
-abbrev pub IsLeftBy : {D : Type 0} → Type 0 → DiskWords D → Kept D → Disks D → Type 0
-IsLeftBy honest words stopped disk = honest → ImagesWithin words stopped.spool.disk disk
+-- The disks of a stopped node. A further stop leaves no image that this one doesn't leave. A device fault that was set
+-- for a later call is gone; if memory ran out, it is as it was. None is set.
+pub record IsLeftBy {D : Type 0} (honest : Type 0) (words : DiskWords D) (stopped : Kept D) (disk : Disks D) : Type 0
+  where
+    pub images : honest → ImagesWithin words stopped.spool.disk disk
+    pub fuse : LosesFuseOrNot words stopped.spool.disk disk
 
 -- the disks of a node that stopped while it was adding no change: a further stop leaves whatever changes it kept
 abbrev pub LeavesList : {D : Type 0} → Type 0 → DiskWords D → Kept D → Disks D → Type 0
 LeavesList honest words before disk =
     (changes : List Change) → Keeps honest words before changes
     → honest → EveryImageHas words disk (λ bodies. StandsFor bodies changes)
+
+-- A device fault that was set for a later call is gone, or nearer by this many calls at most. None is set.
+abbrev pub IsNearerOrGone : {D : Type 0} → DiskWords D → ℕ → Disks D → Disks D → Type 0
+IsNearerOrGone words most old new = (calls_left_of words new ≡ None) ⊎ CallsUpTo words most old new
 
 -- nothing changes but the nodes
 abbrev pub OnlyHostsChange : {D : Type 0} → World D → World D → Type 0
@@ -82,6 +90,7 @@ pub record HasStopped {D : Type 0} (honest : Type 0) (words : DiskWords D) (old 
   pub no_attempt : NoAttempt old node
   pub disk : Disks D
   pub left : LeavesList honest words before.records disk
+  pub fuse : IsNearerOrGone words (renewal_calls before.records.spool.taken.other) before.records.spool.disk disk
   pub hosts : IsPut old.hosts new.hosts node (record host { state = Down disk None })
   pub rest : OnlyHostsChange old new
 
@@ -126,7 +135,7 @@ pub record StopsHearing {D : Type 0} (honest : Type 0) (words : DiskWords D) (ol
   pub no_session : NoSessionBut old of.end.node number
   pub no_attempt : NoAttempt old of.end.node
   pub stopped : Kept D
-  pub failed : IsStopped words of.before.records stopped
+  pub failed : IsStopped words 4 of.before.records stopped
   pub cuts : (changes : List Change) (said : Said) → Keeps honest words of.before.records changes
       → SeatHasSaid of.before.config of.before.seats of.session of.end.peer said
       → CutsTalk honest words of.before.config changes of.end.peer old.clock said (waiting_up count of.link)
@@ -163,7 +172,7 @@ pub record StopsReading {D : Type 0} (honest : Type 0) (words : DiskWords D) (ol
     : Type 0 where
   pub of : AttemptOf old number
   pub stopped : Kept D
-  pub failed : IsStopped words of.before.records stopped
+  pub failed : IsStopped words 4 of.before.records stopped
   pub cuts : (changes : List Change) (told : Told) → Keeps honest words of.before.records changes
       → Tells of.before.config.host changes of.before.attempts of.slot told
       → CutsReply honest words (reporter_of of.before.config) old.clock changes of.slot told (waiting_down count
@@ -176,7 +185,7 @@ pub record StopsLosing {D : Type 0} (honest : Type 0) (words : DiskWords D) (old
     : Type 0 where
   pub of : AttemptOf old number
   pub stopped : Kept D
-  pub failed : IsStopped words of.before.records stopped
+  pub failed : IsStopped words 4 of.before.records stopped
   pub cuts : (changes : List Change) (told : Told) → Keeps honest words of.before.records changes
       → Tells of.before.config.host changes of.before.attempts of.slot told
       → CutsLoss honest words (reporter_of of.before.config) old.clock changes of.slot told stopped
@@ -195,7 +204,7 @@ pub record StopsGivingUp {D : Type 0} (honest : Type 0) (words : DiskWords D) (o
     pub no_session : NoSession old node
     pub no_attempt : NoAttempt old node
     pub stopped : Kept D
-    pub failed : IsStopped words before.records stopped
+    pub failed : IsStopped words 4 before.records stopped
     pub cuts : (changes : List Change) → Keeps honest words before.records changes
         → CutsGivenUp honest words (reporter_of before.config) before.config.routes reason message old.clock changes
         before.records stopped
@@ -220,17 +229,21 @@ pub record StaysDown {D : Type 0} (honest : Type 0) (words : DiskWords D) (old n
   pub hosts : IsPut old.hosts new.hosts node (record host { state = Down again undecided })
   pub rest : OnlyHostsChange old new
 
--- A node that is down stops again before it is opened.
-abbrev pub StopsAgain : {D : Type 0} → Type 0 → DiskWords D → World D → World D → ℕ → Type 0
-StopsAgain honest words old new node = StaysDown honest words old new node
+-- A node that is down stops again before it is opened. A device fault that was set for a later call is gone; if memory
+-- ran out, it is as it was.
+pub record StopsAgain {D : Type 0} (honest : Type 0) (words : DiskWords D) (old new : World D) (node : ℕ) : Type 0 where
+  pub stays : StaysDown honest words old new node
+  pub fuse : LosesFuseOrNot words stays.disk stays.again
 
 -- A node that is down couldn't be opened: its disks were refused for this cause. That is a counted failure of the
--- device, too little memory, or the size of the spool; with an honest disk it is never the octets.
+-- device, too little memory, or the size of the spool; with an honest disk it is never the octets. A device fault that
+-- was set for a later call is nearer by the calls that passed.
 pub record IsRefused {D : Type 0} (honest : Type 0) (words : DiskWords D) (old new : World D) (node : ℕ) : Type 0 where
   pub stays : StaysDown honest words old new node
   pub cause : Cause
   pub why : RefusesImage honest (seen_of words stays.disk) cause
   pub failures : FailsFor words stays.disk stays.again cause
+  pub calls : PassesAny words stays.disk stays.again
   pub not_octets : honest → IsNoFaultOfImage cause
 
 -- an outcome is found: this many more octets were read on the link, and the attempt at this index has this state
@@ -281,7 +294,8 @@ Decides old new node host after (Some undecided) =
     ((after.records.queue.next ≤ undecided.note.number) × HasNotFound old new node host after)
     ⊎ ((undecided.note.number < after.records.queue.next) × HasFound old new node host after undecided)
 
--- A node that was down has been opened.
+-- A node that was down has been opened. A device fault that was set for a later call of its disks is nearer by the
+-- calls of the opening, all of which passed; if there was none, none is set.
 pub record HasReopened {D : Type 0} (honest : Type 0) (words : DiskWords D) (old new : World D) (node : ℕ)
     : Type 0 where
   pub host : Host D

@@ -5,6 +5,7 @@ use Rattle.std.specs.Prelude.{◌≡◌, ◌≢◌, ◌⊎◌, ℕ, true, false,
 use Rattle.relay_disk.specs.Device.{DiskWords}
 use Rattle.relay_book.specs.declared.change.Change.{Change}
 use Rattle.relay_book.specs.declared.fate.PlaceStep.{PlaceStep}
+use Rattle.relay_spool.specs.Head.{renewal_calls}
 use Rattle.relay_records.specs.Records.{IsStopped}
 use Rattle.relay_world.specs.declared.attempt.Attempt.{Attempt}
 use Rattle.relay_world.specs.declared.attempt.Fate.TheVariants.{Replied}
@@ -74,15 +75,17 @@ pub record Heals {D : Type 0} (old new : World D) : Type 0 where
 abbrev pub HealingBreaks : Type 0 → Type 0
 HealingBreaks D = (old new : World D) → Heals old new → HasGrown old new → ⊥
 
--- A node stops in a call only because its device has failed there, whatever the call.
+-- A node stops in a call only because its device has failed there, whatever the call; a fault that is set for a later
+-- call is nearer then by the device calls that were made.
 abbrev pub StoppingIsFailing : {D : Type 0} → Type 0 → DiskWords D → Type 0
 StoppingIsFailing {D} honest words =
     (old new : World D) (reason : Reason) (number count node message : ℕ)
     → ((crash : CrashesHearing honest words old new number count)
-    → IsStopped words crash.of.before.records crash.stopped)
+    → IsStopped words 4 crash.of.before.records crash.stopped)
     × ((crash : CrashesReading honest words old new number count)
-    → IsStopped words crash.of.before.records crash.stopped)
-    × ((crash : CrashesLosing honest words old new number) → IsStopped words crash.of.before.records crash.stopped)
+    → IsStopped words 4 crash.of.before.records crash.stopped)
+    × ((crash : CrashesLosing honest words old new number) → IsStopped words 4 crash.of.before.records crash.stopped)
     × ((crash : CrashesGivingUp honest words old new reason node message)
-    → IsStopped words crash.before.records crash.stopped)
-    × ((crash : CrashesCompacting honest words old new node) → IsStopped words crash.before.records crash.stopped)
+    → IsStopped words 4 crash.before.records crash.stopped)
+    × ((crash : CrashesCompacting honest words old new node)
+    → IsStopped words (renewal_calls crash.before.records.spool.taken.other) crash.before.records crash.stopped)

@@ -5,7 +5,7 @@ ghost use Rattle.relay_world.specs.Copies.{CopiesAreFew};
 ghost use Rattle.relay_world.specs.CrashRuns.{CompactingHappens, CrashingHappens, CrashingKeepsOnce};
 ghost use Rattle.relay_world.specs.CrashRuns.{RestingCrashHappens};
 ghost use Rattle.relay_world.specs.Growth.{GrownListsBegin, RunsGrow};
-ghost use Rattle.relay_world.specs.Fuses.{StopsCountDown};
+ghost use Rattle.relay_world.specs.Fuses.{OpeningSetsNone, StoppingSetsNone, StopsCountDown};
 ghost use Rattle.relay_world.specs.Forbidden.{DroppingBreaks, ForgettingBreaks, LeadingElsewhereBreaks};
 ghost use Rattle.relay_world.specs.Forbidden.{LosingOutcomeBreaks, LosingRecordBreaks, LosingRowBreaks};
 ghost use Rattle.relay_world.specs.Invented.{InventingBreaks};
@@ -132,6 +132,16 @@ pub fn stopping_is_failing<D: Disk>()
 /// them succeed.
 pub fn stops_count_down<D: Disk>()
     ensures { StopsCountDown D.honest D.words }
+{}
+
+/// A stop of a node sets no device fault for a later call: one that was set is gone, or nearer by the calls made.
+pub fn stopping_sets_none<D: Disk>()
+    ensures { StoppingSetsNone D.honest D.words }
+{}
+
+/// An opening of a node sets no device fault for a later call: one that was set is nearer by the calls made.
+pub fn opening_sets_none<D: Disk>()
+    ensures { OpeningSetsNone D.honest D.words }
 {}
 
 /// A place is copied to its next hop at most once, and once more for each lost reply.

@@ -1,11 +1,11 @@
 use Rattle.std.proofs.Common.{◌≡◌, true, false, [], Err, refl, subst, ap, ◌∙◌, arith, rules}
-use Rattle.relay_disk.specs.Disks.{ImagesWithin}
 use Rattle.relay_node.specs.Compaction.{LeavesUncompacted}
 use Rattle.relay_node.specs.Node.{NodeState}
 use Rattle.relay_hosts.specs.Call.{is_stop}
 use Rattle.relay_hosts.specs.Host.{notes_of}
 use Rattle.relay_hosts.proofs.CallLemmas.{stop_is}
 use Rattle.relay_hosts.proofs.CompactLemmas.{halts_down, owes_no_more, rewrote, uncompacted_same, uncompacted_why}
+use Rattle.relay_hosts.proofs.StopLemmas.{left_by_stop}
 use Rattle.relay_hosts.proofs.WorkLemmas.{same_host}
 use Rattle.relay_hosts.proofs.compact.compact_at.Goals as goal
 
@@ -27,8 +27,8 @@ returns-then-is_stop-clause-rewrites g c =
     (subst (λ f. LeavesUncompacted g.D.Disk.words c.args.node c.compact.new.self f) (stop_is c.in-Err.fault stop)
     (c.in-Err.ensures.refused.refused c.requires.keeps.live))
     (λ changes keeps. c.in-Err.ensures.cut changes keeps (ap (λ f. Err f) (stop_is c.in-Err.fault stop)))
-    (λ honest. subst (λ disk. ImagesWithin g.D.Disk.words disk c.stopped-disk.result) c.into_parts-config.ensures.disk
-    (c.stopped-disk.ensures honest))
+    (left_by_stop g.D.Disk.honest g.D.Disk.words c.compact.new.self.records _ c.stopped-disk.result c.into_parts-config.ensures.disk
+    c.stopped-disk.ensures.images c.stopped-disk.ensures.fuse)
 
 pub returns-then-is_stop-clause-notes : goal.returns-then-is_stop-clause-notes
 returns-then-is_stop-clause-notes g c = omega arith

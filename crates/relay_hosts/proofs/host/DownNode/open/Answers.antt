@@ -15,4 +15,4 @@ pub returns-in-Err : goal.returns-in-Err
 returns-in-Err g c =
     stays_down g.D.Disk.honest g.D.Disk.words c.args.self c.args.records.items c.in-Err.not.config c.in-Err.not.refused.disk
     c.in-Err.not.refused.cause c.in-Err.ensures.config (λ honest. (c.in-Err.ensures.keeps honest).stop.now)
-    c.in-Err.ensures.refused c.in-Err.ensures.failures
+    c.in-Err.ensures.refused c.in-Err.ensures.failures c.in-Err.ensures.calls

@@ -5,8 +5,8 @@ use Rattle.relay_routes.specs.declared.config.Config.{Config}
 use Rattle.relay_pair.specs.Begin.{HasBegun}
 use Rattle.relay_pair.proofs.pair.Pair+MemoryDisk.new.Goals as goal
 
-pub returns-in-Ok : goal.returns-in-Ok
-returns-in-Ok c =
+pub returns-in-Ok-clause-begun : goal.returns-in-Ok-clause-begun
+returns-in-Ok-clause-begun c =
     let one = c.in_ok-first_profile.field-0 in
     let other = c.in_ok-second_profile.field-0 in
     let configs : c.push-2.new.self.items ≡ one ∷ other ∷ [] =
