@@ -4,6 +4,8 @@ use Rattle.std.specs.Prelude.{vec_len}
 use Rattle.std.proofs.lemmas.Iterator.Adapters.{YieldsList-from_vec}
 use Rattle.std.proofs.lemmas.Iterator.Consumers.{YieldsList-end, YieldsList-turn}
 use Rattle.std.proofs.lemmas.List.{map-id}
+use Rattle.relay_disk.specs.declared.disks.Disks.{Disks}
+use Rattle.relay_disk.specs.declared.memory.MemoryDisk.{MemoryDisk}
 use Rattle.relay_disk.specs.Disks.{calls_left_of}
 use Rattle.relay_disk.specs.Memory.{memory_words}
 use Rattle.relay_routes.specs.declared.config.Config.{Config}
@@ -34,13 +36,14 @@ loop-config-preserved c =
     let place : c.len.result ≡ 0 + length hosts = omega (arith, c.len.ensures, c.loop-config.hosts.ok.0) in
     let new : IsNew (Unit {0}) memory_words (at_place c.len.result c.in-Some.config) host =
     subst (λ (config : Config). IsNew (Unit {0}) memory_words config host) c.at_place-config.ensures c.in-Ok.ensures.new in
-    let none : calls_left_of memory_words _ ≡ None = c.new-first.ensures.fresh.fuse in (
+    let disks : Disks MemoryDisk = record { first = c.new.result; second = c.new-in-loop-config.result } in
+    let none : calls_left_of memory_words disks ≡ None = c.new.ensures.fresh.fuse in (
       subst (AreNew (Unit {0}) memory_words 0 (configs ++ c.in-Some.config ∷ [])) (sym c.in_ok-push.ensures.items)
           (one_more_new (Unit {0}) memory_words 0 configs hosts c.in-Some.config host c.loop-config.invariant.0
           (subst (λ n. IsNew (Unit {0}) memory_words (at_place n c.in-Some.config) host) place new)),
       subst (NoneIsSet memory_words) (sym c.in_ok-push.ensures.items)
           (none_more memory_words hosts host c.loop-config.invariant.1
-          (made_with_none memory_words _ host.state c.in-Ok.ensures.calls none)),
+          (made_with_none memory_words disks host.state c.in-Ok.ensures.calls none)),
     )
 
 pub returns-clause-new : goal.returns-clause-new
