@@ -1,32 +1,29 @@
 -- What a link of an attempt has done, call by call.
-use Rattle.std.proofs.Common.{◌≡◌, ℕ, List, [], ◌∷◌, ◌++◌, length, Bool, true, false, true≢false, Option, None, Some, Result, Ok, Err, inl, inr, refl, sym, ap, ap₂, ◌∙◌, subst, append_assoc, append-nil, take, drop, take-append-drop, arith}
+use Rattle.std.proofs.Common.{◌≡◌, ℕ, List, [], ◌++◌, Bool, true, false, true≢false, Option, None, Some, Result, Ok, Err, inl, inr, refl, sym, ap, ap₂, ◌∙◌, subst, append_assoc, append-nil, take, drop, take-append-drop, arith}
 use Rattle.std.proofs.lemmas.List.{take_all}
 use Rattle.std.specs.Io.KnownBytes.{Appends, Consumes}
 use Rattle.std.proofs.KnownBytes.{Appends-nil, Appends-trans, Consumes-nil, Consumes-trans}
 use Rattle.relay_disk.specs.Device.{DiskWords}
 use Rattle.relay_slots.specs.Slots.{OthersStay, slot_at}
 use Rattle.relay_book.specs.declared.change.Change.{Change}
-use Rattle.relay_book.specs.declared.change.Verdict.{Verdict}
 use Rattle.relay_records.specs.declared.fault.NodeFault.{NodeFault}
 use Rattle.relay_records.specs.declared.fault.NodeFault.TheVariants as node_fault
 use Rattle.relay_records.specs.Records.{IsStopped, Keeps, Kept}
-use Rattle.relay_attempts.specs.AddedOutcome.{AddsOutcome, CutsOutcome, GrowsBy, HasNoRoom}
+use Rattle.relay_attempts.specs.AddedOutcome.{GrowsBy, HasNoRoom}
 use Rattle.relay_course.specs.Course.{IsCourse}
 use Rattle.relay_course.specs.VerdictTable.{all_later}
 use Rattle.relay_client.proofs.Theorems.{followed_is_course}
 use Rattle.relay_attempts.specs.declared.reply.Replied.{Replied}
-use Rattle.relay_attempts.specs.declared.runs.Run.{Run}
-use Rattle.relay_attempts.specs.Reply.{CutsLoss, CutsReply, EndsBy, HasNoRoomAtEnd, HasNoRoomAtLoss, IsLost, Makes, ReadsToEnd, Told, outcome_at, told_more, AttemptHasEnded as EndsOf}
-use Rattle.relay_node.specs.Attempts.{IsDropped, ReadsOn, RefusesToReply, Replies, RepliesBy, Tells, UsesReply}
+use Rattle.relay_attempts.specs.Reply.{CutsLoss, CutsReply, HasNoRoomAtEnd, HasNoRoomAtLoss, IsLost, Makes, ReadsToEnd, Told, outcome_at, told_more, AttemptHasEnded as EndsOf}
+use Rattle.relay_node.specs.Attempts.{ReadsOn, RefusesToReply, Replies, RepliesBy, Tells}
 use Rattle.relay_node.specs.Node.{NodeState}
 use Rattle.relay_links.specs.declared.fault.LinkFault.{LinkFault}
 use Rattle.relay_links.specs.declared.fault.LinkFault.TheVariants.{Input, Output, NoMemory, Full, Device}
 use Rattle.relay_links.specs.declared.push.Pushed.{Pushed}
-use Rattle.relay_links.specs.declared.push.Pushed.TheVariants.{Lost}
 use Rattle.relay_links.specs.declared.push.Way.{Way}
 use Rattle.relay_links.specs.declared.push.Way.TheVariants as way
 use Rattle.relay_links.specs.Link.{link_fault_of}
-use Rattle.relay_links.specs.Push.{Concludes, Ends, Goes, HasDropped, PushHasEnded, HasFailed, HasFilled, HasGrown, HasLost, HasStopped, IsAt, IsCut, LeavesRecords, Moves, PushStart, push_start_at}
+use Rattle.relay_links.specs.Push.{Ends, Goes, HasDropped, PushHasEnded, HasFailed, HasFilled, HasGrown, HasLost, HasStopped, IsAt, LeavesRecords, Moves, PushStart, push_start_at}
 use Rattle.relay_routes.specs.declared.config.Config.{Config}
 use Rattle.relay_report.specs.Report.{Reporter, reporter_of}
 

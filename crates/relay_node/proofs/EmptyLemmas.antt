@@ -1,5 +1,5 @@
 -- Disks of which a stop leaves nothing, in a call that doesn't use them.
-use Rattle.std.proofs.Common.{◌≡◌, ℕ, ◌≤◌, List, [], length, ap, sym, arith, subst}
+use Rattle.std.proofs.Common.{◌≡◌, ℕ, List, [], length, ap, sym, arith, subst}
 use Rattle.relay_disk.specs.declared.disks.Disks.{Disks}
 use Rattle.relay_disk.specs.declared.disks.Side.TheVariants.{First, Second}
 use Rattle.relay_disk.specs.Device.{DiskWords}

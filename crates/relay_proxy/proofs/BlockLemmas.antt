@@ -1,18 +1,10 @@
 -- What is read of octets that begin as each block does.
-use Rattle.std.proofs.Common.{◌≡◌, ◌≢◌, ℕ, ◌+◌, ◌-◌, ◌<◌, ◌≤◌, List, [], ◌∷◌, ◌++◌, codes, length, get_or, take, drop, Option, None, Some, MatchOption, suc, refl, sym, ap, subst, ◌∙◌, arith, inl, inr, ◌⊎◌, append_assoc, length-append}
-use Rattle.std.specs.Int.{w16, from_be_bytes}
-use Rattle.std.specs.Net.Addr.{ipv4_octets}
-use Rattle.std.specs.Net.Socket.{v4_ip, v4_port}
-use Rattle.std.specs.declared.net.socket_addr.SocketAddrV4.{SocketAddrV4}
+use Rattle.std.proofs.Common.{◌≡◌, ℕ, ◌+◌, ◌-◌, ◌<◌, ◌≤◌, List, [], ◌∷◌, ◌++◌, codes, length, get_or, take, drop, refl, sym, ap, subst, ◌∙◌, arith, inl, inr, ◌⊎◌, length-append}
 use Rattle.std.proofs.lemmas.List.{append-nil, append_cancel_left, length-take-le, take_at, take-append-drop}
 use Rattle.relay_octets.specs.Beginning.{Begins}
-use Rattle.relay_octets.specs.Line.{HasNoCrlf}
-use Rattle.relay_proxy.specs.HeaderLine.{IsHeaderLine, line_word}
-use Rattle.relay_proxy.specs.Block.{HasNoMeaning, IsBlock, SaysOfBlock, WritesIpv4, is_local, is_proxy, lacks_addresses, other_size, rest_limit, signature, two_octets}
+use Rattle.relay_proxy.specs.Block.{HasNoMeaning, IsBlock, SaysOfBlock, rest_limit, signature, two_octets}
 use Rattle.relay_proxy.specs.Header.{IsBegun, IsFound, IsHeader, IsNone, IsUnfinished, at_word, at_line, at_signature, at_fields, at_rest}
-use Rattle.relay_proxy.specs.declared.header.Header.{Header}
 use Rattle.relay_proxy.specs.declared.source.Source.{Source}
-use Rattle.relay_proxy.specs.declared.source.Source.TheVariants.{Own, Client, Other}
 use Rattle.relay_proxy.proofs.LineLemmas.{no_line}
 
 -- octets after the signature: command, family, two of the length, and the rest

@@ -1,15 +1,14 @@
 -- What a line says is said in one way.
-use Rattle.std.proofs.Common.{◌≡◌, ◌≢◌, ℕ, ◌<◌, ◌==◌, true, false, List, [], ◌∷◌, ◌++◌, codes, Option, None, Some, MatchOption, length, get_or, refl, sym, ap, subst, ◌∙◌, arith, inl, inr, ◌⊎◌, ◌≤◌, length-append}
+use Rattle.std.proofs.Common.{◌≡◌, ◌≢◌, ℕ, List, ◌++◌, codes, length, get_or, refl, sym, ap, subst, ◌∙◌, arith, inl, inr, ◌≤◌, length-append}
 use Rattle.std.specs.Net.Socket.{v4_ip, v4_port}
 use Rattle.std.specs.declared.net.ipv4_addr.Ipv4Addr.{Ipv4Addr}
 use Rattle.std.specs.declared.net.socket_addr.SocketAddrV4.{SocketAddrV4}
 use Rattle.std.proofs.lemmas.List.{append_cancel_left}
-use Rattle.relay_octets.specs.Beginning.{Begins}
 use Rattle.relay_proxy.specs.Word.{HasNoAddress, HasNoPort, HasNoPortWord, IsPort, ReadsAddress, ReadsPort}
-use Rattle.relay_proxy.specs.HeaderLine.{HasNoClient, HasNoSource, SaysOfLine, WritesClient, line_word}
+use Rattle.relay_proxy.specs.HeaderLine.{HasNoClient, HasNoSource, SaysOfLine, WritesClient}
 use Rattle.relay_proxy.specs.declared.source.Source.{Source}
 use Rattle.relay_proxy.specs.declared.source.Source.TheVariants.{Own, Client, Other}
-use Rattle.relay_proxy.proofs.WordLemmas.{address_is_one, port_is_one, port_word_is_one}
+use Rattle.relay_proxy.proofs.WordLemmas.{address_is_one, port_word_is_one}
 
 -- the addresses and ports of a client
 pub no_source_address : (text : List ℕ) → HasNoAddress text → HasNoClient text

@@ -1,19 +1,16 @@
 -- Headers don't begin one another, and what isn't a whole one is waited for.
-use Rattle.std.proofs.Common.{◌≡◌, ◌≢◌, ℕ, ◌+◌, ◌-◌, ◌<◌, ◌≤◌, List, [], ◌∷◌, ◌++◌, codes, length, get_or, take, drop, Option, None, Some, MatchOption, suc, refl, sym, ap, subst, ◌∙◌, arith, inl, inr, ◌⊎◌, append_assoc, length-append, Bool, true, false, ◌&&◌}
-use Rattle.std.specs.Net.Addr.{ipv4_octets}
-use Rattle.std.specs.Net.Socket.{v4_ip, v4_port}
-use Rattle.std.specs.declared.net.socket_addr.SocketAddrV4.{SocketAddrV4}
+use Rattle.std.proofs.Common.{◌≡◌, ℕ, ◌+◌, ◌<◌, ◌≤◌, List, [], ◌∷◌, ◌++◌, length, get_or, take, drop, Option, None, MatchOption, refl, sym, ap, subst, ◌∙◌, arith, inl, inr, ◌⊎◌, append_assoc, length-append, Bool, true, false, ◌&&◌}
+use Rattle.std.specs.Net.Socket.{v4_ip}
 use Rattle.std.proofs.lemmas.List.{append-nil, append_cancel_left, same_from_push, take-append-drop, length-take-le, take_at}
 use Rattle.relay_octets.specs.Beginning.{Begins}
 use Rattle.std.proofs.lemmas.Bool.{cases_lt}
-use Rattle.relay_octets.specs.Line.{HasNoCrlf, ReadsLine, begins_with_lf, crlf, ends_in_cr}
+use Rattle.relay_octets.specs.Line.{HasNoCrlf, ReadsLine, crlf, ends_in_cr}
 use Rattle.relay_octets.proofs.Theorems.{first_line_is_one, no_crlf_front, no_crlf_joined, no_crlf_one}
-use Rattle.relay_proxy.specs.HeaderLine.{IsHeaderLine, SaysOfLine, line_limit, line_word}
-use Rattle.relay_proxy.specs.Block.{IsBlock, SaysOfBlock, WritesIpv4, other_size, rest_limit, signature, two_octets}
-use Rattle.relay_proxy.specs.Header.{IsBegun, IsFound, IsHeader, IsNone, IsUnfinished, Reads, at_word, at_line, at_signature, at_fields, at_rest}
+use Rattle.relay_proxy.specs.HeaderLine.{IsHeaderLine, SaysOfLine, line_word}
+use Rattle.relay_proxy.specs.Block.{IsBlock, SaysOfBlock, other_size, signature, two_octets}
+use Rattle.relay_proxy.specs.Header.{IsHeader, IsUnfinished, at_word, at_line, at_signature, at_fields, at_rest}
 use Rattle.relay_proxy.specs.Laws.{FrontIsUnfinished, HeaderIsAll, HeaderIsBounded, HeaderIsFinished, HeaderIsOne, HeaderIsRead}
 use Rattle.relay_proxy.specs.declared.header.Header.{Header}
-use Rattle.relay_proxy.specs.declared.header.Reading.{Reading}
 use Rattle.relay_proxy.specs.declared.header.Reading.TheVariants.{Found, Unfinished, Missing}
 use Rattle.relay_proxy.specs.declared.source.Source.{Source}
 use Rattle.relay_proxy.specs.declared.source.Source.TheVariants.{Own, Client, Other}

@@ -1,15 +1,9 @@
 -- What octets begin with, and headers that follow one another.
-use Rattle.std.proofs.Common.{◌≡◌, ◌≢◌, ℕ, ◌+◌, ◌-◌, ◌<◌, ◌≤◌, List, [], ◌∷◌, ◌++◌, codes, length, take, drop, max, refl, sym, ap, subst, ◌∙◌, arith, inl, inr, ◌⊎◌, append_assoc, length-append}
-use Rattle.std.proofs.lemmas.List.{append-nil, append_cancel_left, take-append-drop, length-take-le, take_at}
+use Rattle.std.proofs.Common.{ℕ, ◌≤◌, List, ◌++◌, length, ap, arith, inl, inr, ◌⊎◌, length-append}
 use Rattle.relay_octets.specs.Beginning.{Begins}
-use Rattle.relay_octets.specs.Line.{HasNoCrlf, ReadsLine, crlf}
-use Rattle.relay_octets.proofs.Theorems.{first_line_is_one}
-use Rattle.relay_proxy.specs.HeaderLine.{IsHeaderLine, SaysOfLine, line_limit, line_word}
-use Rattle.relay_proxy.specs.Block.{IsBlock, SaysOfBlock, rest_limit, signature, two_octets}
-use Rattle.relay_proxy.specs.Header.{IsBegun, IsFound, IsHeader, IsNone, IsUnfinished, Reads, least_left, at_word, at_line, at_signature, at_fields, at_rest}
-use Rattle.relay_proxy.specs.declared.header.Header.{Header}
-use Rattle.relay_proxy.specs.declared.header.Reading.{Reading}
-use Rattle.relay_proxy.specs.declared.header.Reading.TheVariants.{Found, Unfinished, Missing}
+use Rattle.relay_proxy.specs.HeaderLine.{line_word}
+use Rattle.relay_proxy.specs.Block.{signature}
+use Rattle.relay_proxy.specs.Header.{IsBegun, IsHeader, IsNone, IsUnfinished, least_left, at_word, at_line, at_signature, at_fields, at_rest}
 use Rattle.relay_proxy.specs.declared.source.Source.{Source}
 use Rattle.relay_proxy.proofs.LineLemmas.{begins_joined, block_begins, header_is_long, header_line_begins, least_of}
 

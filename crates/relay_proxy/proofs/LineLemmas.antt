@@ -1,14 +1,13 @@
 -- What is read of octets that begin as each line does.
-use Rattle.std.proofs.Common.{◌≡◌, ◌≢◌, ℕ, ◌+◌, ◌-◌, ◌<◌, ◌≤◌, List, [], ◌∷◌, ◌++◌, codes, length, get_or, take, drop, min, max, suc, refl, sym, ap, subst, ◌∙◌, arith, inl, inr, ◌⊎◌, append_assoc, length-append}
-use Rattle.std.proofs.lemmas.List.{length-take, take-take, take_at, take-append-drop, take_all, append-nil, take-append-le}
+use Rattle.std.proofs.Common.{◌≡◌, ◌≢◌, ℕ, ◌+◌, ◌-◌, ◌<◌, ◌≤◌, List, [], ◌∷◌, ◌++◌, codes, length, get_or, take, drop, min, suc, refl, sym, ap, subst, ◌∙◌, arith, inl, inr, append_assoc, length-append}
+use Rattle.std.proofs.lemmas.List.{length-take, take-take, take_at, take-append-drop, append-nil}
 use Rattle.std.proofs.Math.Seq.{take-append-add}
 use Rattle.relay_octets.specs.Beginning.{Begins}
 use Rattle.relay_octets.specs.Line.{HasNoCrlf, ReadsLine, crlf}
 use Rattle.relay_octets.proofs.Theorems.{first_line_is_one, no_crlf_by_test, no_crlf_front}
 use Rattle.relay_proxy.specs.HeaderLine.{HasNoSource, IsHeaderLine, SaysOfLine, line_limit, line_word}
-use Rattle.relay_proxy.specs.Block.{IsBlock, rest_limit, signature, two_octets}
+use Rattle.relay_proxy.specs.Block.{IsBlock, signature}
 use Rattle.relay_proxy.specs.Header.{IsBegun, IsFound, IsHeader, IsNone, IsUnfinished, least_left, at_word, at_line, at_signature, at_fields, at_rest}
-use Rattle.relay_proxy.specs.declared.header.Header.{Header}
 use Rattle.relay_proxy.specs.declared.source.Source.{Source}
 use Rattle.relay_proxy.proofs.ClientLemmas.{line_begins, line_is_long}
 

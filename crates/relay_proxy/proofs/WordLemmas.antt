@@ -1,5 +1,5 @@
 -- Words are cut at a space in one way, and an address and a port are written in one way.
-use Rattle.std.proofs.Common.{◌≡◌, ◌≢◌, ℕ, ◌+◌, ◌<◌, ◌≤◌, ◌^◌, ◌==◌, true, false, List, [], ◌∷◌, ◌++◌, codes, decimal, Result, Ok, Err, MatchOption, Option, None, Some, length, take, drop, get_or, zero, suc, add-one, lit≤, lit<, refl, sym, ap, subst, ◌∙◌, arith, append_assoc, inl, inr, ◌⊎◌}
+use Rattle.std.proofs.Common.{◌≡◌, ℕ, ◌<◌, ◌≤◌, ◌^◌, ◌==◌, false, List, [], ◌∷◌, ◌++◌, codes, decimal, Result, Ok, Err, MatchOption, drop, get_or, zero, suc, lit≤, lit<, refl, sym, ap, subst, ◌∙◌, arith, append_assoc, inl, inr, ◌⊎◌}
 use Rattle.std.specs.Char.{digit_value}
 use Rattle.std.specs.List.{AllByRecursion}
 use Rattle.std.specs.Result.{result_ok}
@@ -14,8 +14,7 @@ use Rattle.std.proofs.lemmas.Bool.Decides.{nat_tests}
 use Rattle.std.proofs.lemmas.Fmt.{IsAscii-decimal, decimal-digits_value, decimal_digit, decimal_injective, decimal_is_IsNumeral, first_decimal}
 use Rattle.std.proofs.lemmas.Str.{IsUtf8-from_ascii}
 use Rattle.std.proofs.lemmas.Str.Parse.{IsNumeralModel, numerals_by_value, parse_plain, tells_digits}
-use Rattle.memchr.specs.Find.{NoneBefore, Passes, is_byte}
-use Rattle.relay_proxy.specs.Word.{Cuts, HasNoAddress, HasNoPort, HasNoPortWord, HasNoSpace, IsPort, ReadsAddress, ReadsPort}
+use Rattle.relay_proxy.specs.Word.{Cuts, HasNoAddress, HasNoPort, HasNoPortWord, IsPort, ReadsAddress, ReadsPort}
 
 -- the octet stands nowhere in the text
 abbrev pub HasNo : ℕ → List ℕ → Type 0

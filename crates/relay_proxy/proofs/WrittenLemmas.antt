@@ -1,9 +1,9 @@
 -- What a proxy writes is a header.
-use Rattle.std.proofs.Common.{◌≡◌, ◌≢◌, ℕ, ◌+◌, ◌<◌, ◌≤◌, ◌^◌, ◌==◌, false, List, [], ◌∷◌, ◌++◌, codes, decimal, length, get_or, take, drop, lit≤, lit<, refl, sym, ap, subst, ◌∙◌, arith, inl, inr, append_assoc, length-append}
+use Rattle.std.proofs.Common.{◌≡◌, ℕ, ◌+◌, ◌<◌, ◌≤◌, ◌^◌, List, [], ◌∷◌, ◌++◌, codes, decimal, length, get_or, take, drop, lit≤, lit<, refl, sym, ap, subst, ◌∙◌, arith, inl, inr, append_assoc, length-append}
 use Rattle.std.specs.Int.{w16, from_be_bytes, to_be_bytes}
 use Rattle.std.specs.List.{AllByRecursion}
 use Rattle.std.specs.Net.Addr.{ipv4_octets}
-use Rattle.std.specs.Net.Grammar.{IsDotted, IsIpv4Text}
+use Rattle.std.specs.Net.Grammar.{IsDotted}
 use Rattle.std.specs.Net.Socket.{v4_ip, v4_port}
 use Rattle.std.specs.Net.Text.{dotted_text, ipv4_text}
 use Rattle.std.specs.declared.net.socket_addr.SocketAddrV4.{SocketAddrV4}
@@ -11,12 +11,9 @@ use Rattle.std.proofs.lemmas.Fmt.{length-decimal-le}
 use Rattle.std.proofs.lemmas.List.{drop_at, take_at}
 use Rattle.std.proofs.lemmas.Nat.{from_be_bytes-to_be_bytes_2}
 use Rattle.relay_octets.specs.Line.{HasNoCrlf, crlf}
-use Rattle.relay_proxy.specs.Word.{IsPort, ReadsAddress, ReadsPort}
-use Rattle.relay_proxy.specs.HeaderLine.{IsHeaderLine, WritesClient, line_limit}
-use Rattle.relay_proxy.specs.Block.{IsBlock, WritesIpv4, rest_limit, signature, two_octets}
-use Rattle.relay_proxy.specs.Laws.{ClientBlockIsHeader, ClientLineIsHeader, IsAddress, client_block, client_fields, client_line, client_words}
-use Rattle.relay_proxy.specs.declared.source.Source.{Source}
-use Rattle.relay_proxy.specs.declared.source.Source.TheVariants.{Client}
+use Rattle.relay_proxy.specs.HeaderLine.{WritesClient, line_limit}
+use Rattle.relay_proxy.specs.Block.{WritesIpv4, signature, two_octets}
+use Rattle.relay_proxy.specs.Laws.{ClientBlockIsHeader, ClientLineIsHeader, IsAddress, client_fields, client_line, client_words}
 use Rattle.relay_proxy.proofs.WordLemmas.{HasNo, has_no-append, has_no-decimal, has_no-dotted, has_stop}
 
 -- an address by its four octets

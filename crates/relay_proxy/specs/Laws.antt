@@ -1,5 +1,5 @@
 -- Laws of headers, whoever reads them.
-use Rattle.std.specs.Prelude.{◌≡◌, ℕ, ◌+◌, ◌<◌, ◌≤◌, ◌^◌, List, [], ◌∷◌, ◌++◌, codes, decimal, length}
+use Rattle.std.specs.Prelude.{◌≡◌, ℕ, ◌+◌, ◌<◌, ◌≤◌, ◌^◌, List, ◌∷◌, ◌++◌, codes, decimal, length}
 use Rattle.std.specs.Int.{w16, to_be_bytes}
 use Rattle.std.specs.List.{AllByRecursion}
 use Rattle.std.specs.Net.Addr.{ipv4_octets}
@@ -10,7 +10,6 @@ use Rattle.relay_octets.specs.Beginning.{Begins}
 use Rattle.relay_octets.specs.Line.{crlf}
 use Rattle.relay_proxy.specs.Block.{signature}
 use Rattle.relay_proxy.specs.Header.{IsHeader, IsUnfinished, Reads}
-use Rattle.relay_proxy.specs.declared.header.Header.{Header}
 use Rattle.relay_proxy.specs.declared.header.Reading.{Reading}
 use Rattle.relay_proxy.specs.declared.header.Reading.TheVariants.{Found, Unfinished}
 use Rattle.relay_proxy.specs.declared.source.Source.{Source}

@@ -8,7 +8,7 @@ use Rattle.std.proofs.lemmas.Str.Parse.{digit_from_value}
 use Rattle.std.specs.Str.Parse.{AllDigits}
 use Rattle.std.specs.List.{find, list_all, list_any, AllByRecursion}
 use Rattle.std.specs.Option.{option_map_or}
-use Rattle.relay_octets.specs.Line.{HasNoCrlf, begins_with_lf, crlf, ends_in_cr, has_crlf, line_text, lines_text}
+use Rattle.relay_octets.specs.Line.{HasNoCrlf, begins_with_lf, ends_in_cr, has_crlf, line_text, lines_text}
 use Rattle.relay_octets.proofs.Theorems.{no_crlf_back, no_crlf_by_test, no_crlf_joined}
 use Rattle.relay_trace.specs.HeaderSection.{IsFilledLine}
 use Rattle.relay_envelope.specs.Envelope.{IsRecipient}

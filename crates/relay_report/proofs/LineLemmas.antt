@@ -34,7 +34,7 @@ use Rattle.relay_report.proofs.HeaderLemmas.{above_none, and_false, boundary_abo
 use Rattle.relay_report.proofs.ShortLineLemmas.{IsShortDate, IsShortDay, each_joined, empty_line, field_line, joined, no_lines, one_line, part_none, typed_field, words_none}
 use Rattle.relay_report.proofs.SentenceLemmas.{greeting_lines, place_lines_are}
 use Rattle.relay_report.proofs.ReportShortLemmas.{boundary_short, front_short}
-use Rattle.relay_report.proofs.ShortLemmas.{action_short, envid_short, hop_short, length-typed, number_short, orcpt_short, plain_short, status_short, words_short, written_short}
+use Rattle.relay_report.proofs.ShortLemmas.{action_short, envid_short, hop_short, number_short, orcpt_short, plain_short, status_short, words_short, written_short}
 use Rattle.relay_report.proofs.PlainLemmas.{told_breaks_no_line}
 
 -- the fields of the message

@@ -7,8 +7,7 @@ use Rattle.relay_trace.specs.HeaderSection.{IsFilledLine, header_end_of}
 use Rattle.relay_trace.proofs.Theorems.{date_text_has_no_crlf, header_ends_at_empty_line, header_goes_on}
 use Rattle.relay_report.specs.Boundary.{StandsIn, StandsNowhere, numbered, stem_of}
 use Rattle.relay_report.specs.StatusFields.{field}
-use Rattle.relay_report.specs.Multipart.{Told, dash_boundary, encoding_of, first_part, header_fields, multipart_text, report_text, report_type, returned_type, returns_whole, second_part, third_part}
-use Rattle.relay_report.specs.Fits.{MayBeTold}
+use Rattle.relay_report.specs.Multipart.{dash_boundary, encoding_of, first_part, header_fields, multipart_text, report_text, report_type, returned_type, returns_whole, second_part, third_part}
 use Rattle.relay_report.specs.Split.{HasParts, OpensWith, ReportComesApart}
 use Rattle.relay_report.proofs.ApartLemmas.{IsAbove, OpensParts, multipart_opens, returned_head}
 use Rattle.relay_report.proofs.HeaderLemmas.{boundary_above, header_filled, header_is, header_lines}

@@ -1,5 +1,5 @@
 -- The sentences of a rich report: how many octets they have, and that they are short lines.
-use Rattle.std.proofs.Common.{◌≡◌, ℕ, ◌+◌, ◌<◌, ◌≤◌, ◌^◌, false, List, [], ◌∷◌, ◌++◌, codes, decimal, length, Option, None, Some, refl, sym, subst, arith, append_assoc, length-append}
+use Rattle.std.proofs.Common.{◌≡◌, ℕ, ◌+◌, ◌<◌, ◌≤◌, ◌^◌, false, List, ◌++◌, codes, decimal, length, Option, None, Some, refl, sym, subst, arith, append_assoc, length-append}
 use Rattle.relay_octets.specs.Line.{HasNoCrlf, begins_with_lf, crlf, ends_in_cr, has_crlf}
 use Rattle.relay_octets.proofs.Theorems.{no_crlf_by_test}
 use Rattle.relay_envelope.specs.Envelope.{IsRecipient}

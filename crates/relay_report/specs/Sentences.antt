@@ -1,7 +1,6 @@
 -- What a rich report says to people (RFC 3462, section 1): whom the mail was for, what went wrong in the words of the
 -- hop, what happens next, and until when.
-use Rattle.std.specs.Prelude.{ℕ, List, [], ◌++◌, codes, decimal, slice_get, Option, Some, None}
-use Rattle.std.specs.Option.{option_map_or}
+use Rattle.std.specs.Prelude.{ℕ, List, ◌++◌, codes, decimal, Option, Some, None}
 use Rattle.relay_octets.specs.Line.{crlf}
 use Rattle.relay_envelope.specs.declared.envelope.Recipient.{Recipient}
 use Rattle.relay_book.specs.declared.change.Verdict.{Verdict}

@@ -1,16 +1,15 @@
 -- Routed paths: what a search of the octets before a path's domain finds.
-use Rattle.std.proofs.Common.{◌≡◌, ◌⊎◌, inl, inr, ℕ, ◌+◌, ◌-◌, ◌≤◌, Bool, true, false, ◌||◌, List, [], ◌∷◌, ◌++◌, Option, None, Some, get_or, length, take, refl, sym, ap, ◌∙◌, arith, append_assoc}
-use Rattle.std.specs.List.{list_any}
+use Rattle.std.proofs.Common.{◌≡◌, ◌⊎◌, inl, inr, ℕ, ◌+◌, ◌-◌, ◌≤◌, true, false, ◌||◌, List, [], ◌∷◌, ◌++◌, Option, None, Some, get_or, length, take, sym, ap, ◌∙◌, arith, append_assoc}
 use Rattle.std.specs.Option.{is_some}
 use Rattle.std.proofs.Math.Bool.{or-true}
 use Rattle.std.proofs.Math.Seq.{take-append_seam}
-use Rattle.std.proofs.lemmas.Bool.{cases_Bool, false_from_ne_true, false≢true}
+use Rattle.std.proofs.lemmas.Bool.{false_from_ne_true}
 use Rattle.std.proofs.lemmas.List.{length-append}
 use Rattle.std.proofs.lemmas.List.Elements.{All-from_get_or}
 use Rattle.std.proofs.lemmas.List.Folds.{list_any-append, list_any_at, list_any_none}
 use Rattle.std.proofs.lemmas.Option.{none-some, same_Some}
 use Rattle.memchr.specs.Find.{IsFirstByte, is_byte3}
-use Rattle.relay_envelope.specs.Mailbox.{IsMailbox, IsRoute, IsSourceRoute, address_text}
+use Rattle.relay_envelope.specs.Mailbox.{IsRoute, IsSourceRoute, address_text}
 use Rattle.relay_envelope.specs.Path.{Path, domain_of, path_text}
 use Rattle.relay_envelope.specs.Path.Path.{Null, Postmaster, Mailbox}
 use Rattle.relay_routes.specs.RoutedPath.{RoutedIsNamed, is_routed, is_routing_octet, names_host}

@@ -1,9 +1,8 @@
 -- Calls that a fuse lets pass, any number of them.
-use Rattle.std.proofs.Common.{◌≡◌, ℕ, zero, suc, ◌+◌, ◌-◌, ◌≤◌, Option, Some, None, Result, Ok, Err, OnOk, refl, sym, subst, ◌∙◌, arith}
+use Rattle.std.proofs.Common.{◌≡◌, ℕ, zero, suc, ◌+◌, ◌-◌, ◌≤◌, Option, Some, None, Result, Ok, Err, OnOk, subst, ◌∙◌, arith}
 use Rattle.std.proofs.lemmas.Result.{IfOk-from_err}
 use Rattle.std.specs.Option.{option_map}
 use Rattle.std.specs.Result.{IsErr}
-use Rattle.relay_disk.specs.declared.disk.DiskFault.{DiskFault}
 use Rattle.relay_disk.specs.Device.{DiskWords, Burns}
 use Rattle.relay_spool.specs.Run.{MakesSome, Passes, PassesAny, PassesSome}
 use Rattle.relay_spool.proofs.CallLemmas.{calls_none, passed}

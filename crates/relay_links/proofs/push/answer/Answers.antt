@@ -2,7 +2,7 @@
 use Rattle.std.proofs.Common.{rules, ◌≡◌, ◌∙◌, Err, append-nil, sym, ap, subst, []}
 use Rattle.std.specs.Io.KnownBytes.{Appends}
 use Rattle.relay_links.specs.Push.{HasFailed, LeavesRecords}
-use Rattle.relay_links.proofs.PushLemmas.{answered_end, answered_on, gone_by_fault, grown_by, left_by_fault, refuses_octets, same_by, same_fault, some_number, tells_here}
+use Rattle.relay_links.proofs.PushLemmas.{answered_end, answered_on, gone_by_fault, grown_by, left_by_fault, refuses_octets, same_by, same_fault, tells_here}
 use Rattle.relay_links.proofs.push.answer.Goals as goal
 
 pub returns-in-Err-clause-goes : goal.returns-in-Err-clause-goes

@@ -1,6 +1,6 @@
 -- One read, and what the attempt makes of it.
 use Rattle.std.proofs.Common.{◌<◌, rules, [], length, take}
-use Rattle.relay_links.proofs.LinkLemmas.{read_none, read_nothing}
+use Rattle.relay_links.proofs.LinkLemmas.{read_none}
 use Rattle.relay_links.proofs.PushLemmas.{read_on}
 use Rattle.relay_links.proofs.push.exchange_block.Goals as goal
 

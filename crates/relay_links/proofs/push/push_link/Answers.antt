@@ -1,6 +1,6 @@
 -- A link of an attempt from its start to its end, or to its loss.
 use Rattle.std.proofs.Common.{[]}
-use Rattle.relay_links.proofs.PushLemmas.{begins, ends_since, rest_stays}
+use Rattle.relay_links.proofs.PushLemmas.{begins, ends_since}
 use Rattle.relay_links.proofs.push.push_link.Goals as goal
 
 pub returns-in-Ok-Ended-clause-pushed : goal.returns-in-Ok-Ended-clause-pushed

@@ -1,4 +1,4 @@
-use Rattle.std.proofs.Common.{◌≡◌, ℕ, List, Some, refl, subst, true, false, rules}
+use Rattle.std.proofs.Common.{◌≡◌, Some, subst, true, false, rules}
 use Rattle.relay_book.specs.declared.change.Outcome.{Outcome}
 use Rattle.relay_book.specs.Queue.{message_of}
 use Rattle.relay_report.specs.Report.{reporter_of}
