@@ -4,8 +4,6 @@ use Rattle.std.specs.Prelude.{slice_get}
 use Rattle.std.proofs.lemmas.Option.{same_Some}
 use Rattle.relay_disk.specs.Device.{DiskWords}
 use Rattle.relay_book.specs.declared.change.Change.{Change}
-use Rattle.relay_book.specs.declared.change.Withdrawal.{Withdrawal}
-use Rattle.relay_book.specs.declared.change.Verdict.{Verdict}
 use Rattle.relay_book.specs.declared.fate.Way.TheVariants.{ByEnd, ByWithdrawal}
 use Rattle.relay_book.specs.Marks.{Ended, First, Fourth, Held, IsOneOf, Second, Third, Transferred, Withdrawn}
 use Rattle.relay_world.specs.GivingUp.{Withdrawing}
@@ -17,7 +15,7 @@ use Rattle.relay_world.specs.Children.{IsAttempt}
 use Rattle.relay_world.specs.HopLinks.{AreLinkedToHops, IsLinkedToHop, LeadsTo}
 use Rattle.relay_world.specs.Lines.{HasSources}
 use Rattle.relay_world.specs.Once.{IsTriedOnce}
-use Rattle.relay_world.specs.Promise.{EndedFor, HasArrived, HasArrivedUnasked, HasEnded, IsHeld, IsPassedOn, IsWithdrawn, KeepsPromise, PromiseIsKept, StillHeld, UnaskedIsKept, WasPassedOn}
+use Rattle.relay_world.specs.Promise.{EndedFor, HasArrived, HasEnded, IsHeld, IsPassedOn, IsWithdrawn, KeepsPromise, PromiseIsKept, StillHeld, UnaskedIsKept, WasPassedOn}
 use Rattle.relay_world.specs.World.{Host, World}
 use Rattle.relay_world.proofs.AmongLemmas.{in_none}
 use Rattle.relay_world.proofs.ChainLemmas.{short_chains}

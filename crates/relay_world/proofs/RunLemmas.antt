@@ -7,7 +7,6 @@ use Rattle.relay_book.specs.declared.change.Change.{Change}
 use Rattle.relay_book.specs.declared.change.Change.TheVariants as change
 use Rattle.relay_book.specs.declared.change.Outcome.{Outcome}
 use Rattle.relay_book.specs.Marks.{change_at}
-use Rattle.relay_world.specs.GivingUp.{Withdrawing}
 use Rattle.relay_world.specs.Bound.{IsBound}
 use Rattle.relay_world.specs.Growth.{AttemptsGrow, RunsKeepAttempts}
 use Rattle.relay_world.specs.HopLinks.{AreLinkedToHops}
