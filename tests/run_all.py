@@ -41,6 +41,7 @@ SCRIPTS = [
     Script(["tests/closed_streams.py", RELAYD]),
     Script(["tests/want_of_descriptors.py", RELAYD]),
     Script(["tests/fault_lines.sh", RELAYD]),
+    Script(["tests/exit_statuses.py", RELAYD]),
     Script(["tests/check.py", RELAYD]),
     Script(["tests/two_relays.py", RELAYD]),
     Script(["tests/run.py", RELAYD], is_timed=True),
