@@ -118,8 +118,8 @@ def run(program, folder, sink, workers):
     same("messages that never came", [token for token in answered if token not in counts], [])
     same("breaches at the sink", sink.breaches, [])
     more, given = sum(count - 1 for count in counts.values()), sum(feeder.given for feeder in feeders)
-    print(f"crashes: {MOMENTS} kills, {workers} at once, {given} messages begun, {len(answered)} answered 250, none lost; "
-          f"the sink was given {len(counts)}, and {more} of them once more")
+    print(f"crashes: {MOMENTS} kills, {workers} at once, {given} messages begun, {len(answered)} answered 250, none "
+          f"lost; the sink was given {len(counts)}, and {more} of them once more")
 
 
 def main():

@@ -51,8 +51,8 @@ measure() {
         fi
         micros "${against:-$file}" wc "$option" >> "$theirs"
     done
-    awk -v name="$name" -v unit="$unit" -v count="$count" -v ours="$(median < "$ours")" -v theirs="$(median < "$theirs")" \
-        -v option="$option" 'BEGIN {
+    awk -v name="$name" -v unit="$unit" -v count="$count" -v ours="$(median < "$ours")" \
+        -v theirs="$(median < "$theirs")" -v option="$option" 'BEGIN {
             printf "%-52s %12.0f %s/s   %.2f of wc %s\n", name, count / ours * 1000000, unit, theirs / ours, option }'
 }
 
@@ -186,7 +186,8 @@ reports() {
     against=$room/stored.20 measure "library: the same, full of boundaries" octets "$(file_size "$room/stored.20")" \
         "$room/boundaries" -l 1 "${bench[@]}" reports 20
     compare "library: the same, beside one without a boundary" reports 20 \
-        "${bench[*]} reports 20 < $room/boundaries" "${bench[*]} reports 20 < $room/stored" "a report that returns 1 MiB"
+        "${bench[*]} reports 20 < $room/boundaries" "${bench[*]} reports 20 < $room/stored" \
+        "a report that returns 1 MiB"
 }
 
 # A spool of 62,430 bodies of 4,096 octets (its head, the links, and the last gate), and appends.
@@ -239,7 +240,8 @@ nodes() {
     transaction_of 1048576 > "$room/large"
     accepts="rm -f $disk/a $disk/a.2; ${bench[*]} accepts 60 $disk/a < $room/large"
     runs=11 compare "node: messages of 1 MiB on one session, on a file" octets 62914560 "$accepts" \
-        "rm -f $disk/b; dd if=/dev/zero of=$disk/b bs=1048576 count=60 oflag=dsync status=none" "dd with a sync for each"
+        "rm -f $disk/b; dd if=/dev/zero of=$disk/b bs=1048576 count=60 oflag=dsync status=none" \
+        "dd with a sync for each"
     runs=11 compare "node: the same, beside the syncs that they need" octets 62914560 "$accepts" \
         "$(bare_syncs 60 1048748)" "two bare syncs"
     full_node
@@ -247,11 +249,13 @@ nodes() {
         "${bench[*]} node 1 $room/node" "${bench[*]} open 1 $room/node" "opening the spool alone"
     awk -v octets="$("${bench[@]}" node 1 "$room/node" < /dev/null | awk '{ print $(NF - 1) * 1024 }')" \
         -v file="$(file_size "$room/node")" 'BEGIN {
-        printf "%-52s %12.0f octets at its peak, %.2f of the file\n", "node: the memory of that", octets, octets / file }'
+        printf "%-52s %12.0f octets at its peak, %.2f of the file\n",
+            "node: the memory of that", octets, octets / file }'
     compactions
     # A message of 1,024 octets adds 1,196 to the file: the time stamp line, envelope, length and gate.
     runs=31 compare "node: messages of 1 KiB on one session, on a file" messages 500 \
-        "rm -f $disk/a $disk/a.2; ${bench[*]} accepts 500 $disk/a < $room/small" "$(bare_syncs 500 1196)" "two bare syncs"
+        "rm -f $disk/a $disk/a.2; ${bench[*]} accepts 500 $disk/a < $room/small" "$(bare_syncs 500 1196)" \
+        "two bare syncs"
 }
 
 # The full file written anew, and opened again then. The program opens it first, which is taken off by the figure above.
@@ -262,9 +266,10 @@ compactions() {
     "${bench[@]}" compact 1 "$disk/a" < /dev/null > "$room/out"
     size=$(file_size "$disk/a.2")
     before=fresh_copy compare "node: 10,000 messages of 1 KiB that are compacted" octets "$size" \
-        "${bench[*]} compact 1 $disk/a" "rm -f $disk/b; dd if=$disk/a.2 of=$disk/b bs=1048576 conv=fsync status=none" "dd with one sync"
-    compare "node: a compacted spool that is opened" octets "$size" "${bench[*]} node 1 $disk/a" "${bench[*]} node 1 $room/node" \
-        "opening the chain of the same"
+        "${bench[*]} compact 1 $disk/a" \
+        "rm -f $disk/b; dd if=$disk/a.2 of=$disk/b bs=1048576 conv=fsync status=none" "dd with one sync"
+    compare "node: a compacted spool that is opened" octets "$size" "${bench[*]} node 1 $disk/a" \
+        "${bench[*]} node 1 $room/node" "opening the chain of the same"
 }
 
 # A file with 10,000 messages of 1 KiB, of which ten are due before the others, and one with 100, where they aren't made

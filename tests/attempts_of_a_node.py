@@ -143,7 +143,8 @@ def main(program):
     with tempfile.TemporaryDirectory() as folder:
         count = right(program, folder, [list(it.scenario()) for it in every if it not in wrong])
         otherwise(program, folder, [list(it.scenario()) for it in wrong])
-    print(f"attempts_of_a_node: {count} attempts, each with one session and with 64: as written down, and 4 others aren't")
+    print(f"attempts_of_a_node: {count} attempts, each with one session and with 64: as written down, and 4 others "
+          "aren't")
 
 
 if __name__ == "__main__":

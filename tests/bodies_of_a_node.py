@@ -113,7 +113,8 @@ def main(program):
     with tempfile.TemporaryDirectory() as folder:
         count = right(program, folder, [scenario(it) for it in lines if it not in wrong])
         others = otherwise(program, folder, [scenario(it) for it in wrong])
-    print(f"bodies_of_a_node: {count} rows of mail data, cut at every octet: as written down, and {others} others aren't")
+    print(f"bodies_of_a_node: {count} rows of mail data, cut at every octet: as written down, and {others} others "
+          "aren't")
 
 
 if __name__ == "__main__":

@@ -203,7 +203,8 @@ def values_are_shown_in_short(program):
             ('"a\\tb\\u001b[2J\u00e9"', '"a\\tb\\u{1b}[2J\\u{e9}"'), ('""', '""'), ("'''\na\n'''", '"a\\n"'),
             (f'"{2 * word}"', f'"{(2 * word)[:119]}"..'), (f'"{word}"', f'"{word}"'),
             ("1.5", "1.5"), ("-7", "-7"), ("false", "false"), ("1979-05-27T07:32:00Z", "1979-05-27T07:32:00Z"),
-            ("[]", "[]"), ("{}", "{}"), ("[\n1,\n2,\n]", "[1, 2]"), ("[1, [2]]", "[1, [..]]"), (f'["{word}", 1]', f'["{word[:29]}".., 1]'),
+            ("[]", "[]"), ("{}", "{}"), ("[\n1,\n2,\n]", "[1, 2]"), ("[1, [2]]", "[1, [..]]"),
+            (f'["{word}", 1]', f'["{word[:29]}".., 1]'),
             ('["a.example", 5, { b = 1, "c\\u001b" = 2 }, true]', '["a.example", 5, { b = .., c\\u{1b} = .. }, true]'),
             ('["192.0.2.0/24", "198.51.100.0/24", "203.0.113.0/24", "10.0.0.0/8"]',
              '["192.0.2.0/24", "198.51.100.0/24", "203.0.113.0/24", ..]'),
@@ -252,8 +253,8 @@ at = "127.0.0.1:0"
         '8:1: error: route example.net: name is missing: write name = "mx.example.org"',
         '8:1: error: route example.net: at is missing: write at = "192.0.2.1:25"',
         f"9:1: error: route example.edu = {HOP} stands twice: letter case makes no difference in a domain; remove one",
-        f"11:3: error: route example.com = {HOP.replace('2526', '2527')}: its hop's name has another address in another "
-        "route; give each address a name of its own",
+        f"11:3: error: route example.com = {HOP.replace('2526', '2527')}: its hop's name has another address in "
+        "another route; give each address a name of its own",
         '12:1: error: route example.int: at = "127.0.0.1:0" is no address: write an IPv4 address and a port, such as '
         '"192.0.2.1:25"'])
 

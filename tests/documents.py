@@ -1,7 +1,7 @@
 #!/usr/bin/env python3
-"""Compares the documents with the tree: links and their anchors, paths, quoted contracts, names of definitions, calls and
-must-fail edits, the file of each clause and definition that a document places in one, each crate's place, the length of
-lines and of documents. Prints each disagreement, and exits with 1 if there is one.
+"""Compares the documents with the tree: links and their anchors, paths, quoted contracts, names of definitions, calls
+and must-fail edits, the file of each clause and definition that a document places in one, each crate's place, the
+length of lines and of documents. Prints each disagreement, and exits with 1 if there is one.
 
     tests/documents.py
 """
@@ -133,7 +133,8 @@ def main():
     names = {name for text in text_of.values() for name in NAME.findall(text)}
     names |= {path.stem for path in tracked("crates/*.edit")} | set(NAME.findall((TOP / "crates.txt").read_text()))
     # A contract in a document begins at the margin, and so is compared without the code's margin.
-    code = "\n".join(re.sub(r"(?m)^    ", "", text) + "\n" + text for path, text in text_of.items() if path.suffix == ".rt")
+    sources = [text for path, text in text_of.items() if path.suffix == ".rt"]
+    code = "\n".join(re.sub(r"(?m)^    ", "", text) + "\n" + text for text in sources)
     faults = list(faults_of_crates(crates))
     documents = tracked("*.md")
     for path in documents:

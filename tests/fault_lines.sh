@@ -109,7 +109,8 @@ configuration empty/relay.spool
 for word in push serve compact; do
     refused 1 'relayd: spool NotASpool' "$word" --config relayd.toml
 done
-refused 1 $'relayd: spool NotASpool\nrelayd: run "relayd init --config relayd.toml" once' run --quiet --config relayd.toml
+refused 1 $'relayd: spool NotASpool\nrelayd: run "relayd init --config relayd.toml" once' \
+    run --quiet --config relayd.toml
 if [ -n "$(ls -A empty)" ]; then
     echo "a spool was made where there was none: $(ls -A empty)" >&2
     exit 1

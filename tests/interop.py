@@ -176,8 +176,8 @@ def through_a_hop(field, server):
 
 @contextlib.contextmanager
 def trusting_nobody(field, server):
-    """Within the block the relay trusts no client of this machine, and mail for domains without a line of their own goes
-    to the sink. Neither key is set in the configuration of later rows."""
+    """Within the block the relay trusts no client of this machine, and mail for domains without a line of their own
+    goes to the sink. Neither key is set in the configuration of later rows."""
     rules = {"trusted_clients": '["192.0.2.0/24"]', "routed_paths": '"refuse"'}
     field.relay.limits.update(rules)
     field.relay.route({"in.example": ("next.example", server.port), "*": ("sink.example", field.sink.port)})
@@ -382,7 +382,8 @@ def run_proxied(program, packages, header, folder, runs):
     of the balancer, which has the only client's address that is 127.0.0.1."""
     checked = re.compile(r" relayd: client-end client=127\.0\.0\.1:\d+ messages=0 rejected=0 .* reason=quit\n")
     with contextlib.ExitStack() as stack:
-        field = stack.enter_context(contextlib.closing(Field(program, packages, folder, runs, balancers='["127.0.0.1"]')))
+        field = stack.enter_context(
+            contextlib.closing(Field(program, packages, folder, runs, balancers='["127.0.0.1"]')))
         stack.enter_context(field.serving(logs=True))
         balancer = stack.enter_context(contextlib.closing(
             HaProxy(packages, field.relay.port, field.relay.port, header, interval="200ms")))

@@ -56,8 +56,8 @@ def can_make_rooms():
 
 
 class Server:
-    """One of the three servers. It listens when it is made, at a given port or at a free one. Its queue is in memory, or
-    in a given folder."""
+    """One of the three servers. It listens when it is made, at a given port or at a free one. Its queue is in memory,
+    or in a given folder."""
 
     users = ()
 

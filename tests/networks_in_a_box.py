@@ -1,8 +1,8 @@
 #!/usr/bin/env python3
-"""Plays networks of relays, each a whole relay in a box: 2 to 16 of them with connections among them, clients and a next
-hop outside, lost connections, disks that fail, and relays that are stopped. Judges the network by the promise alone: mail
-that was acknowledged arrives, or its sender gets the report; nothing arrives but what was sent; and there are no more
-copies than lost replies allow.
+"""Plays networks of relays, each a whole relay in a box: 2 to 16 of them with connections among them, clients and a
+next hop outside, lost connections, disks that fail, and relays that are stopped. Judges the network by the promise
+alone: mail that was acknowledged arrives, or its sender gets the report; nothing arrives but what was sent; and there
+are no more copies than lost replies allow.
 
     tests/networks_in_a_box.py build/relay_box_tests [COUNT [FIRST]] [--lanes N]
 

@@ -97,7 +97,8 @@ def fields_of(hop, place, kind, refusal, action, until, rich):
     if orcpt:
         kind_of_address, address = orcpt.split(";", 1)
         fields["Original-Recipient"] = f"{kind_of_address}; {plain(address)}"
-    fields["Status"] = {2: "2.0.0", 4: "4.4.7", 5: "5.6.3", 6: "5.1.2", 7: "5.0.0"}.get(kind) or status_of(refusal, rich)
+    status = {2: "2.0.0", 4: "4.4.7", 5: "5.6.3", 6: "5.1.2", 7: "5.0.0"}.get(kind)
+    fields["Status"] = status or status_of(refusal, rich)
     if action == "delayed":
         fields["Status"] = "4.0.0"
         if until <= LAST_SECOND:

@@ -229,7 +229,8 @@ def a_routed_address_is_refused_where_that_is_asked(field):
         with relay.running(), Client(relay) as client:
             client.begin()
             same("the reply to MAIL", client.say(b"MAIL FROM:<a@example.org>\r\n")[:4], "250 ")
-            for local in (b"victim%evil.example", b"evil.example!victim", b'"victim@evil.example"', b"@evil.example:victim"):
+            for local in (b"victim%evil.example", b"evil.example!victim", b'"victim@evil.example"',
+                          b"@evil.example:victim"):
                 same("the reply to a routed RCPT", client.say(b"RCPT TO:<" + local + b"@example.org>\r\n"), answer)
             same("the reply to RCPT", client.say(b"RCPT TO:<b@example.org>\r\n"), "250 recipient OK")
 

@@ -1,6 +1,6 @@
 #!/usr/bin/env python3
-"""Steers `relayd run` by its control socket, with subcommands and with octets of its own, and checks the mail. Withdraws
-mail from a spool on which no relay runs. Ends at the first difference.
+"""Steers `relayd run` by its control socket, with subcommands and with octets of its own, and checks the mail.
+Withdraws mail from a spool on which no relay runs. Ends at the first difference.
 
     tests/run_control.py build/relayd [ROW..]
 
@@ -585,8 +585,8 @@ def a_saved_message_is_its_text(field):
 
 
 def not_saved(relay, *words):
-    """Returns the output of a subcommand that saves, and so withdraws, only a part of the selected mail; and its lines on
-    standard error before the last."""
+    """Returns the output of a subcommand that saves, and so withdraws, only a part of the selected mail; and its lines
+    on standard error before the last."""
     ended = relay.ended(PATIENCE, *words)
     lines = ended.stderr.decode().splitlines()
     same(f"relayd {' '.join(words)}", (ended.returncode, lines[-1:]),

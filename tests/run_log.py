@@ -384,8 +384,8 @@ def a_spool_that_is_written_anew_has_a_line(field):
         field.sink.greet()
         field.arrived(1)
         until("a line", lambda: len(told(relay, "compacted")) == 1)
-    # Of the outcome: a gate, its length, its kind, message and moment, the hop's name, the number of places, a place and
-    # its verdict, and the length of no report.
+    # Of the outcome: a gate, its length, its kind, message and moment, the hop's name, the number of places, a place
+    # and its verdict, and the length of no report.
     before = accepted + 1 + 4 + 1 + 8 + 8 + 2 + len("next.example") + 1 + 2 + 4
     now = bodies_of(relay.second.read_bytes())[1]
     same("it", told(relay, "compacted"), [f"relayd: compacted before={before} after={now}"])

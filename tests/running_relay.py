@@ -382,7 +382,8 @@ def play_rows(name, rows):
             is_slow = isinstance(fault, (Slow, TimeoutError, subprocess.TimeoutExpired))
             if not is_slow or processors.taken <= CALM or number == ROUNDS - 1:
                 sys.exit(f"{name}: {row.__name__}: {text}")
-            print(f"{name}: {row.__name__}: again, since the host took {processors.taken:.0%} of the processors: {text}")
+            print(f"{name}: {row.__name__}: again, since the host took {processors.taken:.0%} of the processors: "
+                  f"{text}")
             wait_for_calm()
         if names:
             print(f"{name}: {row.__name__}: {time.monotonic() - begun:.1f} s")

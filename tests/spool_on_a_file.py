@@ -175,8 +175,8 @@ def main(program):
         spool = Spool(program, folder)
         for row in ROWS:
             row(spool)
-    print("spool_on_a_file: the calls of the device are in order, and a sync that fails, half a write and want of space "
-          "lose no message")
+    print("spool_on_a_file: the calls of the device are in order, and a sync that fails, half a write and want of "
+          "space lose no message")
 
 
 if __name__ == "__main__":

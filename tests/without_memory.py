@@ -31,7 +31,8 @@ CRATES = HERE.parent / "crates"
 ROWS = CRATES / "relay_rows_tests"
 DIALOGUES = [
     (CRATES / "relayd/stdin", CRATES / "relayd/stdout"),
-    *((HERE / f"rows/dialogues/{name}.in", HERE / f"rows/dialogues/{name}.ref") for name in ("parameters", "gathering")),
+    *((HERE / f"rows/dialogues/{name}.in", HERE / f"rows/dialogues/{name}.ref")
+      for name in ("parameters", "gathering")),
 ]
 BOOK_ROWS = re.compile(r"(apply|held|due).*")
 
