@@ -3,9 +3,11 @@ mod JoinLemmas
 mod LoadLemmas
 mod ObjectLemmas
 mod PartLemmas
+mod RecipientLemmas
 mod RowLemmas
 mod ScreenLemmas
 mod ShownLemmas
 mod TakenLemmas
 mod TextLemmas
+mod TotalLemmas
 mod WidthLemmas

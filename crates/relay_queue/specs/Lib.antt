@@ -4,5 +4,6 @@ pub mod Picks
 pub mod Table
 pub mod Objects
 pub mod Status
+pub mod Message
 pub mod Printed
 pub mod Selection

@@ -20,8 +20,9 @@ use Rattle.relay_queue.specs.declared.filter.Filter.{Filter}
 use Rattle.relay_listing.specs.Load.{queue_by_hop}
 use Rattle.relay_listing.specs.declared.load.Load.{Load}
 use Rattle.relay_queue.specs.Objects.{objects_text}
+use Rattle.relay_queue.specs.Message.{IsMessageText}
 use Rattle.relay_queue.specs.Picks.{AreListed}
-use Rattle.relay_queue.specs.Screen.{AreSafe, IsShownText}
+use Rattle.relay_queue.specs.Screen.{AreSafe}
 use Rattle.relay_queue.specs.Status.{IsSummary, fill_text, metrics_text}
 use Rattle.relay_queue.specs.Table.{IsTable}
 
@@ -46,26 +47,29 @@ pub record IsListPrinted (filter : Filter) (form : ListForm) (old new : Option (
   pub safe : AreSafe text
   pub written : Appends old new text
 
--- a message for people ends with its text, line by line
-pub record IsShown (stored_text : List ℕ) (old new : Option (List ℕ)) : Type 0 where
-  pub front : List ℕ
-  pub shown : List ℕ
-  pub text_is : IsShownText stored_text shown
-  pub safe : AreSafe (front ++ shown)
-  pub written : Appends old new (front ++ shown)
+-- a message for people, at a time that the clock has said
+pub record IsShown (table : RouteTable) (message : Message) (old new : Option (List ℕ)) : Type 0 where
+  pub now : ℕ
+  pub text : List ℕ
+  pub text_is : IsMessageText now table message text
+  pub safe : AreSafe text
+  pub written : Appends old new text
 
--- a stored text in a form: alone, octet by octet, or after what is known of the message
-abbrev pub IsTextPrinted : MessageForm → List ℕ → Option (List ℕ) → Option (List ℕ) → Type 0
-IsTextPrinted Shown stored_text old new = IsShown stored_text old new
-IsTextPrinted Raw stored_text old new = Appends old new stored_text
+-- a message in a form: its text alone, octet by octet, or after what is known of the message
+abbrev pub IsTextPrinted : MessageForm → RouteTable → Message → Option (List ℕ) → Option (List ℕ) → Type 0
+IsTextPrinted Shown table message old new = IsShown table message old new
+IsTextPrinted Raw table message old new = Appends old new message.accept.stored_text
 
--- the message of this number was printed, which is queued
+-- the message of this number was printed, which is queued, by the routes of a configuration
 pub record IsMessagePrinted (number : ℕ) (form : MessageForm) (old new : Option (List ℕ)) : Type 0 where
   pub records : Kept FileDisk
   pub opened : IsOpened records
+  pub document : List ℕ
+  pub config : Config
+  pub reads : ReadsConfig document (Ok config)
   pub message : Message
   pub queued : message_of records.queue.messages number ≡ Some message
-  pub printed : IsTextPrinted form message.accept.stored_text old new
+  pub printed : IsTextPrinted form config.routes message old new
 
 -- no message of this number is queued
 pub record IsNotQueued (number : ℕ) : Type 0 where

@@ -1,13 +1,15 @@
 -- The table of queued recipients: a heading, a line for each, and their sums.
-use Rattle.std.specs.Prelude.{◌≡◌, ◌==◌, ℕ, ◌-◌, nat_le, min, max, List, [], ◌∷◌, length, ◌++◌, codes, decimal, fold, map}
-use Rattle.std.specs.Prelude.{Option, None, Some, option_map, slice_get, unwrap_or, if◌then◌else◌}
+use Rattle.std.specs.Prelude.{◌≡◌, ◌==◌, ℕ, ◌-◌, nat_le, min, max, Bool, false, List, [], ◌∷◌, length, ◌++◌, codes}
+use Rattle.std.specs.Prelude.{decimal, fold, map, Option, None, Some, option_map, slice_get, unwrap_or, if◌then◌else◌}
 use Rattle.std.specs.List.{filter_map, flat_map}
 use Rattle.std.specs.Option.{option_map_or}
 use Rattle.relay_routes.specs.Routes.{RouteTable}
-use Rattle.relay_book.specs.Queue.{Queue}
+use Rattle.relay_book.specs.Queue.{Queue, message_of}
+use Rattle.relay_queue.specs.declared.table.Sums.{Sums}
 use Rattle.relay_queue.specs.declared.table.Totals.{Totals}
 use Rattle.relay_queue.specs.declared.table.Widths.{Widths}
 use Rattle.relay_listing.specs.Amounts.{size_text, span_text}
+use Rattle.relay_listing.specs.Load.{counted as sum_with}
 use Rattle.relay_queue.specs.Screen.{padding, shown}
 use Rattle.relay_listing.specs.Row.{Queued, queued_at}
 
@@ -122,9 +124,44 @@ totals_text totals =
     counted totals.messages (codes "message") ++ codes ", " ++ counted totals.recipients (codes "recipient")
     ++ codes ", " ++ size_text totals.octets ++ oldest_text totals.oldest ++ codes "\n"
 
--- the sums of the recipients with these keys, of which the first is the oldest
-pub record AreTotals (now : ℕ) (keys : List (ℕ × ℕ × ℕ)) (totals : Totals) : Type 0 where
+-- a number before others, unless it is the first of them
+abbrev pub number_before : ℕ → List ℕ → List ℕ
+number_before number [] = number ∷ []
+number_before number (next ∷ numbers) = if number == next then next ∷ numbers else number ∷ next ∷ numbers
+
+-- the numbers of the messages of these recipients, of which those of one message stand together: each number once
+abbrev pub numbers_of : List (ℕ × ℕ × ℕ) → List ℕ
+numbers_of [] = []
+numbers_of (key ∷ keys) = number_before key.1 (numbers_of keys)
+
+-- the size of the message of a number
+abbrev pub size_at : Queue → ℕ → ℕ
+size_at queue number = option_map_or (λ message. length message.accept.stored_text) (message_of queue.messages number) 0
+
+-- an amount for each of these messages, added up
+abbrev pub summed : (ℕ → ℕ) → List ℕ → ℕ
+summed amount numbers = fold (λ sum number. sum_with sum (amount number)) 0 numbers
+
+-- the message of this number was counted last
+abbrev pub is_last : Option ℕ → ℕ → Bool
+is_last None number = false
+is_last (Some last) number = last == number
+
+-- the sums with a recipient of the message of this number more
+abbrev pub sums_with : Queue → Sums → ℕ → Sums
+sums_with queue sums number =
+    if is_last sums.last number then sums
+    else record {
+      messages = sum_with sums.messages 1;
+      octets = sum_with sums.octets (size_at queue number);
+      last = Some number;
+    }
+
+-- the sums of the recipients with these keys, of which the first is the oldest: each message counts once
+pub record AreTotals (now : ℕ) (queue : Queue) (keys : List (ℕ × ℕ × ℕ)) (totals : Totals) : Type 0 where
+  pub messages : totals.messages ≡ summed (λ number. 1) (numbers_of keys)
   pub recipients : totals.recipients ≡ length keys
+  pub octets : totals.octets ≡ summed (size_at queue) (numbers_of keys)
   pub oldest : totals.oldest ≡ option_map (λ key. now - key.0) (slice_get keys 0)
 
 -- a table of the recipients with these keys, in their order
@@ -133,7 +170,7 @@ pub record IsTable (now : ℕ) (table : RouteTable) (queue : Queue) (keys : List
     pub rows : List ((ℕ × ℕ × ℕ) × List ℕ)
     pub totals : Totals
     pub keys_are : map (λ row. row.0) rows ≡ keys
-    pub sums : AreTotals now keys totals
+    pub sums : AreTotals now queue keys totals
     pub text_is :
         let widths : Widths = widths_for (queued_of table queue keys) in
         text ≡ heading_of widths keys ++ rows_text widths now table queue rows ++ totals_text totals

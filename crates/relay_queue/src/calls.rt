@@ -130,7 +130,7 @@ fn print_text<R: Files<File = File> + Env + Clock + AllocGlobal, W: Write>(
     form: MessageForm,
     writer: &mut W,
 ) -> Result<(), QueueFault>
-    ensures printed { OnOk result (IsTextPrinted form message.now.accept.stored_text (W.contents writer.old)
+    ensures printed { OnOk result (IsTextPrinted form table.now message.now (W.contents writer.old)
         (W.contents writer.new)) }
     ensures queued { IfErr result (λ fault. (number : ℕ) → ¬ (fault ≡ QueueFault.NotQueued number)) }
 {

@@ -2,9 +2,10 @@
 ghost use Rattle.std.specs.Prelude.{◌≡◌, ℕ, List, ◌++◌, ◌-◌, IfOk, OnOk, Some, length, max, min, option_map, slice_get};
 ghost use Rattle.relay_listing.specs.Row.{queued_at, said_by};
 ghost use Rattle.relay_queue.specs.Screen.{shown};
-ghost use Rattle.relay_queue.specs.Table.{AreTotals, IsTable, counted, heading_line, heading_of, name_cells, names_text};
-ghost use Rattle.relay_queue.specs.Table.{number_headings, numbers_text, oldest_text, queued_of, row_line, row_text};
-ghost use Rattle.relay_queue.specs.Table.{totals_text, tries_and_time, tries_in_words, tries_text, try_headings, wider_for, widths_for};
+ghost use Rattle.relay_queue.specs.Table.{AreTotals, IsTable, counted, heading_line, heading_of, is_last, name_cells};
+ghost use Rattle.relay_queue.specs.Table.{names_text, number_headings, numbers_text, oldest_text, queued_of, row_line};
+ghost use Rattle.relay_queue.specs.Table.{row_text, size_at, sums_with, totals_text, tries_and_time, tries_in_words};
+ghost use Rattle.relay_queue.specs.Table.{tries_text, try_headings, wider_for, widths_for};
 
 use crate::columns::{push_left, push_right};
 use crate::picks::Key;
@@ -38,6 +39,15 @@ struct Widths {
     reverse_path: usize,
     path: usize,
     hop: usize,
+}
+
+/// The sums of messages, one recipient after another.
+#[derive(Clone, Copy)]
+struct Sums {
+    messages: u64,
+    octets: u64,
+    /// The number of the message that was counted last.
+    last: Option<u64>,
 }
 
 /// The sums of the last line.
@@ -278,23 +288,46 @@ pub(crate) fn push_tries_in_words(screen: &mut Screen, tries: u8) -> Result<(), 
 
 /// Returns the sums of these recipients, of which those of one message stand together.
 fn totals_of<D: Disk>(records: &Records<D>, keys: &[Key], now: Moment) -> Totals
-    ensures { AreTotals now keys.now result }
+    ensures { AreTotals now records.now.queue keys.now result }
 {
-    let mut messages: u64 = 0;
-    let mut octets: u64 = 0;
-    let mut last = None;
-    for (_, number, _) in keys {
-        if last != Some(*number) {
-            last = Some(*number);
-            messages = messages.saturating_add(1);
-            octets = octets.saturating_add(size_of(records, *number));
-        }
+    let mut sums = Sums {
+        messages: 0,
+        octets: 0,
+        last: None,
+    };
+    for key in keys {
+        sums = sums_with(sums, records, key.1);
     }
     Totals {
-        messages,
+        messages: sums.messages,
         recipients: keys.len() as u64,
-        octets,
+        octets: sums.octets,
         oldest: age_of_first(keys, now),
+    }
+}
+
+/// Returns sums with one more recipient of the message of this number, which counts unless it was the last one.
+fn sums_with<D: Disk>(sums: Sums, records: &Records<D>, number: u64) -> Sums
+    ensures { result ≡ sums_with records.now.queue sums number }
+{
+    let size = size_of(records, number);
+    if is_last(sums.last, number) {
+        return sums;
+    }
+    Sums {
+        messages: sums.messages.saturating_add(1),
+        octets: sums.octets.saturating_add(size),
+        last: Some(number),
+    }
+}
+
+/// Returns whether the message of this number was counted last.
+fn is_last(last: Option<u64>, number: u64) -> bool
+    ensures { result ≡ is_last last number }
+{
+    match last {
+        Some(last) => last == number,
+        None => false,
     }
 }
 
@@ -309,7 +342,9 @@ pub(crate) fn age_of_first(keys: &[Key], now: Moment) -> Option<u64>
 }
 
 /// Returns how many octets a message has.
-fn size_of<D: Disk>(records: &Records<D>, number: u64) -> u64 {
+fn size_of<D: Disk>(records: &Records<D>, number: u64) -> u64
+    ensures { result ≡ size_at records.now.queue number }
+{
     match records.message(number) {
         Some(message) => message.accept.stored_text.len() as u64,
         None => 0,
