@@ -14,3 +14,4 @@ mod BeginningLemmas
 mod ReadLemmas
 mod LeaveLemmas
 mod LossLemmas
+mod TaskLemmas

@@ -50,7 +50,8 @@ unanswered_put {S} paces hops number hop free low =
 
 -- a pace that lets one begin is a lane's
 pub has_lane : (most tick : ℕ) (paces : List Pace) (lane : ℕ) → MayBeginAt most tick paces lane → HasLane paces lane
-has_lane most tick paces lane may none = subst (λ (pace : Option Pace). MatchOption pace ⊥ (MayBegin most tick)) none may
+has_lane most tick paces lane may none =
+    subst (λ (pace : Option Pace). MatchOption pace ⊥ (MayBegin most tick)) none may
 
 -- two calls for one lane after one another
 pub only_then : (lane : ℕ) (old between new : Lanes) → OnlyLane lane old between → OnlyLane lane between new → OnlyLane lane old new
@@ -61,6 +62,8 @@ only_then lane old between new one other = record {
   paces = λ number apart. other.paces number apart ∙ one.paces number apart;
   silent = λ silent. other.silent (one.silent silent);
   opened = other.opened ∙ one.opened;
+  unroutable = other.unroutable ∙ one.unroutable;
+  walk = other.walk ∙ one.walk;
   stale = λ is. other.stale (one.stale is);
 }
 

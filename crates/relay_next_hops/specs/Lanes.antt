@@ -69,7 +69,8 @@ abbrev pub IsNth : ℕ → ℕ → ℕ → ℕ → Type 0
 IsNth first count step lane = (first + step ≡ lane) ⊎ (first + step ≡ lane + count)
 
 -- A call for one lane: each other lane keeps its tasks and its pace, no next hop counts as having answered that didn't
--- before, and lanes that were open stay open. A postmaster holds the same mail, and a requested listing stays so.
+-- before, and lanes that were open stay open. A postmaster holds the same mail, the same messages wait to be given up,
+-- the walk over the queue doesn't go on, and a requested listing stays so.
 pub record OnlyLane (lane : ℕ) (old new : Lanes) : Type 0 where
   pub held : new.held ≡ old.held
   pub most : new.most ≡ old.most
@@ -77,6 +78,8 @@ pub record OnlyLane (lane : ℕ) (old new : Lanes) : Type 0 where
   pub paces : (other : ℕ) → other ≢ lane → slice_get new.paces other ≡ slice_get old.paces other
   pub silent : has_answered_at old.paces lane ≡ false → has_answered_at new.paces lane ≡ false
   pub opened : new.is_open ≡ old.is_open
+  pub unroutable : new.unroutable ≡ old.unroutable
+  pub walk : new.queued ≡ old.queued
   pub stale : old.is_stale ≡ true → new.is_stale ≡ true
 
 -- nothing may begin that couldn't before

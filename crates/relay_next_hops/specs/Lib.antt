@@ -7,6 +7,7 @@ pub mod Losses
 pub mod GoingOn
 pub mod Starting
 pub mod Steering
+pub mod Tasks
 pub mod Turns
 pub mod Overdue
 pub mod Tables

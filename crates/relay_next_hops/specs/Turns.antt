@@ -13,8 +13,9 @@ IsGoneOver tick spares old hops new lane = IsDone tick hops new lane ⊎ IsTried
 abbrev pub IsStopped : {S : Type 0} → List (Option (Hop S)) → ℕ → Type 0
 IsStopped hops spares = IsFull hops ⊎ (spares ≡ 0)
 
--- What was listed has begun, as far as it may: each lane was gone over, unless nothing may begin before a tick that is
--- still to come, there is no room for a connection, or no spare descriptor is left.
+-- How far a turn has gone: over each lane, unless nothing may begin before a tick that is still to come, there is no
+-- room for a connection, or no spare descriptor is left. What has become of the tasks that have left their lanes isn't
+-- said here, but by `DropsNone`.
 abbrev pub BeginsAll : {S : Type 0} → ℕ → ℕ → ℕ → ℕ → Lanes → Lanes → List (Option (Hop S)) → Type 0
 BeginsAll tick paused_until spares left old new hops = (tick < paused_until) ⊎ IsStopped hops left
     ⊎ ((lane : ℕ) → lane < length old.lanes.items → IsGoneOver tick spares old hops new lane)

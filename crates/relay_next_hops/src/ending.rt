@@ -6,8 +6,9 @@ ghost use Rattle.relay_connections.specs.Served.{LeavesClients};
 ghost use Rattle.relay_next_hops.specs.Deliveries.{portions_after};
 ghost use Rattle.relay_next_hops.specs.GoingOn.{ComesNext};
 ghost use Rattle.relay_next_hops.specs.Lanes.{KeepsCounts, KeepsPlaces, OnlyLane};
-ghost use Rattle.relay_next_hops.specs.Losses.{EndsLost, EndsLostOrTurnedAway, IsRecordedOrRefused, Loses, LosesAttempt};
-ghost use Rattle.relay_next_hops.specs.Losses.{LosesNot, LosesRunning, RefusesLoss, StartsAndLoses, StartsNothing};
+ghost use Rattle.relay_next_hops.specs.Losses.{EndsLost, EndsLostOrTurnedAway, IsRecordedOrRefused, Loses};
+ghost use Rattle.relay_next_hops.specs.Losses.{LosesAttempt, LosesNot, LosesRunning, RefusesLoss, StartsAndLoses};
+ghost use Rattle.relay_next_hops.specs.Losses.{StartsNothing};
 ghost use Rattle.relay_lanes.specs.Paces.{RunsOneLess};
 
 use crate::delivery::{Course, Delivery};
@@ -55,8 +56,8 @@ pub(crate) fn conclude<S: Stream + Drop, D: Disk>(
     )
 }
 
-/// Takes note of an attempt that was cut off, or whose mail transaction the next hop has ended by 421: the next ones for
-/// its message have half as many recipients.
+/// Takes note of an attempt that was cut off, or whose mail transaction the next hop has ended by 421: the next ones
+/// for its message have half as many recipients.
 fn note_cut(portions: &mut Portions, delivery: &Delivery, course: &Course)
     ensures { portions.new ≡ portions_after course.now delivery.now.attempt delivery.now.is_closed
         delivery.now.message portions.old }

@@ -1,4 +1,5 @@
-ghost use Rattle.std.specs.Prelude.{◌≡◌, ◌≢◌, ◌<◌, ◌≤◌, ℕ, IfErr, IfOk, List, MatchOption, None, OnOk, Some, length, true};
+ghost use Rattle.std.specs.Prelude.{◌≡◌, ◌≢◌, ◌<◌, ◌≤◌, ℕ, IfErr, IfOk, List, MatchOption, None, OnOk, Some, length};
+ghost use Rattle.std.specs.Prelude.{true};
 ghost use Rattle.relay_routes.specs.Routes.{Route};
 ghost use Rattle.relay_slots.specs.Slots.{AreFree, IsFull, IsLeastFree, OthersStay, slot_at};
 ghost use Rattle.relay_connections.specs.Table.{count_of, is_such};

@@ -4,6 +4,7 @@ ghost use Rattle.std.specs.Prelude.{false, length, option_to_list, slice_get, tr
 ghost use Rattle.relay_control.specs.Held.{HoldsNothing};
 ghost use Rattle.relay_next_hops.specs.Lanes.{IsNew, IsPutBack, KeepsCounts, KeepsPlaces};
 ghost use Rattle.relay_next_hops.specs.Lanes.{OnlyLane, closed, tasks_at};
+ghost use Rattle.relay_next_hops.specs.Tasks.{KeepsTasks};
 ghost use Rattle.relay_lanes.specs.Paces.{HasLane, IsHeldAt, MayBeginAt, RunsOneLess, RunsOneMore};
 ghost use Rattle.relay_lanes.specs.Paces.{has_answered_at};
 
@@ -186,6 +187,7 @@ impl Lanes {
         ensures tasks { tasks_at self.old number ≡ option_to_list result ++ tasks_at self.new number }
         ensures none { result ≡ None → MayBeginAt self.old.most now.now.tick self.old.paces number
             → tasks_at self.old number ≡ [] }
+        ensures stays { slice_get self.new.lanes.items number ≡ None → slice_get self.old.lanes.items number ≡ None }
         ensures counts { KeepsCounts self.old self.new }
         ensures paces { self.new.paces ≡ self.old.paces }
         ensures only { OnlyLane number self.old self.new }
@@ -201,6 +203,7 @@ impl Lanes {
     pub(crate) fn pop(&mut self, number: usize) -> Option<Task>
         ensures tasks { tasks_at self.old number ≡ option_to_list result ++ tasks_at self.new number }
         ensures none { result ≡ None → tasks_at self.old number ≡ [] }
+        ensures stays { slice_get self.new.lanes.items number ≡ None → slice_get self.old.lanes.items number ≡ None }
         ensures counts { KeepsCounts self.old self.new }
         ensures paces { self.new.paces ≡ self.old.paces }
         ensures only { OnlyLane number self.old self.new }
@@ -215,6 +218,7 @@ impl Lanes {
     /// again.
     pub(crate) fn put_back(&mut self, number: usize, task: Task)
         ensures back { IsPutBack number task self.old self.new }
+        ensures kept { KeepsTasks number self.old self.new }
         ensures counts { KeepsCounts self.old self.new }
         ensures only { OnlyLane number self.old self.new }
         ensures added { length (tasks_at self.new number) ≤ length (tasks_at self.old number) + 1 }

@@ -11,6 +11,7 @@ ghost use Rattle.relay_lanes.specs.Portions.{fresh};
 ghost use Rattle.relay_next_hops.specs.Readiness.{IsLeftHop, hops_of};
 ghost use Rattle.relay_next_hops.specs.Starting.{HasGivenUp, OpensUnheld};
 ghost use Rattle.relay_next_hops.specs.Tables.{TablesMatch};
+ghost use Rattle.relay_next_hops.specs.Tasks.{DropsNone, KeepsConnections};
 ghost use Rattle.relay_next_hops.specs.Turns.{BeginsAll};
 
 use crate::dial::Dial;
@@ -177,8 +178,8 @@ impl<S: Stream + Drop> NextHops<S> {
         self.lanes.note_leaving(leaving);
     }
 
-    /// Lists the messages that have arrived, and a part of all due mail, if a listing is in progress or has to begin. If
-    /// memory runs out, the next call tries again. Fails only if the device has failed.
+    /// Lists the messages that have arrived, and a part of all due mail, if a listing is in progress or has to begin.
+    /// If memory runs out, the next call tries again. Fails only if the device has failed.
     pub fn list<C: Clock, D: Disk>(
         &mut self,
         clock: &C,
@@ -208,8 +209,8 @@ impl<S: Stream + Drop> NextHops<S> {
     }
 
     /// Begins listed attempts, as far as they may begin, with the spare file descriptors, but opens no connection for
-    /// mail that is held; and gives up the places of one message that have no next hop. Returns whether it gave any up.
-    /// Fails only if the device has failed.
+    /// mail that is held; and gives up the places of one message that have no next hop. Drops no task that was listed.
+    /// Returns whether it gave any up. Fails only if the device has failed.
     pub fn begin<N: Dial<Stream = S>, D: Disk>(
         &mut self,
         dial: &mut N,
@@ -218,10 +219,16 @@ impl<S: Stream + Drop> NextHops<S> {
         now: &Now,
         log: &mut Log<'_, Vec<u8>>,
     ) -> Result<bool, Fault>
-        ensures begins { self.old.lanes.is_open ≡ true → OnOk result (BeginsAll now.now.tick self.old.starts.paused_until
-            (N.spares dial.old) (N.spares dial.new) self.old.lanes self.new.lanes (hops_of self.new)) }
+        ensures begins { self.old.lanes.is_open ≡ true → OnOk result (BeginsAll now.now.tick
+            self.old.starts.paused_until (N.spares dial.old) (N.spares dial.new) self.old.lanes self.new.lanes
+            (hops_of self.new)) }
+        ensures tasks { OnOk result (DropsNone D.honest D.words now.now.moment (hops_of self.new) self.old.lanes
+            self.new.lanes relay.old relay.new) }
+        ensures stand { OnOk result (KeepsConnections (hops_of self.old) (hops_of self.new)) }
         ensures unroutable { (message : ℕ) (rest : List ℕ) → self.old.lanes.unroutable.items ≡ message ∷ rest
-            → IfOk result (HasGivenUp D.words now.now.moment message relay.old self.new.lanes) }
+            → IfOk result (HasGivenUp D.honest D.words now.now.moment message relay.old relay.new self.new.lanes) }
+        ensures others { (message : ℕ) (rest : List ℕ) → self.old.lanes.unroutable.items ≡ message ∷ rest
+            → OnOk result (self.new.lanes.unroutable.items ≡ rest) }
         ensures matches { TablesMatch relay.old.node.config.routes.routes self.old
             → OnOk result (TablesMatch relay.old.node.config.routes.routes self.new) }
         ensures unheld { OnOk result (OpensUnheld self.old.lanes.held (hops_of self.old) (hops_of self.new)) }

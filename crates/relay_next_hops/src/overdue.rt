@@ -15,6 +15,7 @@ ghost use Rattle.relay_next_hops.specs.Lanes.{KeepsCounts, OnlyLane, tasks_at};
 ghost use Rattle.relay_lanes.specs.Lane.{first_message};
 ghost use Rattle.relay_next_hops.specs.Overdue.{Checks, LosesTask, TakesOut, checked_at, is_late, is_overdue};
 ghost use Rattle.relay_next_hops.specs.Overdue.{overdue_at, unchecked_at};
+ghost use Rattle.relay_next_hops.specs.Tasks.{SettlesAll};
 ghost use Rattle.relay_lanes.specs.Paces.{IsHeldAt};
 
 use crate::ending::lose_held;
@@ -58,6 +59,7 @@ pub(crate) fn lose_overdue<D: Disk>(
     ensures counts { KeepsCounts lanes.old lanes.new }
     ensures only { OnlyLane lane lanes.old lanes.new }
     ensures fewer { length (tasks_at lanes.new lane) ≤ length (tasks_at lanes.old lane) }
+    ensures tasks { OnOk result (SettlesAll D.honest D.words now.now.moment lanes.old lanes.new relay.old relay.new) }
     ensures config { relay.new.node.config ≡ relay.old.node.config }
     ensures leaves { OnOk result (LeavesClients D.honest D.words relay.old relay.new) }
 {

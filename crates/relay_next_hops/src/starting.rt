@@ -9,6 +9,7 @@ ghost use Rattle.relay_next_hops.specs.Lanes.{OnlyLane, tasks_at};
 ghost use Rattle.relay_lanes.specs.Paces.{HasLane};
 ghost use Rattle.relay_next_hops.specs.Starting.{IsBegun, IsEndOf, IsStep};
 ghost use Rattle.relay_next_hops.specs.Starting.{IsTried, OpensUnheld, back_of, step_after};
+ghost use Rattle.relay_next_hops.specs.Tasks.{DropsNone, KeepsConnections, KeepsTasks};
 
 use crate::delivery::{Aim, Delivery};
 use crate::dial::Dial;
@@ -134,6 +135,9 @@ pub(crate) fn start_lane<S: Stream + Drop, N: Dial<Stream = S>, D: Disk>(
     ensures fewer { OnOk result (length (tasks_at lanes.new lane) ≤ length (tasks_at lanes.old lane)) }
     ensures kept { N.spares dial.new ≤ N.spares dial.old }
     ensures unheld { OnOk result (OpensUnheld lanes.old.held hops.old.hops hops.new.hops) }
+    ensures tasks { OnOk result (DropsNone D.honest D.words now.now.moment hops.new.hops lanes.old lanes.new relay.old
+        relay.new) }
+    ensures stand { OnOk result (KeepsConnections hops.old.hops hops.new.hops) }
     ensures begun { IfOk result (IsBegun now.now.tick (N.spares dial.old) lanes.old hops.new.hops lanes.new
         (N.spares dial.new) lane) }
     ensures config { relay.new.node.config ≡ relay.old.node.config }
@@ -189,6 +193,9 @@ fn start_next<S: Stream + Drop, N: Dial<Stream = S>, D: Disk>(
     ensures fewer { OnOk result (length (tasks_at lanes.new lane) ≤ length (tasks_at lanes.old lane)) }
     ensures kept { N.spares dial.new ≡ N.spares dial.old }
     ensures unheld { OnOk result (OpensUnheld lanes.old.held hops.old.hops hops.new.hops) }
+    ensures tasks { OnOk result (DropsNone D.honest D.words now.now.moment hops.new.hops lanes.old lanes.new relay.old
+        relay.new) }
+    ensures stand { OnOk result (KeepsConnections hops.old.hops hops.new.hops) }
     ensures came { IfOk result (IsStep D.words (IsOpenedTo N.leads_to S.remaining S.contents) now.now lane
         hops.old.hops hops.new.hops lanes.old lanes.new relay.old relay.new) }
     ensures config { relay.new.node.config ≡ relay.old.node.config }
@@ -243,6 +250,7 @@ fn start_task<S: Stream + Drop, N: Dial<Stream = S>, D: Disk>(
         → IfOk result (IsTried D.words (IsOpenedTo N.leads_to S.remaining S.contents) now.now lane number task
         hops.old.hops hops.new.hops lanes.old lanes.new relay.old relay.new) }
     ensures only { OnlyLane lane lanes.old lanes.new }
+    ensures tasks { OnOk result (KeepsTasks lane lanes.old lanes.new) }
     ensures fewer { IfOk result (λ tried. length (tasks_at lanes.new lane)
         ≤ length (tasks_at lanes.old lane) + back_of tried) }
     ensures config { relay.new.node.config ≡ relay.old.node.config }

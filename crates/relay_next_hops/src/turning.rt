@@ -5,6 +5,7 @@ ghost use Rattle.relay_next_hops.specs.Counts.{CountsMatch};
 ghost use Rattle.relay_next_hops.specs.Deliveries.{AreAimed};
 ghost use Rattle.relay_next_hops.specs.Lanes.{IsNth, KeepsCounts, OnlyLane, tasks_at, turned_to};
 ghost use Rattle.relay_next_hops.specs.Starting.{IsDone, IsStoppedBy, OpensUnheld};
+ghost use Rattle.relay_next_hops.specs.Tasks.{DropsNone, KeepsConnections, SettlesAll};
 ghost use Rattle.relay_next_hops.specs.Turns.{BeginsAll};
 
 use crate::dial::Dial;
@@ -112,6 +113,10 @@ pub(crate) fn start_tasks<S: Stream + Drop, N: Dial<Stream = S>, D: Disk>(
         (N.spares dial.old) (N.spares dial.new) lanes.old lanes.new hops.new.hops) }
     ensures closes { lanes.old.is_open ≡ true → OnOk result ((lanes.new.is_open ≡ true)
         ⊎ ((lane : ℕ) → lane < length lanes.old.lanes.items → IsDone now.now.tick hops.new.hops lanes.new lane)) }
+    ensures tasks { OnOk result (DropsNone D.honest D.words now.now.moment hops.new.hops lanes.old lanes.new relay.old
+        relay.new) }
+    ensures stand { OnOk result (KeepsConnections hops.old.hops hops.new.hops) }
+    ensures unroutable { OnOk result (lanes.new.unroutable ≡ lanes.old.unroutable) }
     ensures stale { lanes.old.is_stale ≡ true → OnOk result (lanes.new.is_stale ≡ true) }
     ensures unheld { OnOk result (OpensUnheld lanes.old.held hops.old.hops hops.new.hops) }
     ensures held { lanes.new.held ≡ lanes.old.held }
@@ -163,6 +168,7 @@ fn lose_once<D: Disk>(
     ensures counts { KeepsCounts lanes.old lanes.new }
     ensures only { OnlyLane lane lanes.old lanes.new }
     ensures fewer { length (tasks_at lanes.new lane) ≤ length (tasks_at lanes.old lane) }
+    ensures tasks { OnOk result (SettlesAll D.honest D.words now.now.moment lanes.old lanes.new relay.old relay.new) }
     ensures config { relay.new.node.config ≡ relay.old.node.config }
     ensures leaves { OnOk result (LeavesClients D.honest D.words relay.old relay.new) }
 {

@@ -6,6 +6,7 @@ use Rattle.relay_next_hops.specs.Counts.{CountsMatch, unanswered_of}
 use Rattle.relay_next_hops.specs.Deliveries.{AreAimed}
 use Rattle.relay_next_hops.specs.Lanes.{OnlyLane, tasks_at}
 use Rattle.relay_next_hops.specs.Starting.{OpensUnheld}
+use Rattle.relay_next_hops.specs.Tasks.{DropsNone, KeepsConnections}
 use Rattle.relay_next_hops.proofs.starting.start_lane.Given as goal
 
 abbrev pub invariant-loop : goal.invariant-loop
@@ -17,6 +18,8 @@ invariant-loop g l = record {
       → AreAimed l.initial.relay.node.config.routes.routes l.hops.hops;
   only : OnlyLane l.lane l.initial.lanes l.lanes;
   unheld : OpensUnheld l.initial.lanes.held l.initial.hops.hops l.hops.hops;
+  drops : DropsNone g.D.Disk.honest g.D.Disk.words l.now.moment l.hops.hops l.initial.lanes l.lanes l.initial.relay l.relay;
+  stand : KeepsConnections l.initial.hops.hops l.hops.hops;
   more : unanswered_of l.initial.hops.hops l.initial.lanes.paces ≤ unanswered_of l.hops.hops l.lanes.paces;
   kept : g.N.Dial.spares l.dial ≤ g.N.Dial.spares l.initial.dial;
   tries : g.N.Dial.spares l.initial.dial ≤ g.N.Dial.spares l.dial + l.counter;

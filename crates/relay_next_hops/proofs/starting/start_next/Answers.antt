@@ -1,14 +1,16 @@
 -- The next task of the lane was tried.
-use Rattle.std.proofs.Common.{◌≡◌, ◌+◌, ◌≤◌, inr, true, false, List, length, refl, sym, ap, subst, ◌∙◌, add-one, arith}
+use Rattle.std.proofs.Common.{◌≡◌, ◌+◌, ◌≤◌, inl, inr, true, false, List, length, refl, sym, ap, subst, ◌∙◌, add-one, arith}
 use Rattle.relay_control.specs.Held.{holds}
 use Rattle.relay_limits.specs.declared.pace.Pace.{Pace}
 use Rattle.relay_next_hops.specs.Counts.{CountsMatch, unanswered_of}
 use Rattle.relay_next_hops.specs.Deliveries.{IsOpenedTo}
 use Rattle.relay_next_hops.specs.Lanes.{tasks_at}
-use Rattle.relay_lanes.specs.Paces.{HasLane}
+use Rattle.relay_lanes.specs.Paces.{HasLane, MayBeginAt}
 use Rattle.relay_next_hops.specs.Starting.{IsStep}
+use Rattle.relay_next_hops.specs.Tasks.{IsAccountedFor}
 use Rattle.relay_next_hops.proofs.LeaveLemmas.{leaves_same}
 use Rattle.relay_next_hops.proofs.StartLemmas.{back_few, same_unheld, step_is, tried_aimed, tried_counts, tried_unanswered, tried_unheld}
+use Rattle.relay_next_hops.proofs.TaskLemmas.{each_but, first_or_rest, has_lane_first, next_drops_none, none_left_lane, tried_accounts, tried_stand}
 use Rattle.relay_next_hops.proofs.TurnLemmas.{has_lane, only_then}
 use Rattle.relay_next_hops.proofs.starting.start_next.Goals as goal
 use Rattle.relay_next_hops.proofs.starting.start_next.Goals.{else-not-has_answered-via-then-not-has_answered+else-count_unanswered-ge-MOST_UNANSWERED, else-not-has_answered-via-else-not-has_answered}
@@ -45,7 +47,14 @@ returns g c =
       kept = c.in_ok-tried.ensures.kept;
       fewer = omega (arith, c.in_ok-tried.ensures.fewer, longer, back_few tried);
       unheld = tried_unheld words opened now lane number task hops_old hops_new between new relay_old relay_new old.held tried unheld comes;
-      came = subst (IsStep words opened now lane hops_old hops_new old new relay_old relay_new) (sym c.step_after.ensures)
+      tasks = next_drops_none g.D.Disk.honest words now.moment hops_new lane task old between new relay_old relay_new
+          c.in-Some-next.ensures.tasks c.in-Some-next.ensures.only c.in_ok-tried.ensures.only c.in_ok-tried.ensures.tasks
+          (tried_accounts words opened now lane number task hops_old hops_new between new relay_old relay_new g.D.Disk.honest tried comes low
+          c.in_ok-tried.ensures.only (λ none. has_lane_first old lane task (tasks_at between lane) c.in-Some-next.ensures.tasks (c.in-Some-next.ensures.stays none))
+          old.most (subst (λ (paces : List Pace). MayBeginAt old.most now.tick paces lane) (sym paces) may) c.in_ok-tried.ensures.leaves);
+      stand = tried_stand words opened now lane number task hops_old hops_new between new relay_old relay_new tried comes free;
+      came = subst (IsStep words opened now lane hops_old hops_new old new relay_old relay_new)
+          (sym c.step_after.ensures)
           (step_is words opened now lane hops_old hops_new old new relay_old relay_new tried
           (record {
             number = number;
@@ -86,6 +95,11 @@ returns-then-is_kept g c =
       fewer = omega (arith, longer);
       kept = refl;
       unheld = same_unheld old.held hops hops refl;
+      tasks = each_but lane task old between c.in-Some-next.ensures.only.tasks
+          (first_or_rest (tasks_at old lane) task (tasks_at between lane) c.in-Some-next.ensures.tasks)
+          (λ lane one. IsAccountedFor g.D.Disk.honest g.D.Disk.words c.args.now.now.moment hops lane one between c.args.relay.now c.args.relay.now)
+          (λ lane one there. inr (inl there)) (inr (inr (inr (inr (inl (sym c.is_kept.ensures ∙ c.if-is_kept.true))))));
+      stand = λ number hop there. there;
       came = (
         inr (record {
           task = task;
@@ -101,7 +115,20 @@ returns-then-is_kept g c =
       leaves = leaves_same g.D.Disk.honest g.D.Disk.words c.args.relay.now;
     }
 
--- No task is tried.
+-- No task is tried, and none leaves its lane.
+pub returns-in_default-clause-tasks : goal.returns-in_default-clause-tasks
+returns-in_default-clause-tasks g c = λ lane task there. inr (inl there)
+
+pub returns-then-not-may_begin-clause-tasks : goal.returns-then-not-may_begin-clause-tasks
+returns-then-not-may_begin-clause-tasks g c = λ lane task there. inr (inl there)
+
+pub returns-then-count_unanswered-ge-MOST_UNANSWERED-clause-tasks : goal.returns-then-count_unanswered-ge-MOST_UNANSWERED-clause-tasks
+returns-then-count_unanswered-ge-MOST_UNANSWERED-clause-tasks g c = λ lane task there. inr (inl there)
+
+pub returns-in_default-next-clause-tasks : goal.returns-in_default-next-clause-tasks
+returns-in_default-next-clause-tasks g c = λ lane task there. inr (inl (none_left_lane c.args.lane c.args.lanes.now c.next.new.self
+    c.in_default-next.ensures.only.tasks (sym c.in_default-next.ensures.tasks) lane task there))
+
 pub returns-in_default-clause-leaves : goal.returns-in_default-clause-leaves
 returns-in_default-clause-leaves g c = leaves_same g.D.Disk.honest g.D.Disk.words c.args.relay.now
 

@@ -5,12 +5,14 @@ use Rattle.relay_next_hops.specs.Counts.{unanswered_of}
 use Rattle.relay_next_hops.specs.Deliveries.{AreAimed}
 use Rattle.relay_next_hops.specs.Lanes.{tasks_at}
 use Rattle.relay_next_hops.specs.Starting.{IsDone, IsStoppedBy}
+use Rattle.relay_next_hops.specs.Tasks.{DropsNone}
 use Rattle.relay_next_hops.specs.Turns.{IsGoneOver}
 use Rattle.relay_next_hops.specs.declared.lanes.Lanes.{Lanes}
 use Rattle.relay_next_hops.proofs.LeaveLemmas.{leaves_same}
 use Rattle.relay_next_hops.proofs.RoundLemmas.{done_kept, done_own, fewer_then, gone_kept, gone_own, round_all, round_next, stopped}
 use Rattle.relay_next_hops.proofs.SlotLemmas.{counts_stay}
 use Rattle.relay_next_hops.proofs.StartLemmas.{same_unheld, unheld_then}
+use Rattle.relay_next_hops.proofs.TaskLemmas.{drops_then, stand_then}
 use Rattle.relay_next_hops.proofs.TurnLemmas.{only_then, unanswered_stay}
 use Rattle.relay_next_hops.proofs.turning.start_tasks.Goals as goal
 
@@ -24,6 +26,9 @@ loop-step-init g c = record {
   held = refl;
   opened = refl;
   stale = λ is. is;
+  unroutable = refl;
+  drops = λ lane task there. inr (inl there);
+  stand = λ number hop there. there;
   kept = omega arith;
   fewer = λ lane. omega arith;
   gone = λ lane past early. absurd (omega (arith, early));
@@ -49,7 +54,8 @@ loop-step-preserved g c =
     let only = only_then lane old between new lost.only began.only in
     let more : unanswered_of hops_old old.paces ≤ unanswered_of hops_new new.paces = omega (arith, unanswered_stay hops_old lane old between lost.only, began.more) in
     let goes = subst (IsStoppedBy c.in_ok-begun.begun) c.if-stops.false c.stops.ensures in
-    let few : length (tasks_at between lane) ≤ length (tasks_at start lane) = omega (arith, lost.fewer, before.fewer lane) in
+    let few : length (tasks_at between lane) ≤ length (tasks_at start lane) =
+    omega (arith, lost.fewer, before.fewer lane) in
     let short : c.loop-step.step < c.len-count.result + 1 = omega (arith, c.loop-step-test.true, c.saturating_add-step-end.ensures) in
     let honest = g.D.Disk.honest in
     let words = g.D.Disk.words in
@@ -64,6 +70,14 @@ loop-step-preserved g c =
       held = only.held ∙ before.held;
       opened = only.opened ∙ before.opened;
       stale = λ is. only.stale (before.stale is);
+      unroutable = only.unroutable ∙ before.unroutable;
+      drops = drops_then honest words c.args.now.now.moment hops_old hops_new start between new c.args.relay.now c.lose_once.new.relay c.start_lane.new.relay
+          began.only.held began.only.walk began.only.stale began.stand
+          (leaves_then honest words c.args.relay.now c.loop-step.relay c.lose_once.new.relay before.leaves lost.leaves) began.leaves
+          (drops_then honest words c.args.now.now.moment hops_old hops_old start old between c.args.relay.now c.loop-step.relay c.lose_once.new.relay
+          lost.only.held lost.only.walk lost.only.stale (λ number hop there. there) before.leaves lost.leaves before.drops (λ lane task there. inr (lost.tasks lane task there)))
+          began.tasks;
+      stand = stand_then c.args.hops.now.hops hops_old hops_new before.stand began.stand;
       kept = omega (arith, began.kept, before.kept);
       fewer = fewer_then start old new lane only (omega (arith, began.fewer, lost.fewer)) before.fewer;
       gone = round_next (IsGoneOver tick spares start hops_old old) (IsGoneOver tick spares start hops_new new) (min c.first-first.result c.len-count.result) c.len-count.result lane
@@ -101,6 +115,15 @@ returns-then-stops g c =
           (began.aimed (subst (λ config. AreAimed config.routes.routes hops_old) (sym same) (before.aimed aimed)));
       whole = λ opened. inr (inl stop);
       closes = λ opened. inl (ap (λ (lanes : Lanes). lanes.is_open) c.turn.ensures.rest ∙ only.opened ∙ before.opened ∙ opened);
+      tasks = subst (λ (lanes : Lanes). DropsNone g.D.Disk.honest g.D.Disk.words c.args.now.now.moment hops_new start lanes c.args.relay.now c.start_lane.new.relay) (sym c.turn.ensures.rest)
+          (drops_then g.D.Disk.honest g.D.Disk.words c.args.now.now.moment hops_old hops_new start between new c.args.relay.now c.lose_once.new.relay c.start_lane.new.relay
+          began.only.held began.only.walk began.only.stale began.stand
+          (leaves_then g.D.Disk.honest g.D.Disk.words c.args.relay.now c.loop-step.relay c.lose_once.new.relay before.leaves lost.leaves) began.leaves
+          (drops_then g.D.Disk.honest g.D.Disk.words c.args.now.now.moment hops_old hops_old start old between c.args.relay.now c.loop-step.relay c.lose_once.new.relay
+          lost.only.held lost.only.walk lost.only.stale (λ number hop there. there) before.leaves lost.leaves before.drops (λ lane task there. inr (lost.tasks lane task there)))
+          began.tasks);
+      stand = stand_then c.args.hops.now.hops hops_old hops_new before.stand began.stand;
+      unroutable = ap (λ (lanes : Lanes). lanes.unroutable) c.turn.ensures.rest ∙ only.unroutable ∙ before.unroutable;
       stale = λ is. ap (λ (lanes : Lanes). lanes.is_stale) c.turn.ensures.rest ∙ only.stale (before.stale is);
       unheld = unheld_then start.held between.held c.args.hops.now.hops hops_old hops_new (lost.only.held ∙ before.held) before.unheld began.unheld;
       held = c.turn.ensures.counts.held ∙ only.held ∙ before.held;
@@ -116,7 +139,8 @@ returns-then-has_lost-clause-whole g c = λ opened. inr (inr (λ lane low.
     let spares = g.N.Dial.spares c.args.dial.now in
     let start = c.args.lanes.now in
     let hops = c.loop-step.hops.hops in
-    let few : length start.lanes.items < 2 ^ 63 = omega (arith, start.lanes.ok.0, start.lanes.ok.1, start.lanes.small) in
+    let few : length start.lanes.items < 2 ^ 63 =
+    omega (arith, start.lanes.ok.0, start.lanes.ok.1, start.lanes.small) in
     let over : c.len-count.result < c.loop-step.step = omega (arith, c.len-count.ensures, c.saturating_add-step-end.ensures, c.loop-step-test.false, few) in
     let within : min c.first-first.result c.len-count.result ≤ c.len-count.result = omega arith in
     subst (λ (lanes : Lanes). IsGoneOver tick spares start hops lanes lane) (sym c.turn-2.ensures.rest)
@@ -128,7 +152,8 @@ returns-clause-whole g c = λ opened. inr (inr (λ lane low.
     let spares = g.N.Dial.spares c.args.dial.now in
     let start = c.args.lanes.now in
     let hops = c.loop-step.hops.hops in
-    let few : length start.lanes.items < 2 ^ 63 = omega (arith, start.lanes.ok.0, start.lanes.ok.1, start.lanes.small) in
+    let few : length start.lanes.items < 2 ^ 63 =
+    omega (arith, start.lanes.ok.0, start.lanes.ok.1, start.lanes.small) in
     let over : c.len-count.result < c.loop-step.step = omega (arith, c.len-count.ensures, c.saturating_add-step-end.ensures, c.loop-step-test.false, few) in
     let within : min c.first-first.result c.len-count.result ≤ c.len-count.result = omega arith in
     subst (λ (lanes : Lanes). IsGoneOver tick spares start hops lanes lane) (sym c.close.ensures.rest)
@@ -140,14 +165,31 @@ returns-clause-closes g c = λ opened. inr (λ lane low.
     let tick = c.args.now.now.tick in
     let start = c.args.lanes.now in
     let hops = c.loop-step.hops.hops in
-    let few : length start.lanes.items < 2 ^ 63 = omega (arith, start.lanes.ok.0, start.lanes.ok.1, start.lanes.small) in
+    let few : length start.lanes.items < 2 ^ 63 =
+    omega (arith, start.lanes.ok.0, start.lanes.ok.1, start.lanes.small) in
     let over : c.len-count.result < c.loop-step.step = omega (arith, c.len-count.ensures, c.saturating_add-step-end.ensures, c.loop-step-test.false, few) in
     let within : min c.first-first.result c.len-count.result ≤ c.len-count.result = omega arith in
     subst (λ (lanes : Lanes). IsDone tick hops lanes lane) (sym c.close.ensures.rest)
     (subst (λ (lanes : Lanes). IsDone tick hops lanes lane) (sym c.turn-2.ensures.rest)
     (round_all (IsDone tick hops c.loop-step.lanes) (min c.first-first.result c.len-count.result) c.len-count.result c.loop-step.step within over (c.loop-step.invariant.done c.if-has_more.false) lane (omega (arith, c.len-count.ensures, low)))))
 
+-- No task was dropped.
+pub returns-then-has_lost-clause-tasks : goal.returns-then-has_lost-clause-tasks
+returns-then-has_lost-clause-tasks g c =
+    subst (λ (lanes : Lanes). DropsNone g.D.Disk.honest g.D.Disk.words c.args.now.now.moment c.loop-step.hops.hops c.args.lanes.now lanes c.args.relay.now c.loop-step.relay)
+    (sym c.turn-2.ensures.rest) c.loop-step.invariant.drops
+
+pub returns-clause-tasks : goal.returns-clause-tasks
+returns-clause-tasks g c =
+    subst (λ (lanes : Lanes). DropsNone g.D.Disk.honest g.D.Disk.words c.args.now.now.moment c.loop-step.hops.hops c.args.lanes.now lanes c.args.relay.now c.loop-step.relay)
+    (sym c.close.ensures.rest)
+    (subst (λ (lanes : Lanes). DropsNone g.D.Disk.honest g.D.Disk.words c.args.now.now.moment c.loop-step.hops.hops c.args.lanes.now lanes c.args.relay.now c.loop-step.relay)
+    (sym c.turn-2.ensures.rest) c.loop-step.invariant.drops)
+
 -- No lane is visited.
+pub returns-then-not-is_open-clause-tasks : goal.returns-then-not-is_open-clause-tasks
+returns-then-not-is_open-clause-tasks g c = λ lane task there. inr (inl there)
+
 pub returns-then-not-is_open-clause-leaves : goal.returns-then-not-is_open-clause-leaves
 returns-then-not-is_open-clause-leaves g c = leaves_same g.D.Disk.honest g.D.Disk.words c.args.relay.now
 

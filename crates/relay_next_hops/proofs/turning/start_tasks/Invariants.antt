@@ -6,6 +6,7 @@ use Rattle.relay_next_hops.specs.Counts.{CountsMatch}
 use Rattle.relay_next_hops.specs.Deliveries.{AreAimed}
 use Rattle.relay_next_hops.specs.Lanes.{IsNth, tasks_at}
 use Rattle.relay_next_hops.specs.Starting.{IsDone, OpensUnheld}
+use Rattle.relay_next_hops.specs.Tasks.{DropsNone, KeepsConnections}
 use Rattle.relay_next_hops.specs.Turns.{IsGoneOver}
 use Rattle.relay_next_hops.proofs.turning.start_tasks.Given as goal
 
@@ -20,6 +21,9 @@ invariant-loop-step g l = record {
   held : l.lanes.held ≡ l.initial.lanes.held;
   opened : l.lanes.is_open ≡ l.initial.lanes.is_open;
   stale : l.initial.lanes.is_stale ≡ true → l.lanes.is_stale ≡ true;
+  unroutable : l.lanes.unroutable ≡ l.initial.lanes.unroutable;
+  drops : DropsNone g.D.Disk.honest g.D.Disk.words l.now.moment l.hops.hops l.initial.lanes l.lanes l.initial.relay l.relay;
+  stand : KeepsConnections l.initial.hops.hops l.hops.hops;
   kept : g.N.Dial.spares l.dial ≤ g.N.Dial.spares l.initial.dial;
   fewer : (lane : ℕ) → length (tasks_at l.lanes lane) ≤ length (tasks_at l.initial.lanes lane);
   gone : (lane past : ℕ) → past + 1 < l.step → lane < l.count → IsNth (min l.first l.count) l.count past lane
