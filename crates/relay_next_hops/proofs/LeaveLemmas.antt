@@ -49,7 +49,8 @@ relayed_but changes later old new attempt grown only own have = λ number stands
       record {
         told = had.told;
         written = had.written;
-        hands = others_hand changes later old new attempt number had.told had.written grown (inl (only, apart)) had.hands;
+        hands = others_hand changes later old new attempt number had.told had.written grown
+            (inl (only, apart)) had.hands;
       }
 
 -- where a node refuses a reply, or the loss of a connection, without having stopped, its records are the same
@@ -111,7 +112,8 @@ module _ {D : Type 0} (honest : Type 0) (words : DiskWords D) where
   leaves_on (Err fault) one two three first second = second
 
   -- an attempt has begun
-  pub start_leaves : (old new : RelayState D) (message : ℕ) (hop : List ℕ) (most : Option ℕ) (now : ℕ) (started : Started)
+  pub start_leaves : (old new : RelayState D) (message : ℕ) (hop : List ℕ) (most : Option ℕ) (now : ℕ)
+      (started : Started)
       → ((changes : List Change) → Keeps honest words old.node.records changes → StartsToAtMost changes message hop most now old new started) → new.node.records ≡ old.node.records → OnlyHop old new started.attempt
       → LeavesClients honest words old new
   start_leaves old new message hop most now started starts records only = record {
@@ -229,14 +231,15 @@ module _ {D : Type 0} (honest : Type 0) (words : DiskWords D) where
       → RefusesToGiveUp words reporter table message now old.node.records new.node.records fault
       → (new.node.config ≡ old.node.config) × (new.node.seats ≡ old.node.seats) × (new.node.attempts ≡ old.node.attempts) → (new.clients ≡ old.clients) × (new.hops ≡ old.hops)
       → LeavesClients honest words old new
-  ungiven_leaves reporter table message now old new fault other refused (config, seats, attempts) (clients, hops) = record {
-    clients = clients;
-    seats = seats;
-    config = config;
-    keeps = λ changes keeps relayed.
-        kept_still changes new (subst (λ (kept : Kept D). Keeps honest words kept changes) (sym (given_none words reporter table message now old.node.records new.node.records fault other refused)) keeps)
-        (relayed_on changes changes old new (inl refl) attempts hops config relayed);
-  }
+  ungiven_leaves reporter table message now old new fault other refused (config, seats, attempts)
+      (clients, hops) = record {
+        clients = clients;
+        seats = seats;
+        config = config;
+        keeps = λ changes keeps relayed.
+            kept_still changes new (subst (λ (kept : Kept D). Keeps honest words kept changes) (sym (given_none words reporter table message now old.node.records new.node.records fault other refused)) keeps)
+            (relayed_on changes changes old new (inl refl) attempts hops config relayed);
+      }
 
   -- a reply was heard
   replied : (changes : List Change) (attempt now : ℕ) (told : Told) (written piece : List ℕ) (old new : RelayState D) (answered : Answered) (change : Option ℕ) → Keeps honest words old.node.records changes

@@ -57,7 +57,8 @@ get_at (x ∷ xs) zero other low = refl
 get_at (x ∷ xs) (suc n) other low = get_at xs n other (omega (arith, low))
 
 -- what is found at the head of what is left
-pub get_dropped : {A : Type 0} (xs : List A) (n : ℕ) (x : A) (ys : List A) → drop n xs ≡ x ∷ ys → slice_get xs n ≡ Some x
+pub get_dropped : {A : Type 0} (xs : List A) (n : ℕ) (x : A) (ys : List A) → drop n xs ≡ x ∷ ys
+    → slice_get xs n ≡ Some x
 get_dropped [] zero x ys is = absurd (cc is)
 get_dropped [] (suc n) x ys is = absurd (cc is)
 get_dropped (first ∷ xs) zero x ys is = cc is
@@ -107,7 +108,8 @@ or_mid false b = refl
 -- one that is put among others leaves those that are there, and passes itself
 any_more : {A : Type 0} (p : A → Bool) (xs ys : List A) (x : A) → list_any p (xs ++ ys) ≡ true → list_any p (xs ++ x ∷ ys) ≡ true
 any_more p xs ys x passes =
-    list_any-append p xs (x ∷ ys) ∙ or_more (list_any p xs) (list_any p ys) (p x) (sym (list_any-append p xs ys) ∙ passes)
+    list_any-append p xs (x ∷ ys)
+    ∙ or_more (list_any p xs) (list_any p ys) (p x) (sym (list_any-append p xs ys) ∙ passes)
 
 any_mid : {A : Type 0} (p : A → Bool) (xs ys : List A) (x : A) → p x ≡ true → list_any p (xs ++ x ∷ ys) ≡ true
 any_mid p xs ys x passes =

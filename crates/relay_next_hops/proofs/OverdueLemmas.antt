@@ -61,7 +61,8 @@ parts_of (Some lane) =
     ∙ sym (append_assoc lane.early.items (take (length lane.tasks.items - lane.unchecked) lane.tasks.items) (unchecked_of lane))
 
 -- the tasks of a lane are those that were checked and those that weren't
-pub tasks_parts : (lanes : Lanes) (number : ℕ) → tasks_at lanes number ≡ checked_at lanes number ++ unchecked_at lanes number
+pub tasks_parts : (lanes : Lanes) (number : ℕ)
+    → tasks_at lanes number ≡ checked_at lanes number ++ unchecked_at lanes number
 tasks_parts lanes number = parts_of (slice_get lanes.lanes.items number)
 
 -- of no tasks none passes

@@ -47,7 +47,8 @@ one such slot = if is_such such slot then 1 else 0
 pub count_set : {A : Type 0} (such : A → Bool) (slots : List (Option A)) (number : ℕ) (value : Option A) → number < length slots → one such (slot_at slots number) + count_of_such such (slice_set slots number value) ≡ one such value + count_of_such such slots
 count_set such [] number value low = absurd (omega (arith, low))
 count_set such (slot ∷ slots) zero value low = omega arith
-count_set such (slot ∷ slots) (suc number) value low = omega (arith, count_set such slots number value (omega (arith, low)))
+count_set such (slot ∷ slots) (suc number) value low =
+    omega (arith, count_set such slots number value (omega (arith, low)))
 
 module _ {S : Type 0} (hops : List (Option (Hop S))) (number : ℕ) where
   -- one that is taken out is counted beside the table
@@ -63,7 +64,8 @@ module _ {S : Type 0} (hops : List (Option (Hop S))) (number : ℕ) where
   counts_put hop paces free low match_is lane =
       let set : one (is_in lane) (slot_at hops number) + count_of_such (is_in lane) (slice_set hops number (Some hop)) ≡ one (is_in lane) (Some hop) + count_of_such (is_in lane) hops = count_set (is_in lane) hops number (Some hop) low in
       let none : one (is_in lane) (slot_at hops number) ≡ 0 = ap (one (is_in lane)) free in
-      let counted : running_at paces lane ≡ one (is_in lane) (Some hop) + count_of_such (is_in lane) hops = match_is lane in
+      let counted : running_at paces lane ≡ one (is_in lane) (Some hop) + count_of_such (is_in lane) hops =
+      match_is lane in
       omega (arith, set, none, counted)
 
 -- where as many run as before, the counts match as before
@@ -80,12 +82,14 @@ counts_ended hop hops old new less match_is lane = by (eqb_tells hop.aim.lane la
   by (inl own) =
       let less_is : running_at new lane ≡ running_at old lane - 1 = subst (λ (lane : ℕ). running_at new lane ≡ running_at old lane - 1) own.1 less.own in
       let is : one (is_in lane) (Some hop) ≡ 1 = ap (λ (is : Bool). if is then 1 else 0) own.0 in
-      let counted : running_at old lane ≡ one (is_in lane) (Some hop) + count_of_such (is_in lane) hops = match_is lane in
+      let counted : running_at old lane ≡ one (is_in lane) (Some hop) + count_of_such (is_in lane) hops =
+      match_is lane in
       omega (arith, less_is, is, counted)
   by (inr apart) =
       let same : running_at new lane ≡ running_at old lane = less.others lane (λ same. apart.1 (sym same)) in
       let is : one (is_in lane) (Some hop) ≡ 0 = ap (λ (is : Bool). if is then 1 else 0) apart.0 in
-      let counted : running_at old lane ≡ one (is_in lane) (Some hop) + count_of_such (is_in lane) hops = match_is lane in
+      let counted : running_at old lane ≡ one (is_in lane) (Some hop) + count_of_such (is_in lane) hops =
+      match_is lane in
       omega (arith, same, is, counted)
 
 -- there are at most as many such as slots
@@ -117,7 +121,8 @@ same_count (Some value ∷ one) [] same = absurd (cc (same zero))
 same_count (None ∷ one) (None ∷ other) same = omega (arith, same_count one other (λ number. same (suc number)))
 same_count (None ∷ one) (Some value ∷ other) same = absurd (cc (same zero))
 same_count (Some value ∷ one) (None ∷ other) same = absurd (cc (same zero))
-same_count (Some value ∷ one) (Some value_2 ∷ other) same = omega (arith, same_count one other (λ number. same (suc number)))
+same_count (Some value ∷ one) (Some value_2 ∷ other) same =
+    omega (arith, same_count one other (λ number. same (suc number)))
 
 -- there are as many as stand, and so at most as many as there are slots up to the last of these
 pub few_stand : {A : Type 0} (slots standing : List (Option A)) → ((number : ℕ) → slot_at standing number ≡ slot_at slots number) → length standing ≤ 64 → count_of slots ≤ 64
@@ -141,7 +146,8 @@ counts_begun hop hops old new within more match_is lane = by (eqb_tells hop.aim.
 -- those of a table are aimed where one is taken out
 pub aimed_taken : {S : Type 0} (routes : List Route) (hops : List (Option (Hop S))) (number : ℕ) → AreAimed routes hops → AreAimed routes (slice_set hops number None)
 aimed_taken routes hops number aimed other hop there = by (eqb_tells other number) where
-  by : ((eqb other number ≡ true) × (other ≡ number)) ⊎ ((eqb other number ≡ false) × (other ≢ number)) → IsAimed routes hop
+  by : ((eqb other number ≡ true) × (other ≡ number)) ⊎ ((eqb other number ≡ false) × (other ≢ number))
+      → IsAimed routes hop
   by (inl own) = absurd (cc (sym there ∙ ap (slot_at (slice_set hops number None)) own.1 ∙ set_there hops number None low)) where
     low : number < length hops
     low = subst (λ (length : ℕ). number < length) (length_set hops number None) (some_within (slice_set hops number None) number hop (ap (slot_at (slice_set hops number None)) (sym own.1) ∙ there))
@@ -170,7 +176,8 @@ free_at (None ∷ slots) free zero = refl
 free_at (None ∷ slots) free (suc number) = free_at slots free number
 free_at (Some value ∷ slots) free number = absurd free
 
-pub none_counted : {A : Type 0} (such : A → Bool) (slots : List (Option A)) → AreFree slots → count_of_such such slots ≡ 0
+pub none_counted : {A : Type 0} (such : A → Bool) (slots : List (Option A)) → AreFree slots
+    → count_of_such such slots ≡ 0
 none_counted such [] free = refl
 none_counted such (None ∷ slots) free = omega (arith, none_counted such slots free)
 none_counted such (Some value ∷ slots) free = absurd free
@@ -204,7 +211,8 @@ module _ {S : Type 0} (hops : List (Option (Hop S))) (number : ℕ) (hop : Hop S
   taken_free = set_there hops number None (some_within hops number hop there)
 
   pub taken_low : number < length (slice_set hops number None)
-  taken_low = subst (λ (length : ℕ). number < length) (sym (length_set hops number None)) (some_within hops number hop there)
+  taken_low = subst (λ (length : ℕ). number < length) (sym (length_set hops number None))
+      (some_within hops number hop there)
 
   -- one that is taken out and put back with its delivery counts as before, and is aimed as before
   pub counts_back : (after : Hop S) (paces : List Pace) → KeepsDelivery hop after → CountsMatch hops paces → CountsMatch (slice_set (slice_set hops number None) number (Some after)) paces
@@ -270,10 +278,11 @@ cleared_more slots new number is before other low = by (below_or_after other num
     same = omega (arith, low, afterwards)
 
 pub all_cleared : {A : Type 0} (slots : List (Option A)) (number count : ℕ) → count ≤ number → ((other : ℕ) → other < number → slot_at slots other ≡ None) → ((other : ℕ) → count ≤ other → slot_at slots other ≡ None) → AreFree slots
-all_cleared slots number count past before afterwards = free_of slots (λ other. by other (below_or_after other number)) where
-  by : (other : ℕ) → (other < number) ⊎ (number ≤ other) → slot_at slots other ≡ None
-  by other (inl low) = before other low
-  by other (inr high) = afterwards other (omega (arith, past, high))
+all_cleared slots number count past before afterwards =
+    free_of slots (λ other. by other (below_or_after other number)) where
+      by : (other : ℕ) → (other < number) ⊎ (number ≤ other) → slot_at slots other ≡ None
+      by other (inl low) = before other low
+      by other (inr high) = afterwards other (omega (arith, past, high))
 
 -- One is taken out, and worked on; it keeps its delivery.
 module _ {S : Type 0} (hops taken : List (Option (Hop S))) (number : ℕ) (hop after : Hop S) (there : Some hop ≡ slot_at hops number) (rest : taken ≡ slice_set hops number None) (keeps : KeepsDelivery hop after) where
@@ -281,7 +290,8 @@ module _ {S : Type 0} (hops taken : List (Option (Hop S))) (number : ℕ) (hop a
   out_free = ap (λ hops. slot_at hops number) rest ∙ taken_free hops number hop (sym there)
 
   pub out_low : number < length taken
-  out_low = subst (λ (hops : List (Option (Hop S))). number < length hops) (sym rest) (taken_low hops number hop (sym there))
+  out_low = subst (λ (hops : List (Option (Hop S))). number < length hops) (sym rest)
+      (taken_low hops number hop (sym there))
 
   pub out_counts : (old new : List Pace) → RunAsBefore old new → CountsMatch hops old → CountsMatchWith after taken new
   out_counts old new same match_is = subst (λ (hops : List (Option (Hop S))). CountsMatchWith after hops new) (sym rest) (counts_out hops number hop (sym there) after old new keeps same match_is)

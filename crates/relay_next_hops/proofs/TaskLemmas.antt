@@ -27,7 +27,7 @@ use Rattle.relay_next_hops.specs.Lanes.{IsPutBack, OnlyLane, tasks_at}
 use Rattle.relay_next_hops.specs.Losses.{EndsLost}
 use Rattle.relay_next_hops.specs.Overdue.{TakesOut}
 use Rattle.relay_next_hops.specs.Starting.{ConnectsFor, FailsFor, IsTried}
-use Rattle.relay_next_hops.specs.Tasks.{DropsNone, IsAccountedFor, IsLostIn, IsSettled, KeepsConnections, KeepsTasks, SettlesAll}
+use Rattle.relay_next_hops.specs.Tasks.{DropsNone, IsAccountedFor, IsSettled, KeepsConnections, KeepsTasks, SettlesAll}
 use Rattle.relay_next_hops.specs.declared.delivery.Aim.{Aim}
 use Rattle.relay_next_hops.specs.declared.hop.Hop.{Hop}
 use Rattle.relay_next_hops.specs.declared.lanes.Lanes.{Lanes}
