@@ -1,7 +1,8 @@
 //! Answers of the control socket: lines, the last of which says how the request ended.
 ghost use Rattle.std.specs.Prelude.{◌≡◌, ◌++◌, ◌∷◌, [], MatchOption, OnOk, map};
 ghost use Rattle.relay_lines.specs.Word.{shown};
-ghost use Rattle.relay_control.specs.Answer.{EndsInNoLf, HasNoAnswer, IsEnd, IsNoEnd, IsWhole, ReadsAnswer, end_text, line_text};
+ghost use Rattle.relay_control.specs.Answer.{EndsInNoLf, HasNoAnswer, IsEnd, IsNoEnd, IsWhole, ReadsAnswer, end_text};
+ghost use Rattle.relay_control.specs.Answer.{line_text};
 ghost use Rattle.relay_control.specs.Request.{HasNo};
 
 use crate::front::after;

@@ -3,7 +3,8 @@ ghost use Rattle.std.specs.List.{AllByRecursion};
 ghost use Rattle.std.specs.Prelude.{◌≡◌, ◌<◌, ◌^◌, Err, IfOk, List, MatchOption, Some, string_bytes, ℕ};
 ghost use Rattle.toml.specs.Data.{array, get_member};
 ghost use Rattle.toml.specs.View.{items_view, table_view, view};
-ghost use Rattle.relay_control.specs.HeldFile.{AreMessages, AreNames, HasNoArray, HoldsDocument, HoldsNumbers, IsBadText};
+ghost use Rattle.relay_control.specs.HeldFile.{AreMessages, AreNames, HasNoArray, HoldsDocument, HoldsNumbers};
+ghost use Rattle.relay_control.specs.HeldFile.{IsBadText};
 ghost use Rattle.relay_control.specs.HeldFile.{IsDocumentOf, IsMessage, IsName, IsTextOf, ReadsHeld, SaysNothing};
 ghost use Rattle.relay_control.specs.HeldFile.{document_with};
 

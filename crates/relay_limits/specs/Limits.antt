@@ -3,7 +3,9 @@ use Rattle.std.specs.Prelude.{◌≡◌, ℕ, ◌≤◌, List, codes, Option, So
 use Rattle.toml.specs.Data.{Data, Members, integer, string, get_member}
 use Rattle.relay_limits.specs.Port.{port_in}
 use Rattle.relay_limits.specs.declared.limit.Limit.{Limit}
-use Rattle.relay_limits.specs.declared.limit.Limit.TheVariants.{SessionsPerClient, AttemptsPerHop, RecipientsPerAttempt, ClientTimeout, StatusListen, Log, Balancers, Clients, Control, ControlGroup}
+use Rattle.relay_limits.specs.declared.limit.Limit.TheVariants.{SessionsPerClient, AttemptsPerHop, RecipientsPerAttempt}
+use Rattle.relay_limits.specs.declared.limit.Limit.TheVariants.{ClientTimeout, StatusListen, Log, Balancers, Clients}
+use Rattle.relay_limits.specs.declared.limit.Limit.TheVariants.{Control, ControlGroup}
 use Rattle.relay_limits.specs.declared.limits.Limits.{Limits}
 use Rattle.relay_limits.specs.declared.log_form.LogForm.{LogForm}
 use Rattle.relay_limits.specs.declared.log_form.LogForm.TheVariants.{Text, Json}

@@ -27,7 +27,8 @@ use Rattle.relay_course.specs.Course.{joined}
 use Rattle.relay_course.specs.Laws.{IsDelivery, accepted_places}
 use Rattle.relay_course.specs.RelayLaws.{opening_replies}
 use Rattle.relay_meeting.specs.Meeting.{Meets, replies_by}
-use Rattle.relay_meeting.specs.Script.{AreRcpts, AreTried, Tried, client_in, envelope_after, opened_of, refusal_row, script_of}
+use Rattle.relay_meeting.specs.Script.{AreRcpts, AreTried, Tried, client_in, envelope_after, opened_of, refusal_row}
+use Rattle.relay_meeting.specs.Script.{script_of}
 
 -- MAIL's values, and the accepted recipients in order
 abbrev pub child_envelope : Delivery → List Tried → Envelope

@@ -4,7 +4,8 @@ use Rattle.relay_listing.specs.Pieces.{joined}
 use Rattle.relay_page.specs.declared.response.Kind.{Kind}
 use Rattle.relay_page.specs.declared.response.Kind.TheVariants.{Html, Metrics, JsonLines, Plain}
 use Rattle.relay_page.specs.declared.response.Code.{Code}
-use Rattle.relay_page.specs.declared.response.Code.TheVariants.{Found, BadRequest, Forbidden, NotFound, BadMethod, TooLarge, Unavailable}
+use Rattle.relay_page.specs.declared.response.Code.TheVariants.{Found, BadRequest, Forbidden, NotFound, BadMethod}
+use Rattle.relay_page.specs.declared.response.Code.TheVariants.{TooLarge, Unavailable}
 use Rattle.relay_page.specs.declared.response.TheConstants.{FIELDS}
 use Rattle.relay_page.specs.declared.request.Refusal.{Refusal}
 use Rattle.relay_page.specs.declared.request.Refusal.TheVariants as refusals

@@ -1,6 +1,7 @@
 //! Version 2: a header is a block of octets that says its own length.
 ghost use Rattle.std.specs.Prelude.{◌≡◌, ◌++◌, MatchOption};
-ghost use Rattle.relay_proxy.specs.Block.{HasNoMeaning, SaysOfBlock, WritesIpv4, lacks_addresses, other_size, signature};
+ghost use Rattle.relay_proxy.specs.Block.{HasNoMeaning, SaysOfBlock, WritesIpv4, lacks_addresses, other_size};
+ghost use Rattle.relay_proxy.specs.Block.{signature};
 ghost use Rattle.relay_proxy.specs.Header.{Reads};
 
 use crate::header::{Header, Reading};

@@ -1,6 +1,7 @@
 //! Words of a header line: addresses and ports, with one space between them.
 ghost use Rattle.std.specs.Prelude.{◌<◌, ◌↔◌, IsTrue, MatchOption, slice_index};
-ghost use Rattle.relay_proxy.specs.Word.{Cuts, HasNoAddress, HasNoPort, HasNoPortWord, HasNoSpace, IsPort, ReadsAddress};
+ghost use Rattle.relay_proxy.specs.Word.{Cuts, HasNoAddress, HasNoPort, HasNoPortWord, HasNoSpace, IsPort};
+ghost use Rattle.relay_proxy.specs.Word.{ReadsAddress};
 ghost use Rattle.relay_proxy.specs.Word.{ReadsPort};
 
 use memchr::memchr;

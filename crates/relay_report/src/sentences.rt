@@ -1,7 +1,8 @@
 //! What a rich report says to people.
 ghost use Rattle.std.specs.Prelude.{◌≡◌, ◌++◌, OnOk};
 ghost use Rattle.std.specs.Option.{option_copied};
-ghost use Rattle.relay_report.specs.Sentences.{event_lines, greeting, left_lines, next_lines, place_lines, refusal_lines};
+ghost use Rattle.relay_report.specs.Sentences.{event_lines, greeting, left_lines, next_lines, place_lines};
+ghost use Rattle.relay_report.specs.Sentences.{refusal_lines};
 ghost use Rattle.relay_report.specs.Sentences.{reply_line, trying_line, trying_lines};
 
 use crate::field::push_sentence;

@@ -1,5 +1,6 @@
 -- Reading the configuration of a running relay again: when its new one takes effect, and what stays.
-use Rattle.std.specs.Prelude.{◌≡◌, ◌≢◌, ◌⊎◌, ℕ, ◌+◌, ◌-◌, ◌*◌, ◌^◌, ◌≤◌, min, List, Option, None, Some, IfSome, MatchOption}
+use Rattle.std.specs.Prelude.{◌≡◌, ◌≢◌, ◌⊎◌, ℕ, ◌+◌, ◌-◌, ◌*◌, ◌^◌, ◌≤◌, min, List, Option, None, Some, IfSome}
+use Rattle.std.specs.Prelude.{MatchOption}
 use Rattle.std.specs.Prelude.{Result, Ok, Err, codes, option_map, string_bytes}
 use Rattle.std.specs.Global.{Vec}
 use Rattle.relay_connections.specs.Leaving.{leavers_of}
@@ -12,7 +13,8 @@ use Rattle.relay_control.specs.Answer.{error_text}
 use Rattle.relay_control.specs.Held.{holds_hop, holds_message}
 use Rattle.relay_control.specs.declared.held.Held.{Held}
 use Rattle.relay_control.specs.declared.request.Request.{Request}
-use Rattle.relay_control.specs.declared.request.Request.TheVariants.{Flush, Hold, Release, Return, Discard, Reload as Reloads, Drain}
+use Rattle.relay_control.specs.declared.request.Request.TheVariants.{Flush, Hold, Release, Return, Discard}
+use Rattle.relay_control.specs.declared.request.Request.TheVariants.{Reload as Reloads, Drain}
 use Rattle.relay_files.specs.declared.fault.Fault.{Fault}
 use Rattle.relay_next_hops.specs.Readiness.{hops_of}
 use Rattle.relay_next_hops.specs.declared.next_hops.NextHops.{NextHops}
@@ -71,7 +73,8 @@ module _ {O : Type 0} (has_read : O → List ℕ → Result Settings Fault → T
       ((fault : Fault) × HasRead source (Err fault) × IsError answer)
       ⊎ ((settings : Settings) × HasRead source (Ok settings) × ¬ KeepsPlaces source config settings × IsError answer)
 
-  -- A reload is refused for the first of these reasons: the relay drains; another reload waits; its configuration is bad.
+  -- A reload is refused for the first of these reasons: the relay drains; another reload waits; its configuration is
+  -- bad.
   abbrev pub RefusesReload : {E : Type 0} → Config → Steering → Result (Vec ℕ) E → Type 0
   RefusesReload config steering answer =
       ((steering.drain ≢ None) × IsText answer (error_text (codes "the relay drains")))

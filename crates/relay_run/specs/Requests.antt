@@ -7,7 +7,8 @@ use Rattle.relay_control.specs.Answer.{end_text, error_text, line_text}
 use Rattle.relay_control.specs.Held.{Sets, holds_scope}
 use Rattle.relay_control.specs.declared.answer.End.TheVariants.{Done}
 use Rattle.relay_control.specs.declared.request.Request.{Request}
-use Rattle.relay_control.specs.declared.request.Request.TheVariants.{Flush, Hold, Release, Return, Discard, Reload, Drain}
+use Rattle.relay_control.specs.declared.request.Request.TheVariants.{Flush, Hold, Release, Return, Discard, Reload}
+use Rattle.relay_control.specs.declared.request.Request.TheVariants.{Drain}
 use Rattle.relay_control.specs.declared.scope.Scope.{Scope}
 use Rattle.relay_control.specs.declared.scope.Scope.TheVariants.{Hop, Message}
 use Rattle.relay_next_hops.specs.Lanes.{ListsMore}
@@ -44,8 +45,8 @@ module _ {D S : Type 0} (node : NodeState D) (old new : NextHops S) where
     pub answer_is : answer ≡ line_text (codes "flushed recipients=" ++ decimal count) ++ end_text Done
     pub listed : FlushesEach node old.hops.hops old.lanes.held scope (held_of node.records.queue) count new.lanes
 
-  -- A request to flush all mail, or that of a scope, was served. If there was memory, it is listed; connections and what
-  -- was listed stay in any case.
+  -- A request to flush all mail, or that of a scope, was served. If there was memory, it is listed; connections and
+  -- what was listed stay in any case.
   pub record Flushes {E : Type 0} (scope : Option Scope) (answer : Result (Vec ℕ) E) : Type 0 where
     pub hops : new.hops ≡ old.hops
     pub more : ListsMore old.lanes new.lanes

@@ -9,7 +9,8 @@ use Rattle.relay_connections.specs.Welcome.{stopped}
 use Rattle.relay_connections.specs.declared.clients.Clients.{Clients}
 use Rattle.relay_control.specs.declared.named.Named.{Named}
 use Rattle.relay_control.specs.declared.request.Request.{Request}
-use Rattle.relay_control.specs.declared.request.Request.TheVariants.{Flush, Hold, Release, Return, Discard, Reload, Drain as Drains}
+use Rattle.relay_control.specs.declared.request.Request.TheVariants.{Flush, Hold, Release, Return, Discard, Reload}
+use Rattle.relay_control.specs.declared.request.Request.TheVariants.{Drain as Drains}
 use Rattle.relay_disk.specs.Device.{DiskWords}
 use Rattle.relay_loop.specs.Relay.{RelayState}
 use Rattle.relay_next_hops.specs.Readiness.{hops_of}

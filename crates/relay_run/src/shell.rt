@@ -175,7 +175,8 @@ impl<S: Stream + Drop, D: Disk + Drop, F: Disk + Drop> Shell<S, D, F> {
     }
 
     /// Does for each connection one thing that can be done at once, and begins due attempts. If the relay is short of
-    /// room and a test is due, tests the room first. Clients that stay are served as before, and so are those that came.
+    /// room and a test is due, tests the room first. Clients that stay are served as before, and so are those that
+    /// came.
     pub(crate) fn turn<C: Clock, L: Listen<Stream = S>, N: Dial<Stream = S>>(
         &mut self,
         clock: &C,

@@ -5,9 +5,11 @@ use Rattle.relay_server.specs.declared.reply_table.Row.{Row}
 use Rattle.relay_server.specs.declared.reply_table.Text.{Text}
 use Rattle.relay_server.specs.declared.reply_table.Text.TheVariants as text
 use Rattle.relay_server.specs.declared.reply_table.Row.TheVariants.{Greeting, Hello, Extensions, SenderOk, RecipientOk}
-use Rattle.relay_server.specs.declared.reply_table.Row.TheVariants.{TooManyRecipients, RoutedAddress, NoRoute, BadSequence}
+use Rattle.relay_server.specs.declared.reply_table.Row.TheVariants.{TooManyRecipients, RoutedAddress, NoRoute}
+use Rattle.relay_server.specs.declared.reply_table.Row.TheVariants.{BadSequence}
 use Rattle.relay_server.specs.declared.reply_table.Row.TheVariants.{NoValidRecipients, StartMailInput, ChunkOk}
-use Rattle.relay_server.specs.declared.reply_table.Row.TheVariants.{ContentTooLarge, TooManyReceived, BareLineEnd, NulInContent}
+use Rattle.relay_server.specs.declared.reply_table.Row.TheVariants.{ContentTooLarge, TooManyReceived, BareLineEnd}
+use Rattle.relay_server.specs.declared.reply_table.Row.TheVariants.{NulInContent}
 use Rattle.relay_server.specs.declared.reply_table.Row.TheVariants.{Queued, SpoolFull, Done, NotVerified, SeeStandard}
 use Rattle.relay_server.specs.declared.reply_table.Row.TheVariants.{Closing, UnknownCommand, BadOctet, LineTooLong}
 use Rattle.relay_server.specs.declared.reply_table.Row.TheVariants.{BadArgument, BadPath, BadValue, Repeated}

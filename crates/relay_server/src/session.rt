@@ -61,7 +61,8 @@ impl Session {
     ghost use Rattle.std.specs.Prelude.{IfOk, OnOk, OnErr, IsErr, MatchOption};
     ghost use Rattle.relay_routes.specs.Accepted.{accepted_paths};
     ghost use Rattle.relay_server.specs.Dialogue.{Said, more_said};
-    ghost use Rattle.relay_server.specs.Session.{Answered, HasFailed, HasOffer, Hears, Stands, UsesPiece, Waits, next_of};
+    ghost use Rattle.relay_server.specs.Session.{Answered, HasFailed, HasOffer, Hears, Stands, UsesPiece, Waits};
+    ghost use Rattle.relay_server.specs.Session.{next_of};
     ghost use Rattle.relay_server.specs.Session.{offered, offers_since, open_offers};
     ghost use Rattle.relay_server.specs.Setup.{Setup};
 

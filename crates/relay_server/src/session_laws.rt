@@ -1,6 +1,7 @@
 //! What a session tells its caller, and what may be said of it after each call.
 ghost use Rattle.relay_server.specs.SessionLaws.{AnsweredIsSettled, ClosedIsADialogue, CloseIsClosed, ContentIsWithin};
-ghost use Rattle.relay_server.specs.SessionLaws.{MoreIsMore, NoneElseIsOpen, OfferIsTold, OfferIsWithin, OffersAreAnswered};
+ghost use Rattle.relay_server.specs.SessionLaws.{MoreIsMore, NoneElseIsOpen, OfferIsTold, OfferIsWithin};
+ghost use Rattle.relay_server.specs.SessionLaws.{OffersAreAnswered};
 ghost use Rattle.relay_server.specs.SessionLaws.{OpenIsNew, OpenMayBeStored, PieceGoesOn};
 
 /// The caller is told to take an offer exactly if one is open.
