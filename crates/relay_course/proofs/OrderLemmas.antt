@@ -32,16 +32,16 @@ if_content _ reply = []
 abbrev pub content_replies_in : List Answered → List Reply
 content_replies_in answered = flat_map (λ one. if_content one.waited one.reply) answered
 
-abbrev IsNone : {A : Type 0} → List A → Type 0
+abbrev pub IsNone : {A : Type 0} → List A → Type 0
 IsNone [] = Unit {0}
 IsNone (x ∷ xs) = ⊥
 
-none-is : {A : Type 0} (xs : List A) → IsNone xs → xs ≡ []
+pub none-is : {A : Type 0} (xs : List A) → IsNone xs → xs ≡ []
 none-is [] h = refl
 none-is (x ∷ xs) h = absurd h
 
 -- RCPTs and nothing else
-abbrev AreRcpts : List Awaited → Type 0
+abbrev pub AreRcpts : List Awaited → Type 0
 AreRcpts [] = Unit {0}
 AreRcpts (Rcpt place ∷ waits) = AreRcpts waits
 AreRcpts (_ ∷ waits) = ⊥
@@ -52,7 +52,7 @@ IsGroup (Mail ∷ waits) = AreRcpts waits
 IsGroup waits = AreRcpts waits
 
 -- what waits together, and whether places are unasked then
-abbrev MayWait : List Awaited → List ℕ → Type 0
+abbrev pub MayWait : List Awaited → List ℕ → Type 0
 MayWait [] unasked = Unit {0}
 MayWait (Greeting ∷ waits) unasked = IsNone waits
 MayWait (Ehlo ∷ waits) unasked = IsNone waits
@@ -63,11 +63,11 @@ MayWait (Data ∷ waits) unasked = IsNone waits × IsNone unasked
 MayWait (Content ∷ waits) unasked = IsNone waits × IsNone unasked
 
 -- the RCPTs answered, waiting and unasked are the places in order
-abbrev Places : Delivery → Progress → Type 0
+abbrev pub Places : Delivery → Progress → Type 0
 Places delivery now = rcpt_places now.answered ++ (waiting_places now.waits ++ now.unasked) ≡ delivery.places
 
 -- an attempt that goes on
-abbrev IsOrderly : Delivery → Progress → Type 0
+abbrev pub IsOrderly : Delivery → Progress → Type 0
 IsOrderly delivery now =
     Places delivery now × MayWait now.waits now.unasked × (content_replies_in now.answered ≡ [])
 
@@ -272,7 +272,7 @@ next-stands delivery [] (place ∷ more) now w u may is =
 next-stands delivery [] [] now w u may is = rcpts-stand delivery now (sym w) (sym u) is
 
 -- the RCPT that was answered moves from those that wait to those that were answered
-answered-places : (delivery : Delivery) (waited : Awaited) (waits : List Awaited) (reply : Reply) (old : Progress)
+pub answered-places : (delivery : Delivery) (waited : Awaited) (waits : List Awaited) (reply : Reply) (old : Progress)
     → rcpt_places old.answered ++ (waiting_places (waited ∷ waits) ++ old.unasked) ≡ delivery.places
     → Places delivery (answered_by waited waits reply old)
 answered-places delivery waited waits reply old places =
@@ -379,13 +379,13 @@ answer-stands delivery Content waits kind reply old same runs may places none =
     content-ends delivery waits kind reply old same may places none
 
 -- where something waits, it hasn't ended
-runs-still : (delivery : Delivery) (now : Progress) (verdicts : Option (List Verdict)) (waited : Awaited)
+pub runs-still : (delivery : Delivery) (now : Progress) (verdicts : Option (List Verdict)) (waited : Awaited)
     (waits : List Awaited)
     → waited ∷ waits ≡ now.waits → StandsBy delivery now verdicts → (verdicts ≡ None) × IsOrderly delivery now
 runs-still delivery now None waited waits w stands = (refl, stands)
 runs-still delivery now (Some all) waited waits w stands = let none = stands.0 in absurd (cc)
 
-with_answer-stands : (delivery : Delivery) (waits : List Awaited) (reply : Reply) (now : Progress) → waits ≡ now.waits
+pub with_answer-stands : (delivery : Delivery) (waits : List Awaited) (reply : Reply) (now : Progress) → waits ≡ now.waits
     → Stands delivery now → Stands delivery (with_answer delivery waits reply now)
 with_answer-stands delivery [] reply now w stands = stands
 with_answer-stands delivery (waited ∷ waits) reply now w stands =

@@ -29,7 +29,7 @@ taken-rcpt Transient reply last dsn e = absurd (cc)
 taken-rcpt Permanent reply last dsn e = absurd (refused-taken (reply.code == 552) reply last dsn e)
 
 -- and gives an accepted place the last verdict
-accepted-rcpt : (kind : ReplyKind) (reply : Reply) (last : Verdict) → kind ≡ Completion
+pub accepted-rcpt : (kind : ReplyKind) (reply : Reply) (last : Verdict) → kind ≡ Completion
     → unwrap_or (rcpt_verdict_by kind reply) last ≡ last
 accepted-rcpt Completion reply last e = refl
 accepted-rcpt Intermediate reply last e = absurd (cc)
@@ -64,11 +64,11 @@ none-taken (place ∷ places) (reply ∷ replies) last (suc index) dsn other e =
     none-taken places replies last index dsn other e
 
 -- the verdict that a RCPT leaves
-abbrev verdict_left : Verdict → Answered → Verdict
+abbrev pub verdict_left : Verdict → Answered → Verdict
 verdict_left last one = unwrap_or (rcpt_verdict one.reply) last
 
 -- the verdicts of places whose RCPTs are answered, one after another
-abbrev VerdictAt : Verdict → List Answered → ℕ → Type 0
+abbrev pub VerdictAt : Verdict → List Answered → ℕ → Type 0
 VerdictAt last answered index =
     slice_get (verdicts_of (rcpt_places answered) (rcpt_replies answered) last) index
     ≡ option_map (verdict_left last) (slice_get (rcpts_in answered) index)
@@ -84,13 +84,13 @@ verdict-at-more last (Rcpt place) reply answered more (suc index) = more index
 verdict-at-more last Data reply answered more index = more index
 verdict-at-more last Content reply answered more index = more index
 
-verdict-at : (last : Verdict) (answered : List Answered) (index : ℕ) → VerdictAt last answered index
+pub verdict-at : (last : Verdict) (answered : List Answered) (index : ℕ) → VerdictAt last answered index
 verdict-at last [] index = refl
 verdict-at last (one ∷ answered) index =
     verdict-at-more last one.waited one.reply answered (λ i. verdict-at last answered i) index
 
 -- the RCPT of a place that was answered
-abbrev HasRcptAt : List Answered → ℕ → ℕ → Type 0
+abbrev pub HasRcptAt : List Answered → ℕ → ℕ → Type 0
 HasRcptAt answered index place =
     slice_get (rcpt_places answered) index ≡ Some place
     → (reply : Reply) × (slice_get (rcpts_in answered) index ≡ Some (answer_of (Rcpt place) reply))
@@ -107,7 +107,7 @@ rcpt-at-more place (Rcpt other) reply answered more (suc index) e = more index e
 rcpt-at-more place Data reply answered more index e = more index e
 rcpt-at-more place Content reply answered more index e = more index e
 
-rcpt-at : (place : ℕ) (answered : List Answered) (index : ℕ) → HasRcptAt answered index place
+pub rcpt-at : (place : ℕ) (answered : List Answered) (index : ℕ) → HasRcptAt answered index place
 rcpt-at place [] index e = absurd (cc)
 rcpt-at place (one ∷ answered) index e =
     rcpt-at-more place one.waited one.reply answered (λ i. rcpt-at place answered i) index e
@@ -194,7 +194,7 @@ before-untaken end last dsn (none, inr (inl cant)) e = cc
 before-untaken end last dsn (none, inr (inr (reply, has, refused))) e = cc
 
 -- the verdicts where the content's reply ended the attempt
-by-content-verdicts : (delivery : Delivery) (end : Progress) (all : List Verdict) (last : Verdict) (index : ℕ)
+pub by-content-verdicts : (delivery : Delivery) (end : Progress) (all : List Verdict) (last : Verdict) (index : ℕ)
     → all ≡ verdicts_of delivery.places (rcpt_replies end.answered) last → rcpt_places end.answered ≡ delivery.places
     → slice_get all index ≡ option_map (verdict_left last) (slice_get (rcpts_in end.answered) index)
 by-content-verdicts delivery end all last index is places =

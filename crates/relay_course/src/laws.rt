@@ -4,6 +4,7 @@ ghost use Rattle.relay_course.specs.Laws.{CourseMayBeLost, EachCommandIsRead, Ea
 ghost use Rattle.relay_course.specs.Laws.{EndIsEnd, EndWaitsForNothing, RcptsAreInOrder, ReplyLeadsOn};
 ghost use Rattle.relay_course.specs.Laws.{TakenWhereAnswered, VerdictForEachPlace, VerdictsAreOfAHop};
 ghost use Rattle.relay_course.specs.Laws.{VerdictsMayBeStored};
+ghost use Rattle.relay_course.specs.Settling.{CourseSettles, SettledByItsReply, WorkedPositions};
 ghost use Rattle.relay_course.specs.RelayLaws.{AllRcptsAnswered, CommandsToARelay, NothingBeforeAllRcpts};
 
 /// A further reply goes on from the state that the others led to.
@@ -106,4 +107,19 @@ pub fn nothing_before_all_rcpts()
 /// Where all RCPTs were answered, so was what was written before them, and nothing else.
 pub fn all_rcpts_answered()
     ensures { AllRcptsAnswered }
+{}
+
+/// If replies ended an attempt, each place has its verdict from the reply that settled it.
+pub fn settled_by_its_reply()
+    ensures { SettledByItsReply }
+{}
+
+/// The verdicts of a course are those of the replies that settled its places, or its connection was lost.
+pub fn course_settles()
+    ensures { CourseSettles }
+{}
+
+/// The reply that settles each place, in rows that were worked by hand.
+pub fn worked_positions()
+    ensures { WorkedPositions }
 {}

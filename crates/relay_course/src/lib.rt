@@ -6,7 +6,9 @@ mod awaited;
 mod extensions;
 pub mod laws;
 mod reply_kind;
+mod settling;
 
 pub use awaited::Awaited;
 pub use extensions::{Extensions, extensions_of};
 pub use reply_kind::{ReplyKind, kind_of};
+pub use settling::settling_position;
