@@ -7,6 +7,8 @@ use Rattle.relay_envelope.specs.declared.envelope.Envelope.{Envelope}
 use Rattle.relay_book.specs.declared.change.Verdict.{Verdict}
 use Rattle.relay_course.specs.Course.{IsCourse, IsSentAs, delivery_of}
 use Rattle.relay_course.specs.VerdictTable.{all_later}
+use Rattle.relay_course.specs.Settling.{Settles}
+use Rattle.relay_course.proofs.Theorems.{course_settles}
 use Rattle.relay_client.specs.declared.attempt.Attempt.{Attempt}
 use Rattle.relay_client.specs.declared.attempt.Stage.TheVariants.{Running}
 use Rattle.relay_client.specs.Conversation.{IsAtGreeting}
@@ -69,3 +71,14 @@ broken_is_lost attempt host envelope text places input output verdicts e f =
     subst (λ (v : List Verdict). IsCourse host envelope text places input true output (Some v))
     (ap all_later (sym (f.keeps.holds.places_are)) ∙ sym e)
     (followed_may_be_lost attempt host text places input output envelope f)
+
+-- the verdicts of an attempt that ended were settled by replies, or its connection was lost
+pub ended_settles : (attempt : Attempt) (host : List ℕ) (envelope : Envelope) (text places input output : List ℕ)
+    (ended : Option (List Verdict)) (verdicts : List Verdict)
+    → FollowsOn attempt host envelope text places input output ended → ended ≡ Some verdicts
+    → Settles text places input false verdicts
+ended_settles attempt host envelope text places input output None verdicts follows e = absurd (cc)
+ended_settles attempt host envelope text places input output (Some others) verdicts course e =
+    let same : others ≡ verdicts = cc in
+    subst (λ (v : List Verdict). Settles text places input false v) same
+    (course_settles host envelope text places input false output others course)

@@ -1,8 +1,10 @@
 ghost use Rattle.std.specs.Prelude.{◌≡◌, ◌<◌, ◌≤◌, ℕ, List, [], ◌++◌, take, length, Some, None, OnErr, IfOk, MatchBool};
-ghost use Rattle.std.specs.Prelude.{true};
+ghost use Rattle.std.specs.Prelude.{false, true};
 ghost use Rattle.relay_envelope.specs.declared.envelope.Envelope.{Envelope};
 ghost use Rattle.relay_course.specs.Course.{IsCourse};
 ghost use Rattle.relay_course.specs.Progress.{Delivery};
+ghost use Rattle.relay_course.specs.Settling.{Settles};
+ghost use Rattle.relay_book.specs.declared.change.Verdict.{Verdict};
 ghost use Rattle.relay_client.specs.Conversation.{IsDeliveryOf};
 ghost use Rattle.relay_client.specs.Attempt.{Follows, FollowsOn, HasFailed, KeepsOn, KeepsTo, Turns, places_of};
 ghost use Rattle.relay_client.specs.Attempt.{stage_by};
@@ -87,6 +89,10 @@ impl Attempt {
             → Follows self.old host mail.now.envelope.now mail.now.stored_text.now places input output
             → FollowsOn self.new host mail.now.envelope.now mail.now.stored_text.now places
             (input ++ take driven.used piece.now) (output ++ driven.out.items) driven.verdicts) }
+        ensures settled { IfOk result (λ driven. (host places input output : List ℕ) (verdicts : List Verdict)
+            → Follows self.old host mail.now.envelope.now mail.now.stored_text.now places input output
+            → driven.verdicts ≡ Some verdicts
+            → Settles mail.now.stored_text.now places (input ++ take driven.used piece.now) false verdicts) }
         ensures turns { IfOk result (λ driven. Turns self.old self.new driven (length piece.now)) }
         ensures within { IfOk result (λ driven. driven.used ≤ length piece.now) }
         ensures failed { OnErr result (HasFailed self.new) }
