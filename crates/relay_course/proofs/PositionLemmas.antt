@@ -1,10 +1,9 @@
 -- The positions of an attempt's replies, by what is known of the first ones.
-use Rattle.std.proofs.Common.{◌≡◌, ◌<◌, ◌≤◌, ℕ, zero, suc, ◌+◌, Bool, true, false, List, [], ◌∷◌, ◌++◌, length, map, Option, Some, None, refl, sym, ap, ◌∙◌, subst, arith, if◌then◌else◌}
+use Rattle.std.proofs.Common.{◌≡◌, ◌<◌, ◌≤◌, ℕ, zero, suc, ◌+◌, Bool, true, false, List, [], ◌∷◌, ◌++◌, length, map, Some, None, refl, sym, subst, arith, if◌then◌else◌}
 use Rattle.std.specs.Prelude.{slice_get, slice_index_or}
 use Rattle.relay_course.specs.VerdictTable.{kind_of}
 use Rattle.relay_course.specs.declared.reply_kind.ReplyKind.{ReplyKind}
 use Rattle.relay_course.specs.declared.reply_kind.ReplyKind.TheVariants.{Completion, Intermediate, Transient, Permanent}
-use Rattle.relay_course.specs.Progress.{Answered}
 use Rattle.relay_course.specs.Settling.{content_position, is_completion, is_intermediate, settling_position}
 
 -- the same positions, after an accepted MAIL

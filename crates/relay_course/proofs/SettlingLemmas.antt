@@ -1,5 +1,5 @@
 -- Which reply settled a place.
-use Rattle.std.proofs.Common.{◌≡◌, ◌⊎◌, inl, inr, ℕ, zero, suc, ◌+◌, Bool, true, false, ◌==◌, List, [], ◌∷◌, ◌++◌, length, map, Option, Some, None, refl, sym, ap, ◌∙◌, subst, cond, arith, if◌then◌else◌}
+use Rattle.std.proofs.Common.{◌≡◌, ◌⊎◌, inl, inr, ℕ, zero, suc, Bool, true, false, ◌==◌, List, [], ◌∷◌, ◌++◌, length, Option, Some, None, refl, sym, ap, ◌∙◌, subst, cond, arith, if◌then◌else◌}
 use Rattle.std.specs.Prelude.{nat_lt, option_map, slice_get, unwrap_or}
 use Rattle.std.proofs.lemmas.List.{append_assoc, append-nil, length-append, length-map}
 use Rattle.std.proofs.lemmas.List.Concat.{flat_map-append}
@@ -15,13 +15,13 @@ use Rattle.relay_course.specs.declared.reply_kind.ReplyKind.{ReplyKind}
 use Rattle.relay_course.specs.declared.reply_kind.ReplyKind.TheVariants.{Completion, Intermediate, Transient, Permanent}
 use Rattle.relay_course.specs.Extensions.{extensions_of}
 use Rattle.relay_course.specs.WrittenLine.{ehlo_line, helo_line, mail_line, data_line, last_chunk}
-use Rattle.relay_course.specs.VerdictTable.{content_verdict_by, is_accepted, kind_of, rcpt_verdict_by, rcpt_verdict, refusal, some_accepted, verdicts_of}
+use Rattle.relay_course.specs.VerdictTable.{content_verdict_by, is_accepted, kind_of, rcpt_verdict_by, refusal, some_accepted, verdicts_of}
 use Rattle.relay_course.specs.Progress.{Delivery, Answered, Progress, answer_of, rcpt_replies, with_command, ended_by, with_rcpt, with_rcpts, with_content, after_rcpts, with_next, with_mail, after_hello, after_answer, at_greeting, with_answer, after_reply, after_replies, progress}
 use Rattle.relay_course.specs.Laws.{if_rcpt_one, rcpt_places, rcpts_in, replies_in}
 use Rattle.relay_course.specs.Course.{Concludes, delivery_of}
 use Rattle.relay_course.specs.Settling.{CourseSettles, SettledByItsReply, Settles, IsSettled, Concerns, is_completion, is_intermediate, kinds_of, settling_position, verdict_by}
 use Rattle.relay_course.proofs.GoingLemmas.{answered_by}
-use Rattle.relay_course.proofs.OrderLemmas.{AreRcpts, IsNone, IsOrderly, MayWait, Places, Stands, StandsBy, answered-places, none-is, progress-stands, runs-still, waiting_places, with_answer-stands}
+use Rattle.relay_course.proofs.OrderLemmas.{AreRcpts, MayWait, Places, Stands, answered-places, none-is, runs-still, waiting_places, with_answer-stands}
 use Rattle.relay_course.proofs.EndLemmas.{answered_are_first}
 use Rattle.relay_course.proofs.TakenLemmas.{accepted-rcpt, by-content-verdicts, rcpt-at, verdict_left}
 use Rattle.relay_course.proofs.PositionLemmas.{at-ehlo-3, at-ehlo-4, at-four, at-greeting, at-helo, at-mail-four, at-mail-three, at-three, content_after, get_first, get_front, get_second, settling_after}

@@ -4,7 +4,7 @@
 -- content. A place needs all of these, and of the RCPTs its own: the first reply that refuses one, or puts it off,
 -- settles the place, and without one the reply to the content does. Where the connection was lost, none does.
 use Rattle.std.specs.Prelude.{◌≡◌, ◌⊎◌, ℕ, ◌+◌, Bool, true, false, List, [], ◌∷◌, ◌++◌, length, map, slice_get}
-use Rattle.std.specs.Prelude.{Option, Some, None, unwrap_or, if◌then◌else◌}
+use Rattle.std.specs.Prelude.{Option, Some, unwrap_or, if◌then◌else◌}
 use Rattle.relay_lines.specs.Reply.{Reply}
 use Rattle.relay_lines.specs.ReplyReading.{CutsReplies, IsUnfinished}
 use Rattle.relay_body.specs.DotText.{ends_in_line_end}
@@ -139,8 +139,8 @@ abbrev pub positions : Bool → List ℕ → List ℕ
 positions by_data codes =
     map (λ index. settling_position by_data (map kind_of codes) 3 index) (0 ∷ 1 ∷ 2 ∷ [])
 
--- Worked rows, by hand: all taken; a RCPT refused and one put off; HELO after a refused EHLO, and the mail data refused;
--- DATA put off; the greeting refused; MAIL put off in a group; and a chunk that is answered 3yz.
+-- Worked rows, by hand: all taken; a RCPT refused and one put off; HELO after a refused EHLO, and the mail data
+-- refused; DATA put off; the greeting refused; MAIL put off in a group; and a chunk that is answered 3yz.
 abbrev pub WorkedPositions : Type 0
 WorkedPositions =
     (positions true (220 ∷ 250 ∷ 250 ∷ 250 ∷ 250 ∷ 250 ∷ 354 ∷ 250 ∷ []) ≡ 7 ∷ 7 ∷ 7 ∷ [])
