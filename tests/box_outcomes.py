@@ -15,12 +15,11 @@ EVENT_KINDS = {"sent": "sent", "failed": "failed", "deferred": "later", "delayed
 OVERDUE = 14_400
 
 
-def kind_of(events):
-    """Returns what the log says of the report that an outcome with these events owes: what is true first of one of its
-    recipients, whether or not it asked for a report."""
-    if {"failed", "expired"} & {*events}:
-        return "failed"
-    return "delayed" if "delayed" in events else "relayed"
+def kind_of(told):
+    """Returns what the log says of a report that tells of these actions by path (RFC 3464, 2.3.3): the worst of them.
+    """
+    actions = {action for each in told.values() for action in each}
+    return next((kind for kind in ("failed", "delayed", "relayed") if kind in actions), None)
 
 
 class Outcomes:
@@ -205,15 +204,16 @@ class Outcomes:
         require(found == wanted, f"the log says {found} of {message}, whose attempt gives {wanted}")
         for event in wanted:
             self.judge.counts[event] += 1
-        self.take_report(message, report, told.report, kind_of(wanted))
+        self.take_report(message, report, told.report)
 
-    def take_report(self, message, report, fields, kind):
+    def take_report(self, message, report, fields):
         """Numbers the report that an outcome owes, which is the one that the log has after its lines."""
         if report is None:
             require(fields is None, f"the log has a report of {message}, which owes none")
             return
         require(fields, f"{message} owes a report of {report.told}, and none is logged")
-        require(fields["kind"] == kind, f"the report of {message} is {fields['kind']}, and not {kind}")
+        kind = kind_of(report.told)
+        require(fields.get("kind") == kind, f"the report of {message} is {fields.get('kind')}, and not {kind}")
         self.custody.name(report, int(fields["message"]))
         self.judge.counts["reports"] += 1
 
@@ -250,7 +250,7 @@ class Outcomes:
         places = self.places_of(message, [], told)
         require({event for event, _ in told.lines} == {"no-route"}, f"{message} without an address: {told.lines}")
         _, report = self.custody.outcome(message, [(place, FAILED) for place in places], self.judge.wall, False)
-        self.take_report(message, report, told.report, "failed")
+        self.take_report(message, report, told.report)
 
     def doubt(self, link):
         """Notes an attempt that has ended while the device failed: nobody knows whether its outcome was recorded."""

@@ -293,6 +293,39 @@ def lines_of_json_have_the_same_fields(field):
           result("sent", 2, "<a@example.org>", "250 queued\tas 77")])
 
 
+def a_report_is_named_by_what_it_tells(field):
+    """Of a recipient that asks for no report it tells nothing, whatever becomes of that (RFC 3461, 4.1)."""
+    relay, manners = field.relay(), field.sink.manners
+    manners.offers = ("PIPELINING",)
+    clocks = Clocks(field, relay)
+
+    def submit(client, *recipients):
+        same("the reply to MAIL", client.say(b"MAIL FROM:<a@example.org>\r\n")[:4], "250 ")
+        for recipient in recipients:
+            same("the reply to RCPT", client.say(f"RCPT TO:{recipient}\r\n".encode())[:4], "250 ")
+        same("the reply to DATA", client.say(b"DATA\r\n")[:4], "354 ")
+        same("the reply", client.say(text_of(10))[:4], "250 ")
+
+    def kinds():
+        return [line.split()[-1] for line in told(relay, "report message")]
+
+    with relay.running(), clients_of(relay, 1) as [client]:
+        manners.refusals = {"<r@example.org>": "550 no such user"}
+        wanted = []
+        for notify, kind in (("NEVER", "relayed"), ("FAILURE", "failed"), ("SUCCESS", "relayed")):
+            submit(client, f"<r@example.org> NOTIFY={notify}", "<b@example.org> NOTIFY=SUCCESS")
+            wanted.append(f"kind={kind}")
+            until("a report", lambda: kinds() == wanted)
+        manners.refusals = {"<r@example.org>": "450 busy", "<l@example.org>": "450 busy"}
+        submit(client, "<r@example.org> NOTIFY=NEVER", "<l@example.org> NOTIFY=DELAY")
+        until("both deferred", lambda: len(told(relay, "status=deferred")) == 2)
+        manners.refusals = {"<r@example.org>": "550 no such user", "<l@example.org>": "450 busy"}
+        clocks.advance(4 * 3600 + 60)
+        until("the report of the delay", lambda: kinds() == [*wanted, "kind=delayed"])
+    same("those that failed", len(told(relay, "status=failed")), 4)
+    field.sink.take_all()
+
+
 def what_clients_are_refused_has_ten_lines_a_minute(field):
     """Then a line says how many more; so does the line for the client's end."""
     relay = field.relay()
@@ -528,6 +561,7 @@ ROWS = [
     each_recipient_has_the_reply_that_settles_it,
     a_next_hop_that_closes_by_421_is_quoted,
     lines_of_json_have_the_same_fields,
+    a_report_is_named_by_what_it_tells,
     what_clients_are_refused_has_ten_lines_a_minute,
     a_refusal_names_its_command_where_the_reply_is_that_of_one_alone,
     a_full_spool_has_a_line_once_a_minute,

@@ -1,2 +1,3 @@
 mod RefusedLemmas
 mod LastReplyLemmas
+mod ReportKindLemmas

@@ -1,3 +1,4 @@
 pub mod Settling
 pub mod Refused
 pub mod LastReplies
+pub mod ReportKind

@@ -2,9 +2,10 @@
 use crate::counters::{Counters, add};
 use crate::head::Head;
 use crate::hop_link::Loss;
+use crate::report_kind::{kind_word, report_kind};
 use crate::talk::Talk;
 use relay_backlog::LogLine;
-use relay_book::{Change, Outcome, PlaceStep, Ruling, Verdict, Way, Withdrawal, decode_change};
+use relay_book::{Change, Outcome, PlaceStep, Ruling, Verdict, Withdrawal, decode_change};
 use relay_node::Noted;
 use std::alloc::Global;
 use std::io::{self, Write};
@@ -225,6 +226,7 @@ pub(crate) fn report_line(
     attempt: &Attempt<'_>,
     talk: &Talk,
     noted: &Noted,
+    outcome: &Outcome,
 ) -> io::Result<LogLine> {
     let mut line = head.line(b"report")?;
     line.number(b"message", noted.number, b"")?;
@@ -232,21 +234,8 @@ pub(crate) fn report_line(
     if !talk.reverse_path().is_empty() {
         line.octets(b"to", talk.reverse_path())?;
     }
-    line.octets(b"kind", report_kind(noted))?;
-    Ok(line)
-}
-
-/// Returns what a report tells of first: a recipient that failed, one that is delayed, or one that was relayed.
-fn report_kind(noted: &Noted) -> &'static [u8] {
-    let mut kind: &'static [u8] = b"relayed";
-    for (_place, step) in noted.left.as_slice() {
-        match step {
-            PlaceStep::Left(Way::ByEnd) => return b"failed",
-            PlaceStep::Left(Way::ByWithdrawal(Withdrawal::Return)) => return b"failed",
-            PlaceStep::Left(Way::ByWithdrawal(Withdrawal::Discard)) => {}
-            PlaceStep::Delayed => kind = b"delayed",
-            PlaceStep::Left(Way::ByTransfer) => {}
-        }
+    if let Some(kind) = report_kind(outcome.report.as_slice()) {
+        line.octets(b"kind", kind_word(kind))?;
     }
-    kind
+    Ok(line)
 }

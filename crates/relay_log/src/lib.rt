@@ -11,6 +11,7 @@ mod hop_link;
 mod last_replies;
 mod log;
 mod refused;
+mod report_kind;
 mod run_line;
 mod settling;
 mod talk;

@@ -263,7 +263,7 @@ impl<'a, E: Write> Log<'a, E> {
             }
         }
         if noted.report {
-            self.write(report_line(self.head, attempt, talk, noted)?)?;
+            self.write(report_line(self.head, attempt, talk, noted, outcome)?)?;
         }
         Ok(())
     }
