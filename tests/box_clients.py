@@ -12,8 +12,6 @@ CRLF = b"\r\n"
 # The sessions at a time; more than these, and a client that is idle has less time; how long a session lasts without
 # accepted mail; how long a connection is read after the last reply.
 MOST_SESSIONS, CROWD, CROWDED_TIMEOUT, LONGEST_SESSION, LEAVING = 64, 48, 10_000, 1_800_000, 1_000
-# How many lines about refusals a client has in the log, in how many milliseconds.
-MOST_LINES, MINUTE = 10, 60_000
 FULL = b"452 spool full\r\n"
 # Replies that show which command they answer (relayd(8), The log).
 REFUSED = {b"550 no route": "rcpt", b"553 routed address refused": "rcpt", b"452 too many recipients": "rcpt",
@@ -128,8 +126,8 @@ class Talk(Stream):
         # How many replies were written whole, and how many of them refuse something.
         self.answered = self.refused = 0
         # What may refuse something and isn't in the log yet, each with its place among the replies; how many refusals
-        # the log has; how many lines it has for them in this minute, and when that ends.
-        self.untold, self.told, self.lines, self.minute_end = collections.deque(), 0, 0, None
+        # have a line of the log, and how many surely have none; whether its end was noted.
+        self.untold, self.told, self.skipped, self.is_counted = collections.deque(), 0, 0, False
 
     def begin_turn(self, turn):
         if self.turn != turn:
@@ -141,7 +139,7 @@ class Talk(Stream):
     def note_coming(self, now, turn):
         """Notes the turn in which it comes."""
         if self.came_in is None:
-            self.came_in, self.minute_end, self.has_accepted, self.active = turn, now + MINUTE, now, now
+            self.came_in, self.has_accepted, self.active = turn, now, now
 
     def is_before(self, other):
         """Returns whether it surely came before another one: in a turn the relay takes those first that have no
@@ -175,38 +173,29 @@ class Talk(Stream):
 
     # What the log has of it.
 
-    def tell(self, fields, now):
-        """Compares a line of the log with the next refusal that it hasn't told of, or with as many as it counts, since
-        a client has ten lines a minute. A minute begins when the client comes, and later with a refusal."""
-        if "count" in fields:
-            self.require(self.lines == MOST_LINES, f"the log counts refusals after {self.lines} lines in a minute")
-            for _ in range(int(fields["count"])):
-                self.next_refusal()
-            return
-        if now >= self.minute_end:
-            self.lines, self.minute_end = 0, now + MINUTE
-        self.lines += 1
-        self.require(self.lines <= MOST_LINES, f"the log has more than {MOST_LINES} lines for it in a minute")
-        wanted = self.next_refusal()
-        command = "bdat" if wanted.endswith(b" bad chunk size, closing") else REFUSED.get(wanted)
-        self.require((fields["reply"].encode("latin-1"), fields.get("command")) == (wanted, command),
-                     f"the log says that it got {fields['reply']!r} to {fields.get('command')}, and the next refusal "
-                     f"is {wanted!r} to {command}")
-
-    def next_refusal(self):
-        """Returns the next refusal that the log hasn't told of."""
-        self.drop_accepted()
-        self.require(self.untold, "the log tells of more refusals than there are")
-        _, reply = self.untold.popleft()
+    def tell(self, fields, may_skip):
+        """Compares a line of the log with the next refusal that it hasn't told of; or, if some may have no line, with
+        the next that is such."""
+        found = fields["reply"].encode("latin-1"), fields.get("command")
+        while True:
+            self.drop_accepted()
+            self.require(self.untold, "the log tells of more refusals than there are")
+            reply = self.untold.popleft()[1]
+            reply = (FULL if isinstance(reply, ClientMessage) else reply).strip()
+            wanted = reply, "bdat" if reply.endswith(b" bad chunk size, closing") else REFUSED.get(reply)
+            if found == wanted:
+                break
+            self.require(may_skip, f"the log says that it got {fields['reply']!r} to {found[1]}, and the next refusal "
+                                   f"is {wanted[0]!r} to {wanted[1]}")
+            self.skipped += 1
         self.told += 1
-        return (FULL if isinstance(reply, ClientMessage) else reply).strip()
 
     def drop_accepted(self):
         """Drops messages that were accepted from those that may be refused."""
         while self.untold and isinstance(self.untold[0][1], ClientMessage) and self.untold[0][1].is_logged:
             self.untold.popleft()
 
-    def check_end(self, fields, now):
+    def check_end(self, fields, now, minutes):
         """Compares the line of the log for its end with what was read, accepted and refused."""
         self.ended = now
         octets, messages, rejected = (int(fields[key]) for key in ("octets", "messages", "rejected"))
@@ -214,15 +203,27 @@ class Talk(Stream):
                      f"{octets} octets were read by the log, and {self.total} were")
         self.require(messages == self.accepted,
                      f"{messages} messages were accepted by the log, and {self.accepted} were")
-        self.require(rejected == self.told and rejected >= self.refused,
+        untold = rejected - self.told
+        self.require(self.skipped <= untold and rejected >= self.refused and (untold == 0 or minutes.may_skip(self)),
                      f"{rejected} replies refuse something by the log, which has told of {self.told}, and "
                      f"{self.refused} were given")
+        for _ in range(untold - self.skipped):
+            self.drop_accepted()
+            self.require(self.untold, f"{rejected} replies refuse something by the log, and fewer do")
+            self.untold.popleft()
+        self.count_untold(minutes, untold, untold)
         if octets < self.total:
             # What was read last was read and dropped after the end, or some of it.
             self.untold = collections.deque(one for one in self.untold if one[0] < self.last_place)
         self.drop_accepted()
         self.require(not self.untold or self.may_be_unheard(self.untold[0][0]),
                      f"the log hasn't told what became of {self.untold and self.untold[0][1]}")
+
+    def count_untold(self, minutes, least, most):
+        """Notes its end, and how many of its refusals have no line."""
+        if not self.is_counted:
+            minutes.note_end(self, least, most)
+        self.is_counted = True
 
     def may_be_unheard(self, place):
         """Returns whether the relay may have read what the reply of a place is for, and not used it. In a turn it uses

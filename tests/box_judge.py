@@ -8,6 +8,7 @@ from box_arrivals import Arrival
 from box_clients import Talk
 from box_custody import Custody
 from box_hops import Link, Paces
+from box_minutes import Minutes
 from box_outcomes import Outcomes
 from box_sessions import Sessions
 from box_setup import Setup
@@ -27,7 +28,7 @@ class Judge:
     """Takes the lines of a script and the answers to them, in order."""
 
     def __init__(self):
-        self.setup = self.custody = self.outcomes = self.paces = self.waits = None
+        self.setup = self.custody = self.outcomes = self.paces = self.waits = self.minutes = None
         self.sessions = Sessions(self)
         self.forget_streams()
         self.wall, self.now, self.highest, self.went_back, self.was_set = 0, 0, 0, False, False
@@ -111,12 +112,14 @@ class Judge:
         self.setup = Setup(octets_of(config).decode())
         self.custody = Custody(self.setup)
         self.outcomes, self.paces, self.waits = Outcomes(self), Paces(), Waits(self)
+        self.minutes = Minutes(self)
         self.forget_streams()
         self.may_fail, self.is_running, self.went_back, self.was_set = False, len(lines) == 1, False, False
         require(lines == ["done 1"], f"a relay isn't begun: {lines}")
 
     def after_stop(self, lines, pick):
         self.end_all()
+        self.minutes = Minutes(self)
         self.may_fail = False
         self.counts["stops"] += 1
         require(len(lines) == 1 and lines[0].startswith("done "), f"a relay isn't started again: {lines}")
@@ -141,6 +144,7 @@ class Judge:
         """Ends all connections, since the relay is stopped or its device has failed."""
         for talk in self.talks.values():
             self.doubt_offers(talk)
+            talk.count_untold(self.minutes, talk.skipped, talk.skipped + len(talk.untold))
             talk.offers.clear()
             talk.is_closed = talk.is_ended = True
         for link in self.links.values():
@@ -325,18 +329,23 @@ class Judge:
     def take_events(self, answer):
         """Compares the other lines of the log with what is known: the end of a client, and next hops on hold."""
         self.unrecorded = set()
+        self.minutes.begin_turn()
         for event, fields in answer.log:
             if event == "client-end" and "messages" in fields and fields["client"] in self.peers:
                 self.sessions.note_end(self.peers[fields["client"]])
-                self.peers[fields["client"]].check_end(fields, self.now)
+                self.peers[fields["client"]].check_end(fields, self.now, self.minutes)
             elif event == "client-end" and "balancer" in fields:
                 arrival = next((one for one in self.arrivals.values() if one.address == fields["balancer"]), None)
                 require(arrival, f"the log tells of a balancer's connection that isn't there: {fields}")
                 arrival.tell(fields["reason"], self)
                 self.counts["headers refused"] += 1
+            elif event == "rejected" and "count" in fields:
+                self.minutes.count(fields["client"].partition(":")[0], int(fields["count"]))
             elif event == "rejected":
-                require(fields["client"] in self.peers, f"the log tells of a client that isn't there: {fields}")
-                self.peers[fields["client"]].tell(fields, self.now)
+                talk = self.peers.get(fields["client"])
+                require(talk, f"the log tells of a client that isn't there: {fields}")
+                talk.tell(fields, self.minutes.may_skip(talk))
+                self.minutes.tell(talk.client)
             elif event == "unrecorded":
                 # Memory doesn't run out here, so only a message that isn't due any more has no outcome.
                 require(self.went_back, f"an outcome wasn't recorded: {fields}")
@@ -345,6 +354,7 @@ class Judge:
                 self.paces.answer(fields["addr"])
             elif event == "hop-held":
                 self.paces.hold(fields["addr"], int(fields["retry_in"].rstrip("s")), self.now)
+        self.minutes.end_turn()
 
     # The end of a turn.
 

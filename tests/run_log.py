@@ -326,20 +326,69 @@ def a_report_is_named_by_what_it_tells(field):
     field.sink.take_all()
 
 
-def what_clients_are_refused_has_ten_lines_a_minute(field):
-    """Then a line says how many more; so does the line for the client's end."""
-    relay = field.relay()
-    with relay.running(), Client(relay) as client:
+def refused(relay, address="127.0.0.1", times=1):
+    """A client that is refused a command so often, and leaves: how a line names it."""
+    with Client(relay, address) as client:
         client.begin()
-        for _ in range(25):
+        for _ in range(times):
             same("a reply", client.say(b"NONSENSE\r\n"), "500 unknown command")
         same("the last reply", client.say(b"QUIT\r\n")[:4], "221 ")
-        name = client_of(client)
+        return client_of(client)
+
+
+UNKNOWN = 'relayd: rejected {} command=unknown reply="500 unknown command"'
+
+
+def what_clients_are_refused_has_ten_lines_a_minute(field):
+    """After the minute a line says how many more; the line for the client's end has the number of all."""
+    relay = field.relay()
+    clocks = Clocks(field, relay)
+    with relay.running():
+        name = refused(relay, times=25)
         until("its end", lambda: told(relay, "client-end"))
-    line = f'relayd: rejected {name} command=unknown reply="500 unknown command"'
-    same("its lines", told(relay, "rejected client"), [line] * 10 + [f"relayd: rejected {name} count=15"])
+        lines = [UNKNOWN.format(name)] * 10
+        same("its lines", told(relay, "rejected client"), lines)
+        clocks.advance(61)
+        lines.append(f"relayd: rejected {name} count=15")
+        until("the line of the others", lambda: told(relay, "rejected client") == lines, SOON)
     same("its end", [line.split()[3:5] + line.split()[6:] for line in told(relay, "client-end")],
          [["messages=0", "rejected=25", "reason=quit"]])
+
+
+def a_client_that_reconnects_has_ten_lines_a_minute(field):
+    """They are those of its address; another one has its own. The line with the number of the others comes when the
+    minute is over, though nobody connects then."""
+    relay = field.relay(client_timeout=3600)
+    shim(field, "run_clocks", relay, FASTER="6")
+    with relay.running():
+        names = [refused(relay) for _ in range(12)]
+        lines = [UNKNOWN.format(name) for name in [*names[:10], refused(relay, "127.0.0.2")]]
+        until("the lines at once", lambda: told(relay, "rejected client") == lines, SOON)
+        lines.append(f"relayd: rejected {names[11]} count=2")
+        until("the line of the others", lambda: told(relay, "rejected client") == lines, 10 + SOON)
+        lines.append(UNKNOWN.format(refused(relay)))
+        until("a line of the next minute", lambda: told(relay, "rejected client") == lines, SOON)
+
+
+def each_refused_command_is_told_of_where_many_addresses_send_such(field):
+    """By a line of its own, or in the number of another, once; up to 64 addresses are counted at a time."""
+    relay = field.relay()
+    clocks = Clocks(field, relay)
+    with relay.running():
+        for last in range(1, 81):
+            refused(relay, f"127.0.1.{last}", 12)
+
+        def lines():
+            return [line.split("client=")[1].split(":")[0] for line in told(relay, "rejected client") if "reply" in line]
+
+        wanted = [f"127.0.1.{last}" for last in range(1, 81) for _ in range(10)]
+        until("the lines at once", lambda: lines() == wanted, SOON)
+        clocks.advance(61)
+        until("all lines", lambda: len(told(relay, " count=2")) == 80, SOON)
+    counts = [re.fullmatch(r"relayd: rejected client=127\.0\.1\.(\d+):\d+ count=2", line)[1]
+              for line in told(relay, " count=")]
+    # The first ones gave their places to others.
+    same("who was counted", [int(last) for last in counts], [*range(1, 17), *range(65, 81), *range(17, 65)])
 
 
 def a_refusal_names_its_command_where_the_reply_is_that_of_one_alone(field):
@@ -563,6 +612,8 @@ ROWS = [
     lines_of_json_have_the_same_fields,
     a_report_is_named_by_what_it_tells,
     what_clients_are_refused_has_ten_lines_a_minute,
+    a_client_that_reconnects_has_ten_lines_a_minute,
+    each_refused_command_is_told_of_where_many_addresses_send_such,
     a_refusal_names_its_command_where_the_reply_is_that_of_one_alone,
     a_full_spool_has_a_line_once_a_minute,
     a_full_spool_is_noted_where_quit_stands_after_the_mail,

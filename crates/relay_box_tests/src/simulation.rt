@@ -12,6 +12,7 @@ use crate::world::{Wire, WireStream};
 use relay_connections::{Now, Readiness};
 use relay_disk::Disks;
 use relay_files::Fault;
+use relay_log::RejectionMinutes;
 use relay_node::{Node, NotOpened};
 use relay_run::{Journal, LISTENER_TOKEN, Settings, Shell, Surroundings};
 use std::alloc::{AllocError, Global};
@@ -35,6 +36,8 @@ pub struct Simulation<'a> {
     plan: Rc<Plan>,
     room: Rc<Cell<usize>>,
     config: String,
+    /// What the relay's log knows of refusals.
+    minutes: RejectionMinutes,
     log: Vec<u8>,
     answer: Answer,
 }
@@ -52,6 +55,7 @@ impl Drop for Simulation<'_> {
             plan: _plan,
             room: _room,
             config: _config,
+            minutes: _minutes,
             log: _log,
             answer: _answer,
         } = self;
@@ -80,6 +84,7 @@ impl<'a> Simulation<'a> {
             plan: Rc::new(alloc, Plan::new())?,
             room: Rc::new(alloc, Cell::new(usize::MAX))?,
             config: String::new(alloc),
+            minutes: RejectionMinutes::new(),
             log: Vec::new(alloc),
             answer: Answer::new(alloc),
         })
@@ -228,6 +233,7 @@ impl<'a> Simulation<'a> {
 
     /// Starts a relay over the disks, at whose listener the waiting clients are.
     fn start(&mut self) -> io::Result<()> {
+        self.minutes = RejectionMinutes::new();
         match self.started() {
             Ok(shell) => {
                 let next = shell.node().next_number();
@@ -292,9 +298,12 @@ impl<'a> Simulation<'a> {
     /// Lets a relay take a turn, and keeps it. Returns how long it would wait, in milliseconds.
     fn turn_of(&mut self, shell: BoxShell) -> Result<u64, Fault> {
         let mut journal = Journal::new(self.alloc, self.around.clock, &mut self.log);
-        let shell = shell.turns(&mut self.around, &mut journal, 1)?;
+        journal.minutes = self.minutes;
+        let end = shell.turns(&mut self.around, &mut journal, 1);
+        self.minutes = journal.minutes;
+        let shell = end?;
         let now = Now::of(self.around.clock);
-        let wait = shell.wait(&now);
+        let wait = journal.shortened(shell.wait(&now), &now);
         self.shell = Some(shell);
         Ok(wait)
     }

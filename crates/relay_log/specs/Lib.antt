@@ -2,3 +2,4 @@ pub mod Settling
 pub mod Refused
 pub mod LastReplies
 pub mod ReportKind
+pub mod RejectionMinutes

@@ -224,7 +224,8 @@ pub(crate) fn rejected_line(head: Head, peer: SocketAddrV4, reply: &[u8]) -> io:
     Ok(line)
 }
 
-/// Returns the line of replies that refuse something and have no line of their own.
+/// Returns the line of replies to clients of an address that refuse something and have no line of their own, with their
+/// number, and the address and port of the last client.
 pub(crate) fn more_rejected_line(
     head: Head,
     peer: SocketAddrV4,

@@ -13,6 +13,7 @@ use crate::client_record::ClientRecord;
 use crate::counters::{Counters, Rejection, add};
 use crate::head::Head;
 use crate::hop_link::Loss;
+use crate::rejection_minutes::{ADDRESSES, RejectionMinute, RejectionMinutes};
 use crate::run_line::{
     DeviceFailure, address_awaited_line, compacted_line, device_failed_line, hop_back_line,
     hop_held_line, listening_line, push_ended_line, steered_line, stopping_line,
@@ -38,11 +39,18 @@ pub struct Log<'a, E: Write> {
     errors: &'a mut E,
     speaks: bool,
     counters: &'a mut Counters,
+    minutes: &'a mut RejectionMinutes,
 }
 
 impl<'a, E: Write> Log<'a, E> {
     /// Makes a log on this writer, whose lines are plain text without a time. It writes none unless `speaks` is set.
-    pub fn new(alloc: Global, errors: &'a mut E, speaks: bool, counters: &'a mut Counters) -> Self {
+    pub fn new(
+        alloc: Global,
+        errors: &'a mut E,
+        speaks: bool,
+        counters: &'a mut Counters,
+        minutes: &'a mut RejectionMinutes,
+    ) -> Self {
         Log {
             head: Head {
                 alloc,
@@ -52,6 +60,7 @@ impl<'a, E: Write> Log<'a, E> {
             errors,
             speaks,
             counters,
+            minutes,
         }
     }
 
@@ -63,6 +72,7 @@ impl<'a, E: Write> Log<'a, E> {
         form: Option<Form>,
         moment: Moment,
         counters: &'a mut Counters,
+        minutes: &'a mut RejectionMinutes,
     ) -> Self {
         Log {
             head: Head {
@@ -76,6 +86,7 @@ impl<'a, E: Write> Log<'a, E> {
             errors,
             speaks: form.is_some(),
             counters,
+            minutes,
         }
     }
 
@@ -138,8 +149,8 @@ impl<'a, E: Write> Log<'a, E> {
         Ok(())
     }
 
-    /// Logs the refusals among these replies to a client, up to ten per minute. Each reply is one line, except that to
-    /// EHLO.
+    /// Logs the refusals among these replies to a client at this tick, in milliseconds: up to ten for its address and
+    /// minute. The others are counted, for [`Log::minutes_over`]. Each reply is one line, except that to EHLO.
     pub fn replied(
         &mut self,
         peer: SocketAddrV4,
@@ -162,18 +173,32 @@ impl<'a, E: Write> Log<'a, E> {
     }
 
     fn rejected(&mut self, peer: SocketAddrV4, reply: &[u8], record: &mut ClientRecord, tick: u64) {
-        if record.begins_minute(tick) {
-            self.more_rejected(peer, record.take_untold());
+        record.refuse();
+        if !self.speaks {
+            return;
         }
-        if record.refuse(tick) && self.speaks {
+        let (has_line, taken) = self.minutes.note(peer, tick);
+        if let Some(minute) = taken {
+            self.more_rejected(minute);
+        }
+        if has_line {
             self.say(rejected_line(self.head, peer, reply));
         }
     }
 
-    /// Logs how many refusals to a client have no line.
-    fn more_rejected(&mut self, peer: SocketAddrV4, untold: u64) {
-        if self.speaks && 0 < untold {
-            self.say(more_rejected_line(self.head, peer, untold));
+    /// Logs, for each address whose minute of refusals is over at this tick, how many of them have no line.
+    pub fn minutes_over(&mut self, tick: u64) {
+        for number in 0..ADDRESSES {
+            if let Some(minute) = self.minutes.take_over(number, tick) {
+                self.more_rejected(minute);
+            }
+        }
+    }
+
+    /// Logs how many refusals of a minute have no line.
+    fn more_rejected(&mut self, minute: RejectionMinute) {
+        if self.speaks && 0 < minute.untold {
+            self.say(more_rejected_line(self.head, minute.peer, minute.untold));
         }
     }
 
@@ -188,7 +213,6 @@ impl<'a, E: Write> Log<'a, E> {
         if end == ClientEnd::Timeout {
             add(&mut self.counters.timeouts, 1);
         }
-        self.more_rejected(peer, record.untold());
         if self.speaks {
             self.say(client_end_line(self.head, peer, record, end, tick));
         }

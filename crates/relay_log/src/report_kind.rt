@@ -1,6 +1,5 @@
 //! What a report tells of, for its line in the log.
-ghost use Rattle.std.specs.Prelude.{◌≡◌, ◌↔◌, ◌++◌, IsTrue};
-ghost use Rattle.relay_octets.specs.Line.{crlf};
+ghost use Rattle.std.specs.Prelude.{◌≡◌, ◌↔◌, IsTrue};
 ghost use Rattle.relay_report.specs.Boundary.{StandsIn};
 ghost use Rattle.relay_report.specs.StatusFields.{action_of};
 ghost use Rattle.relay_book.specs.declared.due_report.DueReport.TheVariants.{OfDelay, OfFailure, OfRelay};

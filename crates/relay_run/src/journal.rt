@@ -1,8 +1,10 @@
 //! The log of a running relay, during its turns and between them.
+ghost use Rattle.std.specs.Prelude.{◌≤◌};
+
 use relay_connections::Now;
 use relay_disk::Side;
 use relay_files::Fault;
-use relay_log::{Counters, DeviceFailure, Form, Log};
+use relay_log::{Counters, DeviceFailure, Form, Log, RejectionMinutes};
 use relay_routes::Config;
 use relay_trace::clock_moment;
 use std::alloc::{AllocError, Global};
@@ -18,6 +20,8 @@ pub struct Journal<'a, C: Clock, E: Write> {
     /// The format of the lines; `None` if nothing is logged.
     pub(crate) form: Option<Form>,
     pub(crate) counters: Counters,
+    /// What clients were refused in their minutes.
+    pub minutes: RejectionMinutes,
     lines: Vec<u8>,
     errors: E,
 }
@@ -30,6 +34,7 @@ impl<C: Clock, E: Write + Drop> Drop for Journal<'_, C, E> {
             clock: _,
             form: _,
             counters: _counters,
+            minutes: _minutes,
             lines: _lines,
             errors: _errors,
         } = self;
@@ -45,15 +50,37 @@ impl<'a, C: Clock, E: Write> Journal<'a, C, E> {
             clock,
             form: None,
             counters: Counters::new(),
+            minutes: RejectionMinutes::new(),
             lines: Vec::new(alloc),
             errors,
         }
     }
 
-    /// Returns a log that collects the lines of a turn, each with this time.
+    /// Returns a log that collects the lines of a turn, each with this time, after those for minutes of refusals that
+    /// are over.
     pub(crate) fn log(&mut self, now: &Now) -> Log<'_, Vec<u8>> {
-        let (alloc, form) = (self.alloc, self.form);
-        Log::stamped(alloc, &mut self.lines, form, now.moment, &mut self.counters)
+        let mut log = Log::stamped(
+            self.alloc,
+            &mut self.lines,
+            self.form,
+            now.moment,
+            &mut self.counters,
+            &mut self.minutes,
+        );
+        log.minutes_over(now.tick);
+        log
+    }
+
+    /// Returns how many milliseconds to wait: so many, or fewer if a minute of refusals is over earlier and a line is due
+    /// for it.
+    pub fn shortened(&self, wait: u64, now: &Now) -> u64
+        ensures { result ≤ wait }
+    {
+        wait.min(
+            self.minutes
+                .next_deadline(u64::MAX)
+                .saturating_sub(now.tick),
+        )
     }
 
     /// Writes the collected lines by one write, if there are any.
@@ -69,8 +96,14 @@ impl<'a, C: Clock, E: Write> Journal<'a, C, E> {
 
     /// Returns a log that writes each line at once, with the time of this call.
     fn at_once(&mut self) -> Log<'_, E> {
-        let (alloc, form, moment) = (self.alloc, self.form, clock_moment(self.clock));
-        Log::stamped(alloc, &mut self.errors, form, moment, &mut self.counters)
+        Log::stamped(
+            self.alloc,
+            &mut self.errors,
+            self.form,
+            clock_moment(self.clock),
+            &mut self.counters,
+            &mut self.minutes,
+        )
     }
 
     /// Logs that the device has failed: the system's error and the file, if they are known, and in how many seconds the

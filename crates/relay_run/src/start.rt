@@ -16,7 +16,7 @@ use relay_files::{Fault, configuration_text, locked_node};
 use relay_limits::{
     AllowedClients, Balancers, Limit, Limits, LogForm, control_group, control_path,
 };
-use relay_log::{Counters, Form, Log};
+use relay_log::{Counters, Form, Log, RejectionMinutes};
 use relay_loop::Relay;
 use relay_node::Node;
 use relay_routes::{Config, ConfigFault};
@@ -166,9 +166,10 @@ pub(crate) fn open_listener<R: Clock + Net, E: Write>(
             Ok(listener) => return Ok(listener),
             Err(error) if error.kind() == ErrorKind::AddrNotAvailable => {
                 if second == 0 {
-                    let mut counters = Counters::new();
+                    let (mut counters, mut minutes) = (Counters::new(), RejectionMinutes::new());
                     let now = clock_moment(rt);
-                    let mut log = Log::stamped(alloc, errors, form, now, &mut counters);
+                    let mut log =
+                        Log::stamped(alloc, errors, form, now, &mut counters, &mut minutes);
                     log.awaits_address(at, ADDRESS_SECONDS);
                 }
                 rt.sleep(Duration::from_secs(1));

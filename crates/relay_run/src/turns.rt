@@ -154,16 +154,17 @@ impl<S: Stream + Drop, D: Device + Drop, F: Ballast + Drop> Shell<S, D, F> {
             → IfOk result (λ after. HopsMatch after.next_hops after.relay) }
     {
         let mut shell = self;
-        shell.hear_reports(around);
+        shell.hear_reports(around, journal);
         let end = shell.take_turn(around, journal);
         let now = Now::of(around.clock);
         shell.resumed(&mut around.listener, end, &now, journal)
     }
 
     /// Waits until something can be done, and notes what may be ready.
-    fn hear_reports<C: Clock, L, N, W: Watch<S, D>>(
+    fn hear_reports<C: Clock, L, N, W: Watch<S, D>, E: Write>(
         &mut self,
         around: &mut Surroundings<'_, C, L, N, W>,
+        journal: &Journal<'_, C, E>,
     )
         ensures served { (changes : List Change) (setting : Setting)
             → AreServed D.Disk.honest D.Disk.words S.remaining S.contents changes setting (clients_of self.old.clients)
@@ -172,7 +173,8 @@ impl<S: Stream + Drop, D: Device + Drop, F: Ballast + Drop> Shell<S, D, F> {
         ensures matches { HopsMatch self.old.next_hops self.old.relay
             → HopsMatch self.new.next_hops self.new.relay }
     {
-        let wait = self.next_wait(&around.watch, &Now::of(around.clock));
+        let now = Now::of(around.clock);
+        let wait = journal.shortened(self.next_wait(&around.watch, &now), &now);
         around.watch.wait(wait);
         for _ in 0..u64::MAX {
             match around.watch.take_report() {

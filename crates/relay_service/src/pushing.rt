@@ -15,7 +15,9 @@ use crate::hops::Unreached;
 use relay_disk::FileDisk;
 use relay_files::{Fault, configuration, gathering, locked_node};
 use relay_links::{LinkFault, Pushed, lose_link, push_link};
-use relay_log::{Attempt, Counters, HopReader, HopWriter, Log, Loss, Talk, Why};
+use relay_log::{
+    Attempt, Counters, HopReader, HopWriter, Log, Loss, RejectionMinutes, Talk, Why,
+};
 use relay_node::{Node, NodeFault, Noted, Work};
 use relay_routes::HostName;
 use relay_trace::{Moment, clock_moment};
@@ -45,8 +47,8 @@ pub fn push<R: Files<File = File> + Clock + Net<Stream = TcpStream>, W: Write, E
     let config = configuration(alloc, rt, path)?;
     let mut node = locked_node(alloc, rt, config)?;
     let mut lines = gathering(alloc, writer)?;
-    let mut counters = Counters::new();
-    let mut log = Log::new(alloc, errors, logs, &mut counters);
+    let (mut counters, mut minutes) = (Counters::new(), RejectionMinutes::new());
+    let mut log = Log::new(alloc, errors, logs, &mut counters, &mut minutes);
     push_due(alloc, rt, &mut node, &mut lines, &mut log)
 }
 

@@ -11,7 +11,7 @@ use crate::workers::{MOST_WORKERS, OCTET_LIMIT, Service};
 use relay_disk::{Disk, FileDisk};
 use relay_files::{Fault, configurations, gathering, locked_node};
 use relay_links::{LinkFault, serve_link};
-use relay_log::{ClientWriter, Connection, Counters, Log, Messages};
+use relay_log::{ClientWriter, Connection, Counters, Log, Messages, RejectionMinutes};
 use relay_node::{Node, NodeFault};
 use relay_trace::{Moment, clock_moment};
 use std::alloc::Global;
@@ -63,8 +63,8 @@ pub fn serve<
     let mut node = locked_node(alloc, rt, config)?;
     let listener = listener(rt, at)?;
     let mut lines = gathering(alloc, writer)?;
-    let mut counters = Counters::new();
-    let mut log = Log::new(alloc, errors, options.log, &mut counters);
+    let (mut counters, mut minutes) = (Counters::new(), RejectionMinutes::new());
+    let mut log = Log::new(alloc, errors, options.log, &mut counters, &mut minutes);
     log.listens(at);
     for _ in 0..options.rounds {
         let (served, was_full) = if options.workers < 2 {
