@@ -24,7 +24,7 @@ class Stream:
     def __init__(self, number, address, now):
         self.number, self.address, self.unread, self.room = number, address, b"", None
         self.has_end = self.is_reset = self.is_shut = self.is_closed = False
-        self.opened = self.active = self.base = self.idle_since = self.quiet_since = self.written = self.read_at = now
+        self.opened = self.active = self.base = self.idle_since = self.quiet_since = self.written = now
         # Whether something was read since the last write; whether the relay was stopped, or all connections ended.
         self.has_heard = self.is_ended = False
         self.turn = self.read_in = self.wrote_in = 0
@@ -43,7 +43,7 @@ class Stream:
         self.require(count <= len(self.unread), f"it read {count} octets, where {len(self.unread)} were there")
         octets, self.unread = self.unread[:count], self.unread[count:]
         self.base, self.has_heard, self.read_in = self.base if self.has_heard else now, True, self.turn
-        self.active = self.read_at = now
+        self.active = now
         return octets
 
     def give(self, octets, now):
@@ -117,8 +117,8 @@ class Talk(Stream):
         # What was written since the last whole reply; messages that aren't accepted yet.
         self.tail, self.is_greeted, self.own_line, self.offers = b"", False, None, collections.deque()
         self.is_cut, self.crowd, self.ended, self.was_crowded = False, (0, 0), None, None
-        # Whether it surely had begun a command, and was owed replies, before this turn.
-        self.has_begun = self.was_owed = False
+        # Whether it surely had begun a command before this turn.
+        self.has_begun = False
         self.total = self.last_count = self.last_place = self.accepted = 0
         self.has_accepted, self.greeted_in, self.tail_since = now, 0, now
         # The turn in which it came, and whether a balancer's header said so then.
@@ -133,7 +133,6 @@ class Talk(Stream):
         if self.turn != turn:
             # It has surely begun to send something if that was read after the last reply.
             self.has_begun = bool(self.dialogue.rest) and self.read_in > self.wrote_in
-            self.was_owed = bool(self.expected or self.tail)
         super().begin_turn(turn)
 
     def note_coming(self, now, turn):

@@ -66,8 +66,6 @@ class Sessions:
         self.note_end(talk)
         now = self.judge.now
         idle = now - talk.tail_since
-        # A client that takes replies in pieces has no more time for those that were held back for one write.
-        idle = max(idle, now - talk.read_at if talk.was_owed else 0)
         talk.require(idle >= talk.setup.timeout or talk.was_crowded and idle >= CROWDED_TIMEOUT
                      or now >= talk.has_accepted + LONGEST_SESSION, f"it was cut off after {idle} ms")
 

@@ -10,6 +10,7 @@ mod NextLemmas
 mod DistinctLemmas
 mod AnsweredLemmas
 mod HearingLemmas
+mod RenewalLemmas
 mod ShareLemmas
 mod LeftLemmas
 mod TableLemmas

@@ -1,6 +1,7 @@
 pub mod Table
 pub mod Channel
 pub mod Sessions
+pub mod Renewal
 pub mod Exchange
 pub mod Carried
 pub mod Matched
@@ -11,6 +12,7 @@ pub mod Leaving
 pub mod Welcome
 pub mod Share
 pub mod Hearing
+pub mod Hears
 pub mod Replies
 pub mod Refusals
 pub mod HeaderFront

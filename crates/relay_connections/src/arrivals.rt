@@ -1,7 +1,6 @@
 //! Balancers' connections whose PROXY protocol header isn't complete yet.
-ghost use Rattle.std.specs.Prelude.{◌≡◌, ◌≤◌, ◌<◌, ◌↔◌, ◌⊎◌, ℕ, None, IfOk, IsTrue};
+ghost use Rattle.std.specs.Prelude.{◌≡◌, ◌≤◌, ◌↔◌, ◌⊎◌, ℕ, IfOk, IsTrue};
 ghost use Rattle.relay_slots.specs.Slots.{AreFree, OthersStay, slot_at};
-ghost use Rattle.relay_slots.specs.declared.slots.TheConstants.{SLOT_COUNT};
 ghost use Rattle.relay_connections.specs.Arrivals.{GivesNext, IsDueAt, IsNotedSlot, IsOneReadable, IsReadOne, Takes, Within};
 ghost use Rattle.relay_connections.specs.Arrivals.{arrivals_of};
 
@@ -131,9 +130,10 @@ impl<S: Stream + Drop> Arrivals<S> {
 
     /// Closes all connections.
     pub fn clear(&mut self)
-        ensures { (number : ℕ) → number < SLOT_COUNT → slot_at (arrivals_of self.new) number ≡ None }
+        ensures { AreFree (arrivals_of self.new) }
     {
-        for number in 0..SLOT_COUNT {
+        let count = self.arrivals.standing().len();
+        for number in 0..count {
             let _gone = self.arrivals.take(number);
         }
     }

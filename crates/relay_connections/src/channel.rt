@@ -257,6 +257,13 @@ impl<S: Stream> Channel<S> {
         !self.held.is_empty()
     }
 
+    /// Returns the octets that are held back.
+    pub(crate) fn held(&self) -> &[u8]
+        ensures { result.now ≡ held_of self.now }
+    {
+        self.held.as_slice()
+    }
+
     /// Holds octets back, to be written with those that come next. Returns false if they are too many or memory runs
     /// out; they aren't held then.
     pub(crate) fn hold(&mut self, octets: &[u8]) -> bool

@@ -1,10 +1,13 @@
 //! The connection of a client, and what a turn does with it.
-ghost use Rattle.std.specs.Prelude.{◌≡◌, ◌≢◌, ◌↔◌, ℕ, List, [], None, Some, Err, IfErr, IfOk, IsTrue, false, true};
+ghost use Rattle.std.specs.Prelude.{◌≡◌, ◌≢◌, ◌↔◌, ℕ, List, [], None, Some, Ok, Err, IfErr, IfOk, IsTrue, false, true};
 ghost use Rattle.std.specs.Io.KnownBytes.{Keeps};
 ghost use Rattle.relay_loop.specs.Outboxes.{unwritten_at};
 ghost use Rattle.relay_connections.specs.Channel.{KeepsInput, KeepsOutput, held_of, output_of, unread_of};
 ghost use Rattle.relay_connections.specs.Exchange.{Hands, IsHanded, IsRead, Uses};
 ghost use Rattle.relay_connections.specs.Served.{StaysOrEnds, StaysSaid};
+ghost use Rattle.relay_connections.specs.Hears.{MayHear};
+ghost use Rattle.relay_connections.specs.Renewal.{KeepsWaiting, RenewsIfTaken, RenewsUnlessOver, WaitsAnew};
+ghost use Rattle.relay_connections.specs.Renewal.{WaitsAnewOrOn, WaitsOn, untaken_count};
 ghost use Rattle.relay_connections.specs.Sessions.{EndsAlone, IsBetweenMail, deadline_of};
 
 use crate::channel::{Channel, End};
@@ -44,8 +47,8 @@ pub(crate) struct Client<S> {
     has_line_end: bool,
     /// The tick at which an idle client is cut off. The deadline is renewed by the first octet after a reply; by each
     /// 65,536 octets without a reply that contain a line end, since these are mail data or a chunk; and by each write
-    /// of which the client takes something. So a command line must be complete within the timeout after its first
-    /// octet.
+    /// of which the client takes something, be it of what was held back before. So a command line must be complete
+    /// within the timeout after its first octet.
     idle_deadline: u64,
     /// The tick at which the client is cut off while few places are left, unless its mail was accepted or it has begun
     /// to send something. It is renewed with the idle deadline.
@@ -101,6 +104,7 @@ impl<S: Stream> Client<S> {
     pub(crate) fn new(channel: Channel<S>, peer: SocketAddrV4, timeout: u64, now: &Now) -> Self
         ensures channel { result.channel ≡ channel }
         ensures peer { result.peer ≡ peer }
+        ensures waits { WaitsAnew timeout now.now.tick result }
     {
         Client {
             channel,
@@ -151,12 +155,22 @@ impl<S: Stream> Client<S> {
     fn wait_anew(&mut self, timeout: u64, now: &Now)
         ensures channel { self.new.channel ≡ self.old.channel }
         ensures peer { self.new.peer ≡ self.old.peer }
+        ensures anew { WaitsAnew timeout now.now.tick self.new }
+        ensures keeps { KeepsWaiting self.old self.new }
     {
         self.idle_deadline = now.after(timeout);
         self.crowded_deadline = now.after(CROWDED_SECONDS);
     }
 
-    /// Writes as many unwritten octets as the client takes at once.
+    /// Returns how many octets its client hasn't taken yet.
+    fn untaken<D: Disk>(&self, relay: &Relay<D>, session: usize) -> usize
+        ensures { result ≡ untaken_count relay.now session self.now.channel }
+    {
+        self.channel.held().len() + relay.to_client(session).len()
+    }
+
+    /// Writes as many unwritten octets as the client takes at once, those held back first. Renews its idle time if it
+    /// takes one.
     pub(crate) fn flush<D: Disk>(
         &mut self,
         relay: &mut Relay<D>,
@@ -167,33 +181,49 @@ impl<S: Stream> Client<S> {
         ensures hands { Hands S.remaining S.contents session relay.old relay.new self.old.channel self.new.channel }
         ensures said { StaysSaid session relay.old relay.new }
         ensures peer { self.new.peer ≡ self.old.peer }
+        ensures renews { RenewsIfTaken timeout now.now.tick session relay.old relay.new self.old self.new }
+        ensures keeps { KeepsWaiting self.old self.new }
+        ensures nothing { untaken_count relay.old session self.old.channel ≡ 0
+            → (self.new ≡ self.old) × (relay.new ≡ relay.old) }
+    {
+        let before = self.untaken(relay, session);
+        if before == 0 {
+            return;
+        }
+        self.write_some(relay, session);
+        if before <= self.untaken(relay, session) {
+            return;
+        }
+        self.wait_anew(timeout, now);
+    }
+
+    /// Writes as many unwritten octets as the client takes at once.
+    fn write_some<D: Disk>(&mut self, relay: &mut Relay<D>, session: usize)
+        ensures hands { Hands S.remaining S.contents session relay.old relay.new self.old.channel self.new.channel }
+        ensures said { StaysSaid session relay.old relay.new }
+        ensures peer { self.new.peer ≡ self.old.peer }
+        ensures waits { WaitsOn self.old self.new }
+        ensures keeps { KeepsWaiting self.old self.new }
     {
         for _ in 0..WRITE_LIMIT {
-            if !self.write(relay, session, timeout, now) {
+            if !self.write(relay, session) {
                 return;
             }
         }
     }
 
-    /// Writes once. Returns whether octets were written or held.
-    fn write<D: Disk>(
-        &mut self,
-        relay: &mut Relay<D>,
-        session: usize,
-        timeout: u64,
-        now: &Now,
-    ) -> bool
+    /// Writes once. Returns whether its client took an octet.
+    fn write<D: Disk>(&mut self, relay: &mut Relay<D>, session: usize) -> bool
         ensures hands { Hands S.remaining S.contents session relay.old relay.new self.old.channel self.new.channel }
         ensures said { StaysSaid session relay.old relay.new }
         ensures peer { self.new.peer ≡ self.old.peer }
+        ensures waits { WaitsOn self.old self.new }
+        ensures keeps { KeepsWaiting self.old self.new }
     {
+        let before = self.untaken(relay, session);
         let count = self.channel.write(relay.to_client(session));
-        if count == 0 {
-            return false;
-        }
         relay.wrote_to_client(session, count);
-        self.wait_anew(timeout, now);
-        true
+        self.untaken(relay, session) < before
     }
 
     /// Returns whether octets for it are unwritten.
@@ -222,17 +252,23 @@ impl<S: Stream> Client<S> {
     }
 
     /// Holds its unwritten octets back, because its session hears more of what was read in this turn, so that all
-    /// replies go in one write. If they are too many to be held, writes as many as the client takes at once.
+    /// replies go in one write. If they are too many to be held, writes as many as the client takes at once. Renews its
+    /// idle time if it takes one.
     fn hold<D: Disk>(&mut self, relay: &mut Relay<D>, session: usize, timeout: u64, now: &Now)
         ensures hands { Hands S.remaining S.contents session relay.old relay.new self.old.channel self.new.channel }
         ensures said { StaysSaid session relay.old relay.new }
         ensures peer { self.new.peer ≡ self.old.peer }
+        ensures renews { RenewsIfTaken timeout now.now.tick session relay.old relay.new self.old self.new }
+        ensures keeps { KeepsWaiting self.old self.new }
     {
-        if self.channel.is_used() || !self.hold_back(relay, session) {
+        if self.channel.is_used() {
             self.flush(relay, session, timeout, now);
-        } else {
-            self.wait_anew(timeout, now);
+            return;
         }
+        if self.hold_back(relay, session) {
+            return;
+        }
+        self.flush(relay, session, timeout, now);
     }
 
     /// Holds its unwritten octets back, and returns whether it could.
@@ -241,6 +277,10 @@ impl<S: Stream> Client<S> {
         ensures said { StaysSaid session relay.old relay.new }
         ensures same { result ≡ false → (self.new ≡ self.old) × (relay.new ≡ relay.old) }
         ensures peer { self.new.peer ≡ self.old.peer }
+        ensures count { untaken_count relay.new session self.new.channel
+            ≡ untaken_count relay.old session self.old.channel }
+        ensures waits { WaitsOn self.old self.new }
+        ensures keeps { KeepsWaiting self.old self.new }
     {
         if !self.channel.hold(relay.to_client(session)) {
             return false;
@@ -256,6 +296,7 @@ impl<S: Stream> Client<S> {
             (output_of S.remaining S.contents self.new.channel) }
         ensures input { KeepsInput S.remaining S.contents self.old.channel self.new.channel }
         ensures peer { self.new.peer ≡ self.old.peer }
+        ensures waits { WaitsOn self.old self.new }
     {
         let _none = self.channel.write(&[]);
     }
@@ -275,6 +316,10 @@ impl<S: Stream> Client<S> {
         ensures ended { IfErr result (λ _. EndsAlone session relay.old relay.new) }
         ensures fault { IfErr result (λ fault. fault ≡ NodeFault.Stopped) }
         ensures peer { self.new.peer ≡ self.old.peer }
+        ensures renews { IfOk result
+            (RenewsUnlessOver timeout now.now.tick session relay.old relay.new self.old self.new) }
+        ensures hears { MayHear relay.old session self.old.channel
+            → (result ≡ Ok None) × (self.new.channel ≡ self.old.channel) × (relay.new ≡ relay.old) }
     {
         self.flush(relay, session, timeout, now);
         if self.channel.end() == Some(End::Broken) {
@@ -304,6 +349,8 @@ impl<S: Stream> Client<S> {
     fn note_read(&mut self, timeout: u64, now: &Now)
         ensures channel { self.new.channel ≡ self.old.channel }
         ensures peer { self.new.peer ≡ self.old.peer }
+        ensures waits { WaitsAnewOrOn timeout now.now.tick self.old self.new }
+        ensures first { self.old.unanswered ≡ 0 → WaitsAnew timeout now.now.tick self.new }
     {
         let piece = self.channel.piece();
         self.record.read(piece.len());
@@ -344,6 +391,8 @@ impl<S: Stream> Client<S> {
         ensures fault { (result ≡ Err NodeFault.Stopped) ↔ (heard ≡ Err NodeFault.Stopped) }
         ensures other { IfErr result (λ fault. fault ≡ NodeFault.Stopped) }
         ensures peer { self.new.peer ≡ self.old.peer }
+        ensures renews { IfOk heard (λ heard. heard.last ≡ None
+            → RenewsIfTaken timeout now.now.tick session relay.old relay.new self.old self.new) }
     {
         let Heard { used, change, last } = match heard {
             Ok(heard) => heard,

@@ -1,10 +1,12 @@
 //! A turn of the clients: their sessions hear what was read, all in one call, and the replies are written.
+ghost use Rattle.std.specs.Global.{Global};
 ghost use Rattle.std.specs.List.{zip};
-ghost use Rattle.std.specs.Prelude.{◌≡◌, ◌≢◌, ◌<◌, List, None, IfErr, IfOk};
+ghost use Rattle.std.specs.Prelude.{◌≡◌, ◌≢◌, ◌<◌, List, None, Ok, Some, Box, IfErr, IfOk, true};
 ghost use Rattle.relay_book.specs.declared.change.Change.{Change};
 ghost use Rattle.relay_slots.specs.Slots.{slot_at};
 ghost use Rattle.relay_slots.specs.declared.slots.TheConstants.{SLOT_COUNT};
 ghost use Rattle.relay_connections.specs.Carried.{Setting};
+ghost use Rattle.relay_connections.specs.Hears.{IsToHear, MayHear};
 ghost use Rattle.relay_connections.specs.Leaving.{ClientsJoin, leavers_of};
 ghost use Rattle.relay_connections.specs.Readiness.{clients_of};
 ghost use Rattle.relay_connections.specs.Replies.{HearRepliesIf, LeavesMail};
@@ -209,6 +211,11 @@ impl<S: Stream + Drop> Clients<S> {
             → IfOk result (λ _. Serves S.remaining S.contents changes setting relay.new number
             (slot_at (clients_of self.new) number)
             × ClientsJoin S.remaining S.contents setting (leavers_of leaving.old) (leavers_of leaving.new)) }
+        ensures hears { (client : Box (Client S) Global) → slot_at (clients_of self.old) number ≡ Some client
+            → MayHear relay.old number client.value.channel
+            → (result ≡ Ok true)
+            × IsToHear number client.value.channel relay.old relay.new (clients_of self.new) }
+        ensures none { slot_at (clients_of self.old) number ≡ None → slot_at (clients_of self.new) number ≡ None }
         ensures mail { LeavesMail relay.old relay.new }
         ensures rules { KeepsRules self.old self.new }
         ensures fault { IfErr result (λ fault. fault ≡ NodeFault.Stopped) }

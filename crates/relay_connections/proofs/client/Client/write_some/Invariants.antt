@@ -1,11 +1,14 @@
--- so far what waited went on, nothing was read, and the session has said what it had
+-- so far what waited went on, nothing was read, the session has said what it had, and its client's idle time goes on
 use Rattle.std.proofs.Common.{◌≡◌}
 use Rattle.relay_connections.specs.Exchange.{Hands}
+use Rattle.relay_connections.specs.Renewal.{KeepsWaiting, WaitsOn}
 use Rattle.relay_connections.specs.Served.{StaysSaid}
-use Rattle.relay_connections.proofs.client.Client.flush.Given as goal
+use Rattle.relay_connections.proofs.client.Client.write_some.Given as goal
 
 abbrev pub invariant-loop : goal.invariant-loop
 invariant-loop g l =
     Hands g.S.Stream.remaining g.S.Stream.contents l.fn.session l.fn.relay l.relay l.fn.self.channel l.self.channel
     × (l.self.peer ≡ l.fn.self.peer)
     × StaysSaid l.fn.session l.fn.relay l.relay
+    × WaitsOn l.fn.self l.self
+    × KeepsWaiting l.fn.self l.self

@@ -1,5 +1,5 @@
 -- What was said before a write is said after it.
-use Rattle.relay_connections.proofs.client.Client.flush.Goals as goal
+use Rattle.relay_connections.proofs.client.Client.write_some.Goals as goal
 
 pub returns-then-not-write-clause-said : goal.returns-then-not-write-clause-said
 returns-then-not-write-clause-said g c = λ changes address said has.
