@@ -10,6 +10,8 @@ mod NextLemmas
 mod DistinctLemmas
 mod AnsweredLemmas
 mod HearingLemmas
+mod CircleLemmas
+mod HearsLemmas
 mod RenewalLemmas
 mod ShareLemmas
 mod LeftLemmas

@@ -1,12 +1,14 @@
 //! A turn of the clients: their sessions hear what was read, all in one call, and the replies are written.
 ghost use Rattle.std.specs.Global.{Global};
 ghost use Rattle.std.specs.List.{zip};
-ghost use Rattle.std.specs.Prelude.{◌≡◌, ◌≢◌, ◌<◌, List, None, Ok, Some, Box, IfErr, IfOk, true};
+ghost use Rattle.std.specs.Prelude.{◌≡◌, ◌≢◌, ◌<◌, ℕ, List, None, Ok, Some, Box, IfErr, IfOk, IfSome, false, true};
 ghost use Rattle.relay_book.specs.declared.change.Change.{Change};
 ghost use Rattle.relay_slots.specs.Slots.{slot_at};
 ghost use Rattle.relay_slots.specs.declared.slots.TheConstants.{SLOT_COUNT};
 ghost use Rattle.relay_connections.specs.Carried.{Setting};
-ghost use Rattle.relay_connections.specs.Hears.{IsToHear, MayHear};
+ghost use Rattle.relay_connections.specs.Hearing.{hears_at};
+ghost use Rattle.relay_connections.specs.Hears.{AreToHear, HearsAll, HearsThemIf, IsToHear, LosesOne, MayHear};
+ghost use Rattle.relay_connections.specs.Hears.{OneMayHear};
 ghost use Rattle.relay_connections.specs.Leaving.{ClientsJoin, leavers_of};
 ghost use Rattle.relay_connections.specs.Readiness.{clients_of};
 ghost use Rattle.relay_connections.specs.Replies.{HearRepliesIf, LeavesMail};
@@ -56,6 +58,8 @@ impl<S: Stream + Drop> Clients<S> {
             × ClientsJoin S.remaining S.contents setting (leavers_of leaving.old) (leavers_of leaving.new)) }
         ensures heard { IfOk result (λ end. HearRepliesIf D.honest D.words replies.now now.now.moment relay.old
             relay.new end.1) }
+        ensures hears { IfOk result (λ end. HearsThemIf D.honest D.words (clients_of self.old) (clients_of self.new)
+            replies.now now.now.moment relay.old end.1) }
         ensures config { relay.new.node.config ≡ relay.old.node.config }
         ensures rules { KeepsRules self.old self.new }
         ensures fault { IfErr result (λ fault. fault ≡ NodeFault.Stopped) }
@@ -102,14 +106,19 @@ impl<S: Stream + Drop> Clients<S> {
             → IfOk result (λ _. AreServed D.honest D.words S.remaining S.contents changes setting
             (clients_of self.new) relay.new
             × ClientsJoin S.remaining S.contents setting (leavers_of leaving.old) (leavers_of leaving.new)) }
+        ensures hear { IfOk result (λ _. AreToHear relay.old (clients_of self.old) relay.new (clients_of self.new)) }
+        ensures one { IfOk result (λ hears. OneMayHear relay.old (clients_of self.old) → hears ≡ true) }
+        ensures none { IfOk result (λ _. (number : ℕ) → slot_at (clients_of self.old) number ≡ None
+            → slot_at (clients_of self.new) number ≡ None) }
         ensures mail { LeavesMail relay.old relay.new }
         ensures rules { KeepsRules self.old self.new }
         ensures fault { IfErr result (λ fault. fault ≡ NodeFault.Stopped) }
     {
         let mut hears = false;
+        let first = turned(self.first, 0, SLOT_COUNT);
         let count = self.clients.standing().len();
         for step in 0..count {
-            let number = turned(self.first, step, count);
+            let number = turned(first, step, count);
             if holds(self.clients.standing(), number) {
                 hears |= self.read_one(number, registry, relay, leaving, now, intake, log)?;
             }
@@ -138,6 +147,11 @@ impl<S: Stream + Drop> Clients<S> {
             × ClientsJoin S.remaining S.contents setting (leavers_of leaving.old) (leavers_of leaving.new)) }
         ensures heard { IfOk result (λ told. HearRepliesIf D.honest D.words replies.now now.now.moment relay.old
             relay.new told.1) }
+        ensures all { IfOk result (λ told. IfSome told.1 (HearsAll D.honest D.words (clients_of self.old) replies.now
+            now.now.moment relay.old)) }
+        ensures closes { (number : ℕ) → hears_at (clients_of self.old) number ≡ true
+            → IfOk result (λ told. told.1 ≡ None → LosesOne (clients_of self.old) (clients_of self.new)) }
+        ensures nobody { IfOk result (λ told. told.1 ≡ None → told.0 ≡ false) }
         ensures config { relay.new.node.config ≡ relay.old.node.config }
         ensures rules { KeepsRules self.old self.new }
         ensures fault { IfErr result (λ fault. fault ≡ NodeFault.Stopped) }
@@ -296,13 +310,16 @@ impl<S: Stream + Drop> Clients<S> {
             → AreServed D.honest D.words S.remaining S.contents changes setting (clients_of self.old) relay.old
             → IfOk result (λ _. AreServed D.honest D.words S.remaining S.contents changes setting
             (clients_of self.new) relay.new) }
+        ensures closes { (number : ℕ) → hears_at (clients_of self.old) number ≡ true
+            → IfOk result (λ _. LosesOne (clients_of self.old) (clients_of self.new)) }
         ensures mail { LeavesMail relay.old relay.new }
         ensures rules { KeepsRules self.old self.new }
         ensures fault { IfErr result (λ fault. fault ≡ NodeFault.Stopped) }
     {
+        let first = turned(self.first, 0, SLOT_COUNT);
         let count = self.clients.standing().len();
         for step in 0..count {
-            let number = turned(self.first, step, count);
+            let number = turned(first, step, count);
             match client_at(self.clients.standing(), number) {
                 Some(client) if client.hears => {
                     log.client_ended(client.peer, &client.record, ClientEnd::NoMemory, now.tick);

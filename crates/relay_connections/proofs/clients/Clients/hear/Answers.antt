@@ -1,5 +1,5 @@
 -- What was heard is answered, each client in turn.
-use Rattle.std.proofs.Common.{rules, ◌≡◌, [], ◌++◌, sym, subst}
+use Rattle.std.proofs.Common.{rules, ◌≡◌, [], ◌++◌, refl, sym, subst}
 use Rattle.relay_connections.specs.Readiness.{clients_of}
 use Rattle.relay_connections.specs.Served.{AreServed}
 use Rattle.relay_connections.proofs.AnsweredLemmas.{hears_answered}
@@ -46,3 +46,21 @@ returns-clause-heard g c =
       only = c.hear_all.ensures.only;
       last = only_mail [] c.hear_all.new.relay c.answer_each.new.relay c.answer_each.ensures.mail;
     }
+
+-- All that may hear something have heard it.
+pub returns-clause-all : goal.returns-clause-all
+returns-clause-all g c = record {
+  standing = c.standing-clients.result.now;
+  slots = c.standing-clients.ensures.slots;
+  first = c.turned-first.result;
+  hearing = c.in-Some.field-0;
+  replied_is = refl;
+  later = c.hear_all.new.relay;
+  own = rw c.in-Some.is at c.in_ok-sessions.ensures.own;
+}
+
+pub returns-in_default-clause-closes : goal.returns-in_default-clause-closes
+returns-in_default-clause-closes g c = λ number does none. c.in_ok-give_one_up.ensures.closes number does
+
+pub returns-clause-closes : goal.returns-clause-closes
+returns-clause-closes g c = λ number does none. absurd (cc none)

@@ -1,10 +1,13 @@
 -- All are served after each call of the turn.
-use Rattle.std.proofs.Common.{[], ◌++◌, sym, subst}
+use Rattle.std.proofs.Common.{◌≡◌, [], ◌++◌, None, sym, ◌∙◌, subst}
+use Rattle.std.proofs.lemmas.Bool.{false≢true}
+use Rattle.relay_connections.specs.Hears.{LosesOne, OneMayHear}
 use Rattle.relay_connections.specs.Leaving.{ClientsJoin, leavers_of}
 use Rattle.relay_connections.specs.Readiness.{clients_of}
 use Rattle.relay_connections.specs.Replies.{HearRepliesIf}
 use Rattle.relay_connections.specs.Served.{AreServedAfter}
 use Rattle.relay_connections.proofs.CarriedLemmas.{more_join}
+use Rattle.relay_connections.proofs.HearsLemmas.{loses_one, one_is_heard, them_if}
 use Rattle.relay_connections.proofs.RepliesLemmas.{heard_after, heard_before, heard_none, only_mail}
 use Rattle.relay_connections.proofs.ServedLemmas.{served_at_once, served_after}
 use Rattle.relay_connections.proofs.clients.Clients.serve.Goals as goal
@@ -63,3 +66,20 @@ returns-clause-heard g c =
           (heard_none g.D.Disk.honest g.D.Disk.words at c.hear.new.relay w.hear-then-hears.new.relay _ w.in_ok-_none.ensures.heard))
       | else-hears w ↦ subst (λ relay. HearRepliesIf g.D.Disk.honest g.D.Disk.words c.args.replies.now at c.args.relay.now relay c.in_ok-hears-2.replied) (sym w.relay-is) heard
     ]
+
+-- Those that may hear something do so in the first call, or memory runs out, and one is closed.
+pub returns-then-is_empty-clause-hears : goal.returns-then-is_empty-clause-hears
+returns-then-is_empty-clause-hears g c = λ one. absurd (false≢true (sym c.if-not-hears.true ∙ c.in_ok-hears.ensures.one one))
+
+pub returns-clause-hears : goal.returns-clause-hears
+returns-clause-hears g c =
+    let reads = c.in_ok-hears.ensures.hear in
+    let silent = λ (none : c.in_ok-hears-2.replied ≡ None) (one : OneMayHear c.args.relay.now c.args.self.now.clients).
+    loses_one c.args.self.now.clients c.read_each.new.self.clients c.hear.new.self.clients c.in_ok-hears.ensures.none
+    (c.in_ok-hears-2.ensures.closes one.number (one_is_heard c.args.relay.now c.read_each.new.relay c.args.self.now.clients c.read_each.new.self.clients one reads) none) in
+    them_if g.D.Disk.honest g.D.Disk.words c.args.self.now.clients c.read_each.new.self.clients c.if-hears.self.clients c.args.replies.now c.args.now.now.moment c.args.relay.now c.read_each.new.relay c.in_ok-hears-2.replied reads c.in_ok-hears-2.ensures.all
+    (λ none. elim c.if-hears.branch [
+      | then-hears+in_ok-_none+in-Some-1 w ↦ λ one. absurd (false≢true (sym (c.in_ok-hears-2.ensures.nobody none) ∙ w.if-hears.true))
+      | then-hears+in_ok-_none+in-None-1 w ↦ λ one. absurd (false≢true (sym (c.in_ok-hears-2.ensures.nobody none) ∙ w.if-hears.true))
+      | else-hears w ↦ λ one. subst (λ self. LosesOne c.args.self.now.clients (clients_of self)) (sym w.self-is) (silent none one)
+    ])
