@@ -11,6 +11,7 @@ mod SpoolLemmas
 mod BlockLemmas
 mod HeadLemmas
 mod ChainLemmas
+mod CursorLemmas
 mod ReadingLemmas
 mod RenewalLemmas
 mod PairLemmas

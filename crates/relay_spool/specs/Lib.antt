@@ -8,3 +8,4 @@ pub mod Pair
 pub mod Opening
 pub mod Spool
 pub mod Trim
+pub mod Cursor

@@ -3,6 +3,7 @@
 
 mod chain;
 mod compact;
+mod cursor;
 mod fault;
 mod gate;
 mod head;
@@ -20,6 +21,7 @@ mod taken;
 mod trim;
 
 pub use chain::SIZE_LIMIT;
+pub use cursor::Cursor;
 pub use fault::{Refused, SpoolFault};
 pub use link::BODY_OVERHEAD;
 pub use renewal::RENEWAL_OVERHEAD;

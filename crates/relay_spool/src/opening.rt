@@ -71,7 +71,7 @@ fn read_chosen<D: Disk>(
 }
 
 /// Reads the head of the second disk, after a sync.
-fn read_second_head<D: Disk>(disks: &mut Disks<D>) -> Result<Head, DiskFault>
+pub(crate) fn read_second_head<D: Disk>(disks: &mut Disks<D>) -> Result<Head, DiskFault>
     ensures head { D.honest → IfOk result (IsHeadOf (D.words.seen disks.old.second)) }
     ensures settled { D.honest → OnOk result (IsDiskSettled D.words disks.new.second) }
     ensures keeps { D.honest → EachOnlyReads D.words disks.old disks.new }
@@ -101,7 +101,7 @@ fn choice_of(side: Side, head: OpenHead, other: Head) -> Choice
 
 /// Returns which of two disks with these heads is taken: of those with an open head the one with the greater
 /// generation, and at equal ones the first.
-fn choose(first: Head, second: Head) -> Option<Choice>
+pub(crate) fn choose(first: Head, second: Head) -> Option<Choice>
     ensures { (images : Images) → IsHeadOf images.first first → IsHeadOf images.second second
         → Chooses images result }
 {
