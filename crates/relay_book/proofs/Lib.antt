@@ -38,6 +38,8 @@ mod PieceLemmas
 mod SnapshotReadLemmas
 mod SnapshotWriteLemmas
 mod FirstLemmas
+mod OutlineLemmas
+mod OutlineReadLemmas
 mod StandLemmas
 mod MarkRowLemmas
 mod LeavingLemmas

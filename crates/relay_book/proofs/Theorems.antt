@@ -19,3 +19,5 @@ pub use Rattle.relay_book.proofs.VersionLemmas.{later_report_alike}
 -- due moments
 pub use Rattle.relay_book.proofs.TimeLaws.{fold_due}
 pub use Rattle.relay_book.proofs.DueListLaws.{queue_lists_due, queue_tells_due}
+-- outlines
+pub use Rattle.relay_book.proofs.OutlineLemmas.{outline_steps, outline_fits, outline_holds, outline_finds, outline_tells}

@@ -16,6 +16,7 @@ mod entries;
 mod first;
 mod make;
 mod numbers;
+mod outlined;
 mod questions;
 mod restored;
 mod snapshot;

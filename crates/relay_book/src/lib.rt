@@ -14,6 +14,8 @@ mod judge;
 mod length;
 mod limits;
 mod message;
+mod outline;
+pub mod outline_laws;
 mod question;
 mod ready;
 pub mod record_laws;
@@ -32,6 +34,7 @@ pub use limits::{
     STORED_TEXT_LIMIT,
 };
 pub use message::{Message, Place, Places};
+pub use outline::length_in;
 pub use question::{PlaceQuestion, Question};
 pub use ready::Ready;
 pub use version::Version;

@@ -43,7 +43,7 @@ impl Book {
 }
 
 /// Returns whether the first octet is that of a snapshot.
-fn is_of_snapshot(octets: &[u8]) -> bool
+pub(super) fn is_of_snapshot(octets: &[u8]) -> bool
     ensures { result ≡ is_of_snapshot octets.now }
 {
     match octets {

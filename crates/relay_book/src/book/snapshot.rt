@@ -103,7 +103,7 @@ impl Book {
 
 /// Returns the version of a snapshot, the next number and the count of messages, which are let go.
 #[tactic(auto, using(crate::proofs::PieceLemmas::heads_in_pieces))]
-fn next_head(octets: &mut Pieces) -> Result<(SnapshotVersion, u64, u32), BookFault>
+pub(super) fn next_head(octets: &mut Pieces) -> Result<(SnapshotVersion, u64, u32), BookFault>
     ensures head { IfOk result (λ parts.
         SpellsSnapshot parts.0 (text_of octets.old) parts.1 parts.2 (text_of octets.new)) }
     ensures bad { IsErrOf result BookFault.BadRecord → SpellsNoSnapshot (text_of octets.old) }
