@@ -168,8 +168,14 @@ pub(crate) fn open_listener<R: Clock + Net, E: Write>(
                 if second == 0 {
                     let (mut counters, mut minutes) = (Counters::new(), RejectionMinutes::new());
                     let now = clock_moment(rt);
-                    let mut log =
-                        Log::stamped(alloc, errors, form, now, &mut counters, &mut minutes);
+                    let mut log = Log::stamped(
+                        alloc,
+                        errors,
+                        form,
+                        now,
+                        &mut counters,
+                        &mut minutes,
+                    );
                     log.awaits_address(at, ADDRESS_SECONDS);
                 }
                 rt.sleep(Duration::from_secs(1));

@@ -15,9 +15,7 @@ use crate::hops::Unreached;
 use relay_disk::FileDisk;
 use relay_files::{Fault, configuration, gathering, locked_node};
 use relay_links::{LinkFault, Pushed, lose_link, push_link};
-use relay_log::{
-    Attempt, Counters, HopReader, HopWriter, Log, Loss, RejectionMinutes, Talk, Why,
-};
+use relay_log::{Attempt, Counters, HopReader, HopWriter, Log, Loss, RejectionMinutes, Talk, Why};
 use relay_node::{Node, NodeFault, Noted, Work};
 use relay_routes::HostName;
 use relay_trace::{Moment, clock_moment};
