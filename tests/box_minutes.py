@@ -1,5 +1,5 @@
-"""Which refusals to clients of a relay in a box have a line in its log: ten of each address and minute. After the minute,
-or when another address takes its place, one line counts the others (relayd(8), The log)."""
+"""Which refusals to clients of a relay in a box have a line in its log: ten of each address and minute. After the
+minute, or when another address takes its place, one line counts the others (relayd(8), The log)."""
 import collections
 
 from box_answer import require

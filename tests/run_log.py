@@ -379,7 +379,8 @@ def each_refused_command_is_told_of_where_many_addresses_send_such(field):
             refused(relay, f"127.0.1.{last}", 12)
 
         def lines():
-            return [line.split("client=")[1].split(":")[0] for line in told(relay, "rejected client") if "reply" in line]
+            refusals = [line for line in told(relay, "rejected client") if "reply" in line]
+            return [line.split("client=")[1].split(":")[0] for line in refusals]
 
         wanted = [f"127.0.1.{last}" for last in range(1, 81) for _ in range(10)]
         until("the lines at once", lambda: lines() == wanted, SOON)
