@@ -59,10 +59,11 @@ impl<'a, C: Clock, E: Write> Journal<'a, C, E> {
     /// Returns a log that collects the lines of a turn, each with this time, after those for minutes of refusals that
     /// are over.
     pub(crate) fn log(&mut self, now: &Now) -> Log<'_, Vec<u8>> {
+        let (alloc, form) = (self.alloc, self.form);
         let mut log = Log::stamped(
-            self.alloc,
+            alloc,
             &mut self.lines,
-            self.form,
+            form,
             now.moment,
             &mut self.counters,
             &mut self.minutes,
@@ -71,8 +72,8 @@ impl<'a, C: Clock, E: Write> Journal<'a, C, E> {
         log
     }
 
-    /// Returns how many milliseconds to wait: so many, or fewer if a minute of refusals is over earlier and a line is due
-    /// for it.
+    /// Returns how many milliseconds to wait: so many, or fewer if a minute of refusals is over earlier and a line is
+    /// due for it.
     pub fn shortened(&self, wait: u64, now: &Now) -> u64
         ensures { result ≤ wait }
     {
@@ -96,11 +97,12 @@ impl<'a, C: Clock, E: Write> Journal<'a, C, E> {
 
     /// Returns a log that writes each line at once, with the time of this call.
     fn at_once(&mut self) -> Log<'_, E> {
+        let (alloc, form, moment) = (self.alloc, self.form, clock_moment(self.clock));
         Log::stamped(
-            self.alloc,
+            alloc,
             &mut self.errors,
-            self.form,
-            clock_moment(self.clock),
+            form,
+            moment,
             &mut self.counters,
             &mut self.minutes,
         )
