@@ -297,13 +297,19 @@ impl<'a> Simulation<'a> {
 
     /// Lets a relay take a turn, and keeps it. Returns how long it would wait, in milliseconds.
     fn turn_of(&mut self, shell: BoxShell) -> Result<u64, Fault> {
-        let mut journal = Journal::new(self.alloc, self.around.clock, &mut self.log);
-        journal.minutes = self.minutes;
-        let end = shell.turns(&mut self.around, &mut journal, 1);
-        self.minutes = journal.minutes;
-        let shell = end?;
-        let now = Now::of(self.around.clock);
-        let wait = journal.shortened(shell.wait(&now), &now);
+        let (clock, minutes) = (self.around.clock, self.minutes);
+        let mut journal = Journal::new(self.alloc, clock, &mut self.log);
+        journal.minutes = minutes;
+        let end = match shell.turns(&mut self.around, &mut journal, 1) {
+            Ok(shell) => {
+                let now = Now::of(clock);
+                Ok((journal.shortened(shell.wait(&now), &now), shell))
+            }
+            Err(fault) => Err(fault),
+        };
+        let minutes = journal.minutes;
+        self.minutes = minutes;
+        let (wait, shell) = end?;
         self.shell = Some(shell);
         Ok(wait)
     }
