@@ -1,0 +1,4 @@
+pub mod Runs
+pub mod Calls
+pub mod Wanted
+pub mod Events

@@ -1,0 +1,126 @@
+//! The calls of a relay, each with what its event rests on as its one clause: so the premises of the laws are what the
+//! contracts say.
+ghost use Rattle.std.specs.Prelude.{◌≡◌, ◌≤◌, ◌<◌, ◌^◌, ℕ, IfOk, List, OnOk, Some, length};
+ghost use Rattle.relay_daemon.specs.Calls.{AcceptSays, CompactSays, EndSays, GiveUpSays, ReplySays, StartSays};
+ghost use Rattle.relay_daemon.specs.Calls.{TrimSays, WithdrawSays, WroteHopSays, WroteSays};
+ghost use Rattle.relay_loop.specs.Outboxes.{unwritten_at};
+
+use relay_book::Withdrawal;
+use relay_disk::Disk;
+use relay_loop::{Answered, Outbox, Relay};
+use relay_node::Started;
+use relay_records::NodeFault;
+use relay_routes::HostName;
+use relay_trace::Moment;
+
+/// Calls [`Relay::compact`].
+pub fn compact<D: Disk>(relay: &mut Relay<D>) -> Result<(usize, usize), NodeFault>
+    ensures { OnOk result (CompactSays D.honest D.words relay.old relay.new) }
+{
+    let sizes = relay.compact()?;
+    Ok(sizes)
+}
+
+/// Calls [`Relay::trim`].
+pub fn trim<D: Disk>(relay: &mut Relay<D>, most: usize) -> Result<bool, NodeFault>
+    ensures { OnOk result (TrimSays D.honest D.words relay.old relay.new) }
+{
+    let is_short = relay.trim(most)?;
+    Ok(is_short)
+}
+
+/// Calls [`Relay::give_up_unroutable`].
+pub fn give_up_unroutable<D: Disk>(
+    relay: &mut Relay<D>,
+    message: u64,
+    now: Moment,
+) -> Result<u64, NodeFault>
+    ensures { IfOk result (GiveUpSays D.honest D.words relay.old relay.new now message) }
+{
+    let change = relay.give_up_unroutable(message, now)?;
+    Ok(change)
+}
+
+/// Calls [`Relay::withdraw`].
+pub fn withdraw<D: Disk>(
+    relay: &mut Relay<D>,
+    message: u64,
+    places: &[u8],
+    withdrawal: Withdrawal,
+    now: Moment,
+) -> Result<u64, NodeFault>
+    ensures { IfOk result (WithdrawSays D.honest D.words relay.old relay.new withdrawal places.now now message) }
+{
+    let change = relay.withdraw(message, places, withdrawal, now)?;
+    Ok(change)
+}
+
+/// Calls [`Relay::accept`].
+pub fn accept<D: Disk>(relay: &mut Relay<D>, peer: [u8; 4]) -> Result<usize, NodeFault>
+    ensures { IfOk result (AcceptSays relay.old relay.new peer) }
+{
+    let session = relay.accept(peer)?;
+    let _greeting = relay.to_client(session).len() + 1;
+    Ok(session)
+}
+
+/// Calls [`Relay::end_client`].
+pub fn end_client<D: Disk>(relay: &mut Relay<D>, session: usize) -> Result<Outbox, NodeFault>
+    ensures { IfOk result (EndSays relay.old relay.new session) }
+{
+    let last = relay.end_client(session)?;
+    Ok(last)
+}
+
+/// Calls [`Relay::start`].
+pub fn start<D: Disk>(
+    relay: &mut Relay<D>,
+    message: u64,
+    hop: &HostName,
+    now: Moment,
+) -> Result<Started, NodeFault>
+    ensures { IfOk result (StartSays D.honest D.words relay.old relay.new message hop.now now) }
+{
+    let started = relay.start(message, hop, now)?;
+    Ok(started)
+}
+
+/// Calls [`Relay::reply`].
+pub fn reply<D: Disk>(
+    relay: &mut Relay<D>,
+    attempt: usize,
+    piece: &[u8],
+    now: Moment,
+) -> Result<Answered, NodeFault>
+    ensures { IfOk result (ReplySays D.honest D.words relay.old relay.new now attempt piece.now) }
+{
+    let answered = relay.reply(attempt, piece, now)?;
+    let _unwritten = relay.to_hop(attempt).len() + 1;
+    measure_last(&answered);
+    Ok(answered)
+}
+
+/// Shows that the last octets are as short as those of any slice.
+fn measure_last(answered: &Answered)
+    ensures { (last : List ℕ) → answered.now.last ≡ Some last → length last < 2 ^ 63 }
+{
+    if let Some(last) = &answered.last {
+        let _length = last.as_slice().len() + 1;
+    }
+}
+
+/// Calls [`Relay::wrote_to_client`].
+pub fn wrote_to_client<D: Disk>(relay: &mut Relay<D>, session: usize, count: usize)
+    requires { count ≤ length (unwritten_at relay.old.clients session) }
+    ensures { WroteSays relay.old relay.new session count }
+{
+    relay.wrote_to_client(session, count);
+}
+
+/// Calls [`Relay::wrote_to_hop`].
+pub fn wrote_to_hop<D: Disk>(relay: &mut Relay<D>, attempt: usize, count: usize)
+    requires { count ≤ length (unwritten_at relay.old.hops attempt) }
+    ensures { WroteHopSays relay.old relay.new attempt count }
+{
+    relay.wrote_to_hop(attempt, count);
+}
