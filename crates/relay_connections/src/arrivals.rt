@@ -1,7 +1,8 @@
 //! Balancers' connections whose PROXY protocol header isn't complete yet.
 ghost use Rattle.std.specs.Prelude.{◌≡◌, ◌≤◌, ◌↔◌, ◌⊎◌, ℕ, IfOk, IsTrue};
 ghost use Rattle.relay_slots.specs.Slots.{AreFree, OthersStay, slot_at};
-ghost use Rattle.relay_connections.specs.Arrivals.{GivesNext, IsDueAt, IsNotedSlot, IsOneReadable, IsReadOne, Takes, Within};
+ghost use Rattle.relay_connections.specs.Arrivals.{GivesNext, IsDueAt, IsNotedSlot, IsOneReadable, IsReadOne};
+ghost use Rattle.relay_connections.specs.Arrivals.{Takes, Within};
 ghost use Rattle.relay_connections.specs.Arrivals.{arrivals_of};
 
 use crate::arrival::{Arrival, Arrived, Progress};

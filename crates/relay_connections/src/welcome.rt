@@ -10,7 +10,8 @@ ghost use Rattle.relay_connections.specs.Matched.{AreMatched, Opens};
 ghost use Rattle.relay_connections.specs.Readiness.{clients_of};
 ghost use Rattle.relay_connections.specs.Replies.{LeavesMail};
 ghost use Rattle.relay_connections.specs.Served.{AreServed, opened};
-ghost use Rattle.relay_connections.specs.Welcome.{AreAllowed, IsRefusedFor, KeepsRules, LeavesWith, allowed_of, refusal_of};
+ghost use Rattle.relay_connections.specs.Welcome.{AreAllowed, IsRefusedFor, KeepsRules, LeavesWith, allowed_of};
+ghost use Rattle.relay_connections.specs.Welcome.{refusal_of};
 
 use crate::channel::Channel;
 use crate::clients::Clients;

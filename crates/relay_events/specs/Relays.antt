@@ -32,8 +32,8 @@ HaveOwnNames {D} hosts =
     → host.config.host ≡ others.config.host → one ≡ other
 
 -- The relays are bound by lists of changes, try each place once at a time, have withdrawn what the postmaster has asked
--- for, and have the links that they are meant to have, lines with their sources, and names of their own. There are 16 at
--- most.
+-- for, and have the links that they are meant to have, lines with their sources, and names of their own. There are 16
+-- at most.
 pub record AreBound {D : Type 0} (honest : Type 0) (words : DiskWords D) (world : World D) : Type 0 where
   pub lists : List (List Change)
   pub bound : IsBound honest words world lists

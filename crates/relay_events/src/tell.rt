@@ -49,7 +49,8 @@ impl<D: Disk> Relays<D> {
 
 impl<D: Reboot + Drop> Relays<D> {
     /// Notifies nodes of each broken link, the lowest number first. Nodes that stop in it are added to `stopped`, which
-    /// has room for each node that has a running attempt: a node stops when an attempt is lost, and has none after that.
+    /// has room for each node that has a running attempt: a node stops when an attempt is lost, and has none after
+    /// that.
     pub(crate) fn tell(&mut self, stopped: &mut StoppedNodes)
         requires honest { D.Disk.honest }
         requires bound { AreBound D.Disk.honest D.Disk.words (world_of self.old) }

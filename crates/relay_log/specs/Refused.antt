@@ -5,7 +5,8 @@ use Rattle.relay_octets.specs.Line.{crlf}
 use Rattle.relay_lines.specs.Reply.{reply_text}
 use Rattle.relay_server.specs.Reply.{reply_of}
 use Rattle.relay_server.specs.declared.reply_table.Row.{Row}
-use Rattle.relay_server.specs.declared.reply_table.Row.TheVariants.{TooManyRecipients, RoutedAddress, NoRoute, UnknownCommand}
+use Rattle.relay_server.specs.declared.reply_table.Row.TheVariants.{TooManyRecipients, RoutedAddress, NoRoute}
+use Rattle.relay_server.specs.declared.reply_table.Row.TheVariants.{UnknownCommand}
 use Rattle.relay_server.specs.declared.reply_table.Row.TheVariants.{BadChunkSize}
 use Rattle.relay_log.specs.declared.refused.Refused.{Refused}
 use Rattle.relay_log.specs.declared.refused.Refused.TheVariants.{Rcpt, Bdat, Unknown}

@@ -1,7 +1,8 @@
 -- Which reply of a next hop settles a recipient, by its place among the replies of an attempt (RFC 5321, sections 3.1
 -- to 3.3; RFC 2920, section 3.1; RFC 3030, section 2). A reply answers what was written earliest and isn't answered
 -- yet: the greeting comes first, then the replies to EHLO, MAIL, one RCPT for each recipient, DATA and the mail data.
-use Rattle.std.specs.Prelude.{ℕ, ◌+◌, ◌-◌, ◌==◌, nat_lt, Bool, List, [], ◌∷◌, length, slice_index_or, Option, Some, None, if◌then◌else◌}
+use Rattle.std.specs.Prelude.{ℕ, ◌+◌, ◌-◌, ◌==◌, nat_lt, Bool, List, [], ◌∷◌, length, slice_index_or, Option, Some}
+use Rattle.std.specs.Prelude.{None, if◌then◌else◌}
 use Rattle.std.specs.Int.{is_in_range}
 
 -- 2yz, 3yz and 5yz (RFC 5321, section 4.2.1)

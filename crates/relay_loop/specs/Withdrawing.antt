@@ -1,6 +1,7 @@
 -- What a relay does with mail of several messages that the postmaster withdraws, if their changes go to the spool
 -- together.
-use Rattle.std.specs.Prelude.{◌≡◌, ◌≢◌, ◌⊎◌, ℕ, Bool, true, false, List, [], ◌∷◌, ◌++◌, length, Some, Result, Ok, Err, slice_get}
+use Rattle.std.specs.Prelude.{◌≡◌, ◌≢◌, ◌⊎◌, ℕ, Bool, true, false, List, [], ◌∷◌, ◌++◌, length, Some, Result, Ok}
+use Rattle.std.specs.Prelude.{Err, slice_get}
 use Rattle.relay_disk.specs.Device.{DiskWords}
 use Rattle.relay_spool.specs.Pair.{HasBodies}
 use Rattle.relay_spool.specs.Spool.{AtEachMoment}

@@ -18,8 +18,8 @@ use Rattle.relay_events.specs.Happened.{HasHappenedAsking, asked_for}
 -- The mail of relays after a run. The relays had lists of changes with the invariant, tried each place once, and had
 -- ledger lines with their sources. Now each node has a list of changes that its spool holds and that begins with its
 -- earlier list, and by these lists the promise is kept. Nothing that was recorded, written or read before is gone; ends
--- of links belong to whom they did, and broken links are unchanged; attempts have gone on or ended. Each seat in use at a
--- node that is up is a link's, and each attempt number in use a running attempt's. All of this came by events of the
+-- of links belong to whom they did, and broken links are unchanged; attempts have gone on or ended. Each seat in use at
+-- a node that is up is a link's, and each attempt number in use a running attempt's. All of this came by events of the
 -- world, each of which adds the accept or outcome that it leads to, at the clock's time. By these events the postmaster
 -- asked for exactly the withdrawals in `asked`, the last one first.
 pub record KeepsItsPromise {D : Type 0} (honest : Type 0) (words : DiskWords D) (asked : List Withdrawing)
