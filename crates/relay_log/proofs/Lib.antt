@@ -1,3 +1,6 @@
 mod RefusedLemmas
 mod LastReplyLemmas
 mod ReportKindLemmas
+mod PositionLemmas
+mod ToldLemmas
+mod TalkLemmas

@@ -1,4 +1,5 @@
 pub mod Settling
+pub mod Talk
 pub mod Refused
 pub mod LastReplies
 pub mod ReportKind

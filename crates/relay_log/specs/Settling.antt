@@ -1,62 +1,61 @@
--- Which reply of a next hop settles a recipient, by its place among the replies of an attempt (RFC 5321, sections 3.1
--- to 3.3; RFC 2920, section 3.1; RFC 3030, section 2). A reply answers what was written earliest and isn't answered
--- yet: the greeting comes first, then the replies to EHLO, MAIL, one RCPT for each recipient, DATA and the mail data.
-use Rattle.std.specs.Prelude.{ℕ, ◌+◌, ◌-◌, ◌==◌, nat_lt, Bool, List, [], ◌∷◌, length, slice_index_or, Option, Some}
-use Rattle.std.specs.Prelude.{None, if◌then◌else◌}
-use Rattle.std.specs.Int.{is_in_range}
+-- Which reply of a next hop the log tells of a recipient, among those of an attempt (RFC 5321, sections 3.1 to 3.3 and
+-- 3.8): the one that settled it, or the one by which the next hop closed the connection.
+use Rattle.std.specs.Prelude.{ℕ, ◌-◌, ◌==◌, Bool, true, false, List, length, map, slice_get, take, Option, Some, None}
+use Rattle.std.specs.Prelude.{option_map, if◌then◌else◌}
+use Rattle.relay_lines.specs.Reply.{Reply, last_text}
+use Rattle.relay_book.specs.declared.change.Verdict.{Verdict}
+use Rattle.relay_book.specs.declared.change.Verdict.TheVariants.{Taken, Refused, Later}
+use Rattle.relay_course.specs.declared.reply_kind.ReplyKind.{ReplyKind}
+use Rattle.relay_course.specs.VerdictTable.{kind_of}
+use Rattle.relay_course.specs.Settling.{settling_position}
 
--- 2yz, 3yz and 5yz (RFC 5321, section 4.2.1)
-abbrev pub is_completion : ℕ → Bool
-is_completion code = is_in_range 200 299 code
+abbrev pub kinds_of : List Reply → List ReplyKind
+kinds_of replies = map (λ reply. kind_of reply.code) replies
 
-abbrev pub is_intermediate : ℕ → Bool
-is_intermediate code = is_in_range 300 399 code
+-- the reply that settled the recipient of this index among this many, if it is one of these; the text was sent by DATA,
+-- or as a chunk
+abbrev pub settling_reply : Bool → List Reply → ℕ → ℕ → Option Reply
+settling_reply by_data replies count index =
+    slice_get replies (settling_position by_data (kinds_of replies) count index)
 
-abbrev pub is_permanent : ℕ → Bool
-is_permanent code = is_in_range 500 599 code
+-- a 421, by which a next hop closes the connection, whatever it answers (section 3.8)
+abbrev pub if_closing : Option Reply → Option Reply
+if_closing None = None
+if_closing (Some reply) = if reply.code == 421 then Some reply else None
 
--- the code of the reply at this place, 0 if there is none
-abbrev pub code_at : List ℕ → ℕ → ℕ
-code_at codes place = slice_index_or codes place 0
+-- the last of these replies, if the next hop closed the connection by it
+abbrev pub closing_reply : List Reply → Option Reply
+closing_reply replies = if_closing (slice_get replies (length replies - 1))
 
--- the reply that greets us: to EHLO, or to HELO where EHLO was answered by 5yz (section 3.2)
-abbrev pub hello_place : List ℕ → ℕ
-hello_place codes = if is_permanent (code_at codes 1) then 2 else 1
+-- the first of two, if it is there, or else the second
+abbrev pub one_or : Option Reply → Option Reply → Option Reply
+one_or None other = other
+one_or (Some reply) other = Some reply
 
-abbrev pub mail_place : List ℕ → ℕ
-mail_place codes = hello_place codes + 1
+-- the reply for which a recipient may be tried again: the one that settled it, of whatever class, since a 2yz to DATA
+-- puts it off too; without one, and where the connection was lost, so that none settled it, the one that closed the
+-- connection
+abbrev pub deferring_reply : Bool → Bool → List Reply → ℕ → ℕ → Option Reply
+deferring_reply true by_data replies count index = closing_reply replies
+deferring_reply false by_data replies count index =
+    one_or (settling_reply by_data replies count index) (closing_reply replies)
 
--- the recipients' replies come in the recipients' order
-abbrev pub rcpt_place : List ℕ → ℕ → ℕ
-rcpt_place codes index = mail_place codes + 1 + index
+-- profile: the text that is told of a reply: the first 200 octets of its last line
+abbrev pub told_text : Reply → List ℕ
+told_text reply = take 200 (last_text reply.lines)
 
--- the reply to the mail data follows a 3yz to DATA; a chunk has none before it, and neither has a DATA that is refused
-abbrev pub content_place : List ℕ → ℕ → ℕ
-content_place codes count =
-    let next : ℕ = rcpt_place codes count in if is_intermediate (code_at codes next) then next + 1 else next
+abbrev pub told_as : Option Reply → Option (ℕ × List ℕ)
+told_as reply = option_map (λ one. (one.code, told_text one)) reply
 
--- the first of these replies that isn't 2yz
-abbrev pub first_refusal : List ℕ → List ℕ → ℕ → ℕ
-first_refusal codes [] last = last
-first_refusal codes (place ∷ places) last =
-    if is_completion (code_at codes place) then first_refusal codes places last else place
+-- such a code and text, if the next hop closed the connection by them
+abbrev pub if_closing_told : Option (ℕ × List ℕ) → Option (ℕ × List ℕ)
+if_closing_told None = None
+if_closing_told (Some told) = if told.0 == 421 then Some told else None
 
--- the place of the reply that settles the recipient of this index among this many: the first refusal of what it needs,
--- or what was said of the mail data
-abbrev pub settling_place : List ℕ → ℕ → ℕ → ℕ
-settling_place codes count index =
-    first_refusal codes (0 ∷ hello_place codes ∷ mail_place codes ∷ rcpt_place codes index ∷ [])
-    (content_place codes count)
-
--- the place of the last reply, if it is 421, by which a next hop closes the connection, whatever it answers (section
--- 3.8)
-abbrev pub closing_place : List ℕ → Option ℕ
-closing_place codes =
-    let last : ℕ = length codes - 1 in if code_at codes last == 421 then Some last else None
-
--- the place of the reply for which the recipient of this index among this many may be tried again, if one came: the one
--- that settles it, of whatever class, since a 2yz to DATA puts it off too; else the one that closes the connection
-abbrev pub deferring_place : List ℕ → ℕ → ℕ → Option ℕ
-deferring_place codes count index =
-    let place : ℕ = settling_place codes count index in
-    if nat_lt place (length codes) then Some place else closing_place codes
+-- The code and the text that the log has for the recipient of this index among this many, by its verdict: a refusal's
+-- own; those of the reply that settled it, or put it off; or none.
+abbrev pub told_of : Verdict → Bool → Bool → List Reply → ℕ → ℕ → Option (ℕ × List ℕ)
+told_of (Refused code text) lost by_data replies count index = Some (code, text)
+told_of (Taken dsn) lost by_data replies count index = told_as (settling_reply by_data replies count index)
+told_of Later lost by_data replies count index = told_as (deferring_reply lost by_data replies count index)
+told_of _ lost by_data replies count index = None

@@ -146,13 +146,10 @@ pub(crate) fn recipient_line(
         None => line.number(b"place", u64::from(ruling.place), b"")?,
     }
     line.octets(b"status", status.word())?;
-    match &ruling.verdict {
-        Verdict::Refused { code, text } => add_reply(head, &mut line, *code, text.as_slice())?,
-        Verdict::Taken { .. } => add_settling(head, &mut line, talk, rulings.len(), index)?,
-        Verdict::Later => add_reason(head, &mut line, attempt, talk, rulings.len(), index)?,
-        Verdict::CantSend => line.octets(b"reason", b"CHUNKING not offered")?,
-        Verdict::NoRoute => line.octets(b"reason", b"no route")?,
-        Verdict::Withdrawn(_) => line.octets(b"reason", b"by the postmaster")?,
+    let is_lost = attempt.loss.is_some();
+    match reply_told(talk, &ruling.verdict, is_lost, rulings.len(), index) {
+        Some((code, text)) => add_reply(head, &mut line, code, text)?,
+        None => add_reason(head, &mut line, attempt, talk, &ruling.verdict)?,
     }
     Ok(Some(line))
 }
@@ -172,19 +169,48 @@ fn add_attempt(head: Head, line: &mut LogLine, attempt: &Attempt<'_>) -> io::Res
     Ok(())
 }
 
-/// Adds why a recipient may be tried again: a reply of the next hop; without one, what the connection failed for, or
-/// why octets were no reply.
+/// Returns the code and the text of the reply for the recipient of this index, among this many of the attempt, if there
+/// is one.
+fn reply_told<'a>(
+    talk: &'a Talk,
+    verdict: &'a Verdict,
+    is_lost: bool,
+    count: usize,
+    index: usize,
+) -> Option<(u16, &'a [u8])> {
+    match (u8::try_from(count), u8::try_from(index)) {
+        (Ok(count), Ok(index)) => talk.reply_told(verdict, is_lost, count, index),
+        // An attempt has 100 recipients at most.
+        _ => None,
+    }
+}
+
+/// Adds why a recipient without a reply has its verdict. One may be tried again because the connection failed, or
+/// because octets were no reply.
 fn add_reason(
     head: Head,
     line: &mut LogLine,
     attempt: &Attempt<'_>,
     talk: &Talk,
-    count: usize,
-    index: usize,
+    verdict: &Verdict,
 ) -> io::Result<()> {
-    if let Some((code, text)) = talk.deferring_reply(count, index) {
-        return add_reply(head, line, code, text);
+    match verdict {
+        Verdict::Refused { .. } | Verdict::Taken { .. } => {}
+        Verdict::Later => add_failure(head, line, attempt, talk)?,
+        Verdict::CantSend => line.octets(b"reason", b"CHUNKING not offered")?,
+        Verdict::NoRoute => line.octets(b"reason", b"no route")?,
+        Verdict::Withdrawn(_) => line.octets(b"reason", b"by the postmaster")?,
     }
+    Ok(())
+}
+
+/// Adds what the connection failed for, or why octets were no reply.
+fn add_failure(
+    head: Head,
+    line: &mut LogLine,
+    attempt: &Attempt<'_>,
+    talk: &Talk,
+) -> io::Result<()> {
     if let Some(loss) = attempt.loss {
         line.octets(b"reason", loss.text())?;
         return Ok(());
@@ -194,20 +220,6 @@ fn add_reason(
         line.octets(b"reason", text.as_bytes())?;
     }
     Ok(())
-}
-
-/// Adds the reply that settles a recipient, if it is known.
-fn add_settling(
-    head: Head,
-    line: &mut LogLine,
-    talk: &Talk,
-    count: usize,
-    index: usize,
-) -> io::Result<()> {
-    match talk.settling_reply(count, index) {
-        Some((code, text)) => add_reply(head, line, code, text),
-        None => Ok(()),
-    }
 }
 
 /// Adds a reply of a next hop.

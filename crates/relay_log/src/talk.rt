@@ -1,9 +1,18 @@
 //! The recipients of an attempt, and the replies of its next hop, for the log.
-ghost use Rattle.std.specs.Prelude.{◌≤◌, length};
+ghost use Rattle.std.specs.Prelude.{◌≡◌, ◌<◌, ◌≤◌, ◌⊎◌, ◌++◌, ℕ, [], List, MatchOption, OnErr, OnOk, length};
+ghost use Rattle.std.specs.Prelude.{option_map, take};
+ghost use Rattle.std.specs.Prelude.{false, slice_get, true};
+ghost use Rattle.relay_lines.specs.Reply.{Reply as Coded};
+ghost use Rattle.relay_body.specs.DotText.{ends_in_line_end};
+ghost use Rattle.relay_log.specs.Settling.{closing_reply, deferring_reply, if_closing_told, settling_reply};
+ghost use Rattle.relay_log.specs.Settling.{told_as, told_of};
+ghost use Rattle.relay_log.specs.Talk.{HasHeard, HasKept, KeepsNone, KeepsReply, KeepsRest};
 
-use crate::settling::{deferring_place, settling_place};
-use relay_book::Message;
+use relay_body::ends_in_line_end;
+use relay_book::{Message, Verdict};
+use relay_course::settling_position;
 use relay_lines::{Reply, ReplyFault, ReplyReader};
+use relay_octets::Octets;
 use std::alloc::{AllocError, Global};
 
 /// How many octets of a reply's text are kept.
@@ -12,6 +21,9 @@ const TEXT_LIMIT: usize = 200;
 /// The most replies of an attempt: the greeting, those to EHLO, HELO, MAIL, 100 RCPTs, DATA and the mail data.
 const REPLY_LIMIT: usize = 106;
 
+/// The code by which a next hop closes the connection (RFC 5321, section 3.8).
+const CLOSING: u16 = 421;
+
 /// The reverse path and the recipients of a message, and the replies of a next hop as they come. If memory runs out, it
 /// knows less than there is.
 #[derive(Drop)]
@@ -19,23 +31,28 @@ pub struct Talk {
     alloc: Global,
     /// Whether it keeps what it is told.
     listens: bool,
+    /// Whether the text is sent by DATA, rather than as a chunk.
+    by_data: bool,
     reverse_path: Vec<u8>,
     /// The recipients' paths in their order.
     recipients: Vec<Vec<u8>>,
     reader: ReplyReader,
     codes: Vec<u16>,
     /// The first 200 octets of each reply's last line, after its code.
-    texts: Vec<Vec<u8>>,
+    texts: Vec<Octets>,
     /// Why the next octets are no reply, if they are none.
     fault: Option<ReplyFault>,
 }
 
 impl Talk {
     /// Nothing is known yet. Unless it listens, that stays so.
-    pub fn new(alloc: Global, listens: bool) -> Self {
+    pub fn new(alloc: Global, listens: bool) -> Self
+        ensures { HasKept result [] [] }
+    {
         Talk {
             alloc,
             listens,
+            by_data: true,
             reverse_path: Vec::new(alloc),
             recipients: Vec::new(alloc),
             reader: ReplyReader::new(alloc),
@@ -45,10 +62,16 @@ impl Talk {
         }
     }
 
-    /// Keeps the paths of the message that the attempt is for, if it is queued.
-    pub fn note_message(&mut self, message: Option<&Message>) {
+    /// Keeps the paths of the message that the attempt is for, if it is queued, and how its text is sent.
+    pub fn note_message(&mut self, message: Option<&Message>)
+        ensures heard { (octets : List ℕ) (replies : List Coded) → HasKept self.old octets replies
+            → HasKept self.new octets replies }
+        ensures sent { self.old.listens ≡ true → MatchOption message.entry (self.new.by_data ≡ self.old.by_data)
+            (λ message. self.new.by_data ≡ ends_in_line_end message.now.accept.stored_text) }
+    {
         match message {
             Some(message) if self.listens => {
+                self.by_data = ends_in_line_end(message.accept.stored_text.as_slice());
                 // The log names no path that there was no memory for.
                 let _ = self.copy_paths(message);
             }
@@ -56,7 +79,10 @@ impl Talk {
         }
     }
 
-    fn copy_paths(&mut self, message: &Message) -> Result<(), AllocError> {
+    fn copy_paths(&mut self, message: &Message) -> Result<(), AllocError>
+        ensures none { KeepsNone self.old self.new }
+        ensures rest { KeepsRest self.old self.new }
+    {
         let envelope = &message.accept.envelope;
         self.reverse_path = envelope.reverse_path.as_slice().to_vec(self.alloc)?;
         self.recipients.clear();
@@ -68,26 +94,35 @@ impl Talk {
     }
 
     /// Takes the next octets that the next hop wrote.
-    pub fn hear(&mut self, octets: &[u8]) {
-        let mut rest = octets;
-        // Each reply has an octet at least.
-        for _ in 0..octets.len() {
-            if !self.listens || rest.is_empty() {
-                return;
-            }
-            let used = self.hear_one(rest);
-            rest = &rest[used..];
+    pub fn hear(&mut self, octets: &[u8])
+        ensures heard { (before : List ℕ) → HasHeard self.old before → HasHeard self.new (before ++ octets.now) }
+        ensures by_data { self.new.by_data ≡ self.old.by_data }
+    {
+        let mut used = 0;
+        while self.listens && used < octets.len() {
+            used += self.hear_one(&octets[used..]);
         }
     }
 
     /// Takes octets up to the end of a reply, or all of them, and returns how many.
     fn hear_one(&mut self, octets: &[u8]) -> usize
-        ensures { result ≤ length octets.now }
+        requires listens { self.old.listens ≡ true }
+        requires some { 0 < length octets.now }
+        ensures within { (0 < result) × (result ≤ length octets.now) }
+        ensures heard { (before : List ℕ) → HasHeard self.old before
+            → HasHeard self.new (before ++ take result octets.now) }
+        ensures by_data { self.new.by_data ≡ self.old.by_data }
     {
         match self.reader.feed(octets) {
             Ok(cut) => {
-                self.note(&cut.reply);
-                cut.used
+                let used = cut.used;
+                match cut.reply {
+                    Some(reply) => {
+                        self.note(&reply);
+                        used
+                    }
+                    None => used,
+                }
             }
             Err(fault) => {
                 self.listens = false;
@@ -97,21 +132,33 @@ impl Talk {
         }
     }
 
-    fn note(&mut self, reply: &Option<Reply>) {
-        let Some(reply) = reply else {
-            return;
-        };
+    /// Keeps a reply, or stops to listen if there are too many of them, or if memory runs out.
+    fn note(&mut self, reply: &Reply)
+        ensures kept { (KeepsReply self.old self.new reply.now × (self.new.listens ≡ self.old.listens))
+            ⊎ (KeepsNone self.old self.new × (self.new.listens ≡ false)) }
+        ensures rest { (self.new.reader ≡ self.old.reader) × (self.new.by_data ≡ self.old.by_data) }
+    {
         if REPLY_LIMIT <= self.codes.len() || self.keep(reply).is_err() {
             self.listens = false;
         }
     }
 
-    fn keep(&mut self, reply: &Reply) -> Result<(), AllocError> {
+    /// Keeps a reply, or nothing of it if memory runs out.
+    #[tactic(auto, using(crate::proofs::TalkLemmas::told_is))]
+    fn keep(&mut self, reply: &Reply) -> Result<(), AllocError>
+        ensures kept { OnOk result (KeepsReply self.old self.new reply.now) }
+        ensures none { OnErr result (KeepsNone self.old self.new) }
+        ensures rest { KeepsRest self.old self.new }
+    {
         let text = reply.last_text();
-        let kept = text[..text.len().min(TEXT_LIMIT)].to_vec(self.alloc)?;
+        let kept = Octets::from_slice(self.alloc, &text[..TEXT_LIMIT.min(text.len())])?;
+        // With room for it the second push doesn't fail.
+        self.codes.reserve(1)?;
         self.texts.push(kept)?;
-        self.codes.push(reply.code())?;
-        Ok(())
+        match self.codes.push(reply.code()) {
+            Ok(()) => Ok(()),
+            Err(_) => unreachable!(),
+        }
     }
 
     /// Returns why the last octets were no reply, if they were none.
@@ -132,32 +179,83 @@ impl Talk {
         }
     }
 
-    /// Returns the code and the text of the reply that settles the recipient of this index, among this many of the
-    /// attempt, if one came.
-    pub(crate) fn settling_reply(&self, count: usize, index: usize) -> Option<(u16, &[u8])> {
-        let (Ok(count), Ok(index)) = (u8::try_from(count), u8::try_from(index)) else {
-            return None;
-        };
-        self.reply_at(settling_place(self.codes.as_slice(), count, index))
-    }
-
-    /// Returns the code and the text of the reply for which the recipient of this index, among this many of the
-    /// attempt, may be tried again, if one came.
-    pub(crate) fn deferring_reply(&self, count: usize, index: usize) -> Option<(u16, &[u8])> {
-        let (Ok(count), Ok(index)) = (u8::try_from(count), u8::try_from(index)) else {
-            return None;
-        };
-        self.reply_at(deferring_place(self.codes.as_slice(), count, index)?)
-    }
-
-    /// Returns the code and the text of the reply at a place, if there is one.
-    fn reply_at(&self, place: usize) -> Option<(u16, &[u8])> {
-        match (
-            self.codes.as_slice().get(place),
-            self.texts.as_slice().get(place),
-        ) {
-            (Some(code), Some(text)) => Some((*code, text.as_slice())),
-            _ => None,
+    /// Returns the code and the text that the log has for the recipient of this index, among this many of the attempt,
+    /// by its verdict. `is_lost` says whether the connection was lost, so that no reply settled it.
+    pub(crate) fn reply_told<'a>(
+        &'a self,
+        verdict: &'a Verdict,
+        is_lost: bool,
+        count: u8,
+        index: u8,
+    ) -> Option<(u16, &'a [u8])>
+        ensures { (octets : List ℕ) (replies : List Coded) → HasKept self.now octets replies
+            → option_map (λ told. (told.0, told.1.now)) result
+            ≡ told_of verdict.now is_lost self.now.by_data replies count index }
+    {
+        match verdict {
+            Verdict::Refused { code, text } => Some((*code, text.as_slice())),
+            Verdict::Taken { .. } => self.settling_reply(count, index),
+            Verdict::Later if is_lost => self.closing_reply(),
+            Verdict::Later => self.deferring_reply(count, index),
+            Verdict::CantSend | Verdict::NoRoute | Verdict::Withdrawn(_) => None,
         }
+    }
+
+    /// Returns the code and the text of the reply that settled the recipient of this index, among this many of the
+    /// attempt, if it is known.
+    fn settling_reply(&self, count: u8, index: u8) -> Option<(u16, &[u8])>
+        ensures { (octets : List ℕ) (replies : List Coded) → HasKept self.now octets replies
+            → option_map (λ told. (told.0, told.1.now)) result
+            ≡ told_as (settling_reply self.now.by_data replies count index) }
+    {
+        let position = settling_position(self.codes.as_slice(), self.by_data, count, index);
+        self.reply_at(position)
+    }
+
+    /// Returns the code and the text of the reply that settled a recipient, or else of the one by which the next hop
+    /// closed the connection.
+    fn deferring_reply(&self, count: u8, index: u8) -> Option<(u16, &[u8])>
+        ensures { (octets : List ℕ) (replies : List Coded) → HasKept self.now octets replies
+            → option_map (λ told. (told.0, told.1.now)) result
+            ≡ told_as (deferring_reply false self.now.by_data replies count index) }
+    {
+        let settling = self.settling_reply(count, index);
+        if settling.is_some() {
+            settling
+        } else {
+            self.closing_reply()
+        }
+    }
+
+    /// Returns the code and the text of the last reply, if the next hop closed the connection by it.
+    fn closing_reply(&self) -> Option<(u16, &[u8])>
+        ensures { (octets : List ℕ) (replies : List Coded) → HasKept self.now octets replies
+            → option_map (λ told. (told.0, told.1.now)) result ≡ told_as (closing_reply replies) }
+    {
+        if_closing(self.reply_at(self.codes.len().saturating_sub(1)))
+    }
+
+    /// Returns the code and the text of the reply at a position, if there is one.
+    fn reply_at(&self, position: usize) -> Option<(u16, &[u8])>
+        ensures { (octets : List ℕ) (replies : List Coded) → HasKept self.now octets replies
+            → option_map (λ told. (told.0, told.1.now)) result ≡ told_as (slice_get replies position) }
+    {
+        if position < self.codes.len() && position < self.texts.len() {
+            Some((self.codes[position], self.texts[position].as_slice()))
+        } else {
+            None
+        }
+    }
+}
+
+/// Returns this code and text, if the next hop closes the connection by them.
+fn if_closing(reply: Option<(u16, &[u8])>) -> Option<(u16, &[u8])>
+    ensures { option_map (λ told. (told.0, told.1.now)) result
+        ≡ if_closing_told (option_map (λ told. (told.0, told.1.now)) reply.entry) }
+{
+    match reply {
+        Some((code, _)) if code == CLOSING => reply,
+        Some(_) => None,
+        None => None,
     }
 }
