@@ -1,0 +1,5 @@
+mod LookLemmas
+mod ReadLemmas
+mod CursorLemmas
+mod OpenLemmas
+pub mod Theorems

@@ -1,0 +1,5 @@
+use Rattle.relay_outlines.proofs.LookLemmas.{blank_texts_wait}
+use Rattle.relay_outlines.proofs.laws.blank_texts_wait.Goals as goal
+
+pub returns : goal.returns
+returns c = blank_texts_wait
