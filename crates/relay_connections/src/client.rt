@@ -99,6 +99,16 @@ pub struct Intake {
     pub closed: bool,
 }
 
+impl Intake {
+    /// Returns the intake of a turn that has just begun.
+    pub(crate) fn none() -> Self {
+        Intake {
+            was_full: false,
+            closed: false,
+        }
+    }
+}
+
 impl<S: Stream> Client<S> {
     /// Makes a client that has just connected, and may be idle for `timeout` seconds.
     pub(crate) fn new(channel: Channel<S>, peer: SocketAddrV4, timeout: u64, now: &Now) -> Self
@@ -377,7 +387,6 @@ impl<S: Stream> Client<S> {
         holds: bool,
         timeout: u64,
         now: &Now,
-        intake: &mut Intake,
         log: &mut Log<'_, Vec<u8>>,
     ) -> Result<Next, NodeFault>
         ensures used { IfOk heard (λ heard. Uses S.remaining heard.used self.old.channel self.new.channel) }
@@ -414,11 +423,10 @@ impl<S: Stream> Client<S> {
             tell_accepted(relay, self.peer, number, &mut self.record, log);
         }
         let (peer, record) = (self.peer, &mut self.record);
-        let was_full = match &last {
-            Some(outbox) => tell_replies(peer, outbox.as_slice(), record, now, log),
-            None => tell_replies(peer, relay.to_client(session), record, now, log),
-        };
-        intake.was_full = intake.was_full || was_full;
+        match &last {
+            Some(outbox) => log.replied(peer, outbox.as_slice(), record, now.tick),
+            None => log.replied(peer, relay.to_client(session), record, now.tick),
+        }
         match last {
             Some(outbox) => return Ok(Next::Leaves(outbox)),
             None if holds => self.hold(relay, session, timeout, now),
@@ -428,16 +436,22 @@ impl<S: Stream> Client<S> {
     }
 }
 
-/// Logs the replies to a client. Returns whether one of them says that the spool is full.
-fn tell_replies(
-    peer: SocketAddrV4,
-    replies: &[u8],
-    record: &mut ClientRecord,
-    now: &Now,
-    log: &mut Log<'_, Vec<u8>>,
+/// Returns whether a reply to the octets that a session has heard says that the spool is full.
+pub(crate) fn was_full<D: Disk>(
+    heard: &Result<Heard, NodeFault>,
+    relay: &Relay<D>,
+    session: usize,
 ) -> bool {
-    log.replied(peer, replies, record, now.tick);
-    tells_full(replies)
+    match heard {
+        Ok(
+            Heard {
+                last: Some(outbox),
+                ..
+            },
+        ) => tells_full(outbox.as_slice()),
+        Ok(Heard { last: None, .. }) => tells_full(relay.to_client(session)),
+        Err(_) => false,
+    }
 }
 
 /// Logs that mail was accepted as the message of a number.

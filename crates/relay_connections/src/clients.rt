@@ -16,7 +16,7 @@ ghost use Rattle.relay_connections.specs.Welcome.{IsRefusedFor, KeepsRules, MayC
 ghost use Rattle.relay_connections.specs.Welcome.{retiring, staying, stopped};
 
 use crate::channel::{Channel, Readiness};
-use crate::client::Client;
+use crate::client::{Client, Intake};
 use crate::clocks::Now;
 use crate::ending::dismiss;
 use crate::stream::Stream;
@@ -60,6 +60,8 @@ pub struct Clients<S = TcpStream> {
     pub(crate) is_crowded: bool,
     /// The number of the client that is served first in the next turn.
     pub(crate) first: usize,
+    /// What the clients' octets have led to in this turn.
+    pub(crate) intake: Intake,
 }
 
 // Written out, so that the proof of a caller that drops them stops at this function.
@@ -75,6 +77,7 @@ impl<S: Drop> Drop for Clients<S> {
             timeout: _,
             is_crowded: _,
             first: _,
+            intake: _,
         } = self;
     }
 }
@@ -98,6 +101,7 @@ impl<S: Stream + Drop> Clients<S> {
             timeout: u64::from(limits.client_timeout),
             is_crowded: false,
             first: 0,
+            intake: Intake::none(),
         })
     }
 

@@ -21,6 +21,7 @@ mod serving;
 mod share;
 mod stream;
 mod table;
+mod turn;
 mod welcome;
 
 pub use arrival::Arrived;
@@ -35,4 +36,5 @@ pub use refusals::Refusals;
 pub use scripted::ScriptedStream;
 pub use stream::Stream;
 pub use table::{Table, holds, turned};
+pub use turn::Turn;
 pub use welcome::close_with;

@@ -19,7 +19,7 @@ ghost use Rattle.relay_loop.specs.declared.closing.Closing.{Closing};
 ghost use Rattle.relay_connections.specs.Welcome.{KeepsRules};
 
 use crate::channel::End;
-use crate::client::{Client, Intake, Next};
+use crate::client::{Client, Intake, Next, was_full};
 use crate::clients::Clients;
 use crate::clocks::Now;
 use crate::ending::{cut_off, drop_session};
@@ -27,6 +27,7 @@ use crate::hearing::{Answer, Hearing, Replied, client_at, hear_all};
 use crate::leaving::Leaving;
 use crate::stream::Stream;
 use crate::table::{holds, turned};
+use crate::turn::Turn;
 use relay_disk::Disk;
 use relay_log::{ClientEnd, Log};
 use relay_loop::{Closing, Relay, ReplyPiece};
@@ -64,41 +65,28 @@ impl<S: Stream + Drop> Clients<S> {
         ensures rules { KeepsRules self.old self.new }
         ensures fault { IfErr result (λ fault. fault ≡ NodeFault.Stopped) }
     {
-        let mut intake = Intake {
-            was_full: false,
-            closed: false,
-        };
+        let turn = Turn { registry, now };
+        self.intake = Intake::none();
         self.is_crowded = CROWD < self.clients.count();
-        let hears = self.read_each(registry, relay, leaving, now, &mut intake, log)?;
+        let hears = self.read_each(turn, relay, leaving, log)?;
         if !hears && replies.is_empty() {
             self.first = turned(self.first, 1, SLOT_COUNT);
-            return Ok((intake, None));
+            return Ok((self.intake, None));
         }
-        let (hears, replied) = self.hear(
-            true,
-            registry,
-            relay,
-            replies,
-            leaving,
-            now,
-            &mut intake,
-            log,
-        )?;
+        let (hears, replied) = self.hear(true, turn, relay, replies, leaving, log)?;
         if hears {
-            let _none = self.hear(false, registry, relay, &[], leaving, now, &mut intake, log)?;
+            let _none = self.hear(false, turn, relay, &[], leaving, log)?;
         }
         self.first = turned(self.first, 1, SLOT_COUNT);
-        Ok((intake, replied))
+        Ok((self.intake, replied))
     }
 
     /// Reads from each client without unwritten octets. Returns whether a session has octets to hear.
     fn read_each<D: Disk>(
         &mut self,
-        registry: &S::Registry,
+        turn: Turn<'_, S::Registry>,
         relay: &mut Relay<D>,
         leaving: &mut Leaving<S>,
-        now: &Now,
-        intake: &mut Intake,
         log: &mut Log<'_, Vec<u8>>,
     ) -> Result<bool, NodeFault>
         ensures served { (changes : List Change) (setting : Setting)
@@ -120,7 +108,7 @@ impl<S: Stream + Drop> Clients<S> {
         for step in 0..count {
             let number = turned(first, step, count);
             if holds(self.clients.standing(), number) {
-                hears |= self.read_one(number, registry, relay, leaving, now, intake, log)?;
+                hears |= self.read_one(number, turn, relay, leaving, log)?;
             }
         }
         Ok(hears)
@@ -132,12 +120,10 @@ impl<S: Stream + Drop> Clients<S> {
     fn hear<D: Disk>(
         &mut self,
         holds: bool,
-        registry: &S::Registry,
+        turn: Turn<'_, S::Registry>,
         relay: &mut Relay<D>,
         replies: &[ReplyPiece<'_>],
         leaving: &mut Leaving<S>,
-        now: &Now,
-        intake: &mut Intake,
         log: &mut Log<'_, Vec<u8>>,
     ) -> Result<(bool, Option<Replied>), NodeFault>
         ensures served { (changes : List Change) (setting : Setting)
@@ -145,10 +131,10 @@ impl<S: Stream + Drop> Clients<S> {
             → IfOk result (λ _. AreServedAfter D.honest D.words S.remaining S.contents changes setting
             (clients_of self.new) relay.new
             × ClientsJoin S.remaining S.contents setting (leavers_of leaving.old) (leavers_of leaving.new)) }
-        ensures heard { IfOk result (λ told. HearRepliesIf D.honest D.words replies.now now.now.moment relay.old
-            relay.new told.1) }
+        ensures heard { IfOk result (λ told. HearRepliesIf D.honest D.words replies.now turn.entry.now.now.moment
+            relay.old relay.new told.1) }
         ensures all { IfOk result (λ told. IfSome told.1 (HearsAll D.honest D.words (clients_of self.old) replies.now
-            now.now.moment relay.old)) }
+            turn.entry.now.now.moment relay.old)) }
         ensures closes { (number : ℕ) → hears_at (clients_of self.old) number ≡ true
             → IfOk result (λ told. told.1 ≡ None → LosesOne (clients_of self.old) (clients_of self.new)) }
         ensures nobody { IfOk result (λ told. told.1 ≡ None → told.0 ≡ false) }
@@ -164,14 +150,12 @@ impl<S: Stream + Drop> Clients<S> {
                 heard,
                 replies,
             },
-        ) = hear_all(self.alloc, clients, first, replies, relay, now)?
+        ) = hear_all(self.alloc, clients, first, replies, relay, turn.now)?
         else {
-            self.give_one_up(relay, now, intake, log)?;
+            self.give_one_up(relay, turn.now, log)?;
             return Ok((false, None));
         };
-        let hears = self.answer_each(
-            sessions, heard, holds, registry, relay, leaving, now, intake, log,
-        )?;
+        let hears = self.answer_each(sessions, heard, holds, turn, relay, leaving, log)?;
         Ok((hears, Some(replies)))
     }
 
@@ -181,11 +165,9 @@ impl<S: Stream + Drop> Clients<S> {
         sessions: Vec<usize>,
         heard: Vec<Answer>,
         holds: bool,
-        registry: &S::Registry,
+        turn: Turn<'_, S::Registry>,
         relay: &mut Relay<D>,
         leaving: &mut Leaving<S>,
-        now: &Now,
-        intake: &mut Intake,
         log: &mut Log<'_, Vec<u8>>,
     ) -> Result<bool, NodeFault>
         ensures served { (changes : List Change) (setting : Setting)
@@ -200,9 +182,7 @@ impl<S: Stream + Drop> Clients<S> {
     {
         let mut hears = false;
         for (session, heard) in sessions.into_iter().zip(heard) {
-            hears |= self.answer_one(
-                session, heard, holds, registry, relay, leaving, now, intake, log,
-            )?;
+            hears |= self.answer_one(session, heard, holds, turn, relay, leaving, log)?;
         }
         Ok(hears)
     }
@@ -211,11 +191,9 @@ impl<S: Stream + Drop> Clients<S> {
     fn read_one<D: Disk>(
         &mut self,
         number: usize,
-        registry: &S::Registry,
+        turn: Turn<'_, S::Registry>,
         relay: &mut Relay<D>,
         leaving: &mut Leaving<S>,
-        now: &Now,
-        intake: &mut Intake,
         log: &mut Log<'_, Vec<u8>>,
     ) -> Result<bool, NodeFault>
         ensures only { IfOk result (λ _. ActsOn number (clients_of self.old) (clients_of self.new)
@@ -238,17 +216,15 @@ impl<S: Stream + Drop> Clients<S> {
             return Ok(false);
         };
         let mut client = taken;
-        let next = client.read(relay, number, self.timeout, now)?;
+        let next = client.read(relay, number, self.timeout, turn.now)?;
         client.hears = next.is_none();
         let Some(next) = next else {
             self.clients.put(number, client);
             return Ok(true);
         };
         let end = read_end(&client);
-        tell_end(&client, &next, end, end, now, log);
-        self.settle(
-            number, client, next, registry, relay, leaving, now, intake, log,
-        )?;
+        tell_end(&client, &next, end, end, turn.now, log);
+        self.settle(number, client, next, turn, relay, leaving, log)?;
         Ok(false)
     }
 
@@ -258,11 +234,9 @@ impl<S: Stream + Drop> Clients<S> {
         number: usize,
         heard: Answer,
         holds: bool,
-        registry: &S::Registry,
+        turn: Turn<'_, S::Registry>,
         relay: &mut Relay<D>,
         leaving: &mut Leaving<S>,
-        now: &Now,
-        intake: &mut Intake,
         log: &mut Log<'_, Vec<u8>>,
     ) -> Result<bool, NodeFault>
         ensures only { IfOk result (λ _. ActsOn number (clients_of self.old) (clients_of self.new)
@@ -281,7 +255,8 @@ impl<S: Stream + Drop> Clients<S> {
             return Ok(false);
         };
         let mut client = taken;
-        let next = client.answer(relay, number, heard, holds, self.timeout, now, intake, log)?;
+        self.intake.was_full |= was_full(&heard, relay, number);
+        let next = client.answer(relay, number, heard, holds, self.timeout, turn.now, log)?;
         let hears = client.has_more(relay, number);
         client.hears = hears;
         tell_end(
@@ -289,12 +264,10 @@ impl<S: Stream + Drop> Clients<S> {
             &next,
             ClientEnd::Quit,
             ClientEnd::NoMemory,
-            now,
+            turn.now,
             log,
         );
-        self.settle(
-            number, client, next, registry, relay, leaving, now, intake, log,
-        )?;
+        self.settle(number, client, next, turn, relay, leaving, log)?;
         Ok(hears)
     }
 
@@ -303,7 +276,6 @@ impl<S: Stream + Drop> Clients<S> {
         &mut self,
         relay: &mut Relay<D>,
         now: &Now,
-        intake: &mut Intake,
         log: &mut Log<'_, Vec<u8>>,
     ) -> Result<(), NodeFault>
         ensures served { (changes : List Change) (setting : Setting)
@@ -325,7 +297,7 @@ impl<S: Stream + Drop> Clients<S> {
                     log.client_ended(client.peer, &client.record, ClientEnd::NoMemory, now.tick);
                     let _client = self.clients.take(number);
                     let _gone = drop_session(relay, number)?;
-                    intake.closed = true;
+                    self.intake.closed = true;
                     return Ok(());
                 }
                 _ => {}
@@ -340,11 +312,9 @@ impl<S: Stream + Drop> Clients<S> {
         number: usize,
         client: Box<Client<S>>,
         next: Next,
-        registry: &S::Registry,
+        turn: Turn<'_, S::Registry>,
         relay: &mut Relay<D>,
         leaving: &mut Leaving<S>,
-        now: &Now,
-        intake: &mut Intake,
         log: &mut Log<'_, Vec<u8>>,
     ) -> Result<(), NodeFault>
         ensures only { IfOk result (λ _. ActsOn number (clients_of self.old) (clients_of self.new)
@@ -360,14 +330,14 @@ impl<S: Stream + Drop> Clients<S> {
         ensures rules { KeepsRules self.old self.new }
         ensures fault { IfErr result (λ fault. fault ≡ NodeFault.Stopped) }
     {
-        let next = self.cut_off_late(number, &client, next, relay, now, log)?;
+        let next = self.cut_off_late(number, &client, next, relay, turn.now, log)?;
         match next {
             Next::Stays => self.clients.put(number, client),
             Next::Leaves(outbox) => {
                 let channel = Box::into_inner(client).into_channel();
-                leaving.take(registry, channel, outbox, None, now);
+                leaving.take(turn.registry, channel, outbox, None, turn.now);
             },
-            Next::Gone => intake.closed = true,
+            Next::Gone => self.intake.closed = true,
         }
         Ok(())
     }

@@ -18,7 +18,7 @@ returns-in_default-clause-served g c = λ changes setting served.
 pub returns-clause-served : goal.returns-clause-served
 returns-clause-served g c = λ changes setting served.
     let own = rw c.in-Some.is at c.in_ok-sessions.ensures.own in
-    let after = hears_answered g.D.Disk.honest g.D.Disk.words g.S.Stream.remaining g.S.Stream.contents changes setting c.args.self.now.clients c.standing-clients.result.now c.turned-first.result c.args.replies.now c.args.now.now.moment c.args.relay.now c.hear_all.new.relay c.in-Some.field-0
+    let after = hears_answered g.D.Disk.honest g.D.Disk.words g.S.Stream.remaining g.S.Stream.contents changes setting c.args.self.now.clients c.standing-clients.result.now c.turned-first.result c.args.replies.now c.args.turn.now.now.moment c.args.relay.now c.hear_all.new.relay c.in-Some.field-0
     c.standing-clients.ensures.slots served own in
     let answered = c.in_ok-hears.ensures.served (changes ++ after.pending) setting after.answered in
     (record { added = after.pending; served = answered.0 }, answered.1)
