@@ -1,5 +1,5 @@
 -- A client that has come: which one is served, and what another one gets.
-use Rattle.std.specs.Prelude.{◌≡◌, ℕ, true, false, List, ◌++◌, codes, Option, None, Some, Box}
+use Rattle.std.specs.Prelude.{◌≡◌, ℕ, Bool, true, false, List, ◌++◌, codes, Option, None, Some, Box}
 use Rattle.std.specs.Global.{Global}
 use Rattle.std.specs.Io.KnownBytes.{append_known}
 use Rattle.std.specs.Net.Addr.{ipv4_octets}
@@ -36,9 +36,27 @@ pub record AreAllowed {S D : Type 0} (clients : Clients S) (relay : RelayState D
   pub each : (number : ℕ) (client : Box (Client S) Global) → slot_at (clients_of clients) number ≡ Some client
       → MayConnect (ipv4_octets (v4_ip client.value.peer)) clients
 
--- who may connect, whether clients are served, and how many of one address, stay as they were
+-- The rules by which clients are served: which ones may connect, whether any more are served, how many at one address,
+-- how many seconds one may be idle, and the tick, if any, at which the sessions that are left are ended.
+pub record Rules : Type 0 where
+  pub allowed : Option (List Network)
+  pub stops : Bool
+  pub most : ℕ
+  pub timeout : ℕ
+  pub retires_at : Option ℕ
+
+abbrev pub rules_of : {S : Type 0} → Clients S → Rules
+rules_of clients = record {
+  allowed = allowed_of clients;
+  stops = clients.stops;
+  most = clients.most;
+  timeout = clients.timeout;
+  retires_at = clients.retires_at;
+}
+
+-- the rules stay as they were
 abbrev pub KeepsRules : {S : Type 0} → Clients S → Clients S → Type 0
-KeepsRules old new = (allowed_of new ≡ allowed_of old) × (new.stops ≡ old.stops) × (new.most ≡ old.most)
+KeepsRules old new = rules_of new ≡ rules_of old
 
 -- no more clients are served
 abbrev pub stopped : {S : Type 0} → Clients S → Clients S

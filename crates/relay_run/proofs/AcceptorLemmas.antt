@@ -17,4 +17,4 @@ module _ {S D : Type 0} (first : Clients S) (start : RelayState D) where
   pub kept_on : (clients later : Clients S) (relay after : RelayState D) → IsKept clients relay → (AreAllowed clients relay → AreAllowed later after)
       → KeepsRules clients later → IsKept later after
   kept_on clients later relay after had allowed rules =
-      (λ were. allowed (had.0 were), (rules.0 ∙ had.1.0, rules.1 ∙ had.1.1, rules.2 ∙ had.1.2))
+      (λ were. allowed (had.0 were), rules ∙ had.1)

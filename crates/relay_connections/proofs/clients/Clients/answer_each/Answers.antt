@@ -29,7 +29,7 @@ loop-session-init g c =
       first = search rules;
       second = search rules;
       mail = mail_same c.args.relay.now;
-      rules = (refl, refl, refl);
+      rules = refl;
     }
 
 pub loop-session-preserved : goal.loop-session-preserved
@@ -58,7 +58,7 @@ loop-session-preserved g c =
       first = omega (arith, i.first, ap (λ (l : List ℕ). length l) one.0, one.1);
       second = omega (arith, i.second, ap (λ (l : List (Result Heard NodeFault)). length l) other.0, other.1);
       mail = mail_then c.args.relay.now c.loop-session.relay c.answer_one.new.relay i.mail c.in_ok-hears.ensures.mail;
-      rules = (c.in_ok-hears.ensures.rules.0 ∙ i.rules.0, c.in_ok-hears.ensures.rules.1 ∙ i.rules.1, c.in_ok-hears.ensures.rules.2 ∙ i.rules.2);
+      rules = c.in_ok-hears.ensures.rules ∙ i.rules;
     }
 
 pub returns-clause-served : goal.returns-clause-served

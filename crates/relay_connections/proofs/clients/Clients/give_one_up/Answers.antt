@@ -18,7 +18,7 @@ pub loop-step-init : goal.loop-step-init
 loop-step-init g c = record {
   served = λ changes setting served. served;
   mail = mail_same c.args.relay.now;
-  rules = (refl, refl, refl);
+  rules = refl;
   same = λ number. refl;
   silent = λ step below. absurd (omega (arith, below));
   rest = λ number past. sym (c.standing-count.ensures.slots number) ∙ none_after c.standing-count.result.now number past;

@@ -19,7 +19,7 @@ pub loop-step-init : goal.loop-step-init
 loop-step-init g c = record {
   served = λ changes setting served. (served, none_join g.S.Stream.remaining g.S.Stream.contents setting c.args.leaving.now.leavers);
   mail = mail_same c.args.relay.now;
-  rules = (refl, refl, refl);
+  rules = refl;
   stays = stays_first c.args.relay.now c.args.self.now.clients;
   seen = λ step below. absurd (omega (arith, below));
   none = λ number is. is;
@@ -53,7 +53,7 @@ loop-step-preserved g c =
         | else-holds w ↦ subst (LeavesMail c.args.relay.now) (sym w.relay-is) c.loop-step.invariant.mail
       ];
       rules = elim c.if-holds.branch [
-        | then-holds+in_ok-hears w ↦ subst (KeepsRules c.args.self.now) (sym w.self-is) (w.in_ok-hears.ensures.rules.0 ∙ c.loop-step.invariant.rules.0, w.in_ok-hears.ensures.rules.1 ∙ c.loop-step.invariant.rules.1, w.in_ok-hears.ensures.rules.2 ∙ c.loop-step.invariant.rules.2)
+        | then-holds+in_ok-hears w ↦ subst (KeepsRules c.args.self.now) (sym w.self-is) (w.in_ok-hears.ensures.rules ∙ c.loop-step.invariant.rules)
         | else-holds w ↦ subst (KeepsRules c.args.self.now) (sym w.self-is) c.loop-step.invariant.rules
       ];
       stays = elim c.if-holds.branch [
