@@ -225,16 +225,18 @@ def each_recipient_has_the_reply_that_settles_it(field):
 
 
 def a_next_hop_that_closes_by_421_is_quoted(field):
-    """It may answer any command so (RFC 5321, section 3.8), and answers no further one. If it closes the connection
-    before the attempt's end, no reply has settled a recipient: each has the 421, or without one the lost connection."""
+    """It may answer any command so (RFC 5321, section 3.8), and answers no further one. If that leaves the attempt
+    unfinished, no reply has settled a recipient: each has the 421, or without one the lost connection."""
     greeting, last = [b"220 hop.example", b"250 hop.example"], b"421 hop.example shutting down"
     shut, closed = f'reply="{last.decode()}"', 'reason="connection closed"'
     for number, (replies, ends) in enumerate([
         ([last], [shut, shut]),
         ([b"250 ok", last], [shut, shut]),
-        ([b"250 ok", b"450 busy", last], [shut, shut]),
+        ([b"250 ok", b"450 busy", last], ['reply="450 busy"', shut]),
+        ([b"250 ok", b"250 ok", last], [shut, shut]),
         ([b"250 ok", b"250 ok", b"250 ok", b"354 go on", last], [shut, shut]),
         ([b"250 ok", b"450 busy"], [closed, closed]),
+        ([b"250 ok", b"450 busy", b"250 ok"], [closed, closed]),
         ([b"250 ok", b"250 ok", b"250 ok", b"354 go on"], [closed, closed]),
     ]):
 
