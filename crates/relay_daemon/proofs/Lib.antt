@@ -1,5 +1,7 @@
 mod AcceptLemmas
+mod AloneLemmas
 mod BeginLemmas
+mod CallLemmas
 mod DropLemmas
 mod EachLemmas
 mod EndLemmas
@@ -8,6 +10,9 @@ mod HearLemmas
 mod KeepLemmas
 mod LoseLemmas
 mod MoveLemmas
+mod NetworkLemmas
+mod OtherLemmas
+mod OtherNodeLemmas
 mod PutLemmas
 mod ReadLemmas
 mod ReplyLemmas

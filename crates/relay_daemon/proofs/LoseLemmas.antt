@@ -1,6 +1,6 @@
 -- An attempt whose connection a relay has lost.
-use Rattle.std.proofs.Common.{inl, inr, ◌≡◌, ◌≢◌, ◌++◌, ◌∷◌, ℕ, List, [], Option, None, Some, length, take, refl, sym, subst, ap, ◌∙◌}
-use Rattle.std.specs.Prelude.{slice_get, slice_set}
+use Rattle.std.proofs.Common.{inl, inr, ◌≡◌, ◌≢◌, ℕ, List, [], Option, None, Some, take, refl, sym, subst, ap, ◌∙◌, append-nil}
+use Rattle.std.specs.Prelude.{slice_get}
 use Rattle.std.proofs.lemmas.Bool.Decides.{eqb_tells}
 use Rattle.std.proofs.lemmas.List.{length-set}
 use Rattle.std.proofs.lemmas.Option.{same_Some}
@@ -18,12 +18,12 @@ use Rattle.relay_world.specs.declared.attempt.Attempt.{Attempt}
 use Rattle.relay_world.specs.declared.attempt.Fate.{Fate}
 use Rattle.relay_world.specs.declared.attempt.Fate.TheVariants.{Lost, Running}
 use Rattle.relay_world.specs.declared.line.Line.{Line}
-use Rattle.relay_world.specs.declared.link.Link.{Link}
 use Rattle.relay_world.specs.Bound.{HasFate, IsBound, NodeKeeps, StateKeeps, told_by}
 use Rattle.relay_world.specs.Steps.{AttemptOf, HasLost, IsPut}
-use Rattle.relay_world.specs.World.{Down, Host, HostState, Up, World, link_at}
-use Rattle.relay_daemon.specs.Events.{LosesThere, LosingIsAnEvent, fated, lines_ended}
-use Rattle.relay_daemon.specs.Runs.{ReachesHop, RunsAt, ServesClient, host_with_note, untold}
+use Rattle.relay_world.specs.World.{Down, Host, HostState, Up, World}
+use Rattle.relay_daemon.specs.Calls.{LossSays}
+use Rattle.relay_daemon.specs.Events.{LosesThere, LosingIsAnEvent, LosingWrittenIsAnEvent, fated, lines_ended}
+use Rattle.relay_daemon.specs.Runs.{ReachesHop, RunsAt, host_with_note, untold}
 use Rattle.relay_daemon.specs.Wanted.{LoseSays}
 use Rattle.relay_daemon.proofs.MoveLemmas.{not_both}
 use Rattle.relay_daemon.proofs.PutLemmas.{value_put}
@@ -207,3 +207,19 @@ module _ {D : Type 0} (honest : Type 0) (words : DiskWords D) where
       let there = tells_there world lists node slot waiting old runs bound reaches in
       let noted = (says.lost there.changes there.told there.keeps there.tells).adds.adds.noted in
       lost_there world lists node slot change waiting old new runs bound reaches says noted.note noted.is
+
+  -- If nothing was to be written, the contract says what was recorded for each history of the attempt.
+  whole_loss : (now slot change : ℕ) (old new : RelayState D) → slot_at old.hops slot ≡ Some []
+      → LossSays honest words old new now slot change → LoseSays honest words old new now slot change
+  whole_loss now slot change old new connected says = record {
+    lost = λ changes told keeps tells. says.lost changes told told.output keeps
+        (record { tells = tells; waiting = []; connection = connected; output = sym (append-nil told.output) });
+    gone = says.gone;
+    ended = says.ended;
+    only = says.only;
+  }
+
+  pub losing_written : LosingWrittenIsAnEvent honest words
+  losing_written world lists node slot change old new runs bound reaches connected says =
+      losing world lists node slot change [] old new runs bound reaches
+      (whole_loss world.clock slot change old new connected says)

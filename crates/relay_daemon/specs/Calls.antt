@@ -1,11 +1,13 @@
 -- What the contracts of a relay's calls say, if they succeed. Each record has the clauses of one call that its event
 -- rests on, as they stand there.
-use Rattle.std.specs.Prelude.{◌≡◌, ℕ, ◌<◌, ◌^◌, List, [], None, Some, drop, length}
+use Rattle.std.specs.Prelude.{◌≡◌, ◌≢◌, ◌⊎◌, ℕ, ◌<◌, ◌^◌, List, [], None, Some, drop, length}
 use Rattle.std.specs.Option.{option_map}
 use Rattle.relay_disk.specs.Device.{DiskWords}
 use Rattle.relay_slots.specs.Slots.{IsLeastFree, OthersStay, slot_at}
 use Rattle.relay_book.specs.declared.change.Change.{Change}
 use Rattle.relay_book.specs.declared.change.Withdrawal.{Withdrawal}
+use Rattle.relay_records.specs.declared.fault.NodeFault.{NodeFault}
+use Rattle.relay_records.specs.declared.fault.NodeFault.TheVariants.{Full, NoMemory}
 use Rattle.relay_records.specs.Records.{Compacts, Keeps}
 use Rattle.relay_report.specs.Report.{reporter_of}
 use Rattle.relay_attempts.specs.declared.start.Started.{Started}
@@ -14,11 +16,15 @@ use Rattle.relay_attempts.specs.Withdrawals.{AddsWithdrawal, EndsWithdrawal}
 use Rattle.relay_node.specs.Attempts.{IsDropped}
 use Rattle.relay_node.specs.Node.{greeted_by}
 use Rattle.relay_loop.specs.Clients.{TalksTo}
-use Rattle.relay_attempts.specs.Reply.{Told}
+use Rattle.relay_attempts.specs.Reply.{IsLost, Told}
 use Rattle.relay_loop.specs.declared.hops.Answered.{Answered}
 use Rattle.relay_loop.specs.Hops.{HandsTo, Replies, StartsTo, UsesReply}
 use Rattle.relay_loop.specs.Outboxes.{unwritten_at}
 use Rattle.relay_loop.specs.Relay.{OnlyClient, OnlyHop, RelayState}
+
+-- a node lacks memory or room
+abbrev pub IsShort : NodeFault → Type 0
+IsShort fault = (fault ≡ NoMemory) ⊎ (fault ≡ Full)
 
 module _ {D : Type 0} (old new : RelayState D) where
   -- the connections are the same
@@ -63,6 +69,7 @@ module _ {D : Type 0} (old new : RelayState D) where
 
   -- `Relay::reply` or `Relay::lose` for an attempt, where a live node has refused it for lack of memory or of room
   pub record DropSays (slot : ℕ) : Type 0 where
+    pub was : slot_at old.hops slot ≢ None
     pub gone : slot_at new.hops slot ≡ None
     pub dropped : IsDropped slot old.node new.node
     pub only : OnlyHop old new slot
@@ -126,3 +133,14 @@ module _ {D : Type 0} (honest : Type 0) (words : DiskWords D) (old new : RelaySt
     pub only : OnlyHop old new slot
     pub short : length (unwritten_at new.hops slot) < 2 ^ 63
     pub short_last : (last : List ℕ) → answered.last ≡ Some last → length last < 2 ^ 63
+
+  -- `Relay::lose` of this attempt at a time, with this result. What was recorded is said for each history of the
+  -- attempt whose output ends with the octets that were unwritten.
+  pub record LossSays (now slot change : ℕ) : Type 0 where
+    pub lost : (changes : List Change) (told : Told) (written : List ℕ) → Keeps honest words old.node.records changes
+        → HandsTo changes old slot told written
+        → IsLost honest words (reporter_of old.node.config) now changes slot told old.node.records new.node.records
+        new.node.attempts change
+    pub gone : slot_at new.hops slot ≡ None
+    pub ended : slot_at new.node.attempts slot ≡ None
+    pub only : OnlyHop old new slot

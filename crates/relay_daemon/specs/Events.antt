@@ -34,7 +34,7 @@ use Rattle.relay_world.specs.Steps.{CutsOff, DropsAttempt, EndsSession, HasGiven
 use Rattle.relay_world.specs.Steps.{HasStarted, IsBlank, IsPutAt, ended_link, waiting_down, waiting_up}
 use Rattle.relay_world.specs.Stops.{HasCompacted, StaysUp}
 use Rattle.relay_world.specs.World.{Host, Up, World}
-use Rattle.relay_daemon.specs.Calls.{AcceptSays, CompactSays, DropSays, EndSays, GiveUpSays, ReplySays}
+use Rattle.relay_daemon.specs.Calls.{AcceptSays, CompactSays, DropSays, EndSays, GiveUpSays, LossSays, ReplySays}
 use Rattle.relay_daemon.specs.Calls.{StartSays, TrimSays, WithdrawSays, WroteHopSays, WroteSays}
 use Rattle.relay_daemon.specs.Runs.{ReachesHop, RunsAt, ServesClient, host_with, host_with_note, told_of}
 use Rattle.relay_daemon.specs.Runs.{untold, with_host}
@@ -277,6 +277,16 @@ abbrev pub WritingToHopsStays : Type 0 → Type 0
 WritingToHopsStays D =
     (world : World D) (node slot count : ℕ) (old new : RelayState D) → RunsAt world node old
     → WroteHopSays old new slot count → RunsAt world node new
+
+-- One that has recorded the loss of the connection to a hop, to which nothing was to be written, has recorded it in its
+-- world.
+abbrev pub LosingWrittenIsAnEvent : {D : Type 0} → Type 0 → DiskWords D → Type 0
+LosingWrittenIsAnEvent {D} honest words =
+    (world : World D) (lists : List (List Change)) (node slot change : ℕ) (old new : RelayState D)
+    (runs : RunsAt world node old) → IsBound honest words world lists
+    → (reaches : ReachesHop world node slot []) → slot_at old.hops slot ≡ Some []
+    → LossSays honest words old new world.clock slot change
+    → LosesThere world node old new runs honest words slot [] reaches change
 
 -- The laws below rest on clauses that the contracts have yet to say (Wanted).
 

@@ -2,3 +2,7 @@ pub mod Runs
 pub mod Calls
 pub mod Wanted
 pub mod Events
+pub mod Elsewhere
+pub mod Sequences
+pub mod Networks
+pub mod Turn

@@ -1,8 +1,8 @@
 //! The calls of a relay, each with what its event rests on as its one clause: so the premises of the laws are what the
 //! contracts say.
-ghost use Rattle.std.specs.Prelude.{◌≡◌, ◌≤◌, ◌<◌, ◌^◌, ℕ, IfOk, List, OnOk, Some, length};
-ghost use Rattle.relay_daemon.specs.Calls.{AcceptSays, CompactSays, EndSays, GiveUpSays, ReplySays, StartSays};
-ghost use Rattle.relay_daemon.specs.Calls.{TrimSays, WithdrawSays, WroteHopSays, WroteSays};
+ghost use Rattle.std.specs.Prelude.{◌≡◌, ◌≤◌, ◌<◌, ◌^◌, ℕ, IfErr, IfOk, List, OnOk, Some, length, true};
+ghost use Rattle.relay_daemon.specs.Calls.{AcceptSays, CompactSays, DropSays, EndSays, GiveUpSays, IsShort, LossSays};
+ghost use Rattle.relay_daemon.specs.Calls.{ReplySays, StartSays, TrimSays, WithdrawSays, WroteHopSays, WroteSays};
 ghost use Rattle.relay_loop.specs.Outboxes.{unwritten_at};
 
 use relay_book::Withdrawal;
@@ -92,12 +92,24 @@ pub fn reply<D: Disk>(
     piece: &[u8],
     now: Moment,
 ) -> Result<Answered, NodeFault>
-    ensures { IfOk result (ReplySays D.honest D.words relay.old relay.new now attempt piece.now) }
+    ensures replies { IfOk result (ReplySays D.honest D.words relay.old relay.new now attempt piece.now) }
+    ensures dropped { relay.old.node.records.spool.live ≡ true
+        → IfErr result (λ fault. IsShort fault → DropSays relay.old relay.new attempt) }
 {
     let answered = relay.reply(attempt, piece, now)?;
     let _unwritten = relay.to_hop(attempt).len() + 1;
     measure_last(&answered);
     Ok(answered)
+}
+
+/// Calls [`Relay::lose`].
+pub fn lose<D: Disk>(relay: &mut Relay<D>, attempt: usize, now: Moment) -> Result<u64, NodeFault>
+    ensures loses { IfOk result (LossSays D.honest D.words relay.old relay.new now attempt) }
+    ensures dropped { relay.old.node.records.spool.live ≡ true
+        → IfErr result (λ fault. IsShort fault → DropSays relay.old relay.new attempt) }
+{
+    let change = relay.lose(attempt, now)?;
+    Ok(change)
 }
 
 /// Shows that the last octets are as short as those of any slice.

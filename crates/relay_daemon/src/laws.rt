@@ -1,12 +1,17 @@
 //! Each call of a relay that runs in a world is an event of the world, after which the relay runs there still.
 ghost use Rattle.relay_daemon.specs.Events.{AcceptingOpens, BeginningRuns, CompactingIsAnEvent, ConnectionsTalk};
 ghost use Rattle.relay_daemon.specs.Events.{CuttingOffCloses, EndingEnds};
+ghost use Rattle.relay_daemon.specs.Elsewhere.{LeavingAloneGoesOn, LeftAloneRunsOn, OthersLeaveAlone};
 ghost use Rattle.relay_daemon.specs.Events.{GivingUpIsAnEvent, HearingClientsHears, HearingIntoHears, LosingIsAnEvent};
-ghost use Rattle.relay_daemon.specs.Events.{ReadingIntoReads};
+ghost use Rattle.relay_daemon.specs.Events.{LosingWrittenIsAnEvent, ReadingIntoReads};
 ghost use Rattle.relay_daemon.specs.Events.{RefusingDrops, ReplyingReads, SettlingHearsAll, StartingStarts};
 ghost use Rattle.relay_daemon.specs.Events.{TrimmingGoesOn, WithdrawingIsAnEvent, WritingOutStays, WritingToHopsStays};
+ghost use Rattle.relay_daemon.specs.Networks.{NetworksKeepThePromise};
+ghost use Rattle.relay_daemon.specs.Sequences.{CallsKeepThePromise};
 
 use relay_disk::Disk;
+use relay_records::list_laws::none_is_awaited;
+use relay_world::passing::promise_is_kept;
 
 /// A relay that begins without connections runs in a world whose host is up with its node.
 pub fn beginning_runs<D>()
@@ -78,6 +83,12 @@ pub fn writing_to_hops_stays<D>()
     ensures { WritingToHopsStays D }
 {}
 
+/// A relay that has recorded the loss of the connection to a hop, to which nothing was to be written, has recorded it
+/// in its world.
+pub fn losing_written_is_an_event<D: Disk>()
+    ensures { LosingWrittenIsAnEvent D.honest D.words }
+{}
+
 /// A relay that has recorded the loss of the connection to a hop has recorded it in its world.
 pub fn losing_is_an_event<D: Disk>()
     ensures { LosingIsAnEvent D.honest D.words }
@@ -102,3 +113,37 @@ pub fn settling_hears_all<D: Disk>()
 pub fn hearing_clients_hears<D: Disk>()
     ensures { HearingClientsHears D.honest D.words }
 {}
+
+/// A relay whose node was left alone runs on, whatever happens elsewhere.
+pub fn left_alone_runs_on<D>()
+    ensures { LeftAloneRunsOn D }
+{}
+
+/// A node that is left alone, and then again, is left alone in both.
+pub fn leaving_alone_goes_on<D>()
+    ensures { LeavingAloneGoesOn D }
+{}
+
+/// Whatever another node does, what outside writes on links, the break of a link, and the setting of the clock leave a
+/// node alone.
+pub fn others_leave_alone<D: Disk>()
+    ensures { OthersLeaveAlone D.honest D.words }
+{}
+
+/// Calls of a relay, one after another, keep the promise for mail, whatever happens elsewhere before, between and after
+/// them.
+pub fn calls_keep_the_promise<D: Disk>()
+    ensures { CallsKeepThePromise D.honest D.words }
+{
+    none_is_awaited::<D>();
+    promise_is_kept::<D>();
+}
+
+/// Calls of several relays of a network, in any order, keep the promise for mail, whatever happens elsewhere before,
+/// between and after them.
+pub fn networks_keep_the_promise<D: Disk>()
+    ensures { NetworksKeepThePromise D.honest D.words }
+{
+    none_is_awaited::<D>();
+    promise_is_kept::<D>();
+}

@@ -3,3 +3,5 @@
 
 pub mod calls;
 pub mod laws;
+pub mod noted;
+pub mod turn;

@@ -1,0 +1,6 @@
+use Rattle.relay_daemon.proofs.NetworkLemmas.{networks_keep}
+use Rattle.relay_daemon.proofs.laws.networks_keep_the_promise.Goals as goal
+
+pub returns : goal.returns
+returns g c =
+    networks_keep g.D.Disk.honest g.D.Disk.words c.none_is_awaited.ensures c.promise_is_kept.ensures

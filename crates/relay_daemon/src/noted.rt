@@ -1,0 +1,85 @@
+//! The calls of a relay that may add a change, each with the note of that change taken.
+ghost use Rattle.std.specs.Prelude.{◌≡◌, IfErr, IfOk, true};
+ghost use Rattle.relay_daemon.specs.Calls.{IsShort};
+ghost use Rattle.relay_daemon.specs.Runs.{told_of, untold};
+ghost use Rattle.relay_daemon.specs.Sequences.{Does, Drops, GivesUp, Loses, Reads, Withdraws};
+
+use crate::calls;
+use relay_book::Withdrawal;
+use relay_disk::Disk;
+use relay_loop::{Answered, Relay};
+use relay_records::NodeFault;
+use relay_trace::Moment;
+
+/// Uses replies of a next hop, and takes the note of the outcome if they ended the attempt.
+pub fn reply<D: Disk>(
+    relay: &mut Relay<D>,
+    attempt: usize,
+    piece: &[u8],
+    now: Moment,
+) -> Result<Answered, NodeFault>
+    ensures reads { IfOk result (λ answered.
+        Does D.honest D.words (Reads attempt piece.now now answered) relay.old relay.new) }
+    ensures dropped { relay.old.node.records.spool.live ≡ true
+        → IfErr result (λ fault. IsShort fault → Does D.honest D.words (Drops attempt) relay.old relay.new) }
+{
+    let answered = calls::reply(relay, attempt, piece, now)?;
+    take_note_of(relay, answered.change);
+    Ok(answered)
+}
+
+/// Ends an attempt whose connection is lost, and takes the note of its outcome.
+pub fn lose<D: Disk>(relay: &mut Relay<D>, attempt: usize, now: Moment) -> Result<u64, NodeFault>
+    ensures loses { IfOk result (λ change. Does D.honest D.words (Loses attempt now change) relay.old relay.new) }
+    ensures dropped { relay.old.node.records.spool.live ≡ true
+        → IfErr result (λ fault. IsShort fault → Does D.honest D.words (Drops attempt) relay.old relay.new) }
+{
+    let change = calls::lose(relay, attempt, now)?;
+    take_note(relay);
+    Ok(change)
+}
+
+/// Gives up the places of a message that have no hop, and takes the note of the outcome.
+pub fn give_up_unroutable<D: Disk>(
+    relay: &mut Relay<D>,
+    message: u64,
+    now: Moment,
+) -> Result<u64, NodeFault>
+    ensures { IfOk result (λ change. Does D.honest D.words (GivesUp message now change) relay.old relay.new) }
+{
+    let change = calls::give_up_unroutable(relay, message, now)?;
+    take_note(relay);
+    Ok(change)
+}
+
+/// Withdraws places of a message, and takes the note of the outcome.
+pub fn withdraw<D: Disk>(
+    relay: &mut Relay<D>,
+    message: u64,
+    places: &[u8],
+    withdrawal: Withdrawal,
+    now: Moment,
+) -> Result<u64, NodeFault>
+    ensures { IfOk result (λ change.
+        Does D.honest D.words (Withdraws message places.now withdrawal now change) relay.old relay.new) }
+{
+    let change = calls::withdraw(relay, message, places, withdrawal, now)?;
+    take_note(relay);
+    Ok(change)
+}
+
+/// Takes the note of a change that a call has added, if it has added one.
+fn take_note_of<D: Disk>(relay: &mut Relay<D>, change: Option<u64>)
+    ensures { relay.new ≡ told_of change relay.old }
+{
+    if change.is_some() {
+        take_note(relay);
+    }
+}
+
+/// Takes the note of the last change.
+fn take_note<D: Disk>(relay: &mut Relay<D>)
+    ensures { relay.new ≡ untold relay.old }
+{
+    let _note = relay.take_noted();
+}
