@@ -1,6 +1,5 @@
 -- A client that a relay has accepted.
-use Rattle.std.proofs.Common.{inl, inr, ◌≡◌, ◌≢◌, ◌≤◌, ◌<◌, ◌^◌, ◌++◌, ◌∷◌, ℕ, zero, suc, List, [], Option, None, Some, length, refl, sym, subst, ap, ◌∙◌, arith}
-use Rattle.std.specs.Prelude.{slice_get, slice_set}
+use Rattle.std.proofs.Common.{inl, inr, ◌≡◌, ◌≢◌, ℕ, zero, suc, List, [], Option, None, Some, length, refl, sym, subst, ap, ◌∙◌, arith}
 use Rattle.std.specs.Global.{Vec}
 use Rattle.std.specs.Option.{is_none}
 use Rattle.std.proofs.lemmas.Bool.{true≢false}
@@ -8,7 +7,6 @@ use Rattle.std.proofs.lemmas.Bool.Decides.{eqb_tells}
 use Rattle.std.proofs.lemmas.List.{length-set}
 use Rattle.relay_routes.specs.declared.config.Config.{Config}
 use Rattle.relay_slots.specs.Slots.{slot_at}
-use Rattle.relay_node.specs.declared.node.Connected.{Connected}
 use Rattle.relay_node.specs.Node.{SeatHasSaid, greeted_by}
 use Rattle.relay_loop.specs.Clients.{TalksTo}
 use Rattle.relay_loop.specs.Outboxes.{octets_of, unwritten_at}

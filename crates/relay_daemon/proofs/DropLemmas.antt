@@ -1,17 +1,17 @@
 -- Attempts that a relay has dropped, and octets that it has written out.
-use Rattle.std.proofs.Common.{inl, inr, ◌≡◌, ◌≢◌, ◌++◌, ◌∷◌, ℕ, List, [], Option, None, Some, refl, sym, subst, ap, ◌∙◌}
-use Rattle.std.specs.Prelude.{slice_get, slice_set}
+use Rattle.std.proofs.Common.{inl, inr, ◌≡◌, ◌≢◌, ℕ, List, Option, None, Some, refl, sym, subst, ap, ◌∙◌}
+use Rattle.std.specs.Prelude.{slice_get}
 use Rattle.std.proofs.lemmas.Bool.Decides.{eqb_tells}
 use Rattle.std.proofs.lemmas.List.{length-set}
 use Rattle.relay_slots.specs.Slots.{slot_at}
 use Rattle.relay_loop.specs.Relay.{RelayState}
 use Rattle.relay_world.specs.declared.attempt.Attempt.{Attempt}
 use Rattle.relay_world.specs.declared.attempt.Fate.TheVariants.{Dropped}
-use Rattle.relay_world.specs.Steps.{AttemptOf, DropsAttempt, IsPut}
-use Rattle.relay_world.specs.World.{Host, Up, World}
+use Rattle.relay_world.specs.Steps.{DropsAttempt, IsPut}
+use Rattle.relay_world.specs.World.{Host, World}
 use Rattle.relay_daemon.specs.Calls.{DropSays}
 use Rattle.relay_daemon.specs.Events.{RefusingDrops, dropped_in}
-use Rattle.relay_daemon.specs.Runs.{ReachesHop, RunsAt, ServesClient, host_with}
+use Rattle.relay_daemon.specs.Runs.{ReachesHop, RunsAt, host_with}
 use Rattle.relay_daemon.proofs.LoseLemmas.{one_running}
 use Rattle.relay_daemon.proofs.MoveLemmas.{not_both}
 use Rattle.relay_daemon.proofs.PutLemmas.{value_put}

@@ -1,5 +1,5 @@
 -- Clients that a relay has heard one after another in a group.
-use Rattle.std.proofs.Common.{◌≡◌, ◌≢◌, ◌++◌, ◌∷◌, ℕ, List, [], Option, None, Some, length, refl, sym, subst, ap, ◌∙◌}
+use Rattle.std.proofs.Common.{◌≢◌, ◌++◌, ◌∷◌, ℕ, List, [], length, refl, sym, subst, ◌∙◌}
 use Rattle.std.specs.List.{AllByRecursion}
 use Rattle.relay_disk.specs.Device.{DiskWords}
 use Rattle.relay_routes.specs.declared.config.Config.{Config}
@@ -11,8 +11,8 @@ use Rattle.relay_loop.specs.Relay.{OnlyClient, RelayState}
 use Rattle.relay_world.specs.Groups.{HasHeardInto, Heard}
 use Rattle.relay_world.specs.World.{World}
 use Rattle.relay_daemon.specs.Events.{HearingClientsHears, HearsThem, moved}
-use Rattle.relay_daemon.specs.Runs.{RunsAt, ServesClient}
-use Rattle.relay_daemon.specs.Wanted.{AreDistinct, ClientPiece, HearsEachSays, HearsIntoSays, IsReady}
+use Rattle.relay_daemon.specs.Runs.{RunsAt}
+use Rattle.relay_daemon.specs.Wanted.{AreDistinct, ClientPiece, HearsEachSays, IsReady}
 use Rattle.relay_daemon.proofs.HearLemmas.{hearing}
 use Rattle.relay_daemon.proofs.MoveLemmas.{client_beside, one_session}
 use Rattle.relay_daemon.proofs.SettleLemmas.{settling}

@@ -1,6 +1,6 @@
 -- A session that a relay has ended.
-use Rattle.std.proofs.Common.{inl, inr, ◌≡◌, ◌≢◌, ◌-◌, ◌++◌, ℕ, List, Option, None, Some, refl, sym, subst, ap, ◌∙◌}
-use Rattle.std.specs.Prelude.{slice_get, slice_set}
+use Rattle.std.proofs.Common.{inl, inr, ◌≡◌, ◌≢◌, ◌++◌, ℕ, List, Option, None, Some, refl, sym, subst, ap, ◌∙◌}
+use Rattle.std.specs.Prelude.{slice_get}
 use Rattle.std.proofs.lemmas.Bool.Decides.{eqb_tells}
 use Rattle.std.proofs.lemmas.List.{length-set}
 use Rattle.relay_slots.specs.Slots.{slot_at}
@@ -13,7 +13,7 @@ use Rattle.relay_world.specs.Steps.{EndsWith, IsPut, IsPutAt, ended_link}
 use Rattle.relay_world.specs.World.{Host, World}
 use Rattle.relay_daemon.specs.Calls.{EndSays}
 use Rattle.relay_daemon.specs.Events.{CuttingOffCloses, EndingEnds, ended}
-use Rattle.relay_daemon.specs.Runs.{ReachesHop, RunsAt, ServesClient, host_with}
+use Rattle.relay_daemon.specs.Runs.{RunsAt, ServesClient, host_with}
 use Rattle.relay_daemon.proofs.MoveLemmas.{client_beside, hop_moved, not_both, one_session}
 use Rattle.relay_daemon.proofs.PutLemmas.{link_put, value_put}
 

@@ -1,19 +1,16 @@
 -- Places that a relay gives up without an attempt.
 use Rattle.std.proofs.Common.{◌≡◌, ℕ, List, Some, refl}
-use Rattle.std.specs.Prelude.{slice_set}
 use Rattle.std.proofs.lemmas.List.{length-set}
 use Rattle.relay_disk.specs.Device.{DiskWords}
 use Rattle.relay_book.specs.declared.change.Change.{Change}
 use Rattle.relay_records.specs.declared.noted.Noted.{Noted}
-use Rattle.relay_records.specs.Note.{IsNoted}
 use Rattle.relay_records.specs.Records.{Keeps}
 use Rattle.relay_report.specs.Report.{reporter_of}
 use Rattle.relay_loop.specs.Relay.{RelayState}
-use Rattle.relay_world.specs.declared.line.Line.{Line}
 use Rattle.relay_world.specs.GivingUp.{AddsGivenUp, AreFree, NoHop, Postmaster, Reason}
 use Rattle.relay_world.specs.Steps.{HasGivenUp}
 use Rattle.relay_world.specs.World.{Host, World}
-use Rattle.relay_daemon.specs.Calls.{GiveUpSays, SameConnections, SameRest, WithdrawSays}
+use Rattle.relay_daemon.specs.Calls.{SameConnections, SameRest}
 use Rattle.relay_daemon.specs.Events.{GivesUpThere, GivingUpIsAnEvent, WithdrawingIsAnEvent, lines_given_up, recorded}
 use Rattle.relay_daemon.specs.Runs.{RunsAt, host_with_note, untold}
 use Rattle.relay_daemon.proofs.KeepLemmas.{its_changes, its_keeps}

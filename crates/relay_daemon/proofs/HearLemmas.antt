@@ -1,5 +1,5 @@
 -- A client that a relay has heard in a group: its octets were used, and the accept of its mail is staged.
-use Rattle.std.proofs.Common.{inl, inr, ◌≡◌, ◌≢◌, ◌≤◌, ◌+◌, ◌-◌, ◌++◌, ◌∷◌, ℕ, Bool, true, false, List, [], Option, None, Some, length, take, drop, refl, sym, subst, ap, ◌∙◌}
+use Rattle.std.proofs.Common.{inl, inr, ◌≡◌, ◌≤◌, ◌-◌, ◌++◌, ◌∷◌, ℕ, Bool, true, false, List, [], Option, None, Some, length, refl, sym, subst, ap, ◌∙◌}
 use Rattle.std.specs.Prelude.{if◌then◌else◌, slice_get, slice_set}
 use Rattle.std.proofs.lemmas.Bool.Decides.{eqb_tells}
 use Rattle.std.proofs.lemmas.List.{length-set}
@@ -11,9 +11,8 @@ use Rattle.relay_server.specs.Dialogue.{Offered, Said}
 use Rattle.relay_book.specs.declared.change.Change.{Change}
 use Rattle.relay_records.specs.declared.noted.Noted.{Noted}
 use Rattle.relay_records.specs.Records.{Kept}
-use Rattle.relay_records.specs.Staged.{Awaits, Row}
-use Rattle.relay_node.specs.declared.receive.Received.{Received}
-use Rattle.relay_node.specs.Node.{NodeState, SessionGoesOn}
+use Rattle.relay_records.specs.Staged.{Row}
+use Rattle.relay_node.specs.Node.{SessionGoesOn}
 use Rattle.relay_node.specs.Staging.{MakesInto, ReceivesAfter, ReceivesInto}
 use Rattle.relay_loop.specs.declared.clients.Heard.{Heard}
 use Rattle.relay_loop.specs.Clients.{IsSetTo}
@@ -21,12 +20,11 @@ use Rattle.relay_loop.specs.Relay.{RelayState}
 use Rattle.relay_world.specs.declared.line.Line.{Line}
 use Rattle.relay_world.specs.declared.line.Line.TheVariants.{Accepted}
 use Rattle.relay_world.specs.declared.link.Link.{Link}
-use Rattle.relay_world.specs.declared.link.ServerEnd.{ServerEnd}
-use Rattle.relay_world.specs.Groups.{AcceptsInto, HasHeardInto, IsNotedAfter}
+use Rattle.relay_world.specs.Groups.{AcceptsInto, HasHeardInto}
 use Rattle.relay_world.specs.Steps.{IsPut, IsPutAt, SessionOf, heard_link, session_after, unless_broken, waiting_up}
-use Rattle.relay_world.specs.World.{Host, Up, World, link_at}
+use Rattle.relay_world.specs.World.{Host, Up, World}
 use Rattle.relay_daemon.specs.Events.{HearingIntoHears}
-use Rattle.relay_daemon.specs.Runs.{ReachesHop, RunsAt, ServesClient, host_with}
+use Rattle.relay_daemon.specs.Runs.{RunsAt, ServesClient, host_with}
 use Rattle.relay_daemon.specs.Wanted.{HearsIntoSays, KnowsSession}
 use Rattle.relay_daemon.proofs.MoveLemmas.{client_beside, hop_moved, not_both, one_session}
 use Rattle.relay_daemon.proofs.PutLemmas.{link_put, value_put}

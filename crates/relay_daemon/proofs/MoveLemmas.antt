@@ -1,5 +1,5 @@
 -- Connections of a relay in a world where one link was put.
-use Rattle.std.proofs.Common.{inl, inr, ◌≡◌, ◌≢◌, ℕ, List, Option, None, Some, refl, sym, ap, ◌∙◌}
+use Rattle.std.proofs.Common.{inl, inr, ◌≡◌, ◌≢◌, ℕ, List, Option, None, Some, sym, ap, ◌∙◌}
 use Rattle.std.specs.Prelude.{slice_get}
 use Rattle.std.specs.Option.{is_none}
 use Rattle.std.proofs.lemmas.Bool.{true≢false}
@@ -9,7 +9,7 @@ use Rattle.relay_world.specs.declared.link.Link.{Link}
 use Rattle.relay_world.specs.declared.link.ServerEnd.{ServerEnd}
 use Rattle.relay_world.specs.Steps.{IsPutAt}
 use Rattle.relay_world.specs.World.{World, link_at}
-use Rattle.relay_daemon.specs.Runs.{EndsIn, ReachesHop, ServesClient}
+use Rattle.relay_daemon.specs.Runs.{ReachesHop, ServesClient}
 
 -- a slot is free or not
 pub not_both : {A : Type 0} (slot : Option A) (value : A) → slot ≡ None → slot ≡ Some value → ⊥

@@ -1,19 +1,14 @@
 -- Replies of a hop that a relay has read in a group: their octets were used, and the outcome of the attempt is staged if
 -- they ended it.
-use Rattle.std.proofs.Common.{inl, inr, ◌≡◌, ◌≢◌, ◌≤◌, ◌+◌, ◌-◌, ◌++◌, ◌∷◌, ℕ, Bool, true, false, List, [], Option, None, Some, length, take, drop, refl, sym, subst, ap, ◌∙◌}
-use Rattle.std.specs.Prelude.{if◌then◌else◌, slice_get, slice_set}
+use Rattle.std.proofs.Common.{inl, inr, ◌≡◌, ◌≢◌, ◌≤◌, ◌-◌, ◌++◌, ◌∷◌, ℕ, List, [], Option, None, Some, length, refl, sym, subst, ap, ◌∙◌}
+use Rattle.std.specs.Prelude.{slice_get, slice_set}
 use Rattle.std.proofs.lemmas.Bool.Decides.{eqb_tells}
 use Rattle.std.proofs.lemmas.List.{length-set}
 use Rattle.std.proofs.lemmas.Option.{same_Some}
 use Rattle.relay_disk.specs.Device.{DiskWords}
 use Rattle.relay_slots.specs.Slots.{slot_at}
-use Rattle.relay_book.specs.declared.change.Change.{Change}
-use Rattle.relay_records.specs.declared.noted.Noted.{Noted}
-use Rattle.relay_records.specs.Staged.{Awaits, Row}
+use Rattle.relay_records.specs.Staged.{Row}
 use Rattle.relay_report.specs.Report.{reporter_of}
-use Rattle.relay_attempts.specs.declared.reply.Replied.{Replied}
-use Rattle.relay_attempts.specs.Reply.{Told}
-use Rattle.relay_node.specs.Attempts.{Tells}
 use Rattle.relay_node.specs.StagedReplies.{RepliesInto}
 use Rattle.relay_loop.specs.declared.hops.Answered.{Answered}
 use Rattle.relay_loop.specs.Hops.{IsSetTo}
@@ -24,10 +19,10 @@ use Rattle.relay_world.specs.declared.line.Line.{Line}
 use Rattle.relay_world.specs.declared.link.Link.{Link}
 use Rattle.relay_world.specs.Groups.{HasReadInto, OutcomeInto}
 use Rattle.relay_world.specs.Ledger.{left_lines, report_told}
-use Rattle.relay_world.specs.Steps.{AttemptOf, IsPut, IsPutAt, read_link, unless_broken, waiting_down}
+use Rattle.relay_world.specs.Steps.{AttemptOf, IsPut, IsPutAt, read_link, waiting_down}
 use Rattle.relay_world.specs.World.{Host, Up, World, link_at}
 use Rattle.relay_daemon.specs.Events.{ReadingIntoReads}
-use Rattle.relay_daemon.specs.Runs.{ReachesHop, RunsAt, ServesClient, host_with}
+use Rattle.relay_daemon.specs.Runs.{ReachesHop, RunsAt, host_with}
 use Rattle.relay_daemon.specs.Wanted.{KnowsAttempt, ReadsIntoSays}
 use Rattle.relay_daemon.proofs.HearLemmas.{whole_written}
 use Rattle.relay_daemon.proofs.LoseLemmas.{one_running}

@@ -1,8 +1,7 @@
 -- Replies of a hop that a relay has read: their octets were used, and the outcome of the attempt is recorded if they
 -- ended it.
-use Rattle.std.proofs.Common.{inl, inr, ◌≡◌, ◌≢◌, ◌≤◌, ◌<◌, ◌^◌, ◌+◌, ◌-◌, ◌++◌, ◌∷◌, ℕ, Bool, true, false, List, [], Option, None, Some, length, take, drop, refl, sym, subst, ap, ◌∙◌, append-nil, arith}
+use Rattle.std.proofs.Common.{inl, inr, ◌≡◌, ◌≢◌, ◌≤◌, ◌<◌, ◌^◌, ◌-◌, ◌++◌, ℕ, false, List, [], Option, None, Some, length, take, refl, sym, subst, ap, ◌∙◌, append-nil, arith}
 use Rattle.std.specs.Prelude.{slice_get, slice_set}
-use Rattle.std.specs.Global.{Vec}
 use Rattle.std.proofs.lemmas.Bool.Decides.{eqb_tells}
 use Rattle.std.proofs.lemmas.List.{append_cancel_left, length-set}
 use Rattle.std.proofs.lemmas.Option.{same_Some}
@@ -10,7 +9,6 @@ use Rattle.relay_disk.specs.Device.{DiskWords}
 use Rattle.relay_routes.specs.declared.config.Config.{Config}
 use Rattle.relay_slots.specs.Slots.{slot_at}
 use Rattle.relay_book.specs.declared.change.Change.{Change}
-use Rattle.relay_records.specs.declared.noted.Noted.{Noted}
 use Rattle.relay_records.specs.Records.{Keeps}
 use Rattle.relay_report.specs.Report.{reporter_of}
 use Rattle.relay_attempts.specs.declared.reply.Replied.{Replied}
@@ -25,13 +23,12 @@ use Rattle.relay_world.specs.declared.attempt.Attempt.{Attempt}
 use Rattle.relay_world.specs.declared.attempt.Fate.TheVariants.{Replied as Ended, Running}
 use Rattle.relay_world.specs.declared.line.Line.{Line}
 use Rattle.relay_world.specs.declared.link.Link.{Link}
-use Rattle.relay_world.specs.Bound.{IsBound}
 use Rattle.relay_world.specs.Ledger.{left_lines, report_told}
-use Rattle.relay_world.specs.Steps.{AttemptOf, HasRead, IsPut, IsPutAt, RecordsRead, read_link, unless_broken, waiting_down}
+use Rattle.relay_world.specs.Steps.{AttemptOf, HasRead, IsPut, IsPutAt, RecordsRead, read_link, waiting_down}
 use Rattle.relay_world.specs.World.{Host, Up, World, link_at}
 use Rattle.relay_daemon.specs.Calls.{ReplySays}
 use Rattle.relay_daemon.specs.Events.{ReplyingReads}
-use Rattle.relay_daemon.specs.Runs.{ReachesHop, RunsAt, ServesClient, host_with, host_with_note, told_of}
+use Rattle.relay_daemon.specs.Runs.{ReachesHop, RunsAt, host_with, host_with_note, told_of}
 use Rattle.relay_daemon.proofs.HearLemmas.{whole_written}
 use Rattle.relay_daemon.proofs.LoseLemmas.{TellsThere, one_running, tells_there}
 use Rattle.relay_daemon.proofs.MoveLemmas.{client_moved, hop_beside, not_both}

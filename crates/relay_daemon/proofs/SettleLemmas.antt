@@ -1,6 +1,5 @@
 -- A group whose changes a relay has added to its spool.
-use Rattle.std.proofs.Common.{◌≡◌, ℕ, List, refl}
-use Rattle.std.specs.Prelude.{slice_set}
+use Rattle.std.proofs.Common.{ℕ, List, refl}
 use Rattle.std.proofs.lemmas.List.{length-set}
 use Rattle.relay_disk.specs.Device.{DiskWords}
 use Rattle.relay_records.specs.Staged.{Row, no_row}

@@ -1,5 +1,5 @@
 -- What is known of a connection of a relay that runs in a bound world.
-use Rattle.std.proofs.Common.{◌≡◌, ◌++◌, ◌∷◌, ℕ, false, List, [], Option, None, Some, take, refl, sym, subst, ap, ◌∙◌}
+use Rattle.std.proofs.Common.{◌≡◌, ◌∷◌, ℕ, List, [], Option, None, Some, refl, sym, subst, ap, ◌∙◌}
 use Rattle.std.specs.Prelude.{slice_get}
 use Rattle.std.specs.List.{AllByRecursion}
 use Rattle.std.proofs.lemmas.Option.{same_Some}
@@ -7,17 +7,14 @@ use Rattle.relay_disk.specs.Device.{DiskWords}
 use Rattle.relay_lines.specs.Reply.{Reply}
 use Rattle.relay_routes.specs.declared.config.Config.{Config}
 use Rattle.relay_server.specs.Dialogue.{Offered}
-use Rattle.relay_slots.specs.Slots.{slot_at}
 use Rattle.relay_book.specs.declared.change.Change.{Change}
 use Rattle.relay_meeting.specs.Joined.{output_with}
 use Rattle.relay_node.specs.Node.{NodeState, SeatHasSaid}
 use Rattle.relay_node.specs.Queued.{queued_in}
 use Rattle.relay_loop.specs.Accepted.{AreAcceptedAs}
-use Rattle.relay_loop.specs.Relay.{RelayState}
-use Rattle.relay_world.specs.Bound.{IsBound, IsStored, MayHaveClosed, NodeKeeps, SaysThere, StateKeeps}
-use Rattle.relay_world.specs.World.{Host, Up, World}
-use Rattle.relay_daemon.specs.Events.{ConnectionsTalk, TalksThere}
-use Rattle.relay_daemon.specs.Runs.{RunsAt, ServesClient}
+use Rattle.relay_world.specs.Bound.{IsStored, MayHaveClosed, NodeKeeps, SaysThere, StateKeeps}
+use Rattle.relay_world.specs.World.{Host}
+use Rattle.relay_daemon.specs.Events.{ConnectionsTalk}
 use Rattle.relay_daemon.proofs.LoseLemmas.{one_node}
 
 not_closed : (session : ℕ) (closing : Option Reply) → MayHaveClosed (Some session) closing → closing ≡ None

@@ -1,15 +1,13 @@
 -- Octets that a relay has written out.
-use Rattle.std.proofs.Common.{inl, inr, ◌≡◌, ◌≢◌, ◌++◌, ◌∷◌, ℕ, List, [], Option, None, Some, take, drop, refl, sym, ap, ◌∙◌, append_assoc, take-append-drop}
+use Rattle.std.proofs.Common.{inl, inr, ◌≡◌, ◌++◌, ℕ, List, Option, None, Some, take, drop, refl, sym, ap, ◌∙◌, append_assoc, take-append-drop}
 use Rattle.std.specs.Option.{option_map}
 use Rattle.std.proofs.lemmas.Bool.Decides.{eqb_tells}
 use Rattle.std.proofs.lemmas.Option.{same_Some}
 use Rattle.relay_slots.specs.Slots.{slot_at}
 use Rattle.relay_node.specs.Node.{NodeState}
-use Rattle.relay_loop.specs.Relay.{RelayState}
-use Rattle.relay_world.specs.World.{HostState, Up, World}
-use Rattle.relay_daemon.specs.Calls.{WroteHopSays, WroteSays}
+use Rattle.relay_world.specs.World.{Up, World}
 use Rattle.relay_daemon.specs.Events.{WritingOutStays, WritingToHopsStays}
-use Rattle.relay_daemon.specs.Runs.{EndsIn, ReachesHop, RunsAt, ServesClient}
+use Rattle.relay_daemon.specs.Runs.{EndsIn, ReachesHop, ServesClient}
 use Rattle.relay_daemon.proofs.MoveLemmas.{not_both}
 
 -- what was unwritten before some of it was written

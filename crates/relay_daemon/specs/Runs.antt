@@ -6,7 +6,6 @@ use Rattle.relay_records.specs.declared.noted.Noted.{Noted}
 use Rattle.relay_node.specs.Node.{NodeState}
 use Rattle.relay_loop.specs.Relay.{RelayState}
 use Rattle.relay_world.specs.declared.attempt.Attempt.{Attempt}
-use Rattle.relay_world.specs.declared.line.Line.{Line}
 use Rattle.relay_world.specs.declared.link.Link.{Link}
 use Rattle.relay_world.specs.Bound.{HasSession, HasSlot}
 use Rattle.relay_world.specs.Steps.{without_note}
