@@ -14,7 +14,7 @@ ghost use Rattle.relay_lanes.specs.Paces.{RunsOneLess};
 use crate::delivery::{Course, Delivery};
 use crate::going_on::go_on;
 use crate::lanes::Lanes;
-use relay_connections::{Channel, Leaving, Now, Stream};
+use relay_connections::{Channel, Leaving, Now, Stream, Turn};
 use relay_disk::Disk;
 use relay_files::Fault;
 use relay_lanes::Portions;
@@ -26,14 +26,13 @@ use relay_routes::HostName;
 /// Does what follows after a delivery has ended.
 #[tactic(auto, using(relay_lanes::proofs::PaceLemmas::less_then_same))]
 pub(crate) fn conclude<S: Stream + Drop, D: Disk>(
-    registry: &S::Registry,
+    turn: Turn<'_, S::Registry>,
     relay: &mut Relay<D>,
     lanes: &mut Lanes,
     portions: &mut Portions,
     leaving: &mut Leaving<S>,
     ended: (Channel<S>, Delivery),
     course: Course,
-    now: &Now,
     log: &mut Log<'_, Vec<u8>>,
 ) -> Result<(), Fault>
     ensures runs { RunsOneLess ended.1.aim.lane lanes.old.paces lanes.new.paces }
@@ -41,19 +40,16 @@ pub(crate) fn conclude<S: Stream + Drop, D: Disk>(
     ensures portions { portions.new
         ≡ portions_after course ended.1.attempt ended.1.is_closed ended.1.message portions.old }
     ensures next { (outbox : Outbox) (noted : Option Noted) → course ≡ Course.Ended outbox noted
-        → ComesNext now.now.moment ended.1 relay.new lanes.new }
+        → ComesNext turn.entry.now.now.moment ended.1 relay.new lanes.new }
     ensures lost { (loss : Loss) (attempt : ℕ) → course ≡ Course.Lost loss → ended.1.attempt ≡ Some attempt
-        → OnOk result (LosesRunning D.words now.now.moment attempt relay.old relay.new) }
+        → OnOk result (LosesRunning D.words turn.entry.now.now.moment attempt relay.old relay.new) }
     ensures same { ((loss : Loss) → course ≢ Course.Lost loss) → relay.new ≡ relay.old }
     ensures leaves { OnOk result (LeavesClients D.honest D.words relay.old relay.new) }
 {
-    let (channel, delivery) = ended;
-    let is_shared = lanes.is_shared(&delivery.aim);
-    lanes.ended(delivery.aim.lane);
-    note_cut(portions, &delivery, &course);
-    finish(
-        registry, relay, lanes, leaving, channel, delivery, is_shared, course, now, log,
-    )
+    let is_shared = lanes.is_shared(&ended.1.aim);
+    lanes.ended(ended.1.aim.lane);
+    note_cut(portions, &ended.1, &course);
+    finish(turn, relay, lanes, leaving, ended, is_shared, course, log)
 }
 
 /// Takes note of an attempt that was cut off, or whose mail transaction the next hop has ended by 421: the next ones
@@ -77,33 +73,30 @@ fn note_cut(portions: &mut Portions, delivery: &Delivery, course: &Course)
 
 /// Does what is left to be done for a delivery that counts no more among its lane's.
 fn finish<S: Stream + Drop, D: Disk>(
-    registry: &S::Registry,
+    turn: Turn<'_, S::Registry>,
     relay: &mut Relay<D>,
     lanes: &mut Lanes,
     leaving: &mut Leaving<S>,
-    channel: Channel<S>,
-    delivery: Delivery,
+    ended: (Channel<S>, Delivery),
     is_shared: bool,
     course: Course,
-    now: &Now,
     log: &mut Log<'_, Vec<u8>>,
 ) -> Result<(), Fault>
     ensures counts { KeepsCounts lanes.old lanes.new }
     ensures next { (outbox : Outbox) (noted : Option Noted) → course ≡ Course.Ended outbox noted
-        → ComesNext now.now.moment delivery relay.new lanes.new }
+        → ComesNext turn.entry.now.now.moment ended.1 relay.new lanes.new }
     ensures lost { (loss : Loss) → course ≡ Course.Lost loss → OnOk result
-        (EndsLostOrTurnedAway D.words now.now delivery is_shared lanes.old.paces relay.old relay.new) }
+        (EndsLostOrTurnedAway D.words turn.entry.now.now ended.1 is_shared lanes.old.paces relay.old relay.new) }
     ensures same { ((loss : Loss) → course ≢ Course.Lost loss) → relay.new ≡ relay.old }
     ensures leaves { OnOk result (LeavesClients D.honest D.words relay.old relay.new) }
 {
+    let (channel, delivery) = ended;
     let lane = delivery.aim.lane;
     match course {
         Course::Stays => Ok(()),
         Course::Ended(outbox, noted) => {
-            end_well(
-                registry, lanes, leaving, channel, &delivery, outbox, noted, now, log,
-            );
-            go_on(relay, lanes, delivery, now);
+            end_well(turn, lanes, leaving, channel, &delivery, outbox, noted, log);
+            go_on(relay, lanes, delivery, turn.now);
             Ok(())
         }
         Course::TurnedAway => {
@@ -115,9 +108,9 @@ fn finish<S: Stream + Drop, D: Disk>(
             lanes.turn_away(lane, delivery.into_task());
             Ok(())
         }
-        Course::Lost(loss) => end_badly(relay, lanes, delivery, loss, now, log),
+        Course::Lost(loss) => end_badly(relay, lanes, delivery, loss, turn.now, log),
         Course::Void => {
-            tell_void(&delivery, now, log);
+            tell_void(&delivery, turn.now, log);
             Ok(())
         }
     }
@@ -125,14 +118,13 @@ fn finish<S: Stream + Drop, D: Disk>(
 
 /// Hands over a connection whose attempt has ended with an outcome, so that its last octets are written.
 fn end_well<S: Stream + Drop>(
-    registry: &S::Registry,
+    turn: Turn<'_, S::Registry>,
     lanes: &mut Lanes,
     leaving: &mut Leaving<S>,
     channel: Channel<S>,
     delivery: &Delivery,
     outbox: Outbox,
     noted: Option<Noted>,
-    now: &Now,
     log: &mut Log<'_, Vec<u8>>,
 )
     ensures counts { KeepsCounts lanes.old lanes.new }
@@ -141,8 +133,8 @@ fn end_well<S: Stream + Drop>(
     if delivery.is_welcome {
         lanes.ended_well(lane);
     }
-    tell_outcome(delivery, noted, now, log);
-    leaving.take(registry, channel, outbox, Some(lane), now);
+    tell_outcome(delivery, noted, turn.now, log);
+    leaving.take(turn.registry, channel, outbox, Some(lane), turn.now);
     lanes.note_leaving_of(lane, leaving);
 }
 

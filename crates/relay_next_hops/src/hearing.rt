@@ -8,9 +8,9 @@ ghost use Rattle.relay_next_hops.specs.Hearing.{AnswersEach, AnswersOne, WasLeft
 ghost use Rattle.relay_next_hops.specs.Hearing.{reply_at, told_of};
 
 use crate::delivery::Course;
-use crate::hops::Hops;
+use crate::hops::{Attended, Hops};
 use crate::lanes::Lanes;
-use relay_connections::{Leaving, Now, Replied, Stream};
+use relay_connections::{Leaving, Replied, Stream, Turn};
 use relay_disk::Disk;
 use relay_files::Fault;
 use relay_log::{Log, Loss};
@@ -22,6 +22,15 @@ use std::alloc::AllocError;
 /// The most attempts that hear their replies in a call of their own in one turn, because the common call took no more.
 /// Each may take two syncs.
 const MOST_ALONE: usize = 4;
+
+/// The result of a reply to an attempt.
+#[derive(Drop)]
+struct ReplyResult {
+    attempt: usize,
+    answer: Result<Answered, NodeFault>,
+    /// The note of the attempt's outcome, if it has ended.
+    noted: Option<Noted>,
+}
 
 impl<S: Stream + Drop> Hops<S> {
     /// Returns the number of the connection that is served first, of `count`: 0 if none comes after those that were
@@ -68,28 +77,28 @@ impl<S: Stream + Drop> Hops<S> {
     pub(crate) fn answer<D: Disk>(
         &mut self,
         replied: Option<Replied>,
-        registry: &S::Registry,
+        turn: Turn<'_, S::Registry>,
         relay: &mut Relay<D>,
         lanes: &mut Lanes,
         leaving: &mut Leaving<S>,
-        now: &Now,
         log: &mut Log<'_, Vec<u8>>,
     ) -> Result<bool, Fault>
         ensures heard { IfSome replied (λ replied. OnOk result
-            (AnswersEach now.now.tick (order_of self.old) replied.answered.items self.old.hops self.new.hops)) }
+            (AnswersEach turn.entry.now.now.tick (order_of self.old) replied.answered.items self.old.hops
+            self.new.hops)) }
         ensures counts { CountsMatch self.old.hops lanes.old.paces
             → OnOk result (CountsMatch self.new.hops lanes.new.paces) }
         ensures aimed { (routes : List Route) → AreAimed routes self.old.hops → AreAimed routes self.new.hops }
         ensures leaves { OnOk result (LeavesClients D.honest D.words relay.old relay.new) }
     {
         let Some(Replied { answered, notes }) = replied else {
-            return self.lose_one(registry, relay, lanes, leaving, now, log);
+            return self.lose_one(turn, relay, lanes, leaving, log);
         };
         // The notes of the attempts' outcomes follow those of clients' mail.
         let others = notes.len().saturating_sub(count_ended(answered.as_slice()));
         let mut notes = notes.into_iter().skip(others);
         let mut answers = answered.into_iter();
-        let mut alone = MOST_ALONE;
+        self.alone = MOST_ALONE;
         let mut closed = false;
         let count = self.hops.standing().len();
         let first = self.first_of(count);
@@ -106,10 +115,12 @@ impl<S: Stream + Drop> Hops<S> {
             } else {
                 None
             };
-            closed |= !self.answer_one(
-                number, attempt, answer, noted, &mut alone, registry, relay, lanes, leaving, now,
-                log,
-            )?;
+            let reply = ReplyResult {
+                attempt,
+                answer,
+                noted,
+            };
+            closed |= !self.answer_one(number, reply, turn, relay, lanes, leaving, log)?;
         }
         Ok(closed)
     }
@@ -126,52 +137,52 @@ impl<S: Stream + Drop> Hops<S> {
     }
 
     /// Takes the result of the reply to the attempt of a connection. If the reply was left unread, the attempt hears it
-    /// in a call of its own, as long as `alone` allows more of these. Returns whether the connection stays.
+    /// in a call of its own, as long as more of these are allowed in this turn. Returns whether the connection stays.
     fn answer_one<D: Disk>(
         &mut self,
         number: usize,
-        attempt: usize,
-        answer: Result<Answered, NodeFault>,
-        noted: Option<Noted>,
-        alone: &mut usize,
-        registry: &S::Registry,
+        reply: ReplyResult,
+        turn: Turn<'_, S::Registry>,
         relay: &mut Relay<D>,
         lanes: &mut Lanes,
         leaving: &mut Leaving<S>,
-        now: &Now,
         log: &mut Log<'_, Vec<u8>>,
     ) -> Result<bool, Fault>
-        ensures heard { OnOk result (AnswersOne now.now.tick number answer self.old.hops self.new.hops) }
+        ensures heard { OnOk result (AnswersOne turn.entry.now.now.tick number reply.answer self.old.hops
+            self.new.hops) }
         ensures first { self.new.first ≡ self.old.first }
         ensures counts { CountsMatch self.old.hops lanes.old.paces
             → OnOk result (CountsMatch self.new.hops lanes.new.paces) }
         ensures aimed { (routes : List Route) → AreAimed routes self.old.hops → AreAimed routes self.new.hops }
         ensures leaves { OnOk result (LeavesClients D.honest D.words relay.old relay.new) }
     {
-        let is_left = was_left(&answer);
-        if is_left && *alone == 0 {
+        let is_left = was_left(&reply.answer);
+        if is_left && self.alone == 0 {
             return Ok(true);
         }
         let Some(taken) = self.hops.take(number) else {
             return Ok(true);
         };
-        *alone = alone.saturating_sub(usize::from(is_left));
+        self.alone = self.alone.saturating_sub(usize::from(is_left));
         let mut hop = taken;
-        let course = hop.take_answer(relay, attempt, answer, noted, now)?;
-        self.settle(
-            number, hop, course, registry, relay, lanes, leaving, now, log,
-        )
+        let ReplyResult {
+            attempt,
+            answer,
+            noted,
+        } = reply;
+        let course = hop.take_answer(relay, attempt, answer, noted, turn.now)?;
+        let attended = Attended { hop, course };
+        self.settle(number, attended, turn, relay, lanes, leaving, log)
     }
 
     /// Gives up the first connection whose attempt may hear something, because memory ran out. Returns whether there
     /// was one.
     fn lose_one<D: Disk>(
         &mut self,
-        registry: &S::Registry,
+        turn: Turn<'_, S::Registry>,
         relay: &mut Relay<D>,
         lanes: &mut Lanes,
         leaving: &mut Leaving<S>,
-        now: &Now,
         log: &mut Log<'_, Vec<u8>>,
     ) -> Result<bool, Fault>
         ensures counts { CountsMatch self.old.hops lanes.old.paces
@@ -185,8 +196,11 @@ impl<S: Stream + Drop> Hops<S> {
         let Some(hop) = self.hops.take(number) else {
             return Ok(false);
         };
-        let lost = Course::Lost(Loss::Cut);
-        self.settle(number, hop, lost, registry, relay, lanes, leaving, now, log)?;
+        let lost = Attended {
+            hop,
+            course: Course::Lost(Loss::Cut),
+        };
+        self.settle(number, lost, turn, relay, lanes, leaving, log)?;
         Ok(true)
     }
 

@@ -19,7 +19,7 @@ use crate::dial::Dial;
 use crate::ending::conclude;
 use crate::hop::Hop;
 use crate::lanes::Lanes;
-use relay_connections::{Channel, Leaving, Now, Readiness, Stream, Table, holds, turned};
+use relay_connections::{Channel, Leaving, Now, Readiness, Stream, Table, Turn, holds, turned};
 use relay_disk::Disk;
 use relay_files::Fault;
 use relay_lanes::{Portions, Task};
@@ -45,6 +45,8 @@ pub(crate) struct Hops<S> {
     pub(crate) first: usize,
     /// How many recipients of a message their attempts have at most.
     pub(crate) portions: Portions,
+    /// How many attempts may still hear a reply in a call of their own in this turn.
+    pub(crate) alone: usize,
 }
 
 // Written out, so that the proof of a caller that drops them stops at this function.
@@ -55,8 +57,15 @@ impl<S: Drop> Drop for Hops<S> {
             hops: _hops,
             first: _,
             portions: _portions,
+            alone: _,
         } = self;
     }
+}
+
+/// A connection that was attended to, and what becomes of it.
+pub(crate) struct Attended<S> {
+    pub(crate) hop: Hop<S>,
+    pub(crate) course: Course,
 }
 
 impl<S: Stream + Drop> Hops<S> {
@@ -70,6 +79,7 @@ impl<S: Stream + Drop> Hops<S> {
             hops: Table::new(alloc)?,
             first: 0,
             portions: Portions::new(alloc, recipients)?,
+            alone: 0,
         })
     }
 
@@ -185,11 +195,10 @@ impl<S: Stream + Drop> Hops<S> {
     /// have their turn; the next turn goes on after these. Returns whether a connection was closed.
     pub(crate) fn attend<D: Disk>(
         &mut self,
-        registry: &S::Registry,
+        turn: Turn<'_, S::Registry>,
         relay: &mut Relay<D>,
         lanes: &mut Lanes,
         leaving: &mut Leaving<S>,
-        now: &Now,
         log: &mut Log<'_, Vec<u8>>,
     ) -> Result<bool, Fault>
         ensures counts { CountsMatch self.old.hops lanes.old.paces
@@ -204,7 +213,7 @@ impl<S: Stream + Drop> Hops<S> {
             if !holds(self.hops.standing(), number) {
                 continue;
             }
-            if !self.attend_one(number, registry, relay, lanes, leaving, now, log)? {
+            if !self.attend_one(number, turn, relay, lanes, leaving, log)? {
                 closed = closed.saturating_add(1);
             }
             if closed == MOST_LOSSES {
@@ -220,11 +229,10 @@ impl<S: Stream + Drop> Hops<S> {
     fn attend_one<D: Disk>(
         &mut self,
         number: usize,
-        registry: &S::Registry,
+        turn: Turn<'_, S::Registry>,
         relay: &mut Relay<D>,
         lanes: &mut Lanes,
         leaving: &mut Leaving<S>,
-        now: &Now,
         log: &mut Log<'_, Vec<u8>>,
     ) -> Result<bool, Fault>
         ensures counts { CountsMatch self.old.hops lanes.old.paces
@@ -232,8 +240,8 @@ impl<S: Stream + Drop> Hops<S> {
         ensures aimed { (routes : List Route) → AreAimed routes self.old.hops → AreAimed routes self.new.hops }
         ensures starts { OnOk result ((old new : Hop S) → slot_at self.old.hops number ≡ Some old
             → slot_at self.new.hops number ≡ Some new → old.attempt ≡ None → new.attempt ≢ None
-            → StartsFor old.aim.early now.now.moment (portion_of self.old.portions old.message) old.message old.name
-            new.attempt relay.old relay.new) }
+            → StartsFor old.aim.early turn.entry.now.now.moment (portion_of self.old.portions old.message) old.message
+            old.name new.attempt relay.old relay.new) }
         ensures leaves { OnOk result (LeavesClients D.honest D.words relay.old relay.new) }
     {
         let Some(taken) = self.hops.take(number) else {
@@ -243,41 +251,42 @@ impl<S: Stream + Drop> Hops<S> {
         let had_spoken = hop.has_spoken;
         let is_shared = lanes.is_shared(&hop.aim);
         let most = self.portions.most_of(hop.message);
-        let course = hop.attend(relay, most, is_shared, now)?;
-        note_spoken(&hop, had_spoken, lanes, now, log);
-        self.settle(
-            number, hop, course, registry, relay, lanes, leaving, now, log,
-        )
+        let course = hop.attend(relay, most, is_shared, turn.now)?;
+        note_spoken(&hop, had_spoken, lanes, turn.now, log);
+        let attended = Attended { hop, course };
+        self.settle(number, attended, turn, relay, lanes, leaving, log)
     }
 
     /// Puts a connection back, or does what follows its end. Returns whether it stays.
     pub(crate) fn settle<D: Disk>(
         &mut self,
         number: usize,
-        hop: Hop<S>,
-        course: Course,
-        registry: &S::Registry,
+        attended: Attended<S>,
+        turn: Turn<'_, S::Registry>,
         relay: &mut Relay<D>,
         lanes: &mut Lanes,
         leaving: &mut Leaving<S>,
-        now: &Now,
         log: &mut Log<'_, Vec<u8>>,
     ) -> Result<bool, Fault>
         ensures own { slot_at self.old.hops number ≡ None → number < length self.old.hops
-            → slot_at self.new.hops number ≡ left_of course hop }
+            → slot_at self.new.hops number ≡ left_of attended.course attended.hop }
         ensures others { OthersStay self.old.hops self.new.hops number }
         ensures first { self.new.first ≡ self.old.first }
         ensures portions { self.new.portions
-            ≡ portions_after course hop.attempt (closes hop) hop.message self.old.portions }
-        ensures lost { (loss : Loss) (attempt : ℕ) → course ≡ Course.Lost loss → hop.attempt ≡ Some attempt
-            → OnOk result (LosesRunning D.words now.now.moment attempt relay.old relay.new) }
-        ensures same { ((loss : Loss) → course ≢ Course.Lost loss) → relay.new ≡ relay.old }
-        ensures counts { CountsMatchWith hop self.old.hops lanes.old.paces → slot_at self.old.hops number ≡ None
-            → number < length self.old.hops → OnOk result (CountsMatch self.new.hops lanes.new.paces) }
-        ensures aimed { (routes : List Route) → IsAimed routes hop → AreAimed routes self.old.hops
+            ≡ portions_after attended.course attended.hop.attempt (closes attended.hop) attended.hop.message
+            self.old.portions }
+        ensures lost { (loss : Loss) (attempt : ℕ) → attended.course ≡ Course.Lost loss
+            → attended.hop.attempt ≡ Some attempt
+            → OnOk result (LosesRunning D.words turn.entry.now.now.moment attempt relay.old relay.new) }
+        ensures same { ((loss : Loss) → attended.course ≢ Course.Lost loss) → relay.new ≡ relay.old }
+        ensures counts { CountsMatchWith attended.hop self.old.hops lanes.old.paces
+            → slot_at self.old.hops number ≡ None → number < length self.old.hops
+            → OnOk result (CountsMatch self.new.hops lanes.new.paces) }
+        ensures aimed { (routes : List Route) → IsAimed routes attended.hop → AreAimed routes self.old.hops
             → AreAimed routes self.new.hops }
         ensures leaves { OnOk result (LeavesClients D.honest D.words relay.old relay.new) }
     {
+        let Attended { hop, course } = attended;
         match course {
             Course::Stays => {
                 self.hops.put(number, hop);
@@ -286,14 +295,13 @@ impl<S: Stream + Drop> Hops<S> {
             course => {
                 let ended = hop.into_parts();
                 conclude(
-                    registry,
+                    turn,
                     relay,
                     lanes,
                     &mut self.portions,
                     leaving,
                     ended,
                     course,
-                    now,
                     log,
                 )?;
                 Ok(false)

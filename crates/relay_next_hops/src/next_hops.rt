@@ -21,7 +21,7 @@ use crate::lanes::Lanes;
 use crate::starting::Starts;
 use crate::turning::start_tasks;
 use mio::net::TcpStream;
-use relay_connections::{Leaving, Now, Readiness, Replied, Stream};
+use relay_connections::{Leaving, Now, Readiness, Replied, Stream, Turn};
 use relay_disk::Disk;
 use relay_files::Fault;
 use relay_limits::Limits;
@@ -138,8 +138,8 @@ impl<S: Stream + Drop> NextHops<S> {
             → OnOk result (TablesMatch routes self.new) }
         ensures leaves { OnOk result (LeavesClients D.honest D.words relay.old relay.new) }
     {
-        self.hops
-            .attend(registry, relay, &mut self.lanes, leaving, now, log)
+        let turn = Turn { registry, now };
+        self.hops.attend(turn, relay, &mut self.lanes, leaving, log)
     }
 
     /// Returns what was read from each next hop whose attempt may hear it. Fails if memory runs out.
@@ -168,7 +168,9 @@ impl<S: Stream + Drop> NextHops<S> {
             → OnOk result (TablesMatch routes self.new) }
         ensures leaves { OnOk result (LeavesClients D.honest D.words relay.old relay.new) }
     {
-        self.hops.answer(replied, registry, relay, &mut self.lanes, leaving, now, log)
+        let turn = Turn { registry, now };
+        self.hops
+            .answer(replied, turn, relay, &mut self.lanes, leaving, log)
     }
 
     /// Notes that leaving connections were closed: a next hop at its limit may accept another one.
@@ -239,12 +241,11 @@ impl<S: Stream + Drop> NextHops<S> {
         let gave_up = give_up_next(relay, &mut self.lanes, now, log)?;
         start_tasks(
             dial,
-            registry,
+            Turn { registry, now },
             relay,
             &mut self.hops,
             &mut self.lanes,
             &mut self.starts,
-            now,
             log,
         )?;
         Ok(gave_up)

@@ -16,7 +16,7 @@ use crate::dial::Dial;
 use crate::ending::lose;
 use crate::hops::Hops;
 use crate::lanes::Lanes;
-use relay_connections::{Now, Stream};
+use relay_connections::{Now, Stream, Turn};
 use relay_disk::Disk;
 use relay_files::{Fault, is_want_of_sockets};
 use relay_lanes::Task;
@@ -70,6 +70,13 @@ impl Starts {
     }
 }
 
+/// A connection to be opened for a task of a lane, under a number that is free.
+pub(crate) struct Opening {
+    pub(crate) lane: usize,
+    pub(crate) number: usize,
+    pub(crate) task: Task,
+}
+
 /// How far a lane has come in a turn.
 #[derive(Clone, Copy, PartialEq, Eq)]
 pub(crate) enum Begun {
@@ -117,12 +124,11 @@ pub(crate) enum Tried {
 /// connection, one is given up that was kept for that.
 pub(crate) fn start_lane<S: Stream + Drop, N: Dial<Stream = S>, D: Disk>(
     dial: &mut N,
-    registry: &S::Registry,
+    turn: Turn<'_, S::Registry>,
     relay: &mut Relay<D>,
     hops: &mut Hops<S>,
     lanes: &mut Lanes,
     lane: usize,
-    now: &Now,
     log: &mut Log<'_, Vec<u8>>,
 ) -> Result<Begun, Fault>
     ensures counts { CountsMatch hops.old.hops lanes.old.paces
@@ -135,16 +141,16 @@ pub(crate) fn start_lane<S: Stream + Drop, N: Dial<Stream = S>, D: Disk>(
     ensures fewer { OnOk result (length (tasks_at lanes.new lane) ≤ length (tasks_at lanes.old lane)) }
     ensures kept { N.spares dial.new ≤ N.spares dial.old }
     ensures unheld { OnOk result (OpensUnheld lanes.old.held hops.old.hops hops.new.hops) }
-    ensures tasks { OnOk result (DropsNone D.honest D.words now.now.moment hops.new.hops lanes.old lanes.new relay.old
-        relay.new) }
+    ensures tasks { OnOk result (DropsNone D.honest D.words turn.entry.now.now.moment hops.new.hops lanes.old lanes.new
+        relay.old relay.new) }
     ensures stand { OnOk result (KeepsConnections hops.old.hops hops.new.hops) }
-    ensures begun { IfOk result (IsBegun now.now.tick (N.spares dial.old) lanes.old hops.new.hops lanes.new
+    ensures begun { IfOk result (IsBegun turn.entry.now.now.tick (N.spares dial.old) lanes.old hops.new.hops lanes.new
         (N.spares dial.new) lane) }
     ensures config { relay.new.node.config ≡ relay.old.node.config }
     ensures leaves { OnOk result (LeavesClients D.honest D.words relay.old relay.new) }
 {
     for _ in 0..SLOT_COUNT {
-        let step = start_next(dial, registry, relay, hops, lanes, lane, now, log)?;
+        let step = start_next(dial, turn, relay, hops, lanes, lane, log)?;
         if let Some(begun) = end_of(step, dial) {
             return Ok(begun);
         }
@@ -175,12 +181,11 @@ fn end_of<N: Dial>(step: Step, dial: &mut N) -> Option<Begun>
 /// Begins the next task of a lane, if one may be begun and no postmaster holds it.
 fn start_next<S: Stream + Drop, N: Dial<Stream = S>, D: Disk>(
     dial: &mut N,
-    registry: &S::Registry,
+    turn: Turn<'_, S::Registry>,
     relay: &mut Relay<D>,
     hops: &mut Hops<S>,
     lanes: &mut Lanes,
     lane: usize,
-    now: &Now,
     log: &mut Log<'_, Vec<u8>>,
 ) -> Result<Step, Fault>
     ensures counts { CountsMatch hops.old.hops lanes.old.paces
@@ -193,10 +198,10 @@ fn start_next<S: Stream + Drop, N: Dial<Stream = S>, D: Disk>(
     ensures fewer { OnOk result (length (tasks_at lanes.new lane) ≤ length (tasks_at lanes.old lane)) }
     ensures kept { N.spares dial.new ≡ N.spares dial.old }
     ensures unheld { OnOk result (OpensUnheld lanes.old.held hops.old.hops hops.new.hops) }
-    ensures tasks { OnOk result (DropsNone D.honest D.words now.now.moment hops.new.hops lanes.old lanes.new relay.old
-        relay.new) }
+    ensures tasks { OnOk result (DropsNone D.honest D.words turn.entry.now.now.moment hops.new.hops lanes.old lanes.new
+        relay.old relay.new) }
     ensures stand { OnOk result (KeepsConnections hops.old.hops hops.new.hops) }
-    ensures came { IfOk result (IsStep D.words (IsOpenedTo N.leads_to S.remaining S.contents) now.now lane
+    ensures came { IfOk result (IsStep D.words (IsOpenedTo N.leads_to S.remaining S.contents) turn.entry.now.now lane
         hops.old.hops hops.new.hops lanes.old lanes.new relay.old relay.new) }
     ensures config { relay.new.node.config ≡ relay.old.node.config }
     ensures leaves { OnOk result (LeavesClients D.honest D.words relay.old relay.new) }
@@ -204,22 +209,21 @@ fn start_next<S: Stream + Drop, N: Dial<Stream = S>, D: Disk>(
     let Some(number) = hops.free() else {
         return Ok(Step::NoSlot);
     };
-    if !lanes.may_begin(lane, now) {
+    if !lanes.may_begin(lane, turn.now) {
         return Ok(Step::Over);
     }
     if !lanes.has_answered(lane) && MOST_UNANSWERED <= hops.count_unanswered(lanes) {
         return Ok(Step::NoRoom);
     }
-    let Some(task) = lanes.next(lane, now) else {
+    let Some(task) = lanes.next(lane, turn.now) else {
         return Ok(Step::Over);
     };
     if lanes.is_kept(&task.hop, task.message) {
         // A postmaster has held it since it was listed. When it is released, it is listed again.
         return Ok(Step::Left);
     }
-    let tried = start_task(
-        dial, registry, relay, hops, lanes, lane, number, task, now, log,
-    )?;
+    let opening = Opening { lane, number, task };
+    let tried = start_task(dial, turn, relay, hops, lanes, opening, log)?;
     Ok(step_after(tried))
 }
 
@@ -235,31 +239,37 @@ fn step_after(tried: Tried) -> Step
 /// Begins a connection for a task of a lane, under a number that is free.
 fn start_task<S: Stream + Drop, N: Dial<Stream = S>, D: Disk>(
     dial: &mut N,
-    registry: &S::Registry,
+    turn: Turn<'_, S::Registry>,
     relay: &mut Relay<D>,
     hops: &mut Hops<S>,
     lanes: &mut Lanes,
-    lane: usize,
-    number: usize,
-    task: Task,
-    now: &Now,
+    opening: Opening,
     log: &mut Log<'_, Vec<u8>>,
 ) -> Result<Tried, Fault>
     ensures kept { N.spares dial.new ≡ N.spares dial.old }
-    ensures tried { number < length hops.old.hops → HasLane lanes.old.paces lane
-        → IfOk result (IsTried D.words (IsOpenedTo N.leads_to S.remaining S.contents) now.now lane number task
-        hops.old.hops hops.new.hops lanes.old lanes.new relay.old relay.new) }
-    ensures only { OnlyLane lane lanes.old lanes.new }
-    ensures tasks { OnOk result (KeepsTasks lane lanes.old lanes.new) }
-    ensures fewer { IfOk result (λ tried. length (tasks_at lanes.new lane)
-        ≤ length (tasks_at lanes.old lane) + back_of tried) }
+    ensures tried { opening.number < length hops.old.hops → HasLane lanes.old.paces opening.lane
+        → IfOk result (IsTried D.words (IsOpenedTo N.leads_to S.remaining S.contents) turn.entry.now.now opening.lane
+        opening.number opening.task hops.old.hops hops.new.hops lanes.old lanes.new relay.old relay.new) }
+    ensures only { OnlyLane opening.lane lanes.old lanes.new }
+    ensures tasks { OnOk result (KeepsTasks opening.lane lanes.old lanes.new) }
+    ensures fewer { IfOk result (λ tried. length (tasks_at lanes.new opening.lane)
+        ≤ length (tasks_at lanes.old opening.lane) + back_of tried) }
     ensures config { relay.new.node.config ≡ relay.old.node.config }
     ensures leaves { OnOk result (LeavesClients D.honest D.words relay.old relay.new) }
 {
+    let Opening { lane, number, task } = opening;
     let Some(aim) = aim_of(relay, lanes, &task, lane) else {
         return Ok(Tried::HasNoPlace);
     };
-    match hops.connect(dial, registry, number, task, &aim, log.speaks(), now) {
+    match hops.connect(
+        dial,
+        turn.registry,
+        number,
+        task,
+        &aim,
+        log.speaks(),
+        turn.now,
+    ) {
         Ok(()) => {
             lanes.began(lane);
             Ok(Tried::Connects)
@@ -270,7 +280,7 @@ fn start_task<S: Stream + Drop, N: Dial<Stream = S>, D: Disk>(
         }
         Err((task, error)) => {
             let loss = Loss::of_connecting(&error);
-            lose(relay, lanes, &delivery_of(task, aim), loss, now, log)?;
+            lose(relay, lanes, &delivery_of(task, aim), loss, turn.now, log)?;
             Ok(Tried::Fails)
         }
     }

@@ -13,7 +13,7 @@ use crate::hops::Hops;
 use crate::lanes::Lanes;
 use crate::overdue::lose_overdue;
 use crate::starting::{Begun, Starts, start_lane};
-use relay_connections::{Now, Stream};
+use relay_connections::{Now, Stream, Turn};
 use relay_disk::Disk;
 use relay_files::Fault;
 use relay_log::Log;
@@ -97,24 +97,24 @@ pub(crate) fn visited(first: usize, count: usize, waiting: Option<usize>, step: 
 /// only if none of them has more that may begin. Opens no connection for mail that a postmaster holds.
 pub(crate) fn start_tasks<S: Stream + Drop, N: Dial<Stream = S>, D: Disk>(
     dial: &mut N,
-    registry: &S::Registry,
+    turn: Turn<'_, S::Registry>,
     relay: &mut Relay<D>,
     hops: &mut Hops<S>,
     lanes: &mut Lanes,
     starts: &mut Starts,
-    now: &Now,
     log: &mut Log<'_, Vec<u8>>,
 ) -> Result<(), Fault>
     ensures counts { CountsMatch hops.old.hops lanes.old.paces
         → OnOk result (CountsMatch hops.new.hops lanes.new.paces) }
     ensures aimed { AreAimed relay.old.node.config.routes.routes hops.old.hops
         → OnOk result (AreAimed relay.old.node.config.routes.routes hops.new.hops) }
-    ensures whole { lanes.old.is_open ≡ true → OnOk result (BeginsAll now.now.tick starts.old.paused_until
+    ensures whole { lanes.old.is_open ≡ true → OnOk result (BeginsAll turn.entry.now.now.tick starts.old.paused_until
         (N.spares dial.old) (N.spares dial.new) lanes.old lanes.new hops.new.hops) }
     ensures closes { lanes.old.is_open ≡ true → OnOk result ((lanes.new.is_open ≡ true)
-        ⊎ ((lane : ℕ) → lane < length lanes.old.lanes.items → IsDone now.now.tick hops.new.hops lanes.new lane)) }
-    ensures tasks { OnOk result (DropsNone D.honest D.words now.now.moment hops.new.hops lanes.old lanes.new relay.old
-        relay.new) }
+        ⊎ ((lane : ℕ) → lane < length lanes.old.lanes.items
+        → IsDone turn.entry.now.now.tick hops.new.hops lanes.new lane)) }
+    ensures tasks { OnOk result (DropsNone D.honest D.words turn.entry.now.now.moment hops.new.hops lanes.old lanes.new
+        relay.old relay.new) }
     ensures stand { OnOk result (KeepsConnections hops.old.hops hops.new.hops) }
     ensures unroutable { OnOk result (lanes.new.unroutable ≡ lanes.old.unroutable) }
     ensures stale { lanes.old.is_stale ≡ true → OnOk result (lanes.new.is_stale ≡ true) }
@@ -123,7 +123,7 @@ pub(crate) fn start_tasks<S: Stream + Drop, N: Dial<Stream = S>, D: Disk>(
     ensures config { relay.new.node.config ≡ relay.old.node.config }
     ensures leaves { OnOk result (LeavesClients D.honest D.words relay.old relay.new) }
 {
-    if !lanes.is_open() || now.tick < starts.paused_until {
+    if !lanes.is_open() || turn.now.tick < starts.paused_until {
         return Ok(());
     }
     let mut checks = MOST_CHECKS;
@@ -132,12 +132,12 @@ pub(crate) fn start_tasks<S: Stream + Drop, N: Dial<Stream = S>, D: Disk>(
     let mut crowded = None;
     for step in 0..count.saturating_add(1) {
         let lane = visited(first, count, waiting, step);
-        has_lost = lose_once(has_lost, relay, lanes, lane, &mut checks, now, log)?;
-        let begun = start_lane(dial, registry, relay, hops, lanes, lane, now, log)?;
+        has_lost = lose_once(has_lost, relay, lanes, lane, &mut checks, turn.now, log)?;
+        let begun = start_lane(dial, turn, relay, hops, lanes, lane, log)?;
         if stops(begun) {
             // The next end of a connection opens the lanes again.
             lanes.turn(if step == 0 { waiting } else { crowded });
-            starts.pause(begun, now);
+            starts.pause(begun, turn.now);
             return Ok(());
         }
         has_more = is_more(has_more, begun);

@@ -16,7 +16,7 @@ ghost use Rattle.relay_run.specs.Serving.{AreServedWithMore};
 use crate::listen::{Found, Listen};
 use mio::net::TcpStream;
 use relay_connections::{
-    Arrivals, Arrived, Clients, Leaving, Now, Readiness, Refusals, Stream, close_with,
+    Arrivals, Arrived, Clients, Leaving, Now, Readiness, Refusals, Stream, Turn, close_with,
 };
 use relay_disk::Disk;
 use relay_files::Fault;
@@ -151,11 +151,10 @@ impl<S: Stream + Drop> Acceptor<S> {
         &mut self,
         listener: &mut L,
         dial: &mut N,
-        registry: &S::Registry,
+        turn: Turn<'_, S::Registry>,
         relay: &mut Relay<D>,
         clients: &mut Clients<S>,
         leaving: &mut Leaving<S>,
-        now: &Now,
         log: &mut Log<'_, Vec<u8>>,
     ) -> Result<(), Fault>
         ensures allowed { AreAllowed clients.old relay.old → AreAllowed clients.new relay.new }
@@ -166,40 +165,39 @@ impl<S: Stream + Drop> Acceptor<S> {
             (clients_of clients.old) (clients_of clients.new) relay.new) }
         ensures config { relay.new.node.config ≡ relay.old.node.config }
     {
-        self.refusals.tell(now, log);
-        self.strangers.tell(now, log);
-        self.late.tell(now, log);
+        self.refusals.tell(turn.now, log);
+        self.strangers.tell(turn.now, log);
+        self.late.tell(turn.now, log);
         for _ in 0..MOST_AT_ONCE {
-            if !self.may_accept(now) {
+            if !self.may_accept(turn.now) {
                 break;
             }
             if !dial.fill_spares() {
-                self.pause(now);
+                self.pause(turn.now);
                 break;
             }
             match listener.accept() {
                 Found::Client(stream, peer) => {
-                    self.receive(registry, relay, clients, leaving, stream, peer, now, log)?;
+                    self.receive(turn, relay, clients, leaving, stream, peer, log)?;
                 }
                 Found::Missed => {}
                 Found::Nobody => self.is_ready = false,
-                Found::Want => self.pause(now),
+                Found::Want => self.pause(turn.now),
             }
         }
-        self.admit_arrived(registry, relay, clients, leaving, now, log)
+        self.admit_arrived(turn, relay, clients, leaving, log)
     }
 
     /// Opens a session for a client, or tells it why it isn't served. A balancer's connection has no client before its
     /// header is whole.
     fn receive<D: Disk>(
         &mut self,
-        registry: &S::Registry,
+        turn: Turn<'_, S::Registry>,
         relay: &mut Relay<D>,
         clients: &mut Clients<S>,
         leaving: &mut Leaving<S>,
         stream: S,
         peer: SocketAddrV4,
-        now: &Now,
         log: &mut Log<'_, Vec<u8>>,
     ) -> Result<(), Fault>
         ensures balancer { list_any (is_in (ipv4_octets (v4_ip peer))) self.old.balancers ≡ true
@@ -218,9 +216,9 @@ impl<S: Stream + Drop> Acceptor<S> {
         ensures config { relay.new.node.config ≡ relay.old.node.config }
     {
         if !self.balancers.contains(*peer.ip()) {
-            return self.welcome(registry, relay, clients, leaving, stream, peer, now, log);
+            return self.welcome(turn, relay, clients, leaving, stream, peer, log);
         }
-        if let Err(fault) = self.arrivals.take(registry, stream, peer, now) {
+        if let Err(fault) = self.arrivals.take(turn.registry, stream, peer, turn.now) {
             log.header_refused(peer, fault);
         }
         Ok(())
@@ -229,11 +227,10 @@ impl<S: Stream + Drop> Acceptor<S> {
     /// Takes the clients of balancers whose headers are whole. A connection without one is closed.
     fn admit_arrived<D: Disk>(
         &mut self,
-        registry: &S::Registry,
+        turn: Turn<'_, S::Registry>,
         relay: &mut Relay<D>,
         clients: &mut Clients<S>,
         leaving: &mut Leaving<S>,
-        now: &Now,
         log: &mut Log<'_, Vec<u8>>,
     ) -> Result<(), Fault>
         ensures allowed { AreAllowed clients.old relay.old → AreAllowed clients.new relay.new }
@@ -245,9 +242,9 @@ impl<S: Stream + Drop> Acceptor<S> {
         ensures config { relay.new.node.config ≡ relay.old.node.config }
     {
         for _ in 0..MOST_AT_ONCE {
-            match self.arrivals.next(registry, now) {
+            match self.arrivals.next(turn.registry, turn.now) {
                 Some(Arrived::Client(stream, peer)) => {
-                    self.welcome(registry, relay, clients, leaving, stream, peer, now, log)?;
+                    self.welcome(turn, relay, clients, leaving, stream, peer, log)?;
                 }
                 Some(Arrived::Refused(balancer, fault)) => {
                     log.header_refused(balancer, fault);
@@ -262,13 +259,12 @@ impl<S: Stream + Drop> Acceptor<S> {
     /// Opens a session for a client, or tells it why it isn't served.
     fn welcome<D: Disk>(
         &mut self,
-        registry: &S::Registry,
+        turn: Turn<'_, S::Registry>,
         relay: &mut Relay<D>,
         clients: &mut Clients<S>,
         leaving: &mut Leaving<S>,
         stream: S,
         peer: SocketAddrV4,
-        now: &Now,
         log: &mut Log<'_, Vec<u8>>,
     ) -> Result<(), Fault>
         ensures stranger { may_connect (allowed_of clients.old) (ipv4_octets (v4_ip peer)) ≡ false
@@ -283,11 +279,11 @@ impl<S: Stream + Drop> Acceptor<S> {
             (clients_of clients.old) (clients_of clients.new) relay.new) }
         ensures config { relay.new.node.config ≡ relay.old.node.config }
     {
-        match clients.welcome(registry, relay, leaving, stream, peer, now)? {
+        match clients.welcome(turn.registry, relay, leaving, stream, peer, turn.now)? {
             None => log.connected(),
-            Some(Refusal::NoRoom) => self.refusals.note(peer, now, log),
-            Some(Refusal::NoService) => self.strangers.note(peer, now, log),
-            Some(Refusal::Stopping) => self.late.note(peer, now, log),
+            Some(Refusal::NoRoom) => self.refusals.note(peer, turn.now, log),
+            Some(Refusal::NoService) => self.strangers.note(peer, turn.now, log),
+            Some(Refusal::Stopping) => self.late.note(peer, turn.now, log),
         }
         Ok(())
     }

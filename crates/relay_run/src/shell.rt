@@ -28,7 +28,7 @@ use crate::start::log_form;
 use crate::steering::Steering;
 use crate::tidying::Tidying;
 use mio::net::TcpStream;
-use relay_connections::{Clients, Leaving, Now, Stream};
+use relay_connections::{Clients, Leaving, Now, Stream, Turn};
 use relay_disk::{Disk, FileDisk};
 use relay_files::Fault;
 use relay_limits::{AllowedClients, Limits};
@@ -233,11 +233,10 @@ impl<S: Stream + Drop, D: Disk + Drop, F: Disk + Drop> Shell<S, D, F> {
         self.acceptor.admit(
             listener,
             dial,
-            registry,
+            Turn { registry, now },
             &mut self.relay,
             &mut self.clients,
             &mut self.leaving,
-            now,
             log,
         )
     }

@@ -50,6 +50,15 @@ pub fn push<R: Files<File = File> + Clock + Net<Stream = TcpStream>, W: Write, E
     push_due(alloc, rt, &mut node, &mut lines, &mut log)
 }
 
+/// What stays the same while the works that are due are done.
+#[derive(Drop)]
+struct Round<'a, R> {
+    alloc: Global,
+    rt: &'a R,
+    /// The time at which the works are due.
+    now: Moment,
+}
+
 /// Does each work that is due at the clock's time once, in order. Flushes the line of a work before the next begins.
 pub(crate) fn push_due<R: Clock + Net<Stream = TcpStream>, W: Write, E: Write>(
     alloc: Global,
@@ -65,48 +74,48 @@ pub(crate) fn push_due<R: Clock + Net<Stream = TcpStream>, W: Write, E: Write>(
 {
     let now = clock_moment(rt);
     let works = node.due(alloc, now)?;
-    do_works(alloc, rt, node, works.as_slice(), now, writer, log)
+    do_works(
+        &Round { alloc, rt, now },
+        node,
+        works.as_slice(),
+        writer,
+        log,
+    )
 }
 
 /// Does each of these works once, in order.
 fn do_works<R: Clock + Net<Stream = TcpStream>, W: Write, E: Write>(
-    alloc: Global,
-    rt: &R,
+    round: &Round<'_, R>,
     node: &mut Node<FileDisk>,
     works: &[Work],
-    now: Moment,
     writer: &mut W,
     log: &mut Log<'_, E>,
 ) -> Result<(), Fault>
     ensures { (changes : List Change) → Keeps ⊥ file_words node.old.records changes
-        → WorksOff ⊥ file_words now works.now changes node.old node.new result }
+        → WorksOff ⊥ file_words round.entry.now.now works.now changes node.old node.new result }
 {
-    let mut unreached = Unreached::new(alloc);
+    let mut unreached = Unreached::new(round.alloc);
     for work in works {
-        do_work(alloc, rt, node, work, now, &mut unreached, writer, log)?;
+        do_work(round, node, work, &mut unreached, writer, log)?;
     }
     Ok(())
 }
 
 /// Does a work once.
 fn do_work<R: Clock + Net<Stream = TcpStream>, W: Write, E: Write>(
-    alloc: Global,
-    rt: &R,
+    round: &Round<'_, R>,
     node: &mut Node<FileDisk>,
     work: &Work,
-    now: Moment,
     unreached: &mut Unreached,
     writer: &mut W,
     log: &mut Log<'_, E>,
 ) -> Result<(), Fault>
     ensures { (changes : List Change) → Keeps ⊥ file_words node.old.records changes
-        → WorksTo ⊥ file_words now work.now changes node.old node.new result }
+        → WorksTo ⊥ file_words round.entry.now.now work.now changes node.old node.new result }
 {
     match work {
-        Work::NoRoute(number) => give_up(node, *number, now, writer, log),
-        Work::Try(number, hop) => {
-            try_hop(alloc, rt, node, *number, hop, now, unreached, writer, log)
-        }
+        Work::NoRoute(number) => give_up(node, *number, round.now, writer, log),
+        Work::Try(number, hop) => { try_hop(round, node, *number, hop, unreached, writer, log) }
     }
 }
 
@@ -142,30 +151,28 @@ fn give_up<W: Write, E: Write>(
 /// Tries a hop for a message over a connection of its own. The connection is made before the attempt begins, so that
 /// nothing is recorded if no file descriptor is left.
 fn try_hop<R: Clock + Net<Stream = TcpStream>, W: Write, E: Write>(
-    alloc: Global,
-    rt: &R,
+    round: &Round<'_, R>,
     node: &mut Node<FileDisk>,
     number: u64,
     hop: &HostName,
-    now: Moment,
     unreached: &mut Unreached,
     writer: &mut W,
     log: &mut Log<'_, E>,
 ) -> Result<(), Fault>
     ensures { (changes : List Change) → Keeps ⊥ file_words node.old.records changes
-        → WorksTo ⊥ file_words now (work.Try number hop.now) changes node.old node.new result }
+        → WorksTo ⊥ file_words round.entry.now.now (work.Try number hop.now) changes node.old node.new result }
 {
     let at = node.config().routes.place_of(hop.as_slice());
     let stream = match at {
-        Some(at) => unreached.connect(rt, at)?,
+        Some(at) => unreached.connect(round.rt, at)?,
         None => Err(Loss::Unreachable),
     };
     let talk = log.talk_of(node.message(number));
-    let attempt = match node.start(number, hop, now) {
+    let attempt = match node.start(number, hop, round.now) {
         Ok(started) => started.attempt,
         Err(fault) => return left_over(fault),
     };
-    let handed = hand_on(alloc, rt, node, attempt, &stream, talk);
+    let handed = hand_on(round.alloc, round.rt, node, attempt, &stream, talk);
     if let Some(at) = at {
         unreached.note_silence(at, &handed.why);
     }

@@ -28,7 +28,7 @@ pub loop-preserved : goal.loop-preserved
 loop-preserved g c =
     let next = c.in_ok-step.ensures in
     let before = c.loop.invariant in
-    let kept = step_goes_on g.D.Disk.words (IsOpenedTo g.N.Dial.leads_to g.S.Stream.remaining g.S.Stream.contents) c.args.now.now c.args.lane c.loop.hops.hops c.start_next.new.hops.hops c.loop.lanes c.start_next.new.lanes c.loop.relay c.start_next.new.relay
+    let kept = step_goes_on g.D.Disk.words (IsOpenedTo g.N.Dial.leads_to g.S.Stream.remaining g.S.Stream.contents) c.args.turn.now.now c.args.lane c.loop.hops.hops c.start_next.new.hops.hops c.loop.lanes c.start_next.new.lanes c.loop.relay c.start_next.new.relay
     c.in_ok-step.step c.end_of.result _ _ next.came c.end_of.ensures (λ last is. c.in_default.not-Some last is) in
     record {
       leaves = leaves_then g.D.Disk.honest g.D.Disk.words c.args.relay.now c.loop.relay c.start_next.new.relay before.leaves next.leaves;
@@ -38,7 +38,7 @@ loop-preserved g c =
           (next.aimed (subst (λ config. AreAimed config.routes.routes c.loop.hops.hops) (sym before.config) (before.aimed aimed)));
       only = only_then c.args.lane c.args.lanes.now c.loop.lanes c.start_next.new.lanes before.only next.only;
       unheld = unheld_then c.args.lanes.now.held c.loop.lanes.held c.args.hops.now.hops c.loop.hops.hops c.start_next.new.hops.hops before.only.held before.unheld next.unheld;
-      drops = drops_then g.D.Disk.honest g.D.Disk.words c.args.now.now.moment c.loop.hops.hops c.start_next.new.hops.hops
+      drops = drops_then g.D.Disk.honest g.D.Disk.words c.args.turn.now.now.moment c.loop.hops.hops c.start_next.new.hops.hops
           c.args.lanes.now c.loop.lanes c.start_next.new.lanes c.args.relay.now c.loop.relay c.start_next.new.relay
           next.only.held next.only.walk next.only.stale next.stand before.leaves next.leaves before.drops next.tasks;
       stand = stand_then c.args.hops.now.hops c.loop.hops.hops c.start_next.new.hops.hops before.stand next.stand;
@@ -55,7 +55,7 @@ returns-in-Some-clause-unheld g c =
 
 pub returns-in-Some-clause-tasks : goal.returns-in-Some-clause-tasks
 returns-in-Some-clause-tasks g c =
-    drops_then g.D.Disk.honest g.D.Disk.words c.args.now.now.moment c.loop.hops.hops c.start_next.new.hops.hops
+    drops_then g.D.Disk.honest g.D.Disk.words c.args.turn.now.now.moment c.loop.hops.hops c.start_next.new.hops.hops
     c.args.lanes.now c.loop.lanes c.start_next.new.lanes c.args.relay.now c.loop.relay c.start_next.new.relay
     c.in_ok-step.ensures.only.held c.in_ok-step.ensures.only.walk c.in_ok-step.ensures.only.stale c.in_ok-step.ensures.stand
     c.loop.invariant.leaves c.in_ok-step.ensures.leaves c.loop.invariant.drops c.in_ok-step.ensures.tasks
@@ -69,7 +69,7 @@ returns-clause-tasks g c = c.loop.invariant.drops
 
 pub returns-in-Some-clause-begun : goal.returns-in-Some-clause-begun
 returns-in-Some-clause-begun g c =
-    step_ends g.D.Disk.words (IsOpenedTo g.N.Dial.leads_to g.S.Stream.remaining g.S.Stream.contents) c.args.now.now c.args.lane c.loop.hops.hops c.start_next.new.hops.hops c.loop.lanes c.start_next.new.lanes c.loop.relay c.start_next.new.relay
+    step_ends g.D.Disk.words (IsOpenedTo g.N.Dial.leads_to g.S.Stream.remaining g.S.Stream.contents) c.args.turn.now.now c.args.lane c.loop.hops.hops c.start_next.new.hops.hops c.loop.lanes c.start_next.new.lanes c.loop.relay c.start_next.new.relay
     c.in_ok-step.step c.in-Some.begun _ c.args.lanes.now _ (g.N.Dial.spares c.end_of.new.dial) c.in_ok-step.ensures.came c.in-Some.ensures
 
 pub returns-in-Some-clause-leaves : goal.returns-in-Some-clause-leaves

@@ -18,7 +18,7 @@ invariant-loop g l = record {
       → AreAimed l.initial.relay.node.config.routes.routes l.hops.hops;
   only : OnlyLane l.lane l.initial.lanes l.lanes;
   unheld : OpensUnheld l.initial.lanes.held l.initial.hops.hops l.hops.hops;
-  drops : DropsNone g.D.Disk.honest g.D.Disk.words l.now.moment l.hops.hops l.initial.lanes l.lanes l.initial.relay l.relay;
+  drops : DropsNone g.D.Disk.honest g.D.Disk.words l.turn.now.now.moment l.hops.hops l.initial.lanes l.lanes l.initial.relay l.relay;
   stand : KeepsConnections l.initial.hops.hops l.hops.hops;
   more : unanswered_of l.initial.hops.hops l.initial.lanes.paces ≤ unanswered_of l.hops.hops l.lanes.paces;
   kept : g.N.Dial.spares l.dial ≤ g.N.Dial.spares l.initial.dial;

@@ -19,7 +19,7 @@ pub returns : goal.returns
 returns g c =
     let words = g.D.Disk.words in
     let opened = IsOpenedTo g.N.Dial.leads_to g.S.Stream.remaining g.S.Stream.contents in
-    let now = c.args.now.now in
+    let now = c.args.turn.now.now in
     let lane = c.args.lane in
     let old = c.args.lanes.now in
     let between = c.next.new.self in
@@ -97,7 +97,7 @@ returns-then-is_kept g c =
       unheld = same_unheld old.held hops hops refl;
       tasks = each_but lane task old between c.in-Some-next.ensures.only.tasks
           (first_or_rest (tasks_at old lane) task (tasks_at between lane) c.in-Some-next.ensures.tasks)
-          (λ lane one. IsAccountedFor g.D.Disk.honest g.D.Disk.words c.args.now.now.moment hops lane one between c.args.relay.now c.args.relay.now)
+          (λ lane one. IsAccountedFor g.D.Disk.honest g.D.Disk.words c.args.turn.now.now.moment hops lane one between c.args.relay.now c.args.relay.now)
           (λ lane one there. inr (inl there)) (inr (inr (inr (inr (inl (sym c.is_kept.ensures ∙ c.if-is_kept.true))))));
       stand = λ number hop there. there;
       came = (

@@ -14,4 +14,4 @@ returns-in-Err-clause-leaves g c = leaves_same g.D.Disk.honest g.D.Disk.words c.
 
 -- The other tasks stay in the lane.
 pub returns-in-Ok-clause-tasks : goal.returns-in-Ok-clause-tasks
-returns-in-Ok-clause-tasks g c = same_tasks c.args.lane c.args.lanes.now c.began.new.self c.began.ensures.tasks
+returns-in-Ok-clause-tasks g c = same_tasks c.args.opening.lane c.args.lanes.now c.began.new.self c.began.ensures.tasks

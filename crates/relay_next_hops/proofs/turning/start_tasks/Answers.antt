@@ -41,7 +41,7 @@ loop-step-preserved g c =
     let lost = c.in_ok-has_lost.ensures in
     let began = c.in_ok-begun.ensures in
     let same = lost.config ∙ before.config in
-    let tick = c.args.now.now.tick in
+    let tick = c.args.turn.now.now.tick in
     let spares = g.N.Dial.spares c.args.dial.now in
     let kept = g.N.Dial.spares c.loop-step.dial in
     let start = c.args.lanes.now in
@@ -71,10 +71,10 @@ loop-step-preserved g c =
       opened = only.opened ∙ before.opened;
       stale = λ is. only.stale (before.stale is);
       unroutable = only.unroutable ∙ before.unroutable;
-      drops = drops_then honest words c.args.now.now.moment hops_old hops_new start between new c.args.relay.now c.lose_once.new.relay c.start_lane.new.relay
+      drops = drops_then honest words c.args.turn.now.now.moment hops_old hops_new start between new c.args.relay.now c.lose_once.new.relay c.start_lane.new.relay
           began.only.held began.only.walk began.only.stale began.stand
           (leaves_then honest words c.args.relay.now c.loop-step.relay c.lose_once.new.relay before.leaves lost.leaves) began.leaves
-          (drops_then honest words c.args.now.now.moment hops_old hops_old start old between c.args.relay.now c.loop-step.relay c.lose_once.new.relay
+          (drops_then honest words c.args.turn.now.now.moment hops_old hops_old start old between c.args.relay.now c.loop-step.relay c.lose_once.new.relay
           lost.only.held lost.only.walk lost.only.stale (λ number hop there. there) before.leaves lost.leaves before.drops (λ lane task there. inr (lost.tasks lane task there)))
           began.tasks;
       stand = stand_then c.args.hops.now.hops hops_old hops_new before.stand began.stand;
@@ -98,7 +98,7 @@ returns-then-stops g c =
     let lost = c.in_ok-has_lost.ensures in
     let began = c.in_ok-begun.ensures in
     let same = lost.config ∙ before.config in
-    let tick = c.args.now.now.tick in
+    let tick = c.args.turn.now.now.tick in
     let start = c.args.lanes.now in
     let old = c.loop-step.lanes in
     let between = c.lose_once.new.lanes in
@@ -115,11 +115,11 @@ returns-then-stops g c =
           (began.aimed (subst (λ config. AreAimed config.routes.routes hops_old) (sym same) (before.aimed aimed)));
       whole = λ opened. inr (inl stop);
       closes = λ opened. inl (ap (λ (lanes : Lanes). lanes.is_open) c.turn.ensures.rest ∙ only.opened ∙ before.opened ∙ opened);
-      tasks = subst (λ (lanes : Lanes). DropsNone g.D.Disk.honest g.D.Disk.words c.args.now.now.moment hops_new start lanes c.args.relay.now c.start_lane.new.relay) (sym c.turn.ensures.rest)
-          (drops_then g.D.Disk.honest g.D.Disk.words c.args.now.now.moment hops_old hops_new start between new c.args.relay.now c.lose_once.new.relay c.start_lane.new.relay
+      tasks = subst (λ (lanes : Lanes). DropsNone g.D.Disk.honest g.D.Disk.words c.args.turn.now.now.moment hops_new start lanes c.args.relay.now c.start_lane.new.relay) (sym c.turn.ensures.rest)
+          (drops_then g.D.Disk.honest g.D.Disk.words c.args.turn.now.now.moment hops_old hops_new start between new c.args.relay.now c.lose_once.new.relay c.start_lane.new.relay
           began.only.held began.only.walk began.only.stale began.stand
           (leaves_then g.D.Disk.honest g.D.Disk.words c.args.relay.now c.loop-step.relay c.lose_once.new.relay before.leaves lost.leaves) began.leaves
-          (drops_then g.D.Disk.honest g.D.Disk.words c.args.now.now.moment hops_old hops_old start old between c.args.relay.now c.loop-step.relay c.lose_once.new.relay
+          (drops_then g.D.Disk.honest g.D.Disk.words c.args.turn.now.now.moment hops_old hops_old start old between c.args.relay.now c.loop-step.relay c.lose_once.new.relay
           lost.only.held lost.only.walk lost.only.stale (λ number hop there. there) before.leaves lost.leaves before.drops (λ lane task there. inr (lost.tasks lane task there)))
           began.tasks);
       stand = stand_then c.args.hops.now.hops hops_old hops_new before.stand began.stand;
@@ -135,7 +135,7 @@ returns-then-stops g c =
 -- each lane has had its turn
 pub returns-then-has_lost-clause-whole : goal.returns-then-has_lost-clause-whole
 returns-then-has_lost-clause-whole g c = λ opened. inr (inr (λ lane low.
-    let tick = c.args.now.now.tick in
+    let tick = c.args.turn.now.now.tick in
     let spares = g.N.Dial.spares c.args.dial.now in
     let start = c.args.lanes.now in
     let hops = c.loop-step.hops.hops in
@@ -148,7 +148,7 @@ returns-then-has_lost-clause-whole g c = λ opened. inr (inr (λ lane low.
 
 pub returns-clause-whole : goal.returns-clause-whole
 returns-clause-whole g c = λ opened. inr (inr (λ lane low.
-    let tick = c.args.now.now.tick in
+    let tick = c.args.turn.now.now.tick in
     let spares = g.N.Dial.spares c.args.dial.now in
     let start = c.args.lanes.now in
     let hops = c.loop-step.hops.hops in
@@ -162,7 +162,7 @@ returns-clause-whole g c = λ opened. inr (inr (λ lane low.
 
 pub returns-clause-closes : goal.returns-clause-closes
 returns-clause-closes g c = λ opened. inr (λ lane low.
-    let tick = c.args.now.now.tick in
+    let tick = c.args.turn.now.now.tick in
     let start = c.args.lanes.now in
     let hops = c.loop-step.hops.hops in
     let few : length start.lanes.items < 2 ^ 63 =
@@ -176,14 +176,14 @@ returns-clause-closes g c = λ opened. inr (λ lane low.
 -- No task was dropped.
 pub returns-then-has_lost-clause-tasks : goal.returns-then-has_lost-clause-tasks
 returns-then-has_lost-clause-tasks g c =
-    subst (λ (lanes : Lanes). DropsNone g.D.Disk.honest g.D.Disk.words c.args.now.now.moment c.loop-step.hops.hops c.args.lanes.now lanes c.args.relay.now c.loop-step.relay)
+    subst (λ (lanes : Lanes). DropsNone g.D.Disk.honest g.D.Disk.words c.args.turn.now.now.moment c.loop-step.hops.hops c.args.lanes.now lanes c.args.relay.now c.loop-step.relay)
     (sym c.turn-2.ensures.rest) c.loop-step.invariant.drops
 
 pub returns-clause-tasks : goal.returns-clause-tasks
 returns-clause-tasks g c =
-    subst (λ (lanes : Lanes). DropsNone g.D.Disk.honest g.D.Disk.words c.args.now.now.moment c.loop-step.hops.hops c.args.lanes.now lanes c.args.relay.now c.loop-step.relay)
+    subst (λ (lanes : Lanes). DropsNone g.D.Disk.honest g.D.Disk.words c.args.turn.now.now.moment c.loop-step.hops.hops c.args.lanes.now lanes c.args.relay.now c.loop-step.relay)
     (sym c.close.ensures.rest)
-    (subst (λ (lanes : Lanes). DropsNone g.D.Disk.honest g.D.Disk.words c.args.now.now.moment c.loop-step.hops.hops c.args.lanes.now lanes c.args.relay.now c.loop-step.relay)
+    (subst (λ (lanes : Lanes). DropsNone g.D.Disk.honest g.D.Disk.words c.args.turn.now.now.moment c.loop-step.hops.hops c.args.lanes.now lanes c.args.relay.now c.loop-step.relay)
     (sym c.turn-2.ensures.rest) c.loop-step.invariant.drops)
 
 -- No lane is visited.

@@ -22,12 +22,12 @@ invariant-loop-step g l = record {
   opened : l.lanes.is_open ≡ l.initial.lanes.is_open;
   stale : l.initial.lanes.is_stale ≡ true → l.lanes.is_stale ≡ true;
   unroutable : l.lanes.unroutable ≡ l.initial.lanes.unroutable;
-  drops : DropsNone g.D.Disk.honest g.D.Disk.words l.now.moment l.hops.hops l.initial.lanes l.lanes l.initial.relay l.relay;
+  drops : DropsNone g.D.Disk.honest g.D.Disk.words l.turn.now.now.moment l.hops.hops l.initial.lanes l.lanes l.initial.relay l.relay;
   stand : KeepsConnections l.initial.hops.hops l.hops.hops;
   kept : g.N.Dial.spares l.dial ≤ g.N.Dial.spares l.initial.dial;
   fewer : (lane : ℕ) → length (tasks_at l.lanes lane) ≤ length (tasks_at l.initial.lanes lane);
   gone : (lane past : ℕ) → past + 1 < l.step → lane < l.count → IsNth (min l.first l.count) l.count past lane
-      → IsGoneOver l.now.tick (g.N.Dial.spares l.initial.dial) l.initial.lanes l.hops.hops l.lanes lane;
+      → IsGoneOver l.turn.now.now.tick (g.N.Dial.spares l.initial.dial) l.initial.lanes l.hops.hops l.lanes lane;
   done : l.has_more ≡ false → (lane past : ℕ) → past + 1 < l.step → lane < l.count
-      → IsNth (min l.first l.count) l.count past lane → IsDone l.now.tick l.hops.hops l.lanes lane;
+      → IsNth (min l.first l.count) l.count past lane → IsDone l.turn.now.now.tick l.hops.hops l.lanes lane;
 }

@@ -9,4 +9,4 @@ use Rattle.relay_service.proofs.pushing.do_works.Given as goal
 abbrev pub invariant-loop-work : goal.invariant-loop-work
 invariant-loop-work g l =
     (changes : List Change) → Keeps ⊥ file_words l.initial.node.records changes
-    → (later : List Change) × DoesEach ⊥ file_words l.now (take l.work-index l.works) changes l.initial.node later l.node
+    → (later : List Change) × DoesEach ⊥ file_words l.round.now (take l.work-index l.works) changes l.initial.node later l.node

@@ -10,7 +10,7 @@ pub returns-in_err-stream-in-Some : goal.returns-in_err-stream-in-Some
 returns-in_err-stream-in-Some g c = λ changes keeps.
     let node = c.args.node.now in
     let work = Try c.args.number c.args.hop.now in
-    whatever ⊥ file_words c.args.now work changes node node c.from_residual.result (stays_due ⊥ file_words c.args.now work changes node node keeps refl)
+    whatever ⊥ file_words c.args.round.now.now work changes node node c.from_residual.result (stays_due ⊥ file_words c.args.round.now.now work changes node node keeps refl)
 
 pub returns : goal.returns
 returns g c = λ changes keeps.
@@ -24,5 +24,5 @@ returns g c = λ changes keeps.
     let told = begun_with c.args.number hop started.places.items begins.message in
     let after = c.hand_on-handed.ensures in
     let pushed = after.pushed changes told (keeps_here ⊥ file_words changes old mid keeps rest.0) (tells_here changes old mid started.attempt told rest.1 begins.tells) in
-    handed_over ⊥ file_words c.args.now c.args.number hop changes old mid new started begins rest.1 rest.2 after.gone after.rest.0 after.rest.1 after.rest.2
+    handed_over ⊥ file_words c.args.round.now.now c.args.number hop changes old mid new started begins rest.1 rest.2 after.gone after.rest.0 after.rest.1 after.rest.2
     c.hand_on-handed.result.pushed c.conclude.new.node c.conclude.result pushed c.conclude.ensures.rest c.conclude.ensures.device

@@ -15,7 +15,7 @@ use Rattle.relay_next_hops.proofs.hops.Hops.answer.Goals as goal
 pub loop-step-preserved-in_default-hearing_at : goal.loop-step-preserved-in_default-hearing_at
 loop-step-preserved-in_default-hearing_at g c = (
   λ new each.
-      let tick = c.args.now.now.tick in
+      let tick = c.args.turn.now.now.tick in
       let none = sym c.hearing_at.ensures ∙ is_none c.hearing_at.result c.in_default-hearing_at.not-Some in
       c.loop-step.invariant.0 new (passes (length c.standing-count.result.now) c.first_of-first.result c.loop-step.step tick c.loop-step.answers.rest.items c.loop-step.self.hops new c.loop-step-test.true none each),
   c.loop-step.invariant.1,
@@ -25,7 +25,7 @@ loop-step-preserved-in_default-hearing_at g c = (
 
 pub returns-in_default-next-clause-heard : goal.returns-in_default-next-clause-heard
 returns-in_default-next-clause-heard g c =
-    let tick = c.args.now.now.tick in
+    let tick = c.args.turn.now.now.tick in
     let count = length c.standing-count.result.now in
     let first = c.first_of-first.result in
     let step = c.loop-step.step in
@@ -43,7 +43,7 @@ returns-in_default-next-clause-heard g c =
 pub loop-step-preserved : goal.loop-step-preserved
 loop-step-preserved g c = (
   λ new each.
-      let tick = c.args.now.now.tick in
+      let tick = c.args.turn.now.now.tick in
       let count = length c.standing-count.result.now in
       let first = c.first_of-first.result in
       let step = c.loop-step.step in
@@ -59,7 +59,7 @@ loop-step-preserved g c = (
 
 pub returns-clause-heard : goal.returns-clause-heard
 returns-clause-heard g c =
-    let tick = c.args.now.now.tick in
+    let tick = c.args.turn.now.now.tick in
     let hops = c.loop-step.self.hops in
     let each = c.loop-step.invariant.0 hops (all_over tick (length c.standing-count.result.now) c.first_of-first.result c.loop-step.step c.loop-step.answers.rest.items hops (omega (arith, c.loop-step-test.false))) in
     let standing = c.standing-count.result.now in

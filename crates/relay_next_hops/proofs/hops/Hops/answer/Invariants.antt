@@ -12,8 +12,8 @@ use Rattle.relay_next_hops.proofs.hops.Hops.answer.Given as goal
 
 abbrev pub invariant-loop-step : goal.invariant-loop-step
 invariant-loop-step g l =
-    ((new : List (Option (Hop _))) → AnswersEach l.now.tick (turned l.count (l.first + l.step) (l.count - l.step)) l.answers.rest.items l.self.hops new
-    → AnswersEach l.now.tick (turned l.count (l.initial.first + 0) (l.count - 0)) l.initial.answers.rest.items l.initial.self.hops new)
+    ((new : List (Option (Hop _))) → AnswersEach l.turn.now.now.tick (turned l.count (l.first + l.step) (l.count - l.step)) l.answers.rest.items l.self.hops new
+    → AnswersEach l.turn.now.now.tick (turned l.count (l.initial.first + 0) (l.count - 0)) l.initial.answers.rest.items l.initial.self.hops new)
     × (CountsMatch l.initial.self.hops l.initial.lanes.paces → CountsMatch l.self.hops l.lanes.paces)
     × ((routes : List Route) → AreAimed routes l.initial.self.hops → AreAimed routes l.self.hops)
     × LeavesClients g.D.Disk.honest g.D.Disk.words l.initial.relay l.relay

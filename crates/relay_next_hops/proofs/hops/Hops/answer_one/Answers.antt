@@ -24,7 +24,7 @@ pub returns-clause-heard : goal.returns-clause-heard
 returns-clause-heard g c =
     let hops = c.args.self.now.hops in
     on_ok _ c.settle.result
-    (answered_by c.args.now.now.tick hops c.take.new.self c.settle.new.self.hops c.args.number c.in-Some.taken c.take_answer.new.self c.in_ok-course.course c.args.answer c.in-Some.ensures.taken c.take.ensures.rest
+    (answered_by c.args.turn.now.now.tick hops c.take.new.self c.settle.new.self.hops c.args.number c.in-Some.taken c.take_answer.new.self c.in_ok-course.course c.args.reply.answer c.in-Some.ensures.taken c.take.ensures.rest
     (c.settle.ensures.own
     (out_free hops c.take.new.self c.args.number c.in-Some.taken c.take_answer.new.self c.in-Some.ensures.taken c.take.ensures.rest c.take_answer.ensures.delivery)
     (out_low hops c.take.new.self c.args.number c.in-Some.taken c.take_answer.new.self c.in-Some.ensures.taken c.take.ensures.rest c.take_answer.ensures.delivery))
@@ -33,8 +33,8 @@ returns-clause-heard g c =
 pub returns-clause-leaves : goal.returns-clause-leaves
 returns-clause-leaves g c = leaves_on g.D.Disk.honest g.D.Disk.words c.settle.result c.args.relay.now c.take_answer.new.relay c.settle.new.relay c.in_ok-course.ensures.leaves c.settle.ensures.leaves
 
-pub returns-then-alone-eq0-clause-leaves : goal.returns-then-alone-eq0-clause-leaves
-returns-then-alone-eq0-clause-leaves g c = leaves_same g.D.Disk.honest g.D.Disk.words c.args.relay.now
+pub returns-then-self-eq0-clause-leaves : goal.returns-then-self-eq0-clause-leaves
+returns-then-self-eq0-clause-leaves g c = leaves_same g.D.Disk.honest g.D.Disk.words c.args.relay.now
 
 pub returns-in_default-clause-leaves : goal.returns-in_default-clause-leaves
 returns-in_default-clause-leaves g c = leaves_same g.D.Disk.honest g.D.Disk.words c.args.relay.now

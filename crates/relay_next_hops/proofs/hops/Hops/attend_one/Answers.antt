@@ -33,7 +33,7 @@ returns-clause-starts g c =
     (out_low hops c.take.new.self number taken hop c.in-Some.ensures.taken c.take.ensures.rest c.attend.ensures.delivery) in
     on_ok _ c.settle.result
     (λ old new was is none some.
-    begun_there c.args.now.now.moment c.most_of-most.result c.args.self.now.portions taken old hop new c.in_ok-course.course c.args.relay.now c.attend.new.relay c.settle.new.relay
+    begun_there c.args.turn.now.now.moment c.most_of-most.result c.args.self.now.portions taken old hop new c.in_ok-course.course c.args.relay.now c.attend.new.relay c.settle.new.relay
     (slot_at hops number) (slot_at c.settle.new.self.hops number) c.in-Some.ensures.taken was own is
     c.most_of-most.ensures c.attend.ensures.starts (λ is. c.settle.ensures.same (λ loss lost. absurd (cc (sym is ∙ lost)))) none some)
 

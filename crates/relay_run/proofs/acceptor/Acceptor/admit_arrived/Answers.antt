@@ -11,7 +11,7 @@ use Rattle.relay_run.proofs.acceptor.Acceptor.admit_arrived.Goals.{in-Some-Clien
 pub loop-init : goal.loop-init
 loop-init g c = (
   λ allowed. allowed,
-  (refl, refl, refl),
+  refl,
   λ changes setting served. more_none g.D.Disk.honest g.D.Disk.words g.S.Stream.remaining g.S.Stream.contents changes setting (clients_of c.args.clients.now) (clients_of c.args.clients.now) c.args.relay.now c.args.relay.now refl refl served,
   refl,
 )
