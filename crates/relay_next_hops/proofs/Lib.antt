@@ -15,3 +15,4 @@ mod ReadLemmas
 mod LeaveLemmas
 mod LossLemmas
 mod TaskLemmas
+mod TellingLemmas

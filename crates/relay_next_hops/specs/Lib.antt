@@ -3,6 +3,7 @@ pub mod Listing
 pub mod Deliveries
 pub mod Counts
 pub mod Hearing
+pub mod Telling
 pub mod Losses
 pub mod GoingOn
 pub mod Starting

@@ -1,9 +1,10 @@
 //! The connection to a next hop after its attempt has heard replies.
-ghost use Rattle.std.specs.Prelude.{◌≡◌, ℕ, IfOk, OnOk, Some, drop, false};
+ghost use Rattle.std.specs.Prelude.{◌≡◌, ◌++◌, ℕ, IfOk, List, OnOk, Some, drop, false, take};
 ghost use Rattle.relay_connections.specs.Channel.{unread_of};
 ghost use Rattle.relay_connections.specs.Served.{LeavesClients};
 ghost use Rattle.relay_next_hops.specs.Deliveries.{KeepsDelivery, left_of};
 ghost use Rattle.relay_next_hops.specs.Hearing.{IsAnswered, IsCourse};
+ghost use Rattle.relay_next_hops.specs.Telling.{HasTold, used_of};
 
 use crate::delivery::Course;
 use crate::hearing::{has_ended, was_left};
@@ -28,6 +29,8 @@ impl<S: Stream> Hop<S> {
         ensures delivery { KeepsDelivery self.old self.new }
         ensures uses { IfOk result (λ course. IsAnswered now.now.tick answer (Some self.old)
             (left_of course self.new)) }
+        ensures told { OnOk result ((used : List ℕ) → HasTold self.old used → (count : ℕ)
+            × HasTold self.new (used ++ take count (unread_of self.old.channel))) }
         ensures leaves { OnOk result (LeavesClients D.honest D.words relay.old relay.new) }
     {
         if was_left(&answer) {
@@ -51,6 +54,8 @@ impl<S: Stream> Hop<S> {
         ensures attempt { self.new.attempt ≡ self.old.attempt }
         ensures hears { self.new.hears ≡ false }
         ensures course { IsCourse now.now.tick answered self.old self.new result }
+        ensures told { (used : List ℕ) → HasTold self.old used
+            → HasTold self.new (used ++ take (used_of answered) (unread_of self.old.channel)) }
         ensures leaves { LeavesClients D.honest D.words relay.old relay.new }
     {
         self.hears = false;
@@ -85,6 +90,8 @@ impl<S: Stream> Hop<S> {
         ensures attempt { self.new.attempt ≡ self.old.attempt }
         ensures used { IfOk result (λ course. course ≡ Course.Stays → (used : ℕ)
             × (unread_of self.new.channel ≡ drop used (unread_of self.old.channel))) }
+        ensures told { OnOk result ((used : List ℕ) → HasTold self.old used → (count : ℕ)
+            × HasTold self.new (used ++ take count (unread_of self.old.channel))) }
         ensures leaves { OnOk result (LeavesClients D.honest D.words relay.old relay.new) }
     {
         let answered = relay.reply(attempt, self.channel.piece(), now.moment);

@@ -1,5 +1,5 @@
 //! The connection to a next hop, and what a turn does with it.
-ghost use Rattle.std.specs.Prelude.{◌≡◌, ◌≢◌, ◌⊎◌, ℕ, [], None, OnOk, Some, false, min, true};
+ghost use Rattle.std.specs.Prelude.{◌≡◌, ◌≢◌, ◌⊎◌, ℕ, [], List, None, OnOk, Some, false, min, true};
 ghost use Rattle.relay_loop.specs.Outboxes.{unwritten_at};
 ghost use Rattle.relay_connections.specs.Channel.{unread_of};
 ghost use Rattle.relay_connections.specs.Served.{LeavesClients};
@@ -7,6 +7,8 @@ ghost use Rattle.relay_book.specs.Queue.{message_of};
 ghost use Rattle.relay_trace.specs.DateTime.{last_second};
 ghost use Rattle.relay_next_hops.specs.Deliveries.{KeepsDelivery, StartsFor, closes, last_due, starting_moment};
 ghost use Rattle.relay_next_hops.specs.Hearing.{IsLate, hearing_of};
+ghost use Rattle.relay_next_hops.specs.Telling.{HasTold, HasToldAll};
+ghost use Rattle.relay_log.specs.Talk.{HasHeard};
 
 use crate::delivery::{Aim, Course, Delivery};
 use crate::heard::Heard;
@@ -90,6 +92,7 @@ impl<S: Stream> Hop<S> {
         ensures aim { result.aim ≡ aim }
         ensures delivery { (result.message ≡ message) × (result.name ≡ name) }
         ensures none { (result.attempt ≡ None) × (result.hears ≡ false) }
+        ensures silent { HasHeard result.talk [] }
     {
         Hop {
             channel,
@@ -113,6 +116,7 @@ impl<S: Stream> Hop<S> {
         ensures aim { result.1.aim ≡ self.aim }
         ensures delivery { (result.1.message ≡ self.message) × (result.1.name ≡ self.name) }
         ensures attempt { result.1.attempt ≡ self.attempt }
+        ensures talk { result.1.talk ≡ Some self.talk }
         ensures closed { result.1.is_closed ≡ closes self }
     {
         let is_closed = self.closes();
@@ -179,6 +183,7 @@ impl<S: Stream> Hop<S> {
     ) -> Result<Course, Fault>
         ensures delivery { KeepsDelivery self.old self.new }
         ensures keeps { self.old.attempt ≢ None → self.new.attempt ≡ self.old.attempt }
+        ensures told { (used : List ℕ) → HasToldAll self.old used → HasToldAll self.new used }
         ensures starts { self.old.attempt ≡ None → self.new.attempt ≢ None
             → StartsFor self.old.aim.early now.now.moment most self.old.message self.old.name self.new.attempt
             relay.old relay.new }
@@ -203,6 +208,7 @@ impl<S: Stream> Hop<S> {
     ) -> Result<Course, Fault>
         ensures delivery { KeepsDelivery self.old self.new }
         ensures keeps { self.old.attempt ≢ None → self.new.attempt ≡ self.old.attempt }
+        ensures told { (used : List ℕ) → HasToldAll self.old used → HasToldAll self.new used }
         ensures starts { self.old.attempt ≡ None → self.new.attempt ≢ None
             → StartsFor self.old.aim.early now.now.moment most self.old.message self.old.name self.new.attempt
             relay.old relay.new }
@@ -250,6 +256,7 @@ impl<S: Stream> Hop<S> {
     fn connect(&mut self, now: &Now) -> Course
         ensures delivery { KeepsDelivery self.old self.new }
         ensures attempt { self.new.attempt ≡ self.old.attempt }
+        ensures talk { self.new.talk ≡ self.old.talk }
     {
         if !self.channel.may_write() {
             return Course::Stays;
@@ -282,6 +289,7 @@ impl<S: Stream> Hop<S> {
         ensures starts { self.old.attempt ≡ None → self.new.attempt ≢ None
             → StartsFor self.old.aim.early now.now.moment most self.old.message self.old.name self.new.attempt
             relay.old relay.new }
+        ensures told { self.old.attempt ≡ None → HasHeard self.old.talk [] → HasToldAll self.new [] }
         ensures leaves { OnOk result (LeavesClients D.honest D.words relay.old relay.new) }
     {
         if !self.channel.fill() {
@@ -311,6 +319,7 @@ impl<S: Stream> Hop<S> {
         ensures starts { self.old.attempt ≡ None → self.new.attempt ≢ None
             → StartsFor self.old.aim.early now.now.moment most self.old.message self.old.name self.new.attempt
             relay.old relay.new }
+        ensures told { self.old.attempt ≡ None → HasHeard self.old.talk [] → HasToldAll self.new [] }
         ensures leaves { OnOk result (LeavesClients D.honest D.words relay.old relay.new) }
     {
         let at = self.start_moment(relay, now);
@@ -344,6 +353,7 @@ impl<S: Stream> Hop<S> {
     fn exchange<D: Disk>(&mut self, relay: &mut Relay<D>, attempt: usize, now: &Now) -> Course
         ensures delivery { KeepsDelivery self.old self.new }
         ensures attempt { self.new.attempt ≡ self.old.attempt }
+        ensures told { (used : List ℕ) → HasTold self.old used → HasTold self.new used }
         ensures leaves { LeavesClients D.honest D.words relay.old relay.new }
     {
         self.flush(relay, attempt, now);
@@ -353,12 +363,7 @@ impl<S: Stream> Hop<S> {
         if !relay.to_hop(attempt).is_empty() {
             return Course::Stays;
         }
-        if self.channel.fill() {
-            self.has_spoken = true;
-            self.wait_on(relay, attempt, now);
-            self.talk.hear(self.channel.piece());
-            self.heard.hear(self.channel.piece());
-        }
+        self.read(relay, attempt, now);
         if !self.channel.piece().is_empty() {
             self.hears = true;
             return Course::Stays;
@@ -369,11 +374,27 @@ impl<S: Stream> Hop<S> {
         }
     }
 
+    /// Reads octets, if all that were read are used, and shows them to the log and the page.
+    fn read<D: Disk>(&mut self, relay: &Relay<D>, attempt: usize, now: &Now)
+        ensures delivery { KeepsDelivery self.old self.new }
+        ensures attempt { self.new.attempt ≡ self.old.attempt }
+        ensures told { (used : List ℕ) → HasTold self.old used → HasTold self.new used }
+    {
+        if !self.channel.fill() {
+            return;
+        }
+        self.has_spoken = true;
+        self.wait_on(relay, attempt, now);
+        self.talk.hear(self.channel.piece());
+        self.heard.hear(self.channel.piece());
+    }
+
     /// Renews its deadlines, by what it waits for now.
     pub(crate) fn wait_on<D: Disk>(&mut self, relay: &Relay<D>, attempt: usize, now: &Now)
         ensures delivery { KeepsDelivery self.old self.new }
         ensures attempt { self.new.attempt ≡ self.old.attempt }
         ensures channel { (self.new.channel ≡ self.old.channel) × (self.new.hears ≡ self.old.hears) }
+        ensures talk { self.new.talk ≡ self.old.talk }
     {
         let writes = !relay.to_hop(attempt).is_empty();
         self.idle_deadline = now.after(self.phase.seconds(writes));
@@ -385,6 +406,7 @@ impl<S: Stream> Hop<S> {
         ensures attempt { self.new.attempt ≡ self.old.attempt }
         ensures unread { unread_of self.new.channel ≡ unread_of self.old.channel }
         ensures hears { self.new.hears ≡ self.old.hears }
+        ensures talk { self.new.talk ≡ self.old.talk }
         ensures leaves { LeavesClients D.honest D.words relay.old relay.new }
     {
         for _ in 0..WRITE_LIMIT {

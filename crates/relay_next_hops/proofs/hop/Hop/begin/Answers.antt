@@ -1,7 +1,8 @@
 -- The attempt has begun by the moment that was computed for it.
-use Rattle.std.proofs.Common.{rules, ℕ, Some, subst}
+use Rattle.std.proofs.Common.{rules, true, ℕ, Some, subst}
 use Rattle.relay_attempts.specs.Attempts.{StartsAtMost}
 use Rattle.relay_next_hops.proofs.LeaveLemmas.{leaves_equal, start_leaves}
+use Rattle.relay_next_hops.proofs.TellingLemmas.{told_greeting}
 use Rattle.relay_next_hops.proofs.hop.Hop.begin.Goals as goal
 
 pub returns-in-Ok-clause-starts : goal.returns-in-Ok-clause-starts
@@ -22,3 +23,9 @@ returns-in-Ok-clause-leaves g c =
 
 pub returns-in-Err-clause-leaves : goal.returns-in-Err-clause-leaves
 returns-in-Err-clause-leaves g c = leaves_equal g.D.Disk.honest g.D.Disk.words c.args.relay.now c.start_some.new.self c.in-Err.ensures.unchanged
+
+pub returns-in-Ok-clause-told : goal.returns-in-Ok-clause-told
+returns-in-Ok-clause-told g c = λ none silent.
+    told_greeting c.args.self.now c.wait_on.new.self (record c.wait_on.new.self { talk = c.hear.new.self; hears = true })
+    c.note_message.new.self c.piece.result.now c.in-Ok.started.attempt silent c.wait_on.ensures.talk
+    c.note_message.ensures.heard c.hear.ensures.heard c.piece.ensures c.wait_on.ensures.attempt

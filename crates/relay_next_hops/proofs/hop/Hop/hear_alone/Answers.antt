@@ -23,3 +23,6 @@ returns-clause-leaves g c =
       | else-has_ended w ↦ leaves_equal honest words heard c.if-has_ended.relay w.relay-is
     ] in
     leaves_then honest words c.args.relay.now c.if-has_ended.relay c.answer.new.relay (leaves_then honest words c.args.relay.now heard c.if-has_ended.relay hears notes) c.answer.ensures.leaves
+
+pub returns-clause-told : goal.returns-clause-told
+returns-clause-told g c = λ used told. (_, c.answer.ensures.told used told)

@@ -10,3 +10,6 @@ returns-then-was_left-clause-uses g c =
 pub returns-else-was_left-clause-uses : goal.returns-else-was_left-clause-uses
 returns-else-was_left-clause-uses g c =
     used_own c.args.now.now.tick c.args.answer c.args.self.now c.answer.new.self c.answer.result c.answer.ensures.delivery c.answer.ensures.course
+
+pub returns-else-was_left-clause-told : goal.returns-else-was_left-clause-told
+returns-else-was_left-clause-told g c = λ used told. (_, c.answer.ensures.told used told)
