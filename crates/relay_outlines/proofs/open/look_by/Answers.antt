@@ -13,4 +13,5 @@ returns-in-Ok-Outline-clause-shows g c =
     let outline = c.in-Ok-Outline.outline.queue in
     let size = c.read_outline.new.cursor.place in
     let has : HasOutline honest (seen_of words c.args.cursor.disk) size outline = search rules in
-    shows honest words c.args.cursor.disk outline size c.new.result (c.new.ensures ∙ ap (seen outline) c.place.ensures) has
+    shows honest words c.args.cursor.disk outline size c.new.result (c.new.ensures ∙ ap (seen outline) c.place.ensures)
+    has

@@ -5,18 +5,21 @@ use Rattle.std.proofs.lemmas.Result.{err_from_is_err_and}
 use Rattle.relay_pieces.specs.Pieces.{text_of}
 use Rattle.relay_spool.proofs.Theorems.{each_kept_on}
 use Rattle.relay_book.specs.declared.fault.BookFault.TheVariants.{BadRecord}
-use Rattle.relay_outlines.proofs.CursorLemmas.{bad_there, goes_on, last_read, outline_more, outlines_none, refuses_after, refuses_outlining}
+use Rattle.relay_outlines.proofs.CursorLemmas.{bad_there, goes_on, last_read, outline_more, outlines_none}
+use Rattle.relay_outlines.proofs.CursorLemmas.{refuses_after, refuses_outlining}
 use Rattle.relay_outlines.proofs.reading.read_outline.Goals as goal
 
 pub loop-book-init : goal.loop-book-init
 loop-book-init g c =
-    outlines_none g.D.Disk.honest g.D.Disk.words c.args.cursor.now c.new-book.result.queue g.met.D.Disk.only_now c.requires.live c.new-book.ensures c.requires.start
+    outlines_none g.D.Disk.honest g.D.Disk.words c.args.cursor.now c.new-book.result.queue g.met.D.Disk.only_now
+    c.requires.live c.new-book.ensures c.requires.start
 
 pub returns-in_err-body-clause-refused : goal.returns-in_err-body-clause-refused
 returns-in_err-body-clause-refused g c =
     let p = err_from_is_err_and c.from_residual.result c.from_residual.ensures.1 in
     rw (p.1, p.2)
-    (refuses_outlining g.D.Disk.honest g.D.Disk.words c.args.cursor.now c.loop-book.cursor c.loop-book.before c.loop-book.book.queue c.in_err-body.field-0.0
+    (refuses_outlining g.D.Disk.honest g.D.Disk.words c.args.cursor.now c.loop-book.cursor c.loop-book.before
+    c.loop-book.book.queue c.in_err-body.field-0.0
     c.loop-book.invariant c.in_err-body.ensures.refused)
 
 pub returns-in_err-read_rest-in-Err-BadRecord-clause-refused :
@@ -33,11 +36,13 @@ returns-in_err-read_rest-in-Err-BadRecord-clause-refused g c =
     let reads = rw c.in-Some.is at next.next in
     let body = text_of c.in-Some.body in
     let last = c.in_err-read_rest-in-Err-BadRecord in
-    let p = err_from_is_err_and c.from_residual-in_err-read_rest-in-Err-BadRecord.result c.from_residual-in_err-read_rest-in-Err-BadRecord.ensures.1 in
+    let p = err_from_is_err_and c.from_residual-in_err-read_rest-in-Err-BadRecord.result
+    c.from_residual-in_err-read_rest-in-Err-BadRecord.ensures.1 in
     rw (p.1, p.2)
     (refuses_after honest words old mid new c.loop-book.before c.loop-book.book.queue body last.field-0.0 so_far
     (goes_on honest words old mid new so_far.goes live next.same.0 next.keeps next.failures)
-    (last_read honest words old mid c.loop-book.before new.place c.loop-book.book.queue body so_far reads) last.ensures.refused)
+    (last_read honest words old mid c.loop-book.before new.place c.loop-book.book.queue body so_far reads)
+    last.ensures.refused)
 
 pub returns-in_err-read_rest-in-Err-BadRecord-clause-keeps :
     goal.returns-in_err-read_rest-in-Err-BadRecord-clause-keeps
@@ -46,7 +51,8 @@ returns-in_err-read_rest-in-Err-BadRecord-clause-keeps g c = λ h.
     let old = c.args.cursor.now.disk in
     let new = c.next.new.self.disk in
     each_kept_on words old new c.read_rest.new.cursor.disk
-    (each_kept_on words old c.loop-book.cursor.disk new (c.loop-book.invariant.goes.kept h) (c.in_ok-body.ensures.keeps h)) (c.read_rest.ensures.keeps h)
+    (each_kept_on words old c.loop-book.cursor.disk new (c.loop-book.invariant.goes.kept h)
+    (c.in_ok-body.ensures.keeps h)) (c.read_rest.ensures.keeps h)
 
 pub returns-in-Err-BadRecord-clause-reads : goal.returns-in-Err-BadRecord-clause-reads
 returns-in-Err-BadRecord-clause-reads g c =
@@ -72,11 +78,13 @@ returns-in-Err-BadRecord-clause-keeps g c = λ h.
     let old = c.args.cursor.now.disk in
     let new = c.next.new.self.disk in
     each_kept_on words old new c.read_rest.new.cursor.disk
-    (each_kept_on words old c.loop-book.cursor.disk new (c.loop-book.invariant.goes.kept h) (c.in_ok-body.ensures.keeps h)) (c.read_rest.ensures.keeps h)
+    (each_kept_on words old c.loop-book.cursor.disk new (c.loop-book.invariant.goes.kept h)
+    (c.in_ok-body.ensures.keeps h)) (c.read_rest.ensures.keeps h)
 
 pub returns-in-Err-NoMemory-clause-keeps : goal.returns-in-Err-NoMemory-clause-keeps
 returns-in-Err-NoMemory-clause-keeps g c = λ h.
-    each_kept_on g.D.Disk.words c.args.cursor.now.disk c.loop-book.cursor.disk c.next.new.self.disk (c.loop-book.invariant.goes.kept h) (c.in_ok-body.ensures.keeps h)
+    each_kept_on g.D.Disk.words c.args.cursor.now.disk c.loop-book.cursor.disk c.next.new.self.disk
+    (c.loop-book.invariant.goes.kept h) (c.in_ok-body.ensures.keeps h)
 
 pub loop-book-preserved : goal.loop-book-preserved
 loop-book-preserved g c =

@@ -24,10 +24,12 @@ pub returns-in_err-_body-clause-refused : goal.returns-in_err-_body-clause-refus
 returns-in_err-_body-clause-refused g c =
     let p = err_from_is_err_and c.from_residual.result c.from_residual.ensures.1 in
     rw (p.1, p.2)
-    (refuses_passing g.D.Disk.honest g.D.Disk.words c.args.cursor.now c.loop-body.cursor c.in_err-_body.field-0.0 c.loop-body.invariant
+    (refuses_passing g.D.Disk.honest g.D.Disk.words c.args.cursor.now c.loop-body.cursor c.in_err-_body.field-0.0
+    c.loop-body.invariant
     c.in_err-_body.ensures.refused)
 
 pub returns-clause-more : goal.returns-clause-more
 returns-clause-more g c =
-    more_to_end g.D.Disk.honest g.D.Disk.words c.args.cursor.now c.loop-body.cursor c.next.new.self.place c.in_ok-_body.field-0 c.loop-body.invariant
+    more_to_end g.D.Disk.honest g.D.Disk.words c.args.cursor.now c.loop-body.cursor c.next.new.self.place
+    c.in_ok-_body.field-0 c.loop-body.invariant
     c.in_default.not-Some c.in_ok-_body.ensures.next

@@ -6,7 +6,8 @@ use Rattle.relay_outlines.proofs.look.Look.place.Goals as goal
 
 pub returns-in-Some : goal.returns-in-Some
 returns-in-Some c =
-    subst (λ (waiting : Option (List ℕ × ℕ)). MatchOption c.held_place.result (waiting ≡ None) (λ found. waiting ≡ Some (found.path.now, found.due)))
+    subst (λ (waiting : Option (List ℕ × ℕ)). MatchOption c.held_place.result (waiting ≡ None)
+    (λ found. waiting ≡ Some (found.path.now, found.due)))
     (ap (option_and_then (waiting_in c.args.place)) c.in-Some.ensures) c.held_place.ensures
 
 pub returns-in-None : goal.returns-in-None
