@@ -139,8 +139,7 @@ def what_is_listed_in_parts_is_tried_once(field):
     leave."""
     relay = field.relay(spool_limit=1 << 30, client_timeout=3600)
     shim(field, "run_clocks", relay, FASTER="15")
-    field.sink.manners.holds_greeting = True
-    field.sink.greets.clear()
+    field.sink.hold_greetings()
     with relay.running("--quiet"):
         begun = time.monotonic()
         bring(relay, range(THROUGH))
@@ -148,7 +147,7 @@ def what_is_listed_in_parts_is_tried_once(field):
         # A next hop has five minutes to greet; a message that waits longer for it is put off for hours.
         if time.monotonic() - begun > GREETING / 15:
             raise Slow(f"{THROUGH} messages take {time.monotonic() - begun:.1f} s")
-        field.sink.greets.set()
+        field.sink.greet()
         bring(relay, range(THROUGH, THROUGH + 200))
         field.sink.wait_for(THROUGH + 200, PATIENCE + THROUGH / 50)
         time.sleep(5)

@@ -462,13 +462,14 @@ def a_full_spool_is_noted_where_quit_stands_after_the_mail(field):
 def a_spool_that_is_written_anew_has_a_line(field):
     """With its sizes before and after, in octets."""
     relay = field.relay(spool_limit=10000)
-    field.sink.manners.holds_greeting = True
+    field.sink.hold_greetings()
     with relay.running(), clients_of(relay, 1) as [client]:
         client.hand_in(text=text_of(6000))
         accepted = bodies_of(relay.spool.read_bytes())[1]
         field.sink.greet()
         field.arrived(1)
         until("a line", lambda: len(told(relay, "compacted")) == 1)
+        until("a file that is cut", lambda: relay.spool.read_bytes() == b"RELAYQ01\0")
     # Of the outcome: a gate, its length, its kind, message and moment, the hop's name, the number of places, a place
     # and its verdict, and the length of no report.
     before = accepted + 1 + 4 + 1 + 8 + 8 + 2 + len("next.example") + 1 + 2 + 4
@@ -476,7 +477,6 @@ def a_spool_that_is_written_anew_has_a_line(field):
     same("it", told(relay, "compacted"), [f"relayd: compacted before={before} after={now}"])
     if not now < 100 < 6000 < before:
         raise Difference(f"{before} octets, and then {now}")
-    same("the file that it left", relay.spool.read_bytes(), b"RELAYQ01\0")
 
 
 @contextlib.contextmanager

@@ -27,8 +27,6 @@ class Manners:
     # The unit that isn't answered, and after which the connection is closed: "connection", "EHLO", "MAIL",
     # "RCPT", "DATA", "some content" (the beginning of a dot text) or "content" (all of it).
     hangs_up_at: str = ""
-    # Whether no connection is greeted before the sink's `greet`.
-    holds_greeting: bool = False
     # How long it waits before each read, in seconds, and the most octets of a read.
     pause: float = 0
     read_size: int = 1 << 18
@@ -211,8 +209,7 @@ class Sink:
         self.messages, self.commands, self.breaches = [], [], []
         self.connections, self.changed = 0, threading.Condition()
         self.greets = threading.Event()
-        if not self.manners.holds_greeting:
-            self.greet()
+        self.greet()
         self.listener = Listener((address, port), Conversation)
         if self.manners.receive_buffer:
             # Each connection has the listener's.
@@ -227,6 +224,10 @@ class Sink:
 
     def __exit__(self, *failure):
         self.close()
+
+    def hold_greetings(self):
+        """Greets no connection before `greet`."""
+        self.greets.clear()
 
     def greet(self):
         """Greets the connections that are there, and each later one."""
