@@ -36,8 +36,9 @@ def main(program):
 
 def tour(program, folder):
     """Shows the way of a message through a relay that keeps its files in this folder."""
-    refusing = Manners(refusals={f"<{REFUSED}>": REFUSAL}, holds_greeting=True)
+    refusing = Manners(refusals={f"<{REFUSED}>": REFUSAL})
     with Sink(manners=refusing) as next_hop, Sink() as home:
+        next_hop.hold_greetings()
         routes = {"example.net": ("next.example", next_hop.port), "example.org": ("home.example", home.port),
                   "relay.example": ("home.example", home.port)}
         relay = Relay(program, folder / "relay", routes)
