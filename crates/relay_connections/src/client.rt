@@ -262,8 +262,8 @@ impl<S: Stream> Client<S> {
     }
 
     /// Holds its unwritten octets back, because its session hears more of what was read in this turn, so that all
-    /// replies go in one write. If they are too many to be held, writes as many as the client takes at once. Renews its
-    /// idle time if it takes one.
+    /// replies go in one write. If they are too many to be held, or the client is late and would be cut off before that,
+    /// writes as many as it takes at once. Renews its idle time if it takes one.
     fn hold<D: Disk>(&mut self, relay: &mut Relay<D>, session: usize, timeout: u64, now: &Now)
         ensures hands { Hands S.remaining S.contents session relay.old relay.new self.old.channel self.new.channel }
         ensures said { StaysSaid session relay.old relay.new }
@@ -271,7 +271,7 @@ impl<S: Stream> Client<S> {
         ensures renews { RenewsIfTaken timeout now.now.tick session relay.old relay.new self.old self.new }
         ensures keeps { KeepsWaiting self.old self.new }
     {
-        if self.channel.is_used() {
+        if self.channel.is_used() || self.deadline(true) <= now.tick {
             self.flush(relay, session, timeout, now);
             return;
         }
