@@ -262,7 +262,7 @@ impl<S: Stream> Client<S> {
     }
 
     /// Holds its unwritten octets back, because its session hears more of what was read in this turn, so that all
-    /// replies go in one write. If they are too many to be held, or the client is late and would be cut off before that,
+    /// replies go in one write. If they are too many to be held, or if the client is late and would be cut off first,
     /// writes as many as it takes at once. Renews its idle time if it takes one.
     fn hold<D: Disk>(&mut self, relay: &mut Relay<D>, session: usize, timeout: u64, now: &Now)
         ensures hands { Hands S.remaining S.contents session relay.old relay.new self.old.channel self.new.channel }

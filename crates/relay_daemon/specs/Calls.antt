@@ -122,8 +122,8 @@ module _ {D : Type 0} (honest : Type 0) (words : DiskWords D) (old new : RelaySt
     pub only : OnlyHop old new started.attempt
     pub records : new.node.records ≡ old.node.records
 
-  -- `Relay::reply` of this piece for an attempt at a time, with this result; what is to be written then, or is the
-  -- last, is the octets of a slice
+  -- `Relay::reply` of this piece for an attempt at a time, with this result; the octets that are unwritten then, or the
+  -- last ones, are those of a slice
   pub record ReplySays (now slot : ℕ) (piece : List ℕ) (answered : Answered) : Type 0 where
     pub replies : (changes : List Change) (told : Told) (written : List ℕ)
         → Keeps honest words old.node.records changes → HandsTo changes old slot told written

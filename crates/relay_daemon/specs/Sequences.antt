@@ -93,7 +93,7 @@ module _ {D : Type 0} (world : World D) (node : ℕ) where
     pub put : IsPutAt world.links links number (record blank { client = Some (length world.attempts) })
 
   -- What a call of the relay of this node rests on: its time is that of the clock, octets of a client or a hop are
-  -- those that are unread on the link, to which nothing is to be written, and an attempt begins over a link to its hop.
+  -- those that are unread on the link, on which nothing is unwritten, and an attempt begins over a link to its hop.
   abbrev pub Meets : RelayState D → Call → Type 0
   Meets relay (Hears pieces now) = (now ≡ world.clock) × AllByRecursion (IsReady world node relay) pieces
   Meets relay (Starts message hop now started) = (now ≡ world.clock) × IsOpenTo hop

@@ -103,7 +103,7 @@ AreDistinct [] = Unit {0}
 AreDistinct (piece ∷ pieces) =
     AllByRecursion (λ other. piece.session ≢ other.session) pieces × AreDistinct pieces
 
--- the octets of the piece are the first unread ones on its client's link, to which nothing is to be written, and an
+-- the octets of the piece are the first unread ones on its client's link, on which nothing is unwritten, and an
 -- exchange of its session is known
 pub record IsReady {D : Type 0} (world : World D) (node : ℕ) (relay : RelayState D) (piece : ClientPiece) : Type 0
   where
