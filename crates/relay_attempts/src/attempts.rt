@@ -3,7 +3,6 @@ ghost use Rattle.std.specs.Prelude.{◌≡◌, ◌↔◌, [], ℕ, List, IfOk, I
 ghost use Rattle.relay_book.specs.Queue.{Queue};
 ghost use Rattle.relay_routes.specs.Routes.{RouteTable};
 ghost use Rattle.relay_slots.specs.Slots.{AreFree, HasPlaces, IsFull};
-ghost use Rattle.std.specs.List.{flat_map};
 ghost use Rattle.relay_attempts.specs.Attempts.{KnowsStranded, Serves};
 ghost use Rattle.relay_attempts.specs.Work.{works_of};
 

@@ -1,5 +1,5 @@
 //! The numbers of messages that may have work.
-ghost use Rattle.std.specs.Prelude.{IfOk, ℕ};
+ghost use Rattle.std.specs.Prelude.{IfOk};
 ghost use Rattle.std.specs.BTreeSet.{IsOrdered};
 ghost use Rattle.std.specs.Ordering.{nat_cmp};
 ghost use Rattle.relay_attempts.specs.Gathering.{AreGathered};

@@ -1,5 +1,5 @@
 //! Messages with recipients that have no next hop.
-ghost use Rattle.std.specs.Prelude.{◌≡◌, ◌≤◌, List, Err, IfErr, IfOk, length};
+ghost use Rattle.std.specs.Prelude.{◌≡◌, List, Err, IfErr, IfOk};
 ghost use Rattle.relay_report.specs.Report.{reporter_of};
 ghost use Rattle.relay_attempts.specs.Attempts.{Serves};
 ghost use Rattle.relay_attempts.specs.Outcomes.{AddsUnroutable, CutsUnroutable, EndsUnroutable, RefusesToGiveUp};

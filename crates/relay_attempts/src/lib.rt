@@ -21,4 +21,5 @@ mod work;
 pub use attempts::Attempts;
 pub use reply::Replied;
 pub use start::Started;
+pub use withdraw_into::WithdrawnPlaces;
 pub use work::Work;

@@ -1,5 +1,5 @@
 //! Attempts that begin.
-ghost use Rattle.std.specs.Prelude.{◌≡◌, ◌≢◌, [], true, false, IfErr, IfOk, MatchOption, Some};
+ghost use Rattle.std.specs.Prelude.{◌≡◌, true, false, IfErr, IfOk, Some};
 ghost use Rattle.relay_attempts.specs.Attempts.{Begun, RefusesToStart, RefusesToStartAtMost, Serves, Starts};
 ghost use Rattle.relay_attempts.specs.Attempts.{StartsAtMost};
 ghost use Rattle.relay_attempts.specs.Hops.{at_most, due_places_in, is_any};

@@ -13,6 +13,15 @@ use relay_routes::Config;
 use relay_trace::Moment;
 use std::alloc::Global;
 
+/// Places of a message that the postmaster withdraws.
+#[derive(Clone, Copy, Drop)]
+pub struct WithdrawnPlaces<'a> {
+    /// The places of recipients in its envelope, in any order; one may be named more than once.
+    pub places: &'a [u8],
+    /// What becomes of them.
+    pub withdrawal: Withdrawal,
+}
+
 impl Attempts {
     /// Ends places of a message as [`Attempts::withdraw`] does, but puts the outcome after the changes of a row, in one
     /// change with the report that is owed, and returns its number. No device is called: until the row has come into
@@ -25,18 +34,18 @@ impl Attempts {
         records: &mut Records<D>,
         row: &mut Staged,
         number: u64,
-        places: &[u8],
-        withdrawal: Withdrawal,
+        withdrawn: WithdrawnPlaces<'_>,
         now: Moment,
     ) -> Result<u64, NodeFault>
         requires serves { Serves config.now.host config.now.routes self.old records.old.queue }
         ensures stages { IfOk result (StagesWithdrawal D.words (reporter_of config.now) self.old.runs number now
-            withdrawal places.now records.old records.new row.old row.new) }
+            withdrawn.entry.withdrawal withdrawn.entry.places.now records.old records.new row.old row.new) }
         ensures refused { IfErr result (RefusesToStageWithdrawal D.words (reporter_of config.now) self.old.runs number
-            now withdrawal places.now records.old records.new row.old row.new) }
+            now withdrawn.entry.withdrawal withdrawn.entry.places.now records.old records.new row.old row.new) }
         ensures runs { self.new.runs ≡ self.old.runs }
         ensures serves { Serves config.now.host config.now.routes self.new records.new.queue }
     {
+        let WithdrawnPlaces { places, withdrawal } = withdrawn;
         let Some(message) = records.message(number) else {
             return Err(NodeFault::Unknown);
         };

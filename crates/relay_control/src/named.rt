@@ -1,5 +1,5 @@
 //! Recipients of queued messages, as `return` and `discard` name them.
-ghost use Rattle.std.specs.Prelude.{◌≡◌, ◌++◌, ◌≤◌, IfOk, MatchOption, OnOk};
+ghost use Rattle.std.specs.Prelude.{◌≡◌, ◌++◌, IfOk, MatchOption, OnOk};
 ghost use Rattle.relay_control.specs.Named.{HasNoName, HasNoNames, HasNoPlace, HasNoPlaces, IsNameText, IsPlaceText};
 ghost use Rattle.relay_control.specs.Named.{AreNamesText, ArePlacesText, named_text, names_text, places_text};
 

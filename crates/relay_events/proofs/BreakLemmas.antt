@@ -1,5 +1,5 @@
 -- A link that breaks.
-use Rattle.std.proofs.Common.{◌≡◌, ◌-◌, ℕ, true, Option, None, Some, refl, sym, subst, ap}
+use Rattle.std.proofs.Common.{◌≡◌, ◌-◌, ℕ, true, Option, None, Some, refl, sym, subst}
 use Rattle.std.specs.Prelude.{slice_set}
 use Rattle.std.proofs.lemmas.Option.{none-some}
 use Rattle.relay_disk.specs.Device.{DiskWords}

@@ -1,5 +1,5 @@
 -- A node that writes its spool anew, refuses to, or stops in that.
-use Rattle.std.proofs.Common.{inr, ◌≡◌, ◌≤◌, ℕ, [], None, Ok, Err, refl, sym, subst, ap, ◌∙◌, arith}
+use Rattle.std.proofs.Common.{inr, ◌≡◌, ℕ, [], None, Ok, Err, refl, sym, subst, ap, ◌∙◌, arith}
 use Rattle.std.specs.Prelude.{slice_get, slice_set}
 use Rattle.std.proofs.lemmas.List.{length-set}
 use Rattle.relay_disk.specs.Device.{DiskWords}

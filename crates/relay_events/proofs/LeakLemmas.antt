@@ -1,6 +1,6 @@
 -- Nothing leaks by an event of relays: after each no node that is up keeps a seat without a link, or a number without an
 -- attempt.
-use Rattle.std.proofs.Common.{◌≡◌, ◌⊎◌, inl, inr, ℕ, zero, suc, List, [], ◌∷◌, None, Some, Result, Ok, Err, refl, sym, subst, ◌∙◌}
+use Rattle.std.proofs.Common.{◌≡◌, inl, inr, ℕ, zero, suc, List, [], ◌∷◌, None, Result, Ok, Err, sym, subst}
 use Rattle.relay_disk.specs.Device.{DiskWords}
 use Rattle.relay_book.specs.declared.change.Withdrawal.{Withdrawal}
 use Rattle.relay_events.specs.declared.event.Event.TheVariants.{Withdraw}
@@ -9,7 +9,7 @@ use Rattle.relay_world.specs.GivingUp.{NoHop, Postmaster, Reason, Withdrawing, a
 use Rattle.relay_world.specs.CrashRuns.{CrashingHappens, RestingCrashHappens}
 use Rattle.relay_world.specs.Crashes.{CrashesAtRest, CrashesCompacting, CrashesGivingUp, CrashesHearing, CrashesLosing, CrashesReading}
 use Rattle.relay_world.specs.Leaks.{NothingLeaks}
-use Rattle.relay_world.specs.Once.{Happen, Happens, BreaksOff, Drops as DropsOff, Ends as EndsOff, GivesUp, GoesOn, Hears as HearsOf, IsNotOpened, Loses as LosesOf, Opens, Reads as ReadsOf, Reopens, RunsKeepAll, Starts, Ticks, Writes, asked_at}
+use Rattle.relay_world.specs.Once.{Happens, BreaksOff, Drops as DropsOff, Ends as EndsOff, GivesUp, GoesOn, Hears as HearsOf, IsNotOpened, Loses as LosesOf, Opens, Reads as ReadsOf, Reopens, RunsKeepAll, Starts, Ticks, Writes, asked_at}
 use Rattle.relay_world.specs.Steps.{Breaks, DropsAttempt, EndsSession, HasHeard, HasLost, HasOpened, HasRead, HasStarted}
 use Rattle.relay_world.specs.Stops.{StaysUp}
 use Rattle.relay_world.specs.World.{World}
@@ -18,12 +18,12 @@ use Rattle.relay_events.specs.declared.event.Event.{Event}
 use Rattle.relay_events.specs.declared.event.Event.TheVariants.{Connect, Send, Carry, Break, Tick, Give, Compact, Stop}
 use Rattle.relay_events.specs.declared.fault.PairFault.{PairFault}
 use Rattle.relay_events.specs.declared.seen.Seen.{Seen}
-use Rattle.relay_events.specs.Happened.{HasHappened, HasHappenedAsking}
+use Rattle.relay_events.specs.Happened.{HasHappenedAsking}
 use Rattle.relay_events.specs.Relays.{AreBound}
 use Rattle.relay_events.specs.Step.{Acts, BreaksUnstarted, Carries, CompactsSpool, CrashesInCompacting, CrashesInGivingUp, CrashesInHearing, CrashesInLosing, CrashesInReading, Did, Does, Ends, Gives, GivesUpPlaces, Hears, HearsUnanswered, Loses, OpensFromOutside, OpensLink, Reads, ReadsUnwritten, RefusesLink, RefusesToCompact, RefusesToGiveUp, RefusesToHear, RefusesToOpen, RefusesToRead, RefusesToStart, Rewrites, StartsAtNode, StartsOutside, Steps, StopsNow}
 use Rattle.relay_events.specs.Told.{AreTold, CrashesTold, IsOpened, Tell, TellsOne}
 use Rattle.relay_events.specs.Told.{Crashes as CrashesOne, Drops as DropsOne, Ends as EndsOne, Loses as LosesOne}
-use Rattle.relay_events.proofs.RunLemmas.{one_happened, run_happened, still_bound, still_bound_asking}
+use Rattle.relay_events.proofs.RunLemmas.{one_happened, run_happened, still_bound_asking}
 
 module _ {D : Type 0} (honest : Type 0) (words : DiskWords D) (is_honest : honest) (keeps : RunsKeepAll honest words)
     (crashes : CrashingHappens honest words) (rests : RestingCrashHappens honest words) where

@@ -1,5 +1,5 @@
 -- The effect of a stop between two calls.
-use Rattle.std.specs.Prelude.{◌≡◌, ◌⊎◌, ℕ, None, Some, slice_get, slice_set}
+use Rattle.std.specs.Prelude.{◌≡◌, ◌⊎◌, ℕ, Some, slice_get, slice_set}
 use Rattle.relay_disk.specs.Device.{DiskWords}
 use Rattle.relay_world.specs.Crashes.{let_go}
 use Rattle.relay_world.specs.World.{Host, World}

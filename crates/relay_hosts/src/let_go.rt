@@ -1,6 +1,6 @@
 //! A stopping node lets go of its ends of links: its sessions are gone, its attempts dropped, and the links broken.
-ghost use Rattle.std.specs.Prelude.{◌≡◌, map, slice_get};
-ghost use Rattle.relay_world.specs.Crashes.{has_end_of, is_tried_for, let_go_link, serves_for, tries_for};
+ghost use Rattle.std.specs.Prelude.{◌≡◌, map};
+ghost use Rattle.relay_world.specs.Crashes.{has_end_of, is_tried_for, let_go_link, serves_for};
 ghost use Rattle.relay_world.specs.HangUp.{dropped, hung_up_attempt, hung_up_end, hung_up_link};
 
 use crate::links::break_off;

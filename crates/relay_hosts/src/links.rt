@@ -3,8 +3,7 @@ ghost use Rattle.std.specs.Prelude.{◌≡◌, ◌+◌, ◌<◌, ◌≤◌, suc,
 ghost use Rattle.relay_world.specs.HangUp.{broken_link};
 ghost use Rattle.relay_world.specs.World.{link_at};
 ghost use Rattle.relay_hosts.specs.Links.{client_closed, client_idles, has_outside, hears_on, is_nil, is_running};
-ghost use Rattle.relay_hosts.specs.Links.{is_untold, runs_there, server_closed, server_idles, tries_on, whole_link};
-ghost use Rattle.relay_world.specs.Crashes.{serves_for, tries_for};
+ghost use Rattle.relay_hosts.specs.Links.{is_untold, server_closed, server_idles, tries_on, whole_link};
 
 use relay_world::{Attempt, Fate, Link, ServerEnd};
 

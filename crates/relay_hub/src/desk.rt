@@ -1,5 +1,5 @@
 //! What the lock of a hub guards.
-ghost use Rattle.std.specs.Prelude.{◌≡◌, ◌+◌, List, length, vec_len, IfErr, IfOk, MatchResult};
+ghost use Rattle.std.specs.Prelude.{◌≡◌, ◌+◌, List, vec_len, IfErr, IfOk, MatchResult};
 ghost use Rattle.relay_book.specs.declared.change.Change.{Change};
 ghost use Rattle.relay_hub.specs.Admission.{IsOfAdmission, Notes};
 ghost use Rattle.relay_hub.specs.Hub.{Answers, HasGrown, IsFirst};

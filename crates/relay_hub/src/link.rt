@@ -1,7 +1,7 @@
 //! A client's link on a thread: the session belongs to the thread, which locks the node once for each offer.
 ghost use Rattle.std.specs.Prelude.{◌≡◌, ◌≤◌, ◌<◌, [], ℕ, List, Option, drop, length, true, false, IfErr, IfOk, OnOk};
 ghost use Rattle.std.specs.Prelude.{MatchResult};
-ghost use Rattle.relay_server.specs.Session.{HasOffer, IsClosed, offered, open_offers};
+ghost use Rattle.relay_server.specs.Session.{HasOffer, IsClosed, offered};
 ghost use Rattle.relay_node.specs.Acceptance.{IsStorable};
 ghost use Rattle.relay_node.specs.Node.{HasHistory};
 ghost use Rattle.relay_hub.specs.Admission.{Notes};

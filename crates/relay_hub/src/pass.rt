@@ -1,5 +1,5 @@
 //! A thread's right to give mail to a hub.
-ghost use Rattle.std.specs.Prelude.{◌≡◌, ◌+◌, length, OnOk, OnErr};
+ghost use Rattle.std.specs.Prelude.{◌≡◌, ◌+◌, length};
 ghost use Rattle.relay_hub.specs.Receipts.{count_of};
 
 use crate::opening::Opening;

@@ -7,17 +7,14 @@ use Rattle.std.proofs.lemmas.Option.{same_Some, slice_get-map}
 use Rattle.relay_lines.specs.Reply.{Reply}
 use Rattle.relay_lines.specs.ReplyReading.{CutsReplies}
 use Rattle.relay_lines.proofs.Theorems.{cut_goes_on, cut_stays, no_reply_begins_another, read_is_cut}
-use Rattle.relay_body.specs.DotText.{ends_in_line_end}
 use Rattle.relay_book.specs.declared.change.Verdict.{Verdict}
-use Rattle.relay_book.specs.declared.change.Verdict.TheVariants.{CantSend}
 use Rattle.relay_course.specs.declared.reply_kind.ReplyKind.{ReplyKind}
 use Rattle.relay_course.specs.Progress.{Answered}
 use Rattle.relay_course.specs.VerdictTable.{kind_of}
 use Rattle.relay_course.specs.Settling.{SettlesAt, settling_position}
 use Rattle.relay_course.specs.Settling.{kinds_of as kinds_answered}
 use Rattle.relay_log.specs.Settling.{kinds_of, settling_reply}
-use Rattle.relay_log.specs.Talk.{HasKept, HasSettled, ToldHasSettled}
-use Rattle.relay_log.specs.declared.talk.Talk.{Talk}
+use Rattle.relay_log.specs.Talk.{HasSettled, ToldHasSettled}
 use Rattle.relay_log.proofs.PositionLemmas.{get_front, position_stays}
 
 -- the replies that answered something

@@ -1,6 +1,5 @@
 -- What the log keeps of the replies of a next hop during an attempt.
 use Rattle.std.specs.Prelude.{◌≡◌, ◌≢◌, ◌⊎◌, ℕ, Bool, true, List, [], ◌∷◌, ◌++◌, length, map, slice_get, MatchOption}
-use Rattle.std.specs.Prelude.{Option}
 use Rattle.std.specs.Prelude.{Some}
 use Rattle.relay_lines.specs.Reply.{Reply}
 use Rattle.relay_lines.specs.ReplyReading.{CutsReplies}

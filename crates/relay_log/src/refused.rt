@@ -1,5 +1,5 @@
 //! Which command a reply to a client refuses.
-ghost use Rattle.std.specs.Prelude.{◌≡◌, ◌↔◌, ◌++◌, ℕ, List, IsTrue, codes};
+ghost use Rattle.std.specs.Prelude.{◌≡◌, ◌↔◌, IsTrue};
 ghost use Rattle.relay_log.specs.Refused.{NamesRefused, Refuses};
 ghost use Rattle.relay_log.specs.declared.refused.Refused.TheVariants.{Bdat, Rcpt, Unknown};
 

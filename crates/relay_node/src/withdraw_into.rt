@@ -4,6 +4,7 @@ ghost use Rattle.relay_attempts.specs.StagedWithdrawals.{RefusesToStageWithdrawa
 ghost use Rattle.relay_report.specs.Report.{reporter_of};
 
 use crate::node::Node;
+use relay_attempts::WithdrawnPlaces;
 use relay_book::Withdrawal;
 use relay_disk::Disk;
 use relay_records::{NodeFault, Staged};
@@ -34,14 +35,14 @@ impl<D: Disk> Node<D> {
         if !self.records.is_live() {
             return Err(NodeFault::Stopped);
         }
+        let withdrawn = WithdrawnPlaces { places, withdrawal };
         self.attempts.withdraw_into(
             self.alloc,
             &self.config,
             &mut self.records,
             row,
             message,
-            places,
-            withdrawal,
+            withdrawn,
             now,
         )
     }

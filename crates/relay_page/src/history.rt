@@ -1,5 +1,5 @@
 //! The last 24 hours: accepted messages and sent recipients, minute by minute.
-ghost use Rattle.std.specs.Prelude.{◌≡◌, ◌<◌, IfOk, length};
+ghost use Rattle.std.specs.Prelude.{◌≡◌, ◌<◌, length};
 
 use std::alloc::{AllocError, Global};
 

@@ -1,8 +1,8 @@
 //! Requests, and why they are refused (RFC 9112).
-ghost use Rattle.std.specs.Prelude.{◌≡◌, ◌≤◌, All, map, length, take};
+ghost use Rattle.std.specs.Prelude.{◌≡◌, All, map, length};
 ghost use Rattle.std.specs.Option.{option_copied};
 ghost use Rattle.httparse.specs.Spans.{IsHeaderWithin, header_bytes};
-ghost use Rattle.relay_page.specs.Request.{IsJudged, asked_at, asked_by, asked_for, hosts_among, is_host_field, only};
+ghost use Rattle.relay_page.specs.Request.{IsJudged, asked_at, asked_by, asked_for, hosts_among, only};
 ghost use Rattle.relay_page.specs.Request.{target_of};
 
 use crate::host::is_loopback;

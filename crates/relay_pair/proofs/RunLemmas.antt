@@ -16,7 +16,7 @@ use Rattle.relay_events.specs.declared.fault.PairFault.{PairFault}
 use Rattle.relay_events.specs.declared.seen.Seen.{Seen}
 use Rattle.relay_world.specs.GivingUp.{Withdrawing}
 use Rattle.relay_events.specs.declared.event.Event.TheVariants.{Connect, Send, Carry, Break, Tick, Give, Compact, Stop, Withdraw}
-use Rattle.relay_events.specs.Happened.{Asking, HasHappened, HasHappenedAsking, HasHappenedFor, Unasked, asked_for}
+use Rattle.relay_events.specs.Happened.{Asking, HasHappenedAsking, HasHappenedFor, Unasked, asked_for}
 use Rattle.relay_events.specs.Relays.{AreBound}
 use Rattle.relay_events.specs.Step.{Steps}
 use Rattle.relay_events.proofs.Theorems.{both_asking}

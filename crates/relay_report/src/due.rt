@@ -3,7 +3,7 @@ ghost use Rattle.std.specs.Prelude.{◌≡◌, slice_get};
 ghost use Rattle.std.specs.Option.{option_copied};
 ghost use Rattle.relay_book.specs.declared.version.Version.TheVariants.{WithDelay};
 ghost use Rattle.relay_book.specs.Queue.{reports_at};
-ghost use Rattle.relay_report.specs.Multipart.{due_at, fails_at, is_failure};
+ghost use Rattle.relay_report.specs.Multipart.{due_at, fails_at};
 ghost use Rattle.relay_report.specs.Report.{is_due};
 
 use relay_book::{DueReport, Message, Ruling, Verdict, Version};

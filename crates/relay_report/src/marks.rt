@@ -1,5 +1,5 @@
 //! Numbers marked in a row of bits.
-ghost use Rattle.std.specs.Prelude.{◌≡◌, ◌+◌, ◌*◌, ◌<◌, ◌≤◌, ◌^◌, length, IfOk, MatchOption};
+ghost use Rattle.std.specs.Prelude.{◌≡◌, ◌+◌, ◌*◌, ◌<◌, ◌^◌, length, IfOk, MatchOption};
 ghost use Rattle.relay_report.specs.Marks.{empty_row, marked, marked_one, IsLeastUnmarked};
 ghost use Rattle.relay_report.specs.Numbers.{all_begun, beginnings, IsLeastOutside};
 

@@ -1,5 +1,5 @@
 -- The file of a ballast, as a disk.
-use Rattle.std.specs.Prelude.{ℕ, [], None}
+use Rattle.std.specs.Prelude.{[], None}
 use Rattle.relay_room.specs.declared.room_file.RoomFile.{RoomFile}
 use Rattle.relay_disk.specs.Device.{DiskWords}
 

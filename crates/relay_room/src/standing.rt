@@ -1,5 +1,5 @@
 //! How a relay stands with the room on its disk, and what it may do by that.
-ghost use Rattle.std.specs.Prelude.{ℕ, ◌≡◌, ◌*◌, ◌+◌, ◌-◌, ◌^◌, ◌<◌, ◌↔◌, IsTrue};
+ghost use Rattle.std.specs.Prelude.{ℕ, ◌≡◌, ◌*◌, ◌-◌, ◌^◌, ◌<◌, ◌↔◌, IsTrue};
 ghost use Rattle.relay_room.specs.Standing.{MayBegin, bounded_limit, standing_at_failure, standing_at_test};
 
 /// How many octets the outcome of an attempt takes, with a report of all its recipients that returns a header: while a

@@ -1,5 +1,5 @@
 //! The values of a configuration's document.
-ghost use Rattle.std.specs.Prelude.{◌≡◌, ◌⊎◌, ℕ, None, Some, Ok, Err, IfOk, IfErr, List, MatchOption, MatchResult};
+ghost use Rattle.std.specs.Prelude.{◌≡◌, ◌⊎◌, None, Some, Ok, Err, IfOk, IfErr, List, MatchOption, MatchResult};
 ghost use Rattle.std.specs.Prelude.{option_map, option_and_then};
 ghost use Rattle.toml.specs.Data.{as_str, get_member};
 ghost use Rattle.toml.specs.View.{items_view, table_view, view};

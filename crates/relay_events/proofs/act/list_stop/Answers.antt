@@ -1,4 +1,4 @@
-use Rattle.std.proofs.Common.{◌≡◌, [], ◌∷◌, ◌++◌, sym, ap, ◌∙◌, rules}
+use Rattle.std.proofs.Common.{◌++◌, sym, ap, ◌∙◌}
 use Rattle.relay_events.specs.declared.act.Act.{Act}
 use Rattle.relay_events.specs.Act.{did_of, stops_of}
 use Rattle.relay_events.proofs.act.list_stop.Goals as goal

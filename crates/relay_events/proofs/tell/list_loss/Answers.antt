@@ -1,4 +1,4 @@
-use Rattle.std.proofs.Common.{◌≡◌, [], ◌∷◌, ◌++◌, sym, ap, ◌∙◌, rules}
+use Rattle.std.proofs.Common.{◌++◌, sym, ap, ◌∙◌}
 use Rattle.relay_events.specs.declared.tell.Loss.{Loss}
 use Rattle.relay_events.specs.Carried.{stops_by}
 use Rattle.relay_events.proofs.tell.list_loss.Goals as goal

@@ -1,4 +1,4 @@
-use Rattle.std.proofs.Common.{◌≡◌, ◌-◌, None, refl, sym, subst, arith, rules}
+use Rattle.std.proofs.Common.{◌≡◌, ◌-◌, None, refl, sym, subst, rules}
 use Rattle.std.specs.Prelude.{vec_capacity, vec_len}
 use Rattle.relay_events.specs.declared.event.Event.TheVariants.{Break}
 use Rattle.relay_events.specs.declared.seen.Seen.TheVariants.{Broken}

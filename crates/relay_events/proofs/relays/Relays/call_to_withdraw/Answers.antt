@@ -1,4 +1,4 @@
-use Rattle.std.proofs.Common.{◌≡◌, ◌∷◌, [], length, Some, refl, subst, sym, arith, rules}
+use Rattle.std.proofs.Common.{◌≡◌, ◌∷◌, [], length, refl, subst, sym, arith, rules}
 use Rattle.std.specs.Prelude.{slice_index_or, vec_len}
 use Rattle.relay_world.specs.GivingUp.{Postmaster}
 use Rattle.relay_events.specs.Relays.{world_of}

@@ -1,4 +1,4 @@
-use Rattle.std.proofs.Common.{inl, inr, refl, sym, subst, ap, ◌∙◌, arith}
+use Rattle.std.proofs.Common.{sym, subst, ◌∙◌}
 use Rattle.relay_world.specs.World.{World}
 use Rattle.relay_events.specs.Hear.{WaitsAt}
 use Rattle.relay_events.specs.Happened.{HasHappened}

@@ -1,4 +1,3 @@
-use Rattle.std.proofs.Common.{inl, inr, refl, arith}
 use Rattle.relay_events.specs.Act.{did_of}
 use Rattle.relay_events.specs.Relays.{world_of}
 use Rattle.relay_events.proofs.CarryLemmas.{carried_steps}

@@ -1,4 +1,4 @@
-use Rattle.std.proofs.Common.{inl, inr, ◌≡◌, ◌-◌, None, Err, refl, sym, subst, ◌∙◌, arith, rules}
+use Rattle.std.proofs.Common.{◌≡◌, ◌-◌, None, Err, sym, subst, ◌∙◌, rules}
 use Rattle.std.specs.Prelude.{vec_capacity, vec_len}
 use Rattle.relay_events.specs.declared.event.Event.TheVariants.{Compact}
 use Rattle.relay_events.specs.FirstFault.{unless_up}

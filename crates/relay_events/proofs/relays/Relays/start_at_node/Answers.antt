@@ -1,4 +1,4 @@
-use Rattle.std.proofs.Common.{◌≡◌, ◌<◌, ◌-◌, length, Err, sym, subst, ap, ◌∙◌, arith, rules}
+use Rattle.std.proofs.Common.{◌≡◌, ◌<◌, ◌-◌, length, Err, sym, subst, ◌∙◌, rules}
 use Rattle.std.specs.Prelude.{vec_capacity, vec_len}
 use Rattle.relay_world.specs.Steps.{opened_link}
 use Rattle.relay_world.specs.World.{World}

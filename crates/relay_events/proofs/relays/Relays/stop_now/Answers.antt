@@ -1,4 +1,4 @@
-use Rattle.std.proofs.Common.{inl, inr, ◌<◌, ◌≤◌, ◌-◌, length, refl, subst, sym, arith, rules}
+use Rattle.std.proofs.Common.{◌<◌, ◌≤◌, ◌-◌, length, refl, subst, sym, rules}
 use Rattle.std.specs.Prelude.{vec_capacity, vec_len}
 use Rattle.relay_events.specs.declared.event.Event.TheVariants.{Stop}
 use Rattle.relay_events.specs.Relays.{world_of}

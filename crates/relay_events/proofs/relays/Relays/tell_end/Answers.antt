@@ -1,4 +1,4 @@
-use Rattle.std.proofs.Common.{◌-◌, false, sym, subst, ap, ◌∙◌, arith}
+use Rattle.std.proofs.Common.{◌-◌, false, sym, subst, ap, ◌∙◌}
 use Rattle.std.specs.Prelude.{vec_capacity, vec_len}
 use Rattle.relay_world.specs.World.{link_at}
 use Rattle.relay_events.specs.Relays.{free_lines, world_of}

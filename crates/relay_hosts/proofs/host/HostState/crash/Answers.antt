@@ -1,4 +1,4 @@
-use Rattle.std.proofs.Common.{refl, subst, sym, ap, ◌∙◌}
+use Rattle.std.proofs.Common.{refl, sym, ap, ◌∙◌}
 use Rattle.relay_node.specs.Node.{NodeState}
 use Rattle.relay_hosts.proofs.StopLemmas.{left_by_stop, state_crashes}
 use Rattle.relay_hosts.proofs.host.HostState.crash.Goals as goal

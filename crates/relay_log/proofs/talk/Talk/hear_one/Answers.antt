@@ -1,6 +1,5 @@
 -- A reply that ends is kept, or none is.
 use Rattle.std.proofs.Common.{length, refl, take}
-use Rattle.relay_lines.specs.Reply.{Reply}
 use Rattle.relay_log.proofs.TalkLemmas.{deaf, one_more, read_on}
 use Rattle.relay_log.proofs.talk.Talk.hear_one.Goals as goal
 
