@@ -11,9 +11,11 @@ use Rattle.relay_records.specs.Staged.{Awaits, Row}
 use Rattle.relay_records.specs.declared.fault.NodeFault.{NodeFault}
 use Rattle.relay_loop.specs.declared.clients.Heard.{Heard}
 use Rattle.relay_loop.specs.declared.group.Piece.{Piece}
+use Rattle.relay_loop.specs.GroupCalls.{HearsPiece, HearsPieces}
 use Rattle.relay_loop.specs.GroupPieces.{AnswersEach, AnswersOne, IsUndone}
 use Rattle.relay_loop.specs.Groups.{OnlyTheirs}
 use Rattle.relay_loop.specs.Relay.{OnlyClient, RelayState}
+use Rattle.relay_loop.proofs.GroupCallLemmas.{hears_more}
 use Rattle.relay_loop.proofs.GroupLemmas.{each_more}
 
 -- what a list of pieces has after its end
@@ -98,6 +100,7 @@ module _ {D : Type 0} (honest : Type 0) (words : DiskWords D) (at : ℕ) (first 
     pub only : OnlyTheirs first mid pieces []
     pub lengths : length answers ≡ length pieces
     pub each : HasEach pieces answers mid between
+    pub hears : HearsPieces honest words at pieces answers first row mid between
 
   pub goes_nowhere : first.node.records.spool.live ≡ true → (answers : List (Result Heard NodeFault)) → answers ≡ [] → Goes [] answers first row
   goes_nowhere live answers none = record {
@@ -107,6 +110,7 @@ module _ {D : Type 0} (honest : Type 0) (words : DiskWords D) (at : ℕ) (first 
     only = record { sessions = λ session all. (refl, refl); attempts = λ attempt all. (refl, refl); config = refl };
     lengths = ap length none;
     each = λ changes pending awaits. (pending, (none, refl, refl, refl), awaits);
+    hears = (none, refl, refl);
   }
 
   -- all are
@@ -115,7 +119,7 @@ module _ {D : Type 0} (honest : Type 0) (words : DiskWords D) (at : ℕ) (first 
 
   module _ (mid new : RelayState D) (between left : Row) (piece : Piece) (answer : Result Heard NodeFault)
       (answers_one : (changes pending : List Change) → Awaits honest words mid.node.records changes pending between → (more : List Change) × AnswersOne honest words changes at pending piece mid between new left more answer)
-      (only : OnlyClient mid new piece.session) (undone : IsUndone mid new) (room : (left ≡ between) ⊎ (new.node.records.spool.size + room_of left.bodies ≤ 2 ^ 40)) where
+      (hears_one : HearsPiece honest words at mid between new left piece answer) (only : OnlyClient mid new piece.session) (undone : IsUndone mid new) (room : (left ≡ between) ⊎ (new.node.records.spool.size + room_of left.bodies ≤ 2 ^ 40)) where
     pub goes_on : (pieces : List Piece) (answers : List (Result Heard NodeFault)) → Goes pieces answers mid between → Goes (pieces ++ piece ∷ []) (answers ++ answer ∷ []) new left
     goes_on pieces answers so = record {
       live = ap (λ s. s.live) undone.spool ∙ so.live;
@@ -127,4 +131,5 @@ module _ {D : Type 0} (honest : Type 0) (words : DiskWords D) (at : ℕ) (first 
           let before = so.each changes pending awaits in
           let one = answers_one changes before.0 before.2 in
           (before.0 ++ one.0, each_more honest words changes at pieces answers pending before.0 one.0 first mid new row between left piece answer before.1 one.1, one.1.awaits);
+      hears = hears_more honest words at pieces answers first mid new row between left piece answer so.hears hears_one;
     }

@@ -10,11 +10,13 @@ use Rattle.relay_records.specs.declared.fault.NodeFault.{NodeFault}
 use Rattle.relay_loop.specs.declared.group.Piece.{Piece}
 use Rattle.relay_loop.specs.declared.hops.Answered.{Answered}
 use Rattle.relay_loop.specs.declared.replying.ReplyPiece.{ReplyPiece}
+use Rattle.relay_loop.specs.GroupCalls.{ReadsReplies, ReadsReply}
 use Rattle.relay_loop.specs.GroupPieces.{IsUndone}
 use Rattle.relay_loop.specs.GroupReplies.{RepliesEach, RepliesOne}
 use Rattle.relay_loop.specs.Groups.{OnlyTheirs}
 use Rattle.relay_loop.specs.Relay.{OnlyHop, RelayState}
 use Rattle.relay_loop.proofs.EachLemmas.{all_split, room_after}
+use Rattle.relay_loop.proofs.GroupCallLemmas.{reads_more}
 use Rattle.relay_loop.proofs.ReplyLemmas.{replies_more}
 
 -- what a list of replies has after its end
@@ -68,6 +70,7 @@ module _ {D : Type 0} (honest : Type 0) (words : DiskWords D) (at : ℕ) (first 
     pub only : OnlyTheirs first mid [] replies
     pub lengths : length answers ≡ length replies
     pub each : HasEach replies answers mid between
+    pub reads : ReadsReplies honest words at replies answers first row mid between
 
   pub goes_nowhere : first.node.records.spool.live ≡ true → (answers : List (Result Answered NodeFault))
       → answers ≡ [] → Goes [] answers first row
@@ -78,6 +81,7 @@ module _ {D : Type 0} (honest : Type 0) (words : DiskWords D) (at : ℕ) (first 
     only = record { sessions = λ session all. (refl, refl); attempts = λ attempt all. (refl, refl); config = refl };
     lengths = ap length none;
     each = λ changes pending awaits. (pending, (none, refl, refl, refl), awaits);
+    reads = (none, refl, refl);
   }
 
   -- all are
@@ -90,11 +94,12 @@ module _ {D : Type 0} (honest : Type 0) (words : DiskWords D) (at : ℕ) (first 
   pub goes_on : (mid new : RelayState D) (between left : Row) (reply : ReplyPiece) (answer : Result Answered NodeFault)
       → ((changes pending : List Change) → Awaits honest words mid.node.records changes pending between
       → (more : List Change) × RepliesOne honest words changes at pending reply mid between new left more answer)
+      → ReadsReply honest words at mid between new left reply answer
       → OnlyHop mid new reply.attempt → IsUndone mid new
       → (left ≡ between) ⊎ (new.node.records.spool.size + room_of left.bodies ≤ 2 ^ 40)
       → (replies : List ReplyPiece) (answers : List (Result Answered NodeFault)) → Goes replies answers mid between
       → Goes (replies ++ reply ∷ []) (answers ++ answer ∷ []) new left
-  goes_on mid new between left reply answer answers_one only undone room replies answers so = record {
+  goes_on mid new between left reply answer answers_one reads_one only undone room replies answers so = record {
     live = ap (λ s. s.live) undone.spool ∙ so.live;
     undone = record {
       spool = undone.spool ∙ so.undone.spool;
@@ -112,4 +117,5 @@ module _ {D : Type 0} (honest : Type 0) (words : DiskWords D) (at : ℕ) (first 
               reply answer before.1 one.1,
           one.1.awaits,
         );
+    reads = reads_more honest words at replies answers first mid new row between left reply answer so.reads reads_one;
   }

@@ -45,6 +45,13 @@ is_drained connections number waiting is there test so =
     let none : length waiting ≡ 0 = grind (arith, nat_tests) in
     waits_there connections number waiting there ∙ no_octets waiting none
 
+pub is_open_drained : (connections : List (Option (List ℕ))) (number : ℕ) (waiting : List ℕ) (is : Bool)
+    → slot_at connections number ≡ Some waiting → is ≡ (length waiting == 0) → is ≡ true
+    → slot_at connections number ≡ Some []
+is_open_drained connections number waiting is there test so =
+    let none : length waiting ≡ 0 = grind (arith, nat_tests) in
+    there ∙ ap (λ (l : List ℕ). Some l) (no_octets waiting none)
+
 -- without last octets nothing has closed
 goes_on_by : (close : Bool) (session : ℕ) (out : List ℕ) (last : Option (List ℕ)) (clients : List (Option (List ℕ))) → IsSetTo close session out last clients → last ≡ None → close ≡ false
 goes_on_by true session out last clients set none = absurd (some_none (sym set.1 ∙ none))

@@ -4,6 +4,7 @@ mod AwaitedLemmas
 mod ClientLemmas
 mod HopLemmas
 mod GroupLemmas
+mod GroupCallLemmas
 mod EachLemmas
 mod ReplyLemmas
 mod EachReplyLemmas

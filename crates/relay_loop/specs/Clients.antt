@@ -12,7 +12,7 @@ use Rattle.relay_records.specs.Records.{Keeps}
 use Rattle.relay_records.specs.declared.fault.NodeFault.{NodeFault}
 use Rattle.relay_records.specs.declared.fault.NodeFault.TheVariants.{Stopped, Unknown}
 use Rattle.relay_node.specs.declared.receive.Received.{Received}
-use Rattle.relay_node.specs.Node.{HasClosed, HaveNoRoom, Makes, RefusesToReceive, SeatHasSaid}
+use Rattle.relay_node.specs.Node.{HasClosed, HaveNoRoom, Makes, Receives, RefusesToReceive, SeatHasSaid}
 use Rattle.relay_loop.specs.declared.clients.Heard.{Heard}
 use Rattle.relay_loop.specs.Accepted.{AreAccepted, GrowsBy}
 use Rattle.relay_loop.specs.Outboxes.{unwritten_at}
@@ -61,6 +61,27 @@ module _ {D : Type 0} (honest : Type 0) (words : DiskWords D) (changes : List Ch
     pub keeps : Keeps honest words new.node.records list
     pub goes_on : GoesOn list new session peer later written heard.last
 
+-- the result of a read is that of the node's call, without the octets for the client
+pub record IsHeardFrom (received : Received) (heard : Heard) : Type 0 where
+  pub used : heard.used ≡ received.used
+  pub change : heard.change ≡ received.change
+
+-- these octets are to be written to the session's connection, or, if it was closed, are its last ones
+abbrev pub IsSetTo : Bool → ℕ → List ℕ → Option (List ℕ) → List (Option (List ℕ)) → Type 0
+IsSetTo true session out last clients = (slot_at clients session ≡ None) × (last ≡ Some out)
+IsSetTo false session out last clients = (slot_at clients session ≡ Some out) × (last ≡ None)
+
+-- A client was heard, with nothing unwritten: the node's call returned this, whatever was said before and whichever
+-- changes the node keeps. What the session writes is unwritten, or is the last of its connection if it has closed.
+pub record HearsClient {D : Type 0} (honest : Type 0) (words : DiskWords D) (session at : ℕ) (piece : List ℕ)
+    (old new : RelayState D) (heard : Heard) : Type 0 where
+  pub received : Received
+  pub receives : (changes : List Change) (peer : List ℕ) (said : Said) → Keeps honest words old.node.records changes
+      → SeatHasSaid old.node.config old.node.seats session peer said
+      → Receives honest words old.node.config changes peer at session said piece old.node new.node received
+  pub heard_is : IsHeardFrom received heard
+  pub set : IsSetTo received.close session received.out.items heard.last new.clients
+
 -- How much of a piece of this length a read uses: at least one octet if a change was added; the whole piece if nothing
 -- was unwritten, no change was added and the session didn't close. No call of the device has failed.
 pub record UsesOctets {D : Type 0} (words : DiskWords D) (session len : ℕ) (old new : RelayState D) (heard : Heard)
@@ -89,13 +110,3 @@ abbrev pub RefusesToEnd : {D : Type 0} → ℕ → RelayState D → RelayState D
 RefusesToEnd session old new Stopped = (old.node.records.spool.live ≡ false) × (new.node ≡ old.node)
 RefusesToEnd session old new Unknown = IsUnknown old session × (new.node ≡ old.node)
 RefusesToEnd session old new other = ⊥
-
--- the result of a read is that of the node's call, without the octets for the client
-pub record IsHeardFrom (received : Received) (heard : Heard) : Type 0 where
-  pub used : heard.used ≡ received.used
-  pub change : heard.change ≡ received.change
-
--- these octets are to be written to the session's connection, or, if it was closed, are its last ones
-abbrev pub IsSetTo : Bool → ℕ → List ℕ → Option (List ℕ) → List (Option (List ℕ)) → Type 0
-IsSetTo true session out last clients = (slot_at clients session ≡ None) × (last ≡ Some out)
-IsSetTo false session out last clients = (slot_at clients session ≡ Some out) × (last ≡ None)

@@ -7,6 +7,7 @@ pub mod Hops
 pub mod GroupPieces
 pub mod GroupReplies
 pub mod Groups
+pub mod GroupCalls
 pub mod Withdrawing
 pub mod Laws
 pub mod GroupLaws

@@ -3,7 +3,7 @@ ghost use Rattle.std.specs.Prelude.{◌≡◌, ◌≢◌, ◌↔◌, ◌≤◌, 
 ghost use Rattle.std.specs.Prelude.{Err, IfErr, IfOk, Ok, OnOk, drop, length, take};
 ghost use Rattle.std.specs.Option.{option_map};
 ghost use Rattle.relay_book.specs.declared.change.Change.{Change};
-ghost use Rattle.relay_loop.specs.Clients.{IsHeardFrom, IsSetTo, Reads, RefusesToEnd, RefusesToRead};
+ghost use Rattle.relay_loop.specs.Clients.{HearsClient, IsHeardFrom, IsSetTo, Reads, RefusesToEnd, RefusesToRead};
 ghost use Rattle.relay_loop.specs.Clients.{TalksTo, UsesOctets};
 ghost use Rattle.relay_loop.specs.Outboxes.{unwritten_at};
 ghost use Rattle.relay_loop.specs.Relay.{OnlyClient};
@@ -81,6 +81,8 @@ impl<D: Disk> Relay<D> {
             → TalksTo changes self.old session peer said written → unwritten_at self.old.clients session ≡ []
             → IfOk result (Reads D.honest D.words changes session peer now said written piece.now
             self.old self.new) }
+        ensures hears { slot_at self.old.clients session ≡ Some []
+            → IfOk result (HearsClient D.honest D.words session now piece.now self.old self.new) }
         ensures waits { unwritten_at self.old.clients session ≢ []
             → (result ≡ Ok (record { used = 0; change = None; last = None })) × (self.new ≡ self.old) }
         ensures cut { (changes : List Change) (peer : List ℕ) (said : Said) (written : List ℕ)

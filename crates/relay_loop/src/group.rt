@@ -2,6 +2,7 @@
 ghost use Rattle.std.specs.Prelude.{◌≡◌, ◌⊎◌, ◌+◌, ◌↔◌, ◌≤◌, ◌^◌, [], ℕ, List, false, length, vec_capacity, vec_len};
 ghost use Rattle.std.specs.Prelude.{Err, IfErr, IfOk, IsTrue};
 ghost use Rattle.relay_book.specs.declared.change.Change.{Change};
+ghost use Rattle.relay_loop.specs.GroupCalls.{HearsGroup, HearsPiece, HearsPieces};
 ghost use Rattle.relay_loop.specs.GroupPieces.{AnswersEach, AnswersOne, AreOfOthers, IsLaden, IsUndone};
 ghost use Rattle.relay_loop.specs.Groups.{AllAreGone, CutsGroup, OnlyTheirs, ReadsAll, RefusesToReadAll};
 ghost use Rattle.relay_loop.specs.Relay.{OnlyClient};
@@ -67,6 +68,7 @@ impl<D: Disk> Relay<D> {
     ) -> Result<Group, NodeFault>
         ensures reads { (changes : List Change) → Keeps D.honest D.words self.old.node.records changes
             → IfOk result (ReadsAll D.honest D.words changes now pieces.now replies.now self.old self.new) }
+        ensures hears { IfOk result (HearsGroup D.honest D.words now pieces.now replies.now self.old self.new) }
         ensures cut { (changes : List Change) → Keeps D.honest D.words self.old.node.records changes
             → result ≡ Err NodeFault.Stopped
             → CutsGroup D.honest D.words changes now pieces.now replies.now self.old self.new }
@@ -124,6 +126,8 @@ impl<D: Disk> Relay<D> {
             × AnswersEach D.honest D.words changes now pieces.now heard.new.items pending self.old row.old
             self.new row.new all
             × Awaits D.honest D.words self.new.node.records changes all row.new }
+        ensures hears { HearsPieces D.honest D.words now pieces.now heard.new.items self.old row.old
+            self.new row.new }
         ensures only { OnlyTheirs self.old self.new pieces.now [] }
         ensures undone { IsUndone self.old self.new }
         ensures room { (row.new ≡ row.old)
@@ -150,6 +154,7 @@ impl<D: Disk> Relay<D> {
             → (more : List Change)
             × AnswersOne D.honest D.words changes now pending piece.now self.old row.old self.new row.new more
             result }
+        ensures hears { HearsPiece D.honest D.words now self.old row.old self.new row.new piece.now result }
         ensures only { OnlyClient self.old self.new piece.now.session }
         ensures undone { IsUndone self.old self.new }
         ensures room { (row.new ≡ row.old)

@@ -11,6 +11,7 @@ ghost use Rattle.relay_loop.specs.Hops.{HandsTo, IsAnsweredBy, IsSetTo, RefusesH
 ghost use Rattle.relay_loop.specs.Hops.{UsesReply};
 ghost use Rattle.relay_loop.specs.Outboxes.{unwritten_at};
 ghost use Rattle.relay_loop.specs.Relay.{OnlyHop};
+ghost use Rattle.relay_node.specs.Attempts.{Tells};
 ghost use Rattle.relay_records.specs.Records.{Keeps};
 ghost use Rattle.relay_slots.specs.Slots.{OthersStay, slot_at};
 ghost use Rattle.relay_slots.specs.declared.slots.TheConstants.{SLOT_COUNT};
@@ -174,6 +175,10 @@ impl<D: Disk> Relay<D> {
         ensures lost { (changes : List Change) (told : Told) (written : List ℕ)
             → Keeps D.honest D.words self.old.node.records changes
             → HandsTo changes self.old attempt told written
+            → IfOk result (IsLost D.honest D.words (reporter_of self.old.node.config) now changes attempt told
+            self.old.node.records self.new.node.records self.new.node.attempts) }
+        ensures loses { (changes : List Change) (told : Told) → Keeps D.honest D.words self.old.node.records changes
+            → Tells self.old.node.config.host changes self.old.node.attempts attempt told
             → IfOk result (IsLost D.honest D.words (reporter_of self.old.node.config) now changes attempt told
             self.old.node.records self.new.node.records self.new.node.attempts) }
         ensures cut { (changes : List Change) (told : Told) (written : List ℕ)

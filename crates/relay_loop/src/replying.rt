@@ -1,6 +1,7 @@
 //! Replies of several next hops in one call.
 ghost use Rattle.std.specs.Prelude.{◌≡◌, ◌⊎◌, ◌+◌, ◌≤◌, ◌^◌, [], ℕ, List, length, vec_capacity, vec_len, IsTrue};
 ghost use Rattle.relay_book.specs.declared.change.Change.{Change};
+ghost use Rattle.relay_loop.specs.GroupCalls.{ReadsReplies, ReadsReply};
 ghost use Rattle.relay_loop.specs.GroupPieces.{IsUndone};
 ghost use Rattle.relay_loop.specs.GroupReplies.{AreToOthers, RepliesEach, RepliesOne};
 ghost use Rattle.relay_loop.specs.Groups.{HopsAreGone, OnlyTheirs};
@@ -46,6 +47,8 @@ impl<D: Disk> Relay<D> {
             × RepliesEach D.honest D.words changes now replies.now answered.new.items pending self.old row.old
             self.new row.new all
             × Awaits D.honest D.words self.new.node.records changes all row.new }
+        ensures reads { ReadsReplies D.honest D.words now replies.now answered.new.items self.old row.old
+            self.new row.new }
         ensures only { OnlyTheirs self.old self.new [] replies.now }
         ensures undone { IsUndone self.old self.new }
         ensures room { (row.new ≡ row.old)
@@ -72,6 +75,7 @@ impl<D: Disk> Relay<D> {
             → (more : List Change)
             × RepliesOne D.honest D.words changes now pending reply.now self.old row.old self.new row.new more
             result }
+        ensures reads { ReadsReply D.honest D.words now self.old row.old self.new row.new reply.now result }
         ensures only { OnlyHop self.old self.new reply.now.attempt }
         ensures undone { IsUndone self.old self.new }
         ensures room { (row.new ≡ row.old)

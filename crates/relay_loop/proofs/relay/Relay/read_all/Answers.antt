@@ -1,10 +1,12 @@
 -- The changes of the pieces and of the replies are pending, and then added at once.
-use Rattle.std.proofs.Common.{◌≡◌, refl, sym, ap, subst}
+use Rattle.std.proofs.Common.{◌≡◌, List, refl, sym, ap, subst}
 use Rattle.relay_disk.specs.declared.disks.Disks.{Disks}
 use Rattle.relay_spool.specs.Pair.{HasBodies}
 use Rattle.relay_spool.specs.Spool.{AtEachMoment}
-use Rattle.relay_records.specs.Staged.{Row, StandsForOrWithAll}
+use Rattle.relay_records.specs.declared.noted.Noted.{Noted}
+use Rattle.relay_records.specs.Staged.{Row, Settles, StandsForOrWithAll}
 use Rattle.relay_records.specs.declared.fault.NodeFault.TheVariants.{Stopped}
+use Rattle.relay_loop.specs.GroupCalls.{HearsPieces, ReadsReplies}
 use Rattle.relay_loop.specs.GroupPieces.{IsUndone}
 use Rattle.relay_loop.specs.Relay.{RelayState}
 use Rattle.relay_loop.proofs.AllLemmas.{are_pending}
@@ -35,6 +37,34 @@ returns-in-Ok-settle-clause-reads g c = λ changes keeps.
       clients = refl;
       hops = refl;
       stop = λ honest. subst (λ (d : Disks g.row.D.Denot). AtEachMoment g.D.Disk.words d c.settle.new.self.records.spool.disk (HasBodies (StandsForOrWithAll changes so.pending))) disk (c.settle.ensures.stop changes so.pending so.awaits honest);
+    }
+
+pub returns-in-Ok-settle-clause-hears : goal.returns-in-Ok-settle-clause-hears
+returns-in-Ok-settle-clause-hears g c =
+    let before : RelayState g.row.D.Denot = record { node = c.self-2.inside.node; clients = c.self-2.inside.clients; hops = c.self-2.inside.hops } in
+    let first = subst (λ (r : Row). HearsPieces g.D.Disk.honest g.D.Disk.words c.args.now c.args.pieces.now c.read_each.new.heard.items c.args.self.now r c.read_each.new.self c.read_each.new.row) c.new-row.ensures
+    c.read_each.ensures.hears in
+    let second = subst (λ (s : RelayState g.row.D.Denot). ReadsReplies g.D.Disk.honest g.D.Disk.words c.args.now c.args.replies.now c.reply_each.new.answered.items c.read_each.new.self c.read_each.new.row s c.reply_each.new.row)
+    (sym c.self-2.view_is) c.reply_each.ensures.reads in
+    let notes = c.in-Ok-settle.ensures.notes in
+    record {
+      between = c.read_each.new.self;
+      beside = c.read_each.new.row;
+      hears = first;
+      before = before;
+      row = c.reply_each.new.row;
+      reads = second;
+      notes = notes;
+      adds = record {
+        settles = λ changes pending awaits.
+            subst (λ (ns : List Noted). Settles g.D.Disk.honest g.D.Disk.words c.settle.new.self.records changes pending ns) notes (c.in-Ok-settle.ensures.settles changes pending awaits);
+        noted = c.in-Ok-settle.ensures.grows.noted;
+        config = c.in-Ok-settle.ensures.rest.0;
+        seats = c.in-Ok-settle.ensures.rest.1;
+        attempts = c.in-Ok-settle.ensures.rest.2;
+        clients = refl;
+        hops = refl;
+      };
     }
 
 pub returns-in-Err-clause-cut : goal.returns-in-Err-clause-cut

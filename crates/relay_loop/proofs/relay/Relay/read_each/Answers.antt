@@ -15,7 +15,7 @@ loop-piece-preserved g c =
     let answer = c.read_into-answer.ensures in
     let goes =
     goes_on g.D.Disk.honest g.D.Disk.words c.args.now c.args.self.now c.args.row.now c.loop-piece.self c.read_into-answer.new.self c.loop-piece.row c.read_into-answer.new.row piece c.read_into-answer.result
-    answer.answers answer.only answer.undone answer.room front c.loop-piece.heard.items c.loop-piece.invariant.goes in
+    answer.answers answer.hears answer.only answer.undone answer.room front c.loop-piece.heard.items c.loop-piece.invariant.goes in
     let room = c.loop-piece.invariant.room in
     let grows = c.push_reserved.ensures.len in
     let keeps = c.push_reserved.ensures.capacity in

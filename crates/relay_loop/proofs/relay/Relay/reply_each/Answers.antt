@@ -15,7 +15,7 @@ loop-reply-preserved g c =
     let answer = c.reply_into-answer.ensures in
     let goes =
     goes_on g.D.Disk.honest g.D.Disk.words c.args.now c.args.self.now c.args.row.now c.loop-reply.self c.reply_into-answer.new.self c.loop-reply.row c.reply_into-answer.new.row reply c.reply_into-answer.result
-    answer.answers answer.only answer.undone answer.room front c.loop-reply.answered.items c.loop-reply.invariant.goes in
+    answer.answers answer.reads answer.only answer.undone answer.room front c.loop-reply.answered.items c.loop-reply.invariant.goes in
     let room = c.loop-reply.invariant.room in
     let grows = c.push_reserved.ensures.len in
     let keeps = c.push_reserved.ensures.capacity in

@@ -5,7 +5,7 @@ use Rattle.relay_loop.specs.GroupPieces.{IsLaden}
 use Rattle.relay_loop.specs.GroupReplies.{RepliesOne}
 use Rattle.relay_loop.specs.Outboxes.{unwritten_at}
 use Rattle.relay_loop.specs.Relay.{RelayState}
-use Rattle.relay_loop.proofs.GroupLemmas.{is_drained, some_there}
+use Rattle.relay_loop.proofs.GroupLemmas.{is_drained, is_open_drained, some_there}
 use Rattle.relay_loop.proofs.ReplyLemmas.{left_unheard, more_by, was_heard, was_refused}
 use Rattle.relay_loop.proofs.relay.Relay.reply_into.Goals as goal
 use Rattle.relay_loop.proofs.relay.Relay.reply_into.Goals.{then-not-is_empty-via-then-not-is_empty, then-not-is_empty-via-else-not-is_empty+then-is_laden}
@@ -46,3 +46,51 @@ returns-in-Err-clause-answers g c = rw (← c.self.view_is) (λ changes pending 
           (λ told tells is. c.in-Err.ensures.full changes pending told awaits tells (ap Err is))
           (record { attempts = rest.0; hops = c.remove.ensures.others; config = rest.1; seats = rest.2; clients = refl }) awaits,
     ))
+
+pub returns-then-not-is_empty-clause-reads : goal.returns-then-not-is_empty-clause-reads
+returns-then-not-is_empty-clause-reads g c = rw (← c.self.view_is) (
+    let why : (unwritten_at c.self.inside.hops c.args.reply.now.attempt ≢ []) ⊎ IsLaden c.args.row.now = elim c.then-not-is_empty.branch [
+      | then-not-is_empty-via-then-not-is_empty w ↦ inl (search rules)
+      | then-not-is_empty-via-else-not-is_empty+then-is_laden w ↦ inr (search rules)
+    ] in
+    record {
+      by = inl (record {
+        connection = some_there c.self.inside.hops c.args.reply.now.attempt c.in-Some.waiting.now c.in-Some.ensures.waiting;
+        why = why;
+        answered_is = c.nothing.ensures;
+        same = refl;
+        row_is = refl;
+      });
+      only = record { attempts = λ other is. refl; hops = λ other is. refl; config = refl; seats = refl; clients = refl };
+    })
+
+pub returns-in-Ok-clause-reads : goal.returns-in-Ok-clause-reads
+returns-in-Ok-clause-reads g c = rw (← c.self.view_is) (
+    let light : IsLaden c.args.row.now → ⊥ = search rules in
+    let rest = c.in-Ok.ensures.rest in
+    record {
+      by = inr (record {
+        connection = is_open_drained c.self.inside.hops c.args.reply.now.attempt c.in-Some.waiting.now c.is_empty.result c.in-Some.ensures.waiting c.is_empty.ensures c.if-not-is_empty.false;
+        has_room = light;
+        replied = c.in-Ok.replied;
+        replies = λ changes pending told awaits tells. c.in-Ok.ensures.replies changes pending told awaits tells;
+        uses = c.in-Ok.ensures.used;
+        answered_is = c.set_by.ensures.answered;
+        set = c.set_by.ensures.set;
+      });
+      only = record { attempts = rest.0; hops = c.set_by.ensures.others; config = rest.1; seats = rest.2; clients = refl };
+    })
+
+pub returns-in-Err-clause-reads : goal.returns-in-Err-clause-reads
+returns-in-Err-clause-reads g c = rw (← c.self.view_is) (
+    let rest = c.in-Err.ensures.rest in
+    let refused = c.in-Err.ensures.refused in
+    record {
+      by = record {
+        gone = c.remove.ensures.gone;
+        leaves = refused.refused (search rules);
+        unknown = λ is. inr (refused.unknown.0 (ap Err is)).1;
+        connection = λ _. some_there c.self.inside.hops c.args.reply.now.attempt c.in-Some.waiting.now c.in-Some.ensures.waiting;
+      };
+      only = record { attempts = rest.0; hops = c.remove.ensures.others; config = rest.1; seats = rest.2; clients = refl };
+    })
