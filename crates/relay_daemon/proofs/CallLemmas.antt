@@ -1,74 +1,45 @@
 -- Calls of a relay, one after another, in a world whose other nodes do what they like.
-use Rattle.std.proofs.Common.{◌≡◌, ◌≢◌, ◌++◌, ◌∷◌, ℕ, List, [], Option, None, Some, length, refl, sym, subst, arith}
+use Rattle.std.proofs.Common.{◌≡◌, ◌≢◌, ◌++◌, ◌∷◌, ℕ, List, [], length, refl, sym, subst, arith}
 use Rattle.std.proofs.Common.{ap, ◌∙◌}
-use Rattle.std.specs.Prelude.{slice_get}
 use Rattle.std.proofs.lemmas.Option.{same_Some}
 use Rattle.relay_disk.specs.Device.{DiskWords}
 use Rattle.relay_lines.specs.Reply.{one_line}
 use Rattle.relay_slots.specs.Slots.{slot_at}
 use Rattle.relay_book.specs.declared.change.Change.{Change}
 use Rattle.relay_records.specs.ListLaws.{NoneIsAwaited}
-use Rattle.relay_records.specs.Staged.{no_row}
 use Rattle.relay_loop.specs.Closing.{text_of}
+use Rattle.relay_loop.specs.GroupCalls.{HearsGroup}
 use Rattle.relay_loop.specs.Relay.{RelayState}
 use Rattle.relay_world.specs.declared.attempt.Attempt.{Attempt}
-use Rattle.relay_world.specs.declared.link.Link.{Link}
-use Rattle.relay_world.specs.declared.link.ServerEnd.{ServerEnd}
-use Rattle.relay_world.specs.Bound.{HasSession, IsBound}
+use Rattle.relay_world.specs.Bound.{IsBound}
 use Rattle.relay_world.specs.GivingUp.{NoHop, Postmaster, Withdrawing}
 use Rattle.relay_world.specs.Once.{Closes, Drops as DropsBy, Ends as EndsBy, GivesUp as GivesUpBy, GoesOn}
-use Rattle.relay_world.specs.Once.{HappenAsking, Happens, HearsAll, Loses as LosesBy, Opens, Reads as ReadsBy}
+use Rattle.relay_world.specs.Once.{HappenAsking, Happens, Hears as HearsBy, HearsAll, Loses as LosesBy, Opens, Reads as ReadsBy}
 use Rattle.relay_world.specs.Once.{Starts as StartsBy, asked_at}
 use Rattle.relay_world.specs.Promise.{KeepsPromise, PromiseIsKept}
-use Rattle.relay_world.specs.Steps.{AttemptOf, SessionOf}
-use Rattle.relay_world.specs.World.{Host, World, link_at}
-use Rattle.relay_daemon.specs.Calls.{GiveUpSays, LossSays, ReplySays, StartSays, WithdrawSays}
+use Rattle.relay_world.specs.World.{Host, World}
+use Rattle.relay_daemon.specs.Calls.{GiveUpSays, HearSays, LoseSays, ReplySays, StartSays, WithdrawSays}
 use Rattle.relay_daemon.specs.Elsewhere.{Elsewhere, IsOfOther}
 use Rattle.relay_daemon.specs.Events.{LeadsToHop, begun_attempt}
-use Rattle.relay_daemon.specs.Runs.{ReachesHop, RunsAt, told_of, untold}
+use Rattle.relay_daemon.specs.Runs.{RunsAt, told_of, untold}
 use Rattle.relay_daemon.specs.Sequences.{Accepts, Call, CallsKeepThePromise, Compacts, CutsOff, Does, Drops}
-use Rattle.relay_daemon.specs.Sequences.{Ends, GivesUp, Hears, IsEvent, IsKept, Loses, Meets, Reads}
+use Rattle.relay_daemon.specs.Sequences.{Ends, GivesUp, Hears, HearsOne, IsEvent, IsKept, IsRefused, Loses, Meets, Reads}
 use Rattle.relay_daemon.specs.Sequences.{Stands, Starts, Trims, Withdraws, Writes, WritesToHop}
-use Rattle.relay_daemon.specs.Wanted.{HearsEachSays}
 use Rattle.relay_daemon.proofs.AcceptLemmas.{accepting}
 use Rattle.relay_daemon.proofs.AloneLemmas.{alone_runs_on}
 use Rattle.relay_daemon.proofs.DropLemmas.{dropping}
-use Rattle.relay_daemon.proofs.EachLemmas.{hearing_clients}
+use Rattle.relay_daemon.proofs.EachLemmas.{hearing_all}
 use Rattle.relay_daemon.proofs.EndLemmas.{cutting_off, ending}
 use Rattle.relay_daemon.proofs.GiveLemmas.{giving_up, withdrawing}
-use Rattle.relay_daemon.proofs.KeepLemmas.{its_changes, its_keeps}
-use Rattle.relay_daemon.proofs.LoseLemmas.{losing_written}
+use Rattle.relay_daemon.proofs.HearOneLemmas.{hearing_one}
+use Rattle.relay_daemon.proofs.HereLemmas.{attempt_here, session_here, some_slot}
+use Rattle.relay_daemon.proofs.LoseLemmas.{losing}
 use Rattle.relay_daemon.proofs.OtherNodeLemmas.{alone_still, others_leave}
 use Rattle.relay_daemon.proofs.PutLemmas.{put_push}
 use Rattle.relay_daemon.proofs.ReplyLemmas.{replying}
 use Rattle.relay_daemon.proofs.StartLemmas.{starting}
 use Rattle.relay_daemon.proofs.StayLemmas.{compacting, trimming}
 use Rattle.relay_daemon.proofs.WriteLemmas.{writing_out, writing_to_hops}
-
-some_slot : (slot : Option (List ℕ)) → slot ≢ None → (waiting : List ℕ) × (slot ≡ Some waiting)
-some_slot None is = absurd (is refl)
-some_slot (Some waiting) is = (waiting, refl)
-
-module _ {D : Type 0} where
-  -- the session of a link is at the node whose session the link has
-  session_here : (world : World D) (number node session : ℕ) (link : Link) (of : SessionOf world number)
-      → link_at world.links number ≡ Some link → HasSession link node session → of.end.node ≡ node
-  session_here world number node session link of is has =
-      let same : of.link ≡ link = same_Some of.link link (sym of.link_is ∙ is) in
-      let end : of.end ≡ has.end = same_Some of.end has.end
-      (sym of.serves ∙ ap (λ (l : Link). l.server) same ∙ has.serves) in
-      ap (λ (e : ServerEnd). e.node) end ∙ has.its_node
-
-  -- the attempt of a link is at the node whose attempt the link has
-  attempt_here : (world : World D) (node slot : ℕ) (waiting : List ℕ) (reaches : ReachesHop world node slot waiting)
-      (of : AttemptOf world reaches.attempt.link) → of.attempt.node ≡ node
-  attempt_here world node slot waiting reaches of =
-      let link : of.link ≡ reaches.link = same_Some of.link reaches.link (sym of.link_is ∙ reaches.link_is) in
-      let place : of.place ≡ reaches.place = same_Some of.place reaches.place
-      (sym of.client ∙ ap (λ (l : Link). l.client) link ∙ reaches.client) in
-      let attempt : of.attempt ≡ reaches.attempt = same_Some of.attempt reaches.attempt
-      (sym of.attempt_at ∙ ap (λ n. slice_get world.attempts n) place ∙ reaches.attempt_at) in
-      ap (λ (a : Attempt). a.node) attempt ∙ reaches.has.its_node
 
 module _ {D : Type 0} (honest : Type 0) (words : DiskWords D) where
   -- a call was an event of a world, or none, and the relay runs in the next world
@@ -132,11 +103,19 @@ module _ {D : Type 0} (honest : Type 0) (words : DiskWords D) where
       is.1
   leads awaits (Writes session count) world lists node old after runs bound does meets =
       none world node after (writing_out world node session count old after runs does)
-  leads awaits (Hears pieces now) world lists node old after runs bound does meets =
-      let changes = its_changes honest words world lists node old runs bound in
-      let none = awaits old.node.records changes (its_keeps honest words world lists node old runs bound) in
-      let is = hearing_clients honest words world node pieces changes does.1 old does.0 after runs meets.1 does.2 none
-      (subst (λ t. HearsEachSays honest words t old no_row pieces does.0 does.1) meets.0 does.3) does.4 in
+  leads awaits (HearsOne session octets now heard) world lists node old after runs bound does meets =
+      let wrote = meets.1 in
+      let is = hearing_one honest words world lists node session octets heard old does.0 runs bound wrote
+      (subst (λ t. HearSays honest words old does.0 t session octets heard) meets.0 does.1) in
+      subst (λ r. Leads world node r) (sym does.2)
+      (one world is.0 lists node (told_of heard.change does.0) bound
+      (HearsBy wrote.serves.number (length octets) is.1)
+      (λ other off same. off
+      (sym (session_here world wrote.serves.number node session wrote.serves.link is.1.of wrote.serves.link_is
+      wrote.serves.has) ∙ same)) is.2)
+  leads awaits (Hears pieces replies now group) world lists node old after runs bound does meets =
+      let is = hearing_all honest words awaits world lists node pieces replies group old after runs bound meets.1 meets.2
+      meets.3 meets.4 (subst (λ t. HearsGroup honest words t pieces replies old after group) meets.0 does) in
       one world is.1 lists node after bound (HearsAll node is.0 is.2) (λ other off. off) is.3
   leads awaits (Starts message hop now started) world lists node old after runs bound does meets =
       let opens = meets.1 in
@@ -160,12 +139,13 @@ module _ {D : Type 0} (honest : Type 0) (words : DiskWords D) where
   leads awaits (WritesToHop slot count) world lists node old after runs bound does meets =
       none world node after (writing_to_hops world node slot count old after runs does)
   leads awaits (Loses slot now change) world lists node old after runs bound does meets =
-      let reaches = runs.hops slot [] meets.1 in
-      let is = losing_written honest words world lists node slot change old does.0 runs bound reaches meets.1
-      (subst (λ t. LossSays honest words old does.0 t slot change) meets.0 does.1) in
+      let was = some_slot (slot_at old.hops slot) does.1.was in
+      let reaches = runs.hops slot was.0 was.1 in
+      let is = losing honest words world lists node slot change was.0 old does.0 runs bound reaches
+      (subst (λ t. LoseSays honest words old does.0 t slot change) meets does.1) in
       subst (λ r. Leads world node r) (sym does.2)
       (one world _ lists node (untold does.0) bound (LosesBy reaches.attempt.link change is.event)
-      (λ other off same. off (sym (attempt_here world node slot [] reaches is.event.of) ∙ same)) is.runs_on)
+      (λ other off same. off (sym (attempt_here world node slot was.0 reaches is.event.of) ∙ same)) is.runs_on)
   leads awaits (Drops slot) world lists node old after runs bound does meets =
       let was = some_slot (slot_at old.hops slot) does.was in
       let reaches = runs.hops slot was.0 was.1 in
@@ -190,6 +170,8 @@ module _ {D : Type 0} (honest : Type 0) (words : DiskWords D) where
   leads awaits Trims world lists node old after runs bound does meets =
       let is = trimming honest words world node old after runs does in
       one world _ lists node after bound (GoesOn node is.0) (λ other off. off) is.1
+  leads awaits IsRefused world lists node old after runs bound does meets =
+      none world node after (subst (λ r. RunsAt world node r) (sym does) runs)
 
   -- Events keep the promise, with what the postmaster has asked for by them too.
   pub kept_on : honest → PromiseIsKept honest words → (count : ℕ) (old new : World D) (asked more : List Withdrawing)

@@ -15,33 +15,35 @@ use Rattle.relay_records.specs.Staged.{Row}
 use Rattle.relay_node.specs.Node.{SessionGoesOn}
 use Rattle.relay_node.specs.Staging.{MakesInto, ReceivesAfter, ReceivesInto}
 use Rattle.relay_loop.specs.declared.clients.Heard.{Heard}
+use Rattle.relay_loop.specs.declared.group.Piece.{Piece}
 use Rattle.relay_loop.specs.Clients.{IsSetTo}
-use Rattle.relay_loop.specs.Relay.{RelayState}
+use Rattle.relay_loop.specs.GroupCalls.{TakesPiece}
+use Rattle.relay_loop.specs.Relay.{OnlyClient, RelayState}
 use Rattle.relay_world.specs.declared.line.Line.{Line}
 use Rattle.relay_world.specs.declared.line.Line.TheVariants.{Accepted}
 use Rattle.relay_world.specs.declared.link.Link.{Link}
 use Rattle.relay_world.specs.Groups.{AcceptsInto, HasHeardInto}
-use Rattle.relay_world.specs.Steps.{IsPut, IsPutAt, SessionOf, heard_link, session_after, unless_broken, waiting_up}
+use Rattle.relay_world.specs.Steps.{IsPut, IsPutAt, SessionOf, heard_link, session_after, unless_broken}
 use Rattle.relay_world.specs.World.{Host, Up, World}
 use Rattle.relay_daemon.specs.Events.{HearingIntoHears}
+use Rattle.relay_daemon.specs.Given.{ClientWrote, KnowsSession}
 use Rattle.relay_daemon.specs.Runs.{RunsAt, ServesClient, host_with}
-use Rattle.relay_daemon.specs.Wanted.{HearsIntoSays, KnowsSession}
 use Rattle.relay_daemon.proofs.MoveLemmas.{client_beside, hop_moved, not_both, one_session}
 use Rattle.relay_daemon.proofs.PutLemmas.{link_put, value_put}
 
 -- what is said of a session that goes on, or has closed
-set_open : (close : Bool) (session : ℕ) (out : List ℕ) (last : Option (List ℕ)) (clients : List (Option (List ℕ)))
+pub set_open : (close : Bool) (session : ℕ) (out : List ℕ) (last : Option (List ℕ)) (clients : List (Option (List ℕ)))
     → IsSetTo close session out last clients → (waiting : List ℕ) → slot_at clients session ≡ Some waiting
     → (close ≡ false) × (out ≡ waiting)
 set_open true session out last clients set waiting is = absurd (not_both (slot_at clients session) waiting set.0 is)
 set_open false session out last clients set waiting is = (refl, same_Some out waiting (sym set.0 ∙ is))
 
-set_closed : (close : Bool) (session : ℕ) (out : List ℕ) (last : Option (List ℕ)) (clients : List (Option (List ℕ)))
+pub set_closed : (close : Bool) (session : ℕ) (out : List ℕ) (last : Option (List ℕ)) (clients : List (Option (List ℕ)))
     → IsSetTo close session out last clients → slot_at clients session ≡ None → close ≡ true
 set_closed true session out last clients set none = refl
 set_closed false session out last clients set none = absurd (not_both (slot_at clients session) out none set.0)
 
-after_open : (close : Bool) (session : ℕ) → close ≡ false → session_after close session ≡ Some session
+pub after_open : (close : Bool) (session : ℕ) → close ≡ false → session_after close session ≡ Some session
 after_open close session is = ap (λ c. session_after c session) is
 
 pub whole_written : (link : Link) (octets : List ℕ) → link.broken ≡ false → unless_broken link octets ≡ octets
@@ -61,10 +63,19 @@ module _ {D : Type 0} (honest : Type 0) (words : DiskWords D) where
   note_after config changes pending peer at said later refused used old new row left more (Some change) makes =
       (makes.note, makes.noted)
 
-  module _ (world : World D) (node at session : ℕ) (octets : List ℕ) (row left : Row) (heard : Heard)
-      (old new : RelayState D) (runs : RunsAt world node old) (serves : ServesClient world node session [])
-      (carried : waiting_up (length octets) serves.link ≡ octets) (knows : KnowsSession honest words old row session)
-      (says : HearsIntoSays honest words old new at session octets row left heard) where
+  module _ (world : World D) (node at : ℕ) (piece : Piece) (row left : Row) (heard : Heard) (old new : RelayState D)
+      (runs : RunsAt world node old) (wrote : ClientWrote world node piece.session piece.octets.now)
+      (knows : KnowsSession honest words old row piece.session)
+      (says : TakesPiece honest words at old row new left piece heard) (only : OnlyClient old new piece.session) where
+    abbrev session : ℕ
+    session = piece.session
+
+    abbrev octets : List ℕ
+    octets = piece.octets.now
+
+    abbrev serves : ServesClient world node session []
+    serves = wrote.serves
+
     abbrev its_link : Link
     its_link = heard_link serves.link serves.has.end session says.received
 
@@ -147,11 +158,11 @@ module _ {D : Type 0} (honest : Type 0) (words : DiskWords D) where
       received = says.received;
       receives = λ changes pending awaits.
           subst (λ o. ReceivesAfter honest words old.node.config changes pending at session o old.node row new.node left
-          says.received) (sym carried) (says.receives changes pending awaits);
-      used = subst (λ o. says.received.used ≤ length o) (sym carried) says.within;
-      others = says.only.seats;
-      config = says.only.config;
-      attempts = says.only.attempts;
+          says.received) (sym wrote.unread) (says.receives changes pending awaits);
+      used = subst (λ o. says.received.used ≤ length o) (sym wrote.unread) says.uses.within;
+      others = only.seats;
+      config = only.config;
+      attempts = only.attempts;
       links = put;
       accepts = it.accepts;
       rest = (refl, refl, length-set world.hosts node it.host);
@@ -185,7 +196,7 @@ module _ {D : Type 0} (honest : Type 0) (words : DiskWords D) where
         elim (eqb_tells other session) [
           | inl same ↦ client_new other waiting same.1 is
           | inr off ↦
-              let first = runs.clients other waiting (sym (says.only.clients other off.1) ∙ is) in
+              let first = runs.clients other waiting (sym (only.clients other off.1) ∙ is) in
               client_beside world its_world node other waiting serves.number its_link put first
               (λ same. off.1 (one_session world node other session waiting [] first serves same))
         ]
@@ -200,7 +211,7 @@ module _ {D : Type 0} (honest : Type 0) (words : DiskWords D) where
               (set_closed says.received.close session says.received.out.items heard.last new.clients says.set
               (ap (λ n. slot_at new.clients n) (sym same.1) ∙ none)) heard_so.goes_on).0
           | inr off ↦
-              says.only.seats other off.1 ∙ runs.seats other (sym (says.only.clients other off.1) ∙ none)
+              only.seats other off.1 ∙ runs.seats other (sym (only.clients other off.1) ∙ none)
         ]
 
     heard_runs : RunsAt its_world node new
@@ -211,11 +222,11 @@ module _ {D : Type 0} (honest : Type 0) (words : DiskWords D) where
       clients = client_there;
       hops = λ slot waiting is. hop_moved world its_world node slot waiting serves.number serves.link its_link
           serves.link_is put refl refl refl
-          (runs.hops slot waiting (ap (λ (t : List (Option (List ℕ))). slot_at t slot) (sym says.only.hops) ∙ is)) refl;
+          (runs.hops slot waiting (ap (λ (t : List (Option (List ℕ))). slot_at t slot) (sym only.hops) ∙ is)) refl;
       seats = seat_there;
       runs = λ slot none.
-          ap (λ (t : List (Option _)). slot_at t slot) says.only.attempts
-          ∙ runs.runs slot (ap (λ (t : List (Option (List ℕ))). slot_at t slot) (sym says.only.hops) ∙ none);
+          ap (λ (t : List (Option _)). slot_at t slot) only.attempts
+          ∙ runs.runs slot (ap (λ (t : List (Option (List ℕ))). slot_at t slot) (sym only.hops) ∙ none);
     }
 
     pub heard_there : (next : World D)
@@ -225,5 +236,5 @@ module _ {D : Type 0} (honest : Type 0) (words : DiskWords D) where
     heard_there = (its_world, heard_event, heard_runs)
 
   pub hearing : HearingIntoHears honest words
-  hearing world node at session octets row left heard old new runs serves carried knows says =
-      heard_there world node at session octets row left heard old new runs serves carried knows says
+  hearing world node at piece row left heard old new runs wrote knows says only =
+      heard_there world node at piece row left heard old new runs wrote knows says only

@@ -6,7 +6,10 @@ mod DropLemmas
 mod EachLemmas
 mod EndLemmas
 mod GiveLemmas
+mod GrownLemmas
 mod HearLemmas
+mod HearOneLemmas
+mod HereLemmas
 mod KeepLemmas
 mod LoseLemmas
 mod MoveLemmas
@@ -15,9 +18,12 @@ mod OtherLemmas
 mod OtherNodeLemmas
 mod PutLemmas
 mod ReadLemmas
+mod RefusedLemmas
 mod ReplyLemmas
 mod SettleLemmas
 mod StartLemmas
 mod StayLemmas
+mod StepLemmas
 mod TalkLemmas
 mod WriteLemmas
+mod WroteLemmas

@@ -1,5 +1,5 @@
 -- An attempt whose connection a relay has lost.
-use Rattle.std.proofs.Common.{inl, inr, ◌≡◌, ◌≢◌, ℕ, List, [], Option, None, Some, take, refl, sym, subst, ap, ◌∙◌, append-nil}
+use Rattle.std.proofs.Common.{inl, inr, ◌≡◌, ◌≢◌, ℕ, List, Option, None, Some, take, refl, sym, subst, ap, ◌∙◌}
 use Rattle.std.specs.Prelude.{slice_get}
 use Rattle.std.proofs.lemmas.Bool.Decides.{eqb_tells}
 use Rattle.std.proofs.lemmas.List.{length-set}
@@ -21,10 +21,10 @@ use Rattle.relay_world.specs.declared.line.Line.{Line}
 use Rattle.relay_world.specs.Bound.{HasFate, IsBound, NodeKeeps, StateKeeps, told_by}
 use Rattle.relay_world.specs.Steps.{AttemptOf, HasLost, IsPut}
 use Rattle.relay_world.specs.World.{Down, Host, HostState, Up, World}
-use Rattle.relay_daemon.specs.Calls.{LossSays}
-use Rattle.relay_daemon.specs.Events.{LosesThere, LosingIsAnEvent, LosingWrittenIsAnEvent, fated, lines_ended}
+use Rattle.relay_daemon.specs.Calls.{LoseSays}
+use Rattle.relay_daemon.specs.Events.{LosesThere, LosingIsAnEvent, fated, lines_ended}
 use Rattle.relay_daemon.specs.Runs.{ReachesHop, RunsAt, host_with_note, untold}
-use Rattle.relay_daemon.specs.Wanted.{LoseSays}
+use Rattle.relay_daemon.proofs.KeepLemmas.{its_changes, its_keeps, its_stand}
 use Rattle.relay_daemon.proofs.MoveLemmas.{not_both}
 use Rattle.relay_daemon.proofs.PutLemmas.{value_put}
 use Rattle.relay_daemon.proofs.StayLemmas.{client_stays}
@@ -52,18 +52,17 @@ one_running world node one other waiting octets first second same =
     ap (λ f. slot_of f one) (sym first.has.runs ∙ ap (λ (a : Attempt). a.fate) attempt ∙ second.has.runs)
 
 module _ {D : Type 0} (honest : Type 0) (words : DiskWords D) where
-  -- a node keeps these changes, and this is told of an attempt of it
-  pub record TellsThere (node : NodeState D) (slot : ℕ) : Type 0 where
-    pub changes : List Change
+  -- this is told of an attempt of a node, by these changes
+  pub record TellsBy (node : NodeState D) (changes : List Change) (slot : ℕ) : Type 0 where
     pub told : Told
-    pub keeps : Keeps honest words node.records changes
     pub tells : Tells node.config.host changes node.attempts slot told
 
-  -- what is told of an attempt that a running relay has a connection for
-  pub tells_there : (world : World D) (lists : List (List Change)) (node slot : ℕ) (waiting : List ℕ)
-      (relay : RelayState D) → RunsAt world node relay → IsBound honest words world lists
-      → ReachesHop world node slot waiting → TellsThere relay.node slot
-  tells_there world lists node slot waiting relay runs bound reaches =
+  -- what is told of an attempt that a running relay has a connection for, by the changes that its node keeps
+  pub tells_by : (world : World D) (lists : List (List Change)) (node slot : ℕ) (waiting : List ℕ)
+      (relay : RelayState D) → (runs : RunsAt world node relay) → (bound : IsBound honest words world lists)
+      → ReachesHop world node slot waiting
+      → TellsBy relay.node (its_changes honest words world lists node relay runs bound) slot
+  tells_by world lists node slot waiting relay runs bound reaches =
       let tried = bound.clients reaches.attempt.link reaches.place reaches.link reaches.link_is reaches.client in
       let attempt : reaches.attempt ≡ tried.attempt = same_Some reaches.attempt tried.attempt
       (sym reaches.attempt_at ∙ tried.attempt_at) in
@@ -75,20 +74,42 @@ module _ {D : Type 0} (honest : Type 0) (words : DiskWords D) where
       let there = goes_on.2 in
       let host : tried.host ≡ runs.host = same_Some tried.host runs.host
       (sym tried.stands.host_at ∙ ap (λ n. slice_get world.hosts n) its_node ∙ runs.host_at) in
+      let changes : tried.changes ≡ its_changes honest words world lists node relay runs bound = same_Some tried.changes
+      (its_changes honest words world lists node relay runs bound)
+      (sym tried.stands.list_at ∙ ap (λ n. slice_get lists n) its_node
+      ∙ (its_stand honest words world lists node relay runs bound).list_at) in
       let same : there.0 ≡ relay.node = one_node tried.host.state there.0 relay.node there.1
       (ap (λ (h : Host D). h.state) host ∙ runs.up) in
       let kept : NodeKeeps honest words tried.host.config there.0 tried.changes =
       subst (λ s. StateKeeps honest words tried.host.config s tried.changes) there.1
       (bound.hosts tried.attempt.node tried.host tried.changes tried.stands).holds in
-      subst (λ (n : NodeState D). TellsThere n slot) same (record {
-        changes = tried.changes;
+      subst (λ (l : List Change). TellsBy relay.node l slot) changes
+      (subst (λ (n : NodeState D). TellsBy n tried.changes slot) same (record {
         told = told_by tried.attempt passes.accept (take reaches.link.down_read reaches.link.down) passes.output;
-        keeps = kept.keeps;
         tells = subst
             (λ (c : Config). Tells c.host tried.changes there.0.attempts slot
             (told_by tried.attempt passes.accept (take reaches.link.down_read reaches.link.down) passes.output))
             (sym kept.config_is) there.2;
-      })
+      }))
+
+  -- a node keeps these changes, and this is told of an attempt of it
+  pub record TellsThere (node : NodeState D) (slot : ℕ) : Type 0 where
+    pub changes : List Change
+    pub told : Told
+    pub keeps : Keeps honest words node.records changes
+    pub tells : Tells node.config.host changes node.attempts slot told
+
+  pub tells_there : (world : World D) (lists : List (List Change)) (node slot : ℕ) (waiting : List ℕ)
+      (relay : RelayState D) → RunsAt world node relay → IsBound honest words world lists
+      → ReachesHop world node slot waiting → TellsThere relay.node slot
+  tells_there world lists node slot waiting relay runs bound reaches =
+      let by = tells_by world lists node slot waiting relay runs bound reaches in
+      record {
+        changes = its_changes honest words world lists node relay runs bound;
+        told = by.told;
+        keeps = its_keeps honest words world lists node relay runs bound;
+        tells = by.tells;
+      }
 
   module _ (world : World D) (lists : List (List Change)) (node slot change : ℕ) (waiting : List ℕ)
       (old new : RelayState D) (runs : RunsAt world node old) (bound : IsBound honest words world lists)
@@ -207,19 +228,3 @@ module _ {D : Type 0} (honest : Type 0) (words : DiskWords D) where
       let there = tells_there world lists node slot waiting old runs bound reaches in
       let noted = (says.lost there.changes there.told there.keeps there.tells).adds.adds.noted in
       lost_there world lists node slot change waiting old new runs bound reaches says noted.note noted.is
-
-  -- If nothing was to be written, the contract says what was recorded for each history of the attempt.
-  whole_loss : (now slot change : ℕ) (old new : RelayState D) → slot_at old.hops slot ≡ Some []
-      → LossSays honest words old new now slot change → LoseSays honest words old new now slot change
-  whole_loss now slot change old new connected says = record {
-    lost = λ changes told keeps tells. says.lost changes told told.output keeps
-        (record { tells = tells; waiting = []; connection = connected; output = sym (append-nil told.output) });
-    gone = says.gone;
-    ended = says.ended;
-    only = says.only;
-  }
-
-  pub losing_written : LosingWrittenIsAnEvent honest words
-  losing_written world lists node slot change old new runs bound reaches connected says =
-      losing world lists node slot change [] old new runs bound reaches
-      (whole_loss world.clock slot change old new connected says)

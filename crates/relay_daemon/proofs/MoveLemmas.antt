@@ -28,7 +28,7 @@ module _ {D : Type 0} where
     unwritten = serves.unwritten;
   }
 
-  pub hop_beside : (old new : World D) (node slot : ℕ) (waiting : List ℕ) (number : ℕ) (moved : Link)
+  abbrev pub hop_beside : (old new : World D) (node slot : ℕ) (waiting : List ℕ) (number : ℕ) (moved : Link)
       → IsPutAt old.links new.links number moved → (reaches : ReachesHop old node slot waiting)
       → slice_get new.attempts reaches.place ≡ slice_get old.attempts reaches.place
       → reaches.attempt.link ≢ number → ReachesHop new node slot waiting

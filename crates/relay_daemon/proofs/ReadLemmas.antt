@@ -11,29 +11,41 @@ use Rattle.relay_records.specs.Staged.{Row}
 use Rattle.relay_report.specs.Report.{reporter_of}
 use Rattle.relay_node.specs.StagedReplies.{RepliesInto}
 use Rattle.relay_loop.specs.declared.hops.Answered.{Answered}
+use Rattle.relay_loop.specs.declared.replying.ReplyPiece.{ReplyPiece}
+use Rattle.relay_loop.specs.GroupCalls.{TakesReply}
 use Rattle.relay_loop.specs.Hops.{IsSetTo}
-use Rattle.relay_loop.specs.Relay.{RelayState}
+use Rattle.relay_loop.specs.Relay.{OnlyHop, RelayState}
 use Rattle.relay_world.specs.declared.attempt.Attempt.{Attempt}
 use Rattle.relay_world.specs.declared.attempt.Fate.TheVariants.{Replied as RepliedBy, Running}
 use Rattle.relay_world.specs.declared.line.Line.{Line}
 use Rattle.relay_world.specs.declared.link.Link.{Link}
 use Rattle.relay_world.specs.Groups.{HasReadInto, OutcomeInto}
 use Rattle.relay_world.specs.Ledger.{left_lines, report_told}
-use Rattle.relay_world.specs.Steps.{AttemptOf, IsPut, IsPutAt, read_link, waiting_down}
+use Rattle.relay_world.specs.Steps.{AttemptOf, IsPut, IsPutAt, read_link}
 use Rattle.relay_world.specs.World.{Host, Up, World, link_at}
 use Rattle.relay_daemon.specs.Events.{ReadingIntoReads}
+use Rattle.relay_daemon.specs.Given.{HopWrote, KnowsAttempt}
 use Rattle.relay_daemon.specs.Runs.{ReachesHop, RunsAt, host_with}
-use Rattle.relay_daemon.specs.Wanted.{KnowsAttempt, ReadsIntoSays}
 use Rattle.relay_daemon.proofs.HearLemmas.{whole_written}
 use Rattle.relay_daemon.proofs.LoseLemmas.{one_running}
 use Rattle.relay_daemon.proofs.MoveLemmas.{client_moved, hop_beside, not_both}
 use Rattle.relay_daemon.proofs.PutLemmas.{link_put, value_put}
 
 module _ {D : Type 0} (honest : Type 0) (words : DiskWords D) where
-  module _ (world : World D) (node at slot : ℕ) (octets : List ℕ) (row left : Row) (answered : Answered)
-      (old new : RelayState D) (runs : RunsAt world node old) (reaches : ReachesHop world node slot [])
-      (carried : waiting_down (length octets) reaches.link ≡ octets) (knows : KnowsAttempt honest words old row slot)
-      (says : ReadsIntoSays honest words old new at slot octets row left answered) where
+  module _ (world : World D) (node at : ℕ) (reply : ReplyPiece) (row left : Row) (answered : Answered)
+      (old new : RelayState D) (runs : RunsAt world node old)
+      (wrote : HopWrote world node reply.attempt reply.octets.now)
+      (knows : KnowsAttempt honest words old row reply.attempt)
+      (says : TakesReply honest words at old row new left reply answered) (only : OnlyHop old new reply.attempt) where
+    abbrev slot : ℕ
+    slot = reply.attempt
+
+    abbrev octets : List ℕ
+    octets = reply.octets.now
+
+    abbrev reaches : ReachesHop world node slot []
+    reaches = wrote.reaches
+
     abbrev out : List ℕ
     out = says.replied.out.items
 
@@ -139,12 +151,12 @@ module _ {D : Type 0} (honest : Type 0) (words : DiskWords D) where
       replied = says.replied;
       replies = λ changes pending told awaits tells.
           subst (λ o. RepliesInto honest words (reporter_of old.node.config) at changes pending slot told row o old.node
-          new.node left says.replied says.replied.change) (sym carried)
+          new.node left says.replied says.replied.change) (sym wrote.unread)
           (says.replies changes pending told awaits tells);
-      used = subst (λ o. says.replied.used ≤ length o) (sym carried) says.within;
-      others = says.only.attempts;
-      config = says.only.config;
-      seats = says.only.seats;
+      used = subst (λ o. says.replied.used ≤ length o) (sym wrote.unread) says.uses.within;
+      others = only.attempts;
+      config = only.config;
+      seats = only.seats;
       links = put;
       outcome = it.outcome;
       rest = (refl, length-set world.hosts node it.host);
@@ -191,7 +203,7 @@ module _ {D : Type 0} (honest : Type 0) (words : DiskWords D) where
         elim (eqb_tells other slot) [
           | inl same ↦ hop_new other waiting same.1 is
           | inr off ↦
-              let first = runs.hops other waiting (sym (says.only.hops other off.1) ∙ is) in
+              let first = runs.hops other waiting (sym (only.hops other off.1) ∙ is) in
               hop_beside world its_world node other waiting reaches.attempt.link its_link put first
               (it.others first.place (off_place other waiting off.1 first)) (off_link other waiting off.1 first)
         ]
@@ -203,7 +215,7 @@ module _ {D : Type 0} (honest : Type 0) (words : DiskWords D) where
               ap (λ n. slot_at new.node.attempts n) same.1
               ∙ it.is_over (ap (λ n. slot_at new.hops n) (sym same.1) ∙ none)
           | inr off ↦
-              says.only.attempts other off.1 ∙ runs.runs other (sym (says.only.hops other off.1) ∙ none)
+              only.attempts other off.1 ∙ runs.runs other (sym (only.hops other off.1) ∙ none)
         ]
 
     read_runs : RunsAt its_world node new
@@ -215,12 +227,12 @@ module _ {D : Type 0} (honest : Type 0) (words : DiskWords D) where
           client_moved world its_world node session waiting reaches.attempt.link reaches.link its_link reaches.link_is put
           refl refl refl
           (runs.clients session waiting
-          (ap (λ (t : List (Option (List ℕ))). slot_at t session) (sym says.only.clients) ∙ is));
+          (ap (λ (t : List (Option (List ℕ))). slot_at t session) (sym only.clients) ∙ is));
       hops = hop_there;
       seats = λ session none.
-          ap (λ (t : List (Option _)). slot_at t session) says.only.seats
+          ap (λ (t : List (Option _)). slot_at t session) only.seats
           ∙ runs.seats session
-          (ap (λ (t : List (Option (List ℕ))). slot_at t session) (sym says.only.clients) ∙ none);
+          (ap (λ (t : List (Option (List ℕ))). slot_at t session) (sym only.clients) ∙ none);
       runs = run_there;
     }
 
@@ -231,5 +243,5 @@ module _ {D : Type 0} (honest : Type 0) (words : DiskWords D) where
     read_there = (its_world, read_event, read_runs)
 
   pub reading : ReadingIntoReads honest words
-  reading world node at slot octets row left answered old new runs reaches carried knows says =
-      read_there world node at slot octets row left answered old new runs reaches carried knows says
+  reading world node at reply row left answered old new runs wrote knows says only =
+      read_there world node at reply row left answered old new runs wrote knows says only

@@ -1,6 +1,6 @@
 -- What the contracts of a relay's calls say, if they succeed. Each record has the clauses of one call that its event
 -- rests on, as they stand there.
-use Rattle.std.specs.Prelude.{◌≡◌, ◌≢◌, ◌⊎◌, ℕ, ◌<◌, ◌^◌, List, [], None, Some, drop, length}
+use Rattle.std.specs.Prelude.{◌≡◌, ◌≢◌, ◌⊎◌, ℕ, ◌≤◌, ◌<◌, ◌^◌, List, [], None, Some, drop, length}
 use Rattle.std.specs.Option.{option_map}
 use Rattle.relay_disk.specs.Device.{DiskWords}
 use Rattle.relay_slots.specs.Slots.{IsLeastFree, OthersStay, slot_at}
@@ -13,10 +13,11 @@ use Rattle.relay_report.specs.Report.{reporter_of}
 use Rattle.relay_attempts.specs.declared.start.Started.{Started}
 use Rattle.relay_attempts.specs.Outcomes.{AddsUnroutable}
 use Rattle.relay_attempts.specs.Withdrawals.{AddsWithdrawal, EndsWithdrawal}
-use Rattle.relay_node.specs.Attempts.{IsDropped}
+use Rattle.relay_node.specs.Attempts.{IsDropped, Tells}
 use Rattle.relay_node.specs.Node.{greeted_by}
-use Rattle.relay_loop.specs.Clients.{TalksTo}
+use Rattle.relay_loop.specs.Clients.{HearsClient, TalksTo}
 use Rattle.relay_attempts.specs.Reply.{IsLost, Told}
+use Rattle.relay_loop.specs.declared.clients.Heard.{Heard}
 use Rattle.relay_loop.specs.declared.hops.Answered.{Answered}
 use Rattle.relay_loop.specs.Hops.{HandsTo, Replies, StartsTo, UsesReply}
 use Rattle.relay_loop.specs.Outboxes.{unwritten_at}
@@ -122,6 +123,12 @@ module _ {D : Type 0} (honest : Type 0) (words : DiskWords D) (old new : RelaySt
     pub only : OnlyHop old new started.attempt
     pub records : new.node.records ≡ old.node.records
 
+  -- `Relay::read` of this piece of a client at a time, with this result, if nothing was unwritten
+  pub record HearSays (now session : ℕ) (piece : List ℕ) (heard : Heard) : Type 0 where
+    pub hears : HearsClient honest words session now piece old new heard
+    pub within : heard.used ≤ length piece
+    pub only : OnlyClient old new session
+
   -- `Relay::reply` of this piece for an attempt at a time, with this result; the octets that are unwritten then, or the
   -- last ones, are those of a slice
   pub record ReplySays (now slot : ℕ) (piece : List ℕ) (answered : Answered) : Type 0 where
@@ -134,11 +141,11 @@ module _ {D : Type 0} (honest : Type 0) (words : DiskWords D) (old new : RelaySt
     pub short : length (unwritten_at new.hops slot) < 2 ^ 63
     pub short_last : (last : List ℕ) → answered.last ≡ Some last → length last < 2 ^ 63
 
-  -- `Relay::lose` of this attempt at a time, with this result. What was recorded is said for each history of the
-  -- attempt whose output ends with the octets that were unwritten.
-  pub record LossSays (now slot change : ℕ) : Type 0 where
-    pub lost : (changes : List Change) (told : Told) (written : List ℕ) → Keeps honest words old.node.records changes
-        → HandsTo changes old slot told written
+  -- `Relay::lose` of this attempt at a time, with this result
+  pub record LoseSays (now slot change : ℕ) : Type 0 where
+    pub was : slot_at old.hops slot ≢ None
+    pub lost : (changes : List Change) (told : Told) → Keeps honest words old.node.records changes
+        → Tells old.node.config.host changes old.node.attempts slot told
         → IsLost honest words (reporter_of old.node.config) now changes slot told old.node.records new.node.records
         new.node.attempts change
     pub gone : slot_at new.hops slot ≡ None

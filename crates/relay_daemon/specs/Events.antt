@@ -1,7 +1,6 @@
 -- Each call of a relay that runs in a world is an event of the world, after which it runs there still.
 use Rattle.std.specs.Prelude.{◌≡◌, ◌≢◌, ℕ, ◌-◌, false, List, [], ◌∷◌, ◌++◌, length, Option, None, Some, slice_get}
 use Rattle.std.specs.Prelude.{slice_set, take}
-use Rattle.std.specs.List.{AllByRecursion}
 use Rattle.relay_disk.specs.Device.{DiskWords}
 use Rattle.relay_envelope.specs.HostName.{IsHostName}
 use Rattle.relay_lines.specs.Reply.{Reply, one_line}
@@ -11,16 +10,20 @@ use Rattle.relay_slots.specs.Slots.{AreFree, slot_at}
 use Rattle.relay_book.specs.declared.change.Change.{Change}
 use Rattle.relay_book.specs.declared.change.Withdrawal.{Withdrawal}
 use Rattle.relay_records.specs.declared.noted.Noted.{Noted}
-use Rattle.relay_records.specs.Staged.{Awaits, Row, no_row}
+use Rattle.relay_records.specs.Staged.{Row, no_row}
 use Rattle.relay_attempts.specs.declared.start.Started.{Started}
 use Rattle.relay_node.specs.Node.{IsIdle}
 use Rattle.relay_loop.specs.declared.clients.Heard.{Heard}
 use Rattle.relay_loop.specs.declared.closing.Closing.{Closing}
+use Rattle.relay_loop.specs.declared.group.Group.{Group}
+use Rattle.relay_loop.specs.declared.group.Piece.{Piece}
 use Rattle.relay_loop.specs.declared.hops.Answered.{Answered}
+use Rattle.relay_loop.specs.declared.replying.ReplyPiece.{ReplyPiece}
 use Rattle.relay_loop.specs.Clients.{TalksTo}
 use Rattle.relay_loop.specs.Closing.{text_of}
+use Rattle.relay_loop.specs.GroupCalls.{Adds, HearsGroup, TakesPiece, TakesReply}
 use Rattle.relay_loop.specs.Outboxes.{unwritten_at}
-use Rattle.relay_loop.specs.Relay.{RelayState}
+use Rattle.relay_loop.specs.Relay.{OnlyClient, OnlyHop, RelayState}
 use Rattle.relay_world.specs.declared.attempt.Attempt.{Attempt}
 use Rattle.relay_world.specs.declared.attempt.Fate.TheVariants.{Dropped, Lost, Running}
 use Rattle.relay_world.specs.declared.line.Line.{Line}
@@ -28,18 +31,18 @@ use Rattle.relay_world.specs.declared.link.Link.{Link}
 use Rattle.relay_world.specs.declared.link.ServerEnd.{ServerEnd}
 use Rattle.relay_world.specs.Bound.{IsBound, NodeKeeps}
 use Rattle.relay_world.specs.GivingUp.{NoHop, Postmaster, Reason}
-use Rattle.relay_world.specs.Groups.{HasHeardAll, HasHeardEach, HasHeardInto, HasReadInto, Piece}
+use Rattle.relay_world.specs.Groups.{HasHeardAll, HasHeardEach, HasHeardInto, HasReadInto, Piece as Carried}
 use Rattle.relay_world.specs.Ledger.{left_lines, report_told}
-use Rattle.relay_world.specs.Steps.{CutsOff, DropsAttempt, EndsSession, HasGivenUp, HasLost, HasOpened, HasRead}
-use Rattle.relay_world.specs.Steps.{HasStarted, IsBlank, IsPutAt, ended_link, waiting_down, waiting_up}
+use Rattle.relay_world.specs.Steps.{CutsOff, DropsAttempt, EndsSession, HasGivenUp, HasHeard, HasLost, HasOpened}
+use Rattle.relay_world.specs.Steps.{HasRead, HasStarted, IsBlank, IsPutAt, ended_link, waiting_down}
 use Rattle.relay_world.specs.Stops.{HasCompacted, StaysUp}
 use Rattle.relay_world.specs.World.{Host, Up, World}
-use Rattle.relay_daemon.specs.Calls.{AcceptSays, CompactSays, DropSays, EndSays, GiveUpSays, LossSays, ReplySays}
-use Rattle.relay_daemon.specs.Calls.{StartSays, TrimSays, WithdrawSays, WroteHopSays, WroteSays}
+use Rattle.relay_daemon.specs.Calls.{AcceptSays, CompactSays, DropSays, EndSays, GiveUpSays, HearSays, LoseSays}
+use Rattle.relay_daemon.specs.Calls.{ReplySays, StartSays, TrimSays, WithdrawSays, WroteHopSays, WroteSays}
+use Rattle.relay_daemon.specs.Given.{ClientWrote, ClientsWrote, HaveOnePiece, HaveOneReply, HopWrote, HopsWrote}
+use Rattle.relay_daemon.specs.Given.{KnowsAttempt, KnowsSession}
 use Rattle.relay_daemon.specs.Runs.{ReachesHop, RunsAt, ServesClient, host_with, host_with_note, told_of}
 use Rattle.relay_daemon.specs.Runs.{untold, with_host}
-use Rattle.relay_daemon.specs.Wanted.{AreDistinct, ClientPiece, HearsEachSays, HearsIntoSays, IsReady, KnowsAttempt}
-use Rattle.relay_daemon.specs.Wanted.{KnowsSession, LoseSays, ReadsIntoSays, SettleSays}
 
 module _ {D : Type 0} (world : World D) (node : ℕ) (old new : RelayState D) (runs : RunsAt world node old) where
   -- the world in which the host of a running relay has the relay's node as it is now
@@ -246,6 +249,17 @@ StartingStarts {D} honest words =
     → HasStarted honest words world (begun world node old new runs message hop started number links) number message hop
     × RunsAt (begun world node old new runs message hop started number links) node new
 
+-- One that has heard octets of a client, all of which were unread on its link, has heard them there: what it writes is
+-- on the link, and the accept is recorded if mail was accepted.
+abbrev pub HearingHears : {D : Type 0} → Type 0 → DiskWords D → Type 0
+HearingHears {D} honest words =
+    (world : World D) (lists : List (List Change)) (node session : ℕ) (octets : List ℕ) (heard : Heard)
+    (old new : RelayState D) → RunsAt world node old → IsBound honest words world lists
+    → (wrote : ClientWrote world node session octets)
+    → HearSays honest words old new world.clock session octets heard
+    → (next : World D) × HasHeard honest words world next wrote.serves.number (length octets)
+    × RunsAt next node (told_of heard.change new)
+
 -- One that has read replies of a hop, all of which were unread on the attempt's link, has read them there: what the
 -- attempt writes is on the link, and its outcome is recorded if they ended it.
 abbrev pub ReplyingReads : {D : Type 0} → Type 0 → DiskWords D → Type 0
@@ -278,18 +292,6 @@ WritingToHopsStays D =
     (world : World D) (node slot count : ℕ) (old new : RelayState D) → RunsAt world node old
     → WroteHopSays old new slot count → RunsAt world node new
 
--- One that has recorded the loss of the connection to a hop, to which nothing was to be written, has recorded it in its
--- world.
-abbrev pub LosingWrittenIsAnEvent : {D : Type 0} → Type 0 → DiskWords D → Type 0
-LosingWrittenIsAnEvent {D} honest words =
-    (world : World D) (lists : List (List Change)) (node slot change : ℕ) (old new : RelayState D)
-    (runs : RunsAt world node old) → IsBound honest words world lists
-    → (reaches : ReachesHop world node slot []) → slot_at old.hops slot ≡ Some []
-    → LossSays honest words old new world.clock slot change
-    → LosesThere world node old new runs honest words slot [] reaches change
-
--- The laws below rest on clauses that the contracts have yet to say (Wanted).
-
 -- One that has recorded the loss of the connection to a hop has recorded it in its world.
 abbrev pub LosingIsAnEvent : {D : Type 0} → Type 0 → DiskWords D → Type 0
 LosingIsAnEvent {D} honest words =
@@ -302,50 +304,45 @@ LosingIsAnEvent {D} honest words =
 -- writes is on the link, and has still to be written to the connection.
 abbrev pub HearingIntoHears : {D : Type 0} → Type 0 → DiskWords D → Type 0
 HearingIntoHears {D} honest words =
-    (world : World D) (node at session : ℕ) (octets : List ℕ) (row left : Row) (heard : Heard) (old new : RelayState D)
-    (runs : RunsAt world node old) (serves : ServesClient world node session [])
-    → waiting_up (length octets) serves.link ≡ octets → KnowsSession honest words old row session
-    → HearsIntoSays honest words old new at session octets row left heard
+    (world : World D) (node at : ℕ) (piece : Piece) (row left : Row) (heard : Heard) (old new : RelayState D)
+    → RunsAt world node old → (wrote : ClientWrote world node piece.session piece.octets.now)
+    → KnowsSession honest words old row piece.session → TakesPiece honest words at old row new left piece heard
+    → OnlyClient old new piece.session
     → (next : World D)
-    × HasHeardInto honest words at world next node (record { number = serves.number; count = length octets }) row left
+    × HasHeardInto honest words at world next node
+    (record { number = wrote.serves.number; count = length piece.octets.now }) row left
     × RunsAt next node new
 
 -- One that reads replies of a hop in a group, all of which were unread on the attempt's link, has read them there.
 abbrev pub ReadingIntoReads : {D : Type 0} → Type 0 → DiskWords D → Type 0
 ReadingIntoReads {D} honest words =
-    (world : World D) (node at slot : ℕ) (octets : List ℕ) (row left : Row) (answered : Answered)
-    (old new : RelayState D) (runs : RunsAt world node old) (reaches : ReachesHop world node slot [])
-    → waiting_down (length octets) reaches.link ≡ octets → KnowsAttempt honest words old row slot
-    → ReadsIntoSays honest words old new at slot octets row left answered
+    (world : World D) (node at : ℕ) (reply : ReplyPiece) (row left : Row) (answered : Answered)
+    (old new : RelayState D) → RunsAt world node old → (wrote : HopWrote world node reply.attempt reply.octets.now)
+    → KnowsAttempt honest words old row reply.attempt → TakesReply honest words at old row new left reply answered
+    → OnlyHop old new reply.attempt
     → (next : World D)
-    × HasReadInto honest words at world next node (record { number = reaches.attempt.link; count = length octets })
-    row left
+    × HasReadInto honest words at world next node
+    (record { number = wrote.reaches.attempt.link; count = length reply.octets.now }) row left
     × RunsAt next node new
 
 -- One that has processed pieces and replies one after another, and then added the changes of all of them to its spool,
 -- has heard and read them in its world, in one event.
 abbrev pub SettlingHearsAll : {D : Type 0} → Type 0 → DiskWords D → Type 0
 SettlingHearsAll {D} honest words =
-    (world heard : World D) (node : ℕ) (pieces : List Piece) (row : Row) (old before new : RelayState D)
+    (world heard : World D) (node : ℕ) (carried : List Carried) (row : Row) (old before new : RelayState D)
     → RunsAt world node old → (there : RunsAt heard node before)
-    → HasHeardEach honest words world.clock world heard node pieces no_row row → SettleSays honest words before new row
-    → HasHeardAll honest words world (moved heard node before new there) node pieces
+    → HasHeardEach honest words world.clock world heard node carried no_row row → Adds honest words before row new
+    → HasHeardAll honest words world (moved heard node before new there) node carried
     × RunsAt (moved heard node before new there) node new
 
--- Pieces were heard in a world one after another, after a row, and the relay runs in the world afterwards.
-pub record HearsThem {D : Type 0} (honest : Type 0) (words : DiskWords D) (world : World D) (node at : ℕ)
-    (row left : Row) (relay : RelayState D) : Type 0 where
-  pub pieces : List Piece
-  pub next : World D
-  pub each : HasHeardEach honest words at world next node pieces row left
-  pub there : RunsAt next node relay
-
--- One that hears several clients in a group, and then adds the accepts of all to its spool, has heard them in its
--- world, in one event.
-abbrev pub HearingClientsHears : {D : Type 0} → Type 0 → DiskWords D → Type 0
-HearingClientsHears {D} honest words =
-    (world : World D) (node : ℕ) (pieces : List ClientPiece) (changes : List Change) (row : Row)
-    (old before new : RelayState D) → RunsAt world node old → AllByRecursion (IsReady world node old) pieces
-    → AreDistinct pieces → Awaits honest words old.node.records changes [] no_row
-    → HearsEachSays honest words world.clock old no_row pieces before row → SettleSays honest words before new row
-    → (heard : List Piece) × (next : World D) × HasHeardAll honest words world next node heard × RunsAt next node new
+-- One that was given octets of several clients and next hops in one call, each the first unread ones on its link, has
+-- heard and read them in its world, in one event. Those that it left unread aren't part of the event; where it lacked
+-- memory or room for one, that session has ended, or that attempt was dropped.
+abbrev pub HearingAllIsAnEvent : {D : Type 0} → Type 0 → DiskWords D → Type 0
+HearingAllIsAnEvent {D} honest words =
+    (world : World D) (lists : List (List Change)) (node : ℕ) (pieces : List Piece) (replies : List ReplyPiece)
+    (group : Group) (old new : RelayState D) → RunsAt world node old → IsBound honest words world lists
+    → HaveOnePiece pieces → HaveOneReply replies → ClientsWrote world node old pieces
+    → HopsWrote world node old replies → HearsGroup honest words world.clock pieces replies old new group
+    → (carried : List Carried) × (next : World D) × HasHeardAll honest words world next node carried
+    × RunsAt next node new

@@ -1,6 +1,6 @@
 pub mod Runs
 pub mod Calls
-pub mod Wanted
+pub mod Given
 pub mod Events
 pub mod Elsewhere
 pub mod Sequences

@@ -1,13 +1,16 @@
-//! The calls of a relay, each with what its event rests on as its one clause: so the premises of the laws are what the
-//! contracts say.
-ghost use Rattle.std.specs.Prelude.{◌≡◌, ◌≤◌, ◌<◌, ◌^◌, ℕ, IfErr, IfOk, List, OnOk, Some, length, true};
-ghost use Rattle.relay_daemon.specs.Calls.{AcceptSays, CompactSays, DropSays, EndSays, GiveUpSays, IsShort, LossSays};
-ghost use Rattle.relay_daemon.specs.Calls.{ReplySays, StartSays, TrimSays, WithdrawSays, WroteHopSays, WroteSays};
+//! The calls of a relay, each with what its event rests on as a clause: so the premises of the laws are what the
+//! contracts say. Some have a second clause: if the call is refused, nothing has changed.
+ghost use Rattle.std.specs.Prelude.{◌≡◌, ◌≢◌, ◌≤◌, ◌<◌, ◌^◌, ℕ, IfErr, IfOk, List, OnOk, Some, [], length, true};
+ghost use Rattle.relay_daemon.specs.Calls.{AcceptSays, CompactSays, DropSays, EndSays, GiveUpSays, HearSays, IsShort};
+ghost use Rattle.relay_daemon.specs.Calls.{LoseSays, ReplySays, StartSays, TrimSays, WithdrawSays, WroteHopSays};
+ghost use Rattle.relay_daemon.specs.Calls.{WroteSays};
+ghost use Rattle.relay_loop.specs.GroupCalls.{HearsGroup};
 ghost use Rattle.relay_loop.specs.Outboxes.{unwritten_at};
+ghost use Rattle.relay_slots.specs.Slots.{slot_at};
 
 use relay_book::Withdrawal;
 use relay_disk::Disk;
-use relay_loop::{Answered, Outbox, Relay};
+use relay_loop::{Answered, Group, Heard, Outbox, Piece, Relay, ReplyPiece};
 use relay_node::Started;
 use relay_records::NodeFault;
 use relay_routes::HostName;
@@ -30,18 +33,21 @@ pub fn trim<D: Disk>(relay: &mut Relay<D>, most: usize) -> Result<bool, NodeFaul
 }
 
 /// Calls [`Relay::give_up_unroutable`].
+#[tactic(auto, using(crate::proofs::RefusedLemmas::gives_up_not))]
 pub fn give_up_unroutable<D: Disk>(
     relay: &mut Relay<D>,
     message: u64,
     now: Moment,
 ) -> Result<u64, NodeFault>
-    ensures { IfOk result (GiveUpSays D.honest D.words relay.old relay.new now message) }
+    ensures gives_up { IfOk result (GiveUpSays D.honest D.words relay.old relay.new now message) }
+    ensures refused { IfErr result (λ fault. fault ≢ NodeFault.Stopped → relay.new ≡ relay.old) }
 {
     let change = relay.give_up_unroutable(message, now)?;
     Ok(change)
 }
 
 /// Calls [`Relay::withdraw`].
+#[tactic(auto, using(crate::proofs::RefusedLemmas::withdraws_not))]
 pub fn withdraw<D: Disk>(
     relay: &mut Relay<D>,
     message: u64,
@@ -49,19 +55,52 @@ pub fn withdraw<D: Disk>(
     withdrawal: Withdrawal,
     now: Moment,
 ) -> Result<u64, NodeFault>
-    ensures { IfOk result (WithdrawSays D.honest D.words relay.old relay.new withdrawal places.now now message) }
+    ensures withdraws { IfOk result
+        (WithdrawSays D.honest D.words relay.old relay.new withdrawal places.now now message) }
+    ensures refused { IfErr result (λ fault. fault ≢ NodeFault.Stopped → relay.new ≡ relay.old) }
 {
     let change = relay.withdraw(message, places, withdrawal, now)?;
     Ok(change)
 }
 
 /// Calls [`Relay::accept`].
+#[tactic(auto, using(crate::proofs::RefusedLemmas::connects_not))]
 pub fn accept<D: Disk>(relay: &mut Relay<D>, peer: [u8; 4]) -> Result<usize, NodeFault>
-    ensures { IfOk result (AcceptSays relay.old relay.new peer) }
+    ensures accepts { IfOk result (AcceptSays relay.old relay.new peer) }
+    ensures refused { IfErr result (λ _. relay.new ≡ relay.old) }
 {
     let session = relay.accept(peer)?;
     let _greeting = relay.to_client(session).len() + 1;
     Ok(session)
+}
+
+/// Calls [`Relay::read`].
+pub fn read<D: Disk>(
+    relay: &mut Relay<D>,
+    session: usize,
+    piece: &[u8],
+    now: Moment,
+) -> Result<Heard, NodeFault>
+    ensures { slot_at relay.old.clients session ≡ Some [] → IfOk result
+        (HearSays D.honest D.words relay.old relay.new now session piece.now) }
+{
+    let heard = relay.read(session, piece, now)?;
+    Ok(heard)
+}
+
+/// Calls [`Relay::read_all`].
+#[tactic(auto, using(crate::proofs::RefusedLemmas::reads_not))]
+pub fn read_all<D: Disk>(
+    relay: &mut Relay<D>,
+    pieces: &[Piece<'_>],
+    replies: &[ReplyPiece<'_>],
+    now: Moment,
+) -> Result<Group, NodeFault>
+    ensures hears { IfOk result (HearsGroup D.honest D.words now pieces.now replies.now relay.old relay.new) }
+    ensures refused { IfErr result (λ fault. fault ≡ NodeFault.NoMemory → relay.new ≡ relay.old) }
+{
+    let group = relay.read_all(pieces, replies, now)?;
+    Ok(group)
 }
 
 /// Calls [`Relay::end_client`].
@@ -79,9 +118,27 @@ pub fn start<D: Disk>(
     hop: &HostName,
     now: Moment,
 ) -> Result<Started, NodeFault>
-    ensures { IfOk result (StartSays D.honest D.words relay.old relay.new message hop.now now) }
+    ensures starts { IfOk result (StartSays D.honest D.words relay.old relay.new message hop.now now) }
+    ensures refused { IfErr result (λ _. relay.new ≡ relay.old) }
 {
     let started = relay.start(message, hop, now)?;
+    Ok(started)
+}
+
+/// Calls [`Relay::start_some`]. An attempt for fewer places than `most` is for all that are due, as one that
+/// [`Relay::start`] begins.
+pub fn start_some<D: Disk>(
+    relay: &mut Relay<D>,
+    message: u64,
+    hop: &HostName,
+    most: usize,
+    now: Moment,
+) -> Result<Started, NodeFault>
+    ensures starts { IfOk result (λ started. length started.places.items < most
+        → StartSays D.honest D.words relay.old relay.new message hop.now now started) }
+    ensures refused { IfErr result (λ _. relay.new ≡ relay.old) }
+{
+    let started = relay.start_some(message, hop, most, now)?;
     Ok(started)
 }
 
@@ -104,7 +161,7 @@ pub fn reply<D: Disk>(
 
 /// Calls [`Relay::lose`].
 pub fn lose<D: Disk>(relay: &mut Relay<D>, attempt: usize, now: Moment) -> Result<u64, NodeFault>
-    ensures loses { IfOk result (LossSays D.honest D.words relay.old relay.new now attempt) }
+    ensures loses { IfOk result (LoseSays D.honest D.words relay.old relay.new now attempt) }
     ensures dropped { relay.old.node.records.spool.live ≡ true
         → IfErr result (λ fault. IsShort fault → DropSays relay.old relay.new attempt) }
 {

@@ -2,8 +2,8 @@
 ghost use Rattle.relay_daemon.specs.Events.{AcceptingOpens, BeginningRuns, CompactingIsAnEvent, ConnectionsTalk};
 ghost use Rattle.relay_daemon.specs.Events.{CuttingOffCloses, EndingEnds};
 ghost use Rattle.relay_daemon.specs.Elsewhere.{LeavingAloneGoesOn, LeftAloneRunsOn, OthersLeaveAlone};
-ghost use Rattle.relay_daemon.specs.Events.{GivingUpIsAnEvent, HearingClientsHears, HearingIntoHears, LosingIsAnEvent};
-ghost use Rattle.relay_daemon.specs.Events.{LosingWrittenIsAnEvent, ReadingIntoReads};
+ghost use Rattle.relay_daemon.specs.Events.{GivingUpIsAnEvent, HearingAllIsAnEvent, HearingHears, HearingIntoHears};
+ghost use Rattle.relay_daemon.specs.Events.{LosingIsAnEvent, ReadingIntoReads};
 ghost use Rattle.relay_daemon.specs.Events.{RefusingDrops, ReplyingReads, SettlingHearsAll, StartingStarts};
 ghost use Rattle.relay_daemon.specs.Events.{TrimmingGoesOn, WithdrawingIsAnEvent, WritingOutStays, WritingToHopsStays};
 ghost use Rattle.relay_daemon.specs.Networks.{NetworksKeepThePromise};
@@ -63,6 +63,11 @@ pub fn starting_starts<D: Disk>()
     ensures { StartingStarts D.honest D.words }
 {}
 
+/// A relay that has heard octets of a client has heard them on the client's link.
+pub fn hearing_hears<D: Disk>()
+    ensures { HearingHears D.honest D.words }
+{}
+
 /// A relay that has read replies of a hop has read them on the attempt's link.
 pub fn replying_reads<D: Disk>()
     ensures { ReplyingReads D.honest D.words }
@@ -81,12 +86,6 @@ pub fn writing_out_stays<D>()
 /// A relay that has written out octets to a hop runs on in the same world.
 pub fn writing_to_hops_stays<D>()
     ensures { WritingToHopsStays D }
-{}
-
-/// A relay that has recorded the loss of the connection to a hop, to which nothing was to be written, has recorded it
-/// in its world.
-pub fn losing_written_is_an_event<D: Disk>()
-    ensures { LosingWrittenIsAnEvent D.honest D.words }
 {}
 
 /// A relay that has recorded the loss of the connection to a hop has recorded it in its world.
@@ -109,10 +108,13 @@ pub fn settling_hears_all<D: Disk>()
     ensures { SettlingHearsAll D.honest D.words }
 {}
 
-/// A relay that hears several clients in a group has heard them in its world, in one event.
-pub fn hearing_clients_hears<D: Disk>()
-    ensures { HearingClientsHears D.honest D.words }
-{}
+/// A relay that was given octets of several clients and next hops in one call has heard and read them in its world, in
+/// one event.
+pub fn hearing_all_is_an_event<D: Disk>()
+    ensures { HearingAllIsAnEvent D.honest D.words }
+{
+    none_is_awaited::<D>();
+}
 
 /// A relay whose node was left alone runs on, whatever happens elsewhere.
 pub fn left_alone_runs_on<D>()

@@ -1,15 +1,31 @@
 //! The calls of a relay that may add a change, each with the note of that change taken.
-ghost use Rattle.std.specs.Prelude.{◌≡◌, IfErr, IfOk, true};
+ghost use Rattle.std.specs.Prelude.{◌≡◌, ◌≢◌, [], IfErr, IfOk, Some, true};
 ghost use Rattle.relay_daemon.specs.Calls.{IsShort};
 ghost use Rattle.relay_daemon.specs.Runs.{told_of, untold};
-ghost use Rattle.relay_daemon.specs.Sequences.{Does, Drops, GivesUp, Loses, Reads, Withdraws};
+ghost use Rattle.relay_daemon.specs.Sequences.{Does, Drops, GivesUp, HearsOne, IsRefused, Loses, Reads, Withdraws};
+ghost use Rattle.relay_slots.specs.Slots.{slot_at};
 
 use crate::calls;
 use relay_book::Withdrawal;
 use relay_disk::Disk;
-use relay_loop::{Answered, Relay};
+use relay_loop::{Answered, Heard, Relay};
 use relay_records::NodeFault;
 use relay_trace::Moment;
+
+/// Uses octets of a client to which nothing is unwritten, and takes the note of the accept if mail was accepted.
+pub fn read<D: Disk>(
+    relay: &mut Relay<D>,
+    session: usize,
+    piece: &[u8],
+    now: Moment,
+) -> Result<Heard, NodeFault>
+    ensures { slot_at relay.old.clients session ≡ Some [] → IfOk result (λ heard.
+        Does D.honest D.words (HearsOne session piece.now now heard) relay.old relay.new) }
+{
+    let heard = calls::read(relay, session, piece, now)?;
+    take_note_of(relay, heard.change);
+    Ok(heard)
+}
 
 /// Uses replies of a next hop, and takes the note of the outcome if they ended the attempt.
 pub fn reply<D: Disk>(
@@ -45,7 +61,10 @@ pub fn give_up_unroutable<D: Disk>(
     message: u64,
     now: Moment,
 ) -> Result<u64, NodeFault>
-    ensures { IfOk result (λ change. Does D.honest D.words (GivesUp message now change) relay.old relay.new) }
+    ensures gives_up { IfOk result (λ change.
+        Does D.honest D.words (GivesUp message now change) relay.old relay.new) }
+    ensures refused { IfErr result (λ fault. fault ≢ NodeFault.Stopped
+        → Does D.honest D.words IsRefused relay.old relay.new) }
 {
     let change = calls::give_up_unroutable(relay, message, now)?;
     take_note(relay);
@@ -60,8 +79,10 @@ pub fn withdraw<D: Disk>(
     withdrawal: Withdrawal,
     now: Moment,
 ) -> Result<u64, NodeFault>
-    ensures { IfOk result (λ change.
+    ensures withdraws { IfOk result (λ change.
         Does D.honest D.words (Withdraws message places.now withdrawal now change) relay.old relay.new) }
+    ensures refused { IfErr result (λ fault. fault ≢ NodeFault.Stopped
+        → Does D.honest D.words IsRefused relay.old relay.new) }
 {
     let change = calls::withdraw(relay, message, places, withdrawal, now)?;
     take_note(relay);
