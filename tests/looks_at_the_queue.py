@@ -1,7 +1,7 @@
 #!/usr/bin/env python3
 """Prints queues with `relayd list --long`, `list --json`, `show` and `status`: spools that are written here from the
-layout in docs/ alone, octets that a terminal must not get, 100,000 messages, and the spool of a running relay. Ends at
-the first difference.
+layout in docs/ alone, octets that a terminal must not get, 100,000 messages, texts longer than the memory there is, and
+the spool of a running relay. Ends at the first difference.
 
     tests/looks_at_the_queue.py build/relayd
 
@@ -30,6 +30,9 @@ HOUR, DAY = 3600, 86400
 SAFE = re.compile(rb"[\n -~]*")
 # How long a look at 100,000 messages may take, in seconds (one, and longer in the gate), and how many there are.
 SECONDS, MANY = 0.5 * TIMES, 100_000
+# How many long messages there are, how long each text is in octets, and how many octets of memory a look may ask for: a
+# sixth of the texts.
+LONG, LENGTH, MEMORY = 400, 1 << 20, 64 << 20
 
 
 def sized(octets):
@@ -74,6 +77,13 @@ class Queue:
         same(f"relayd {' '.join(words)}", (ended.returncode, ended.stderr), (0, b""))
         if not SAFE.fullmatch(ended.stdout):
             raise Difference(f"relayd {' '.join(words)} prints octets that a terminal must not get")
+        return ended.stdout.decode()
+
+    def within(self, memory, *words):
+        """Returns the output of a subcommand that may ask for this many octets of memory."""
+        ended = subprocess.run(self.relay.words(*words), capture_output=True, timeout=120, env=self.relay.environment,
+                               preexec_fn=lambda: resource.setrlimit(resource.RLIMIT_AS, (memory, memory)))
+        same(f"relayd {' '.join(words)}", (ended.returncode, ended.stderr), (0, b""))
         return ended.stdout.decode()
 
     def numbers(self, *words):
@@ -251,6 +261,32 @@ def many_messages(queue):
     print(f"{MANY} messages: at most {most // 1024} MiB", file=sys.stderr)
 
 
+def texts_stay_on_the_disk(queue):
+    now = int(time.time()) - 3 * HOUR
+    text = b"Subject: long\r\n\r\n".ljust(LENGTH, b"t")
+    queue.write()
+    with queue.relay.spool.open("r+b") as spool:
+        spool.seek(-1, 2)
+        for number in range(LONG):
+            body = accept(now, b"<a@example.org>", [recipient(b"<b%d@example.org>" % number)], text)
+            spool.write(b"\1" + struct.pack(">I", len(body)) + body)
+        spool.write(b"\0")
+    for words, count, last in [
+        (["list"], LONG, f"{LONG} 0 <b{LONG - 1}@example.org> {now}"),
+        (["list", "--long"], LONG + 2, f"{LONG} messages, {LONG} recipients, {LONG}.0 MiB; oldest 3 h"),
+        (["status"], 3, None),
+        (["status", "--prometheus"], None, None),
+        (["list", "--json"], LONG, None),
+    ]:
+        lines = queue.within(MEMORY, *words).splitlines()
+        if count is not None:
+            same(f"the lines of {' '.join(words)}", len(lines), count)
+        if last is not None:
+            same(f"the last line of {' '.join(words)}", lines[-1], last)
+    objects = [json.loads(line) for line in lines]
+    same("the sizes", {it["size"] for it in objects}, {LENGTH})
+
+
 def beside_a_running_relay(program, folder):
     field = Field(program, folder)
     try:
@@ -266,7 +302,8 @@ def beside_a_running_relay(program, folder):
 
 
 ROWS = [list_is_a_table, times_are_local, empty_queue, filters_combine, objects_have_each_field, message_is_shown,
-        tries_are_told_in_words, status_sums_up, metrics_are_prometheus, faults_are_those_of_list, many_messages]
+        tries_are_told_in_words, status_sums_up, metrics_are_prometheus, faults_are_those_of_list, many_messages,
+        texts_stay_on_the_disk]
 
 
 def main():

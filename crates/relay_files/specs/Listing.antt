@@ -3,11 +3,10 @@ use Rattle.std.specs.Prelude.{ℕ, List, [], ◌∷◌, ◌++◌, decimal, Optio
 use Rattle.std.specs.List.{flat_map}
 use Rattle.std.specs.Option.{option_map_or}
 use Rattle.std.specs.Io.KnownBytes.{Appends}
-use Rattle.relay_disk.specs.declared.file.FileDisk.{FileDisk}
 use Rattle.relay_book.specs.Queue.{Queue, held_of}
 use Rattle.relay_records.specs.HeldPlace.{waiting_at}
-use Rattle.relay_records.specs.Records.{Kept}
-use Rattle.relay_files.specs.Opening.{IsOpened}
+use Rattle.relay_outlines.specs.Look.{Seen}
+use Rattle.relay_files.specs.Opening.{IsLook}
 
 -- the number of the message, the recipient's place in it, its path, and when it is due, in seconds since 1970,
 -- separated by spaces
@@ -23,8 +22,9 @@ line_at queue mark = option_map_or (listed_line mark.0 mark.1) (waiting_at queue
 abbrev pub listing_of : Queue → List ℕ
 listing_of queue = flat_map (line_at queue) (held_of queue)
 
--- what was written are the lines of a queue that the files were opened to
+-- what was written are the lines of the queue that the files were opened to
 pub record IsListed (old new : Option (List ℕ)) : Type 0 where
-  pub records : Kept FileDisk
-  pub opened : IsOpened records
-  pub written : Appends old new (listing_of records.queue)
+  pub look : Seen
+  pub queue : Queue
+  pub opened : IsLook look queue
+  pub written : Appends old new (listing_of queue)

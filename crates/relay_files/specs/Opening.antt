@@ -2,6 +2,8 @@
 use Rattle.relay_disk.specs.declared.disks.Disks.{Disks}
 use Rattle.relay_disk.specs.declared.file.FileDisk.{FileDisk}
 use Rattle.relay_disk.specs.File.{file_words}
+use Rattle.relay_book.specs.Queue.{Queue}
+use Rattle.relay_outlines.specs.Look.{Seen, Shows}
 use Rattle.relay_records.specs.Open.{Opens}
 use Rattle.relay_records.specs.Records.{Kept}
 
@@ -9,3 +11,8 @@ use Rattle.relay_records.specs.Records.{Kept}
 pub record IsOpened (records : Kept FileDisk) : Type 0 where
   pub disk : Disks FileDisk
   pub opens : Opens ⊥ file_words disk records
+
+-- the look shows this queue, which is the one that some files hold, but for the octets of its texts
+pub record IsLook (look : Seen) (queue : Queue) : Type 0 where
+  pub disk : Disks FileDisk
+  pub shows : Shows ⊥ file_words disk look queue

@@ -4,12 +4,11 @@ ghost use Rattle.relay_files.specs.Listing.{IsListed, line_at, listed_line, list
 
 use crate::fault::Fault;
 use crate::line_writer::write_out;
-use crate::opening::open_to_read;
+use crate::looking::open_to_look;
 use crate::settings::{configuration, spool_files};
 use itoa::Buffer;
-use relay_disk::Disk;
 use relay_node::Node;
-use relay_records::Records;
+use relay_outlines::Look;
 use std::alloc::{AllocError, Global};
 use std::fs::File;
 use std::io::Write;
@@ -38,36 +37,32 @@ pub fn list<F: Files<File = File>, W: Write>(
     ensures { OnOk result (IsListed (W.contents writer.old) (W.contents writer.new)) }
 {
     let config = configuration(alloc, files, path)?;
-    let records = open_to_read(alloc, files, &config)?;
-    let lines = listing_of(alloc, &records)?;
+    let look = open_to_look(alloc, files, &config)?;
+    let lines = listing_of(alloc, &look)?;
     write_out(writer, lines.as_slice())?;
     Ok(())
 }
 
 /// Returns the lines of all held recipients.
-fn listing_of<D: Disk>(alloc: Global, records: &Records<D>) -> Result<Vec<u8>, AllocError>
-    ensures { IfOk result (λ lines. lines.items ≡ listing_of records.now.queue) }
+fn listing_of(alloc: Global, look: &Look) -> Result<Vec<u8>, AllocError>
+    ensures { IfOk result (λ lines. lines.items ≡ listing_of look.now.queue) }
 {
     let mut lines = Vec::new(alloc);
-    let marks = records.held(alloc)?;
+    let marks = look.held(alloc)?;
     for mark in &marks {
-        push_place(&mut lines, records, *mark)?;
+        push_place(&mut lines, look, *mark)?;
     }
     Ok(lines)
 }
 
 /// Adds the line of a place, if it is held.
-fn push_place<D: Disk>(
-    lines: &mut Vec<u8>,
-    records: &Records<D>,
-    mark: (u64, u8),
-) -> Result<(), AllocError>
-    ensures { OnOk result (lines.new.items ≡ lines.old.items ++ line_at records.now.queue mark) }
+fn push_place(lines: &mut Vec<u8>, look: &Look, mark: (u64, u8)) -> Result<(), AllocError>
+    ensures { OnOk result (lines.new.items ≡ lines.old.items ++ line_at look.now.queue mark) }
 {
-    let Some(held) = records.place(mark.0, mark.1) else {
-        return Ok(());
-    };
-    push_line(lines, mark, held.path, held.due)
+    match look.place(mark.0, mark.1) {
+        Some(held) => push_line(lines, mark, held.path, held.due),
+        None => Ok(()),
+    }
 }
 
 /// Adds the line of a recipient.

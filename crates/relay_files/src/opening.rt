@@ -13,14 +13,14 @@ use std::fs::File;
 use std::rt::Files;
 
 /// How often a spool is opened again, if a running relay compacts it while it is being read.
-const OPENINGS: u32 = 1_000;
+pub(crate) const OPENINGS: u32 = 1_000;
 
 /// The octets at the start of a spool's file: the magic, a gate, and the generation.
 const HEAD_SIZE: usize = 17;
 
 /// What changes when a spool's file is compacted or grows: its first octets and its size, as far as they can be read.
 #[derive(Clone, Copy, PartialEq, Eq)]
-struct Sight {
+pub(crate) struct Sight {
     size: Result<usize, DiskFault>,
     head: Result<[u8; HEAD_SIZE], DiskFault>,
 }
@@ -112,7 +112,7 @@ fn unless_changed<F: Files<File = File>>(
 }
 
 /// Returns the head and the size of each of two files.
-fn sights_of(disks: &mut Disks<FileDisk>) -> [Sight; 2] {
+pub(crate) fn sights_of(disks: &mut Disks<FileDisk>) -> [Sight; 2] {
     [sight_of(&mut disks.first), sight_of(&mut disks.second)]
 }
 
@@ -132,6 +132,6 @@ fn sight_of(disk: &mut FileDisk) -> Sight {
 }
 
 /// Returns whether each file has the same head as before, so that it wasn't compacted while it was read.
-fn have_heads_of(now: &[Sight; 2], before: &[Sight; 2]) -> bool {
+pub(crate) fn have_heads_of(now: &[Sight; 2], before: &[Sight; 2]) -> bool {
     now[0].head == before[0].head && now[1].head == before[1].head
 }

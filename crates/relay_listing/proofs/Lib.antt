@@ -1,4 +1,6 @@
 mod JoinLemmas
 mod LoadLemmas
 mod ObjectLemmas
+mod RowLemmas
 pub mod PrintableLemmas
+pub mod Theorems

@@ -1,4 +1,5 @@
 pub mod Row
+pub mod Blank
 pub mod Object
 pub mod Amounts
 pub mod Pieces

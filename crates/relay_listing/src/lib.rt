@@ -2,6 +2,7 @@
 #![tactic(auto)]
 
 mod amounts;
+pub mod laws;
 mod load;
 mod metrics;
 mod object;

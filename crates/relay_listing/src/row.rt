@@ -1,11 +1,11 @@
 ghost use Rattle.std.specs.Prelude.{◌≡◌, None, Some, option_map};
 ghost use Rattle.std.specs.Option.{option_copied};
+ghost use Rattle.relay_outlines.specs.Look.{blank_as_told};
 ghost use Rattle.relay_listing.specs.Row.{hop_name, queued_at, queued_in, said_by};
 
-use relay_book::Message;
-use relay_disk::Disk;
+use relay_book::{Message, length_in};
 use relay_envelope::PathBuf;
-use relay_records::Records;
+use relay_outlines::Look;
 use relay_routes::Table;
 use relay_trace::Moment;
 
@@ -33,16 +33,29 @@ pub struct Row<'a> {
 }
 
 /// Returns the recipient at a place of the message of this number, if it is queued. Allocates nothing.
-pub fn row_at<'a, D: Disk>(
-    records: &'a Records<D>,
+pub fn row_at<'a>(look: &'a Look, table: &'a Table, number: u64, place: u8) -> Option<Row<'a>>
+    ensures { option_map said_by result ≡ queued_at table.now look.now.queue (number, place) }
+{
+    match look.outline(number) {
+        Some(outline) => row_as_told(table, number, place, outline),
+        None => None,
+    }
+}
+
+/// Returns the recipient at a place of an outlined message, with the size that the outline says.
+fn row_as_told<'a>(
     table: &'a Table,
     number: u64,
     place: u8,
+    outline: &'a Message,
 ) -> Option<Row<'a>>
-    ensures { option_map said_by result ≡ queued_at table.now records.now.queue (number, place) }
+    ensures { option_map said_by result ≡ queued_in table.now number place (blank_as_told outline.now) }
 {
-    match records.message(number) {
-        Some(message) => row_in(table, number, place, message),
+    match row_in(table, number, place, outline) {
+        Some(row) => Some(Row {
+            size: length_in(outline.accept.stored_text.as_slice()) as usize,
+            ..row
+        }),
         None => None,
     }
 }

@@ -1,3 +1,4 @@
+mod BlankLemmas
 mod GroupLemmas
 mod JoinLemmas
 mod LoadLemmas

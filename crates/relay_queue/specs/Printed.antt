@@ -9,7 +9,8 @@ use Rattle.relay_routes.specs.declared.config.Config.{Config}
 use Rattle.relay_book.specs.declared.message.Message.{Message}
 use Rattle.relay_book.specs.Queue.{Queue, message_of}
 use Rattle.relay_records.specs.Records.{Kept}
-use Rattle.relay_files.specs.Opening.{IsOpened}
+use Rattle.relay_outlines.specs.Look.{Seen}
+use Rattle.relay_files.specs.Opening.{IsLook, IsOpened}
 use Rattle.relay_queue.specs.declared.calls.ListForm.{ListForm}
 use Rattle.relay_queue.specs.declared.calls.ListForm.TheVariants.{Table, Json}
 use Rattle.relay_queue.specs.declared.calls.MessageForm.{MessageForm}
@@ -34,16 +35,17 @@ IsList Json now table queue keys text = text ≡ objects_text now table queue ke
 -- the queued recipients that pass the filter were printed, in the order of the list, by the routes of a configuration;
 -- the time is what the clock has said, of which nothing is known
 pub record IsListPrinted (filter : Filter) (form : ListForm) (old new : Option (List ℕ)) : Type 0 where
-  pub records : Kept FileDisk
-  pub opened : IsOpened records
+  pub look : Seen
+  pub queue : Queue
+  pub opened : IsLook look queue
   pub document : List ℕ
   pub config : Config
   pub reads : ReadsConfig document (Ok config)
   pub now : ℕ
   pub keys : List (ℕ × ℕ × ℕ)
-  pub picked : AreListed filter now config.routes records.queue keys
+  pub picked : AreListed filter now config.routes queue keys
   pub text : List ℕ
-  pub listed : IsList form now config.routes records.queue keys text
+  pub listed : IsList form now config.routes queue keys text
   pub safe : AreSafe text
   pub written : Appends old new text
 
@@ -93,14 +95,15 @@ IsStatus Metrics now loads size limit text = text ≡ metrics_text now loads siz
 -- the queue that files were opened to was printed by next hop, by the routes of a configuration, and the size of the
 -- spool; the time is what the clock has said
 pub record IsStatusPrinted (form : StatusForm) (old new : Option (List ℕ)) : Type 0 where
-  pub records : Kept FileDisk
-  pub opened : IsOpened records
+  pub look : Seen
+  pub queue : Queue
+  pub opened : IsLook look queue
   pub document : List ℕ
   pub config : Config
   pub reads : ReadsConfig document (Ok config)
   pub now : ℕ
   pub text : List ℕ
-  pub by_hop : IsStatus form now (queue_by_hop config.routes records.queue) records.spool.size config.spool_limit text
-  pub fill : ShowsFill form records.spool.size text
+  pub by_hop : IsStatus form now (queue_by_hop config.routes queue) look.size config.spool_limit text
+  pub fill : ShowsFill form look.size text
   pub safe : AreSafe text
   pub written : Appends old new text

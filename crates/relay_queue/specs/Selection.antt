@@ -3,14 +3,13 @@ use Rattle.std.specs.Prelude.{◌≡◌, ℕ, ◌<◌, ◌==◌, nat_lt, Bool, f
 use Rattle.std.specs.Prelude.{take, codes, decimal, is_some, Ok, if◌then◌else◌}
 use Rattle.std.specs.List.{flat_map, list_any, slice_split}
 use Rattle.std.specs.Option.{option_copied, option_map_or}
-use Rattle.relay_disk.specs.declared.file.FileDisk.{FileDisk}
 use Rattle.relay_lines.specs.Word.{is_word}
 use Rattle.relay_routes.specs.Config.{ReadsConfig}
 use Rattle.relay_routes.specs.Routes.{RouteTable}
 use Rattle.relay_routes.specs.declared.config.Config.{Config}
 use Rattle.relay_book.specs.Queue.{Queue, held_of}
-use Rattle.relay_records.specs.Records.{Kept}
-use Rattle.relay_files.specs.Opening.{IsOpened}
+use Rattle.relay_outlines.specs.Look.{Seen}
+use Rattle.relay_files.specs.Opening.{IsLook}
 use Rattle.relay_queue.specs.declared.groups.Selected.{Selected}
 use Rattle.relay_queue.specs.declared.selection.Selection.{Selection}
 use Rattle.relay_queue.specs.Filter.{passes, passes_if}
@@ -109,23 +108,25 @@ preview_text table queue marks =
 -- the mail that a selection takes from the queue that files were opened to, by the routes of a configuration; the time
 -- is what the clock has said
 pub record IsTaken (selection : Selection) (all : List Selected) (preview : List ℕ) : Type 0 where
-  pub records : Kept FileDisk
-  pub opened : IsOpened records
+  pub look : Seen
+  pub queue : Queue
+  pub opened : IsLook look queue
   pub document : List ℕ
   pub config : Config
   pub reads : ReadsConfig document (Ok config)
   pub now : ℕ
-  pub selected : AreSelected selection now config.routes records.queue all
+  pub selected : AreSelected selection now config.routes queue all
   pub preview_is :
-      preview ≡ preview_text config.routes records.queue (selected_marks selection now config.routes records.queue)
+      preview ≡ preview_text config.routes queue (selected_marks selection now config.routes queue)
   pub safe : AreSafe preview
 
 -- it takes nothing from the queue that files were opened to
 pub record TakesNothing (selection : Selection) : Type 0 where
-  pub records : Kept FileDisk
-  pub opened : IsOpened records
+  pub look : Seen
+  pub queue : Queue
+  pub opened : IsLook look queue
   pub document : List ℕ
   pub config : Config
   pub reads : ReadsConfig document (Ok config)
   pub now : ℕ
-  pub nothing : selected_marks selection now config.routes records.queue ≡ []
+  pub nothing : selected_marks selection now config.routes queue ≡ []

@@ -15,10 +15,9 @@ use crate::summary::{loads_of, metrics_text};
 use crate::table::table_text;
 use crate::zone::Zone;
 use relay_book::Message;
-use relay_disk::{Disk, FileDisk};
-use relay_files::{configuration, open_to_read, write_out};
+use relay_files::{configuration, open_to_look, open_to_read, write_out};
 use relay_listing::Loads;
-use relay_records::Records;
+use relay_outlines::Look;
 use relay_routes::{Config, Table};
 use relay_trace::{Moment, clock_moment};
 use std::alloc::{AllocError, Global};
@@ -67,36 +66,28 @@ pub fn print_list<R: Files<File = File> + Env + Clock + AllocGlobal, W: Write>(
     ensures { OnOk result (IsListPrinted filter.now form (W.contents writer.old) (W.contents writer.new)) }
 {
     let config = configuration(alloc, rt, path)?;
-    let records = open_to_read(alloc, rt, &config)?;
+    let look = open_to_look(alloc, rt, &config)?;
     let now = clock_moment(rt);
-    let keys = listed_keys(alloc, &records, &config.routes, filter, now)?;
-    let screen = list_text(
-        alloc,
-        rt,
-        &records,
-        &config.routes,
-        keys.as_slice(),
-        form,
-        now,
-    )?;
+    let keys = listed_keys(alloc, &look, &config.routes, filter, now)?;
+    let screen = list_text(alloc, rt, &look, &config.routes, keys.as_slice(), form, now)?;
     Ok(write_out(writer, screen.as_slice())?)
 }
 
 /// Returns the recipients with these keys in a form.
-fn list_text<R: Files<File = File> + Env + AllocGlobal, D: Disk>(
+fn list_text<R: Files<File = File> + Env + AllocGlobal>(
     alloc: Global,
     rt: &R,
-    records: &Records<D>,
+    look: &Look,
     table: &Table,
     keys: &[Key],
     form: ListForm,
     now: Moment,
 ) -> Result<Screen, AllocError>
-    ensures { IfOk result (IsList form now table.now records.now.queue keys.now) }
+    ensures { IfOk result (IsList form now table.now look.now.queue keys.now) }
 {
     match form {
-        ListForm::Table => table_text(alloc, records, table, keys, &Zone::read(alloc, rt), now),
-        ListForm::Json => json_text(alloc, records, table, keys, now),
+        ListForm::Table => table_text(alloc, look, table, keys, &Zone::read(alloc, rt), now),
+        ListForm::Json => json_text(alloc, look, table, keys, now),
     }
 }
 
@@ -156,10 +147,10 @@ pub fn print_status<R: Files<File = File> + Env + Clock + AllocGlobal, W: Write>
     ensures { OnOk result (IsStatusPrinted form (W.contents writer.old) (W.contents writer.new)) }
 {
     let config = configuration(alloc, rt, path)?;
-    let records = open_to_read(alloc, rt, &config)?;
+    let look = open_to_look(alloc, rt, &config)?;
     let now = clock_moment(rt);
-    let loads = loads_of(alloc, &records, &config.routes)?;
-    let fill = fill_of(&records, &config);
+    let loads = loads_of(alloc, &look, &config.routes)?;
+    let fill = fill_of(&look, &config);
     let screen = fill_in_form(alloc, rt, &loads, fill, form, now)?;
     Ok(write_out(writer, screen.as_slice())?)
 }
@@ -183,11 +174,11 @@ fn fill_in_form<R: Files<File = File> + Env + AllocGlobal>(
 }
 
 /// Returns how full a spool is.
-fn fill_of(records: &Records<FileDisk>, config: &Config) -> Fill
-    ensures { (result.size ≡ records.now.spool.size) × (result.limit ≡ config.now.spool_limit) }
+fn fill_of(look: &Look, config: &Config) -> Fill
+    ensures { (result.size ≡ look.now.size) × (result.limit ≡ config.now.spool_limit) }
 {
     Fill {
-        size: records.size() as u64,
+        size: look.size() as u64,
         limit: config.spool_limit,
     }
 }

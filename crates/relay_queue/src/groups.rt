@@ -4,9 +4,8 @@ ghost use Rattle.std.specs.List.{prefix_len};
 ghost use Rattle.relay_queue.specs.Selection.{AreSelected, group_of, groups_of, is_selected, mark_if, selected_marks};
 
 use crate::selection::Selection;
-use relay_disk::Disk;
 use relay_listing::row_at;
-use relay_records::Records;
+use relay_outlines::Look;
 use relay_routes::Table;
 use relay_trace::Moment;
 use std::alloc::{AllocError, Global};
@@ -24,52 +23,52 @@ pub struct Selected {
 }
 
 /// Returns the held places that a selection takes at this time, in the order of the queue.
-pub(crate) fn selected_marks<D: Disk>(
+pub(crate) fn selected_marks(
     alloc: Global,
-    records: &Records<D>,
+    look: &Look,
     table: &Table,
     selection: &Selection<'_>,
     now: Moment,
 ) -> Result<Vec<Mark>, AllocError>
-    ensures { IfOk result (λ marks. marks.items ≡ selected_marks selection.now now table.now records.now.queue) }
+    ensures { IfOk result (λ marks. marks.items ≡ selected_marks selection.now now table.now look.now.queue) }
 {
     let mut marks = Vec::new(alloc);
-    let held = records.held(alloc)?;
+    let held = look.held(alloc)?;
     for mark in &held {
-        push_mark(&mut marks, records, table, selection, now, *mark)?;
+        push_mark(&mut marks, look, table, selection, now, *mark)?;
     }
     Ok(marks)
 }
 
 /// Adds a held place, if the selection takes it.
-fn push_mark<D: Disk>(
+fn push_mark(
     marks: &mut Vec<Mark>,
-    records: &Records<D>,
+    look: &Look,
     table: &Table,
     selection: &Selection<'_>,
     now: Moment,
     mark: Mark,
 ) -> Result<(), AllocError>
     ensures { OnOk result (marks.new.items
-        ≡ marks.old.items ++ mark_if (is_selected selection.now now table.now records.now.queue) mark) }
+        ≡ marks.old.items ++ mark_if (is_selected selection.now now table.now look.now.queue) mark) }
 {
-    if is_selected(records, table, selection, now, mark) {
+    if is_selected(look, table, selection, now, mark) {
         marks.push(mark)?;
     }
     Ok(())
 }
 
 /// Returns whether a selection takes a held place.
-fn is_selected<D: Disk>(
-    records: &Records<D>,
+fn is_selected(
+    look: &Look,
     table: &Table,
     selection: &Selection<'_>,
     now: Moment,
     mark: Mark,
 ) -> bool
-    ensures { result ≡ is_selected selection.now now table.now records.now.queue mark }
+    ensures { result ≡ is_selected selection.now now table.now look.now.queue mark }
 {
-    match row_at(records, table, mark.0, mark.1) {
+    match row_at(look, table, mark.0, mark.1) {
         Some(row) => selection.selects(now, &row),
         None => false,
     }

@@ -11,10 +11,9 @@ use crate::groups::{Mark, Selected, groups_of, selected_marks};
 use crate::screen::Screen;
 use crate::selection::Selection;
 use crate::table::push_count;
-use relay_disk::Disk;
-use relay_files::{Fault, configuration, open_to_read};
+use relay_files::{Fault, configuration, open_to_look};
 use relay_listing::{Row, row_at};
-use relay_records::Records;
+use relay_outlines::Look;
 use relay_routes::Table;
 use relay_trace::clock_moment;
 use std::alloc::{AllocError, Global};
@@ -47,49 +46,44 @@ pub fn select<R: Files<File = File> + Clock>(
     ensures nothing { IfErr result (λ fault. fault ≡ QueueFault.NothingSelected → TakesNothing selection.now) }
 {
     let config = configuration(alloc, rt, path)?;
-    let records = open_to_read(alloc, rt, &config)?;
+    let look = open_to_look(alloc, rt, &config)?;
     let now = clock_moment(rt);
-    let marks = selected_marks(alloc, &records, &config.routes, selection, now)?;
+    let marks = selected_marks(alloc, &look, &config.routes, selection, now)?;
     if marks.is_empty() {
         return Err(QueueFault::NothingSelected);
     }
-    taken_of(alloc, &records, &config.routes, marks.as_slice())
+    taken_of(alloc, &look, &config.routes, marks.as_slice())
 }
 
 /// Returns these places by message, and their preview.
-fn taken_of<D: Disk>(
-    alloc: Global,
-    records: &Records<D>,
-    table: &Table,
-    marks: &[Mark],
-) -> Result<Taken, QueueFault>
+fn taken_of(alloc: Global, look: &Look, table: &Table, marks: &[Mark]) -> Result<Taken, QueueFault>
     ensures messages { IfOk result (λ taken. map group_of taken.messages.items ≡ groups_of marks.now) }
     ensures preview { IfOk result (λ taken. taken.preview.items
-        ≡ preview_text table.now records.now.queue marks.now) }
+        ≡ preview_text table.now look.now.queue marks.now) }
     ensures safe { IfOk result (λ taken. AreSafe taken.preview.items) }
     ensures err { IfErr result (λ fault. fault ≡ QueueFault.Files Fault.NoMemory) }
 {
     let messages = groups_of(alloc, marks)?;
-    let preview = preview_of(alloc, records, table, marks, messages.len())?;
+    let preview = preview_of(alloc, look, table, marks, messages.len())?;
     Ok(Taken { messages, preview })
 }
 
 /// Returns the preview of places, which are of this number of messages.
-fn preview_of<D: Disk>(
+fn preview_of(
     alloc: Global,
-    records: &Records<D>,
+    look: &Look,
     table: &Table,
     marks: &[Mark],
     messages: usize,
 ) -> Result<Vec<u8>, AllocError>
     requires { messages ≡ length (groups_of marks.now) }
-    ensures text { IfOk result (λ text. text.items ≡ preview_text table.now records.now.queue marks.now) }
+    ensures text { IfOk result (λ text. text.items ≡ preview_text table.now look.now.queue marks.now) }
     ensures safe { IfOk result (λ text. AreSafe text.items) }
 {
     let mut screen = Screen::new(alloc);
     push_lines(
         &mut screen,
-        records,
+        look,
         table,
         &marks[..marks.len().min(MOST_LINES)],
     )?;
@@ -99,30 +93,30 @@ fn preview_of<D: Disk>(
 }
 
 /// Adds the lines of recipients.
-fn push_lines<D: Disk>(
+fn push_lines(
     screen: &mut Screen,
-    records: &Records<D>,
+    look: &Look,
     table: &Table,
     marks: &[Mark],
 ) -> Result<(), AllocError>
-    ensures { OnOk result (screen.new ≡ screen.old ++ flat_map (line_of_mark table.now records.now.queue) marks.now) }
+    ensures { OnOk result (screen.new ≡ screen.old ++ flat_map (line_of_mark table.now look.now.queue) marks.now) }
 {
     for mark in marks {
-        push_line_of(screen, records, table, *mark)?;
+        push_line_of(screen, look, table, *mark)?;
     }
     Ok(())
 }
 
 /// Adds the line of the recipient at a place, if it is queued.
-fn push_line_of<D: Disk>(
+fn push_line_of(
     screen: &mut Screen,
-    records: &Records<D>,
+    look: &Look,
     table: &Table,
     mark: Mark,
 ) -> Result<(), AllocError>
-    ensures { OnOk result (screen.new ≡ screen.old ++ line_of_mark table.now records.now.queue mark) }
+    ensures { OnOk result (screen.new ≡ screen.old ++ line_of_mark table.now look.now.queue mark) }
 {
-    match row_at(records, table, mark.0, mark.1) {
+    match row_at(look, table, mark.0, mark.1) {
         Some(row) => push_line(screen, &row),
         None => Ok(()),
     }

@@ -7,41 +7,36 @@ ghost use Rattle.relay_queue.specs.Status.{metrics_text, spool_metrics};
 
 use crate::screen::Screen;
 use crate::status::Fill;
-use relay_disk::Disk;
 use relay_listing::{Course, Loads, count_row, push_alone, push_loads, row_at};
-use relay_records::Records;
+use relay_outlines::Look;
 use relay_routes::Table;
 use relay_trace::Moment;
 use std::alloc::{AllocError, Global};
 
 /// Returns the load of each next hop, in the order in which the queue first names them.
-pub(crate) fn loads_of<D: Disk>(
-    alloc: Global,
-    records: &Records<D>,
-    table: &Table,
-) -> Result<Loads, AllocError>
-    ensures { IfOk result (λ loads. loads_in loads.entries ≡ queue_by_hop table.now records.now.queue) }
+pub(crate) fn loads_of(alloc: Global, look: &Look, table: &Table) -> Result<Loads, AllocError>
+    ensures { IfOk result (λ loads. loads_in loads.entries ≡ queue_by_hop table.now look.now.queue) }
 {
     let mut loads = Loads::new(alloc);
-    let marks = records.held(alloc)?;
+    let marks = look.held(alloc)?;
     for mark in &marks {
-        count_at(alloc, &mut loads, records, table, *mark)?;
+        count_at(alloc, &mut loads, look, table, *mark)?;
     }
     Ok(loads)
 }
 
 /// Counts the recipient at a place, if it is held.
-fn count_at<D: Disk>(
+fn count_at(
     alloc: Global,
     loads: &mut Loads,
-    records: &Records<D>,
+    look: &Look,
     table: &Table,
     mark: (u64, u8),
 ) -> Result<(), AllocError>
     ensures { OnOk result (loads_in loads.new.entries
-        ≡ loads_if (loads_in loads.old.entries) (queued_at table.now records.now.queue mark)) }
+        ≡ loads_if (loads_in loads.old.entries) (queued_at table.now look.now.queue mark)) }
 {
-    match row_at(records, table, mark.0, mark.1) {
+    match row_at(look, table, mark.0, mark.1) {
         Some(row) => count_row(alloc, loads, &row),
         None => Ok(()),
     }

@@ -11,9 +11,9 @@ use crate::columns::{push_left, push_right};
 use crate::picks::Key;
 use crate::screen::Screen;
 use crate::zone::Zone;
-use relay_disk::Disk;
+use relay_book::length_in;
 use relay_listing::{Row, age_of, row_at};
-use relay_records::Records;
+use relay_outlines::Look;
 use relay_routes::Table;
 use relay_trace::Moment;
 use std::alloc::{AllocError, Global};
@@ -61,39 +61,30 @@ struct Totals {
 }
 
 /// Returns a heading, a line for each of these recipients, and a last line with their sums.
-pub(crate) fn table_text<D: Disk>(
+pub(crate) fn table_text(
     alloc: Global,
-    records: &Records<D>,
+    look: &Look,
     table: &Table,
     keys: &[Key],
     zone: &Zone,
     now: Moment,
 ) -> Result<Screen, AllocError>
-    ensures { IfOk result (IsTable now table.now records.now.queue keys.now) }
+    ensures { IfOk result (IsTable now table.now look.now.queue keys.now) }
 {
     let mut screen = Screen::new(alloc);
     let mut cell = Screen::new(alloc);
-    let widths = widths_of(records, table, keys);
+    let widths = widths_of(look, table, keys);
     push_heading_of(&mut screen, widths, keys)?;
     for key in keys {
-        push_row_at(
-            &mut screen,
-            &mut cell,
-            records,
-            table,
-            *key,
-            widths,
-            zone,
-            now,
-        )?;
+        push_row_at(&mut screen, &mut cell, look, table, *key, widths, zone, now)?;
     }
-    push_totals(&mut screen, totals_of(records, keys, now))?;
+    push_totals(&mut screen, totals_of(look, keys, now))?;
     Ok(screen)
 }
 
 /// How wide the columns of texts must be.
-fn widths_of<D: Disk>(records: &Records<D>, table: &Table, keys: &[Key]) -> Widths
-    ensures { result ≡ widths_for (queued_of table.now records.now.queue keys.now) }
+fn widths_of(look: &Look, table: &Table, keys: &[Key]) -> Widths
+    ensures { result ≡ widths_for (queued_of table.now look.now.queue keys.now) }
 {
     let mut widths = Widths {
         reverse_path: 12,
@@ -101,16 +92,16 @@ fn widths_of<D: Disk>(records: &Records<D>, table: &Table, keys: &[Key]) -> Widt
         hop: 3,
     };
     for key in keys {
-        widths = wider_at(widths, records, table, *key);
+        widths = wider_at(widths, look, table, *key);
     }
     widths
 }
 
 /// Returns widths that hold the texts of the recipient with this key too, if it is queued.
-fn wider_at<D: Disk>(widths: Widths, records: &Records<D>, table: &Table, key: Key) -> Widths
-    ensures { result ≡ wider_for widths (queued_at table.now records.now.queue (key.1, key.2)) }
+fn wider_at(widths: Widths, look: &Look, table: &Table, key: Key) -> Widths
+    ensures { result ≡ wider_for widths (queued_at table.now look.now.queue (key.1, key.2)) }
 {
-    match row_at(records, table, key.1, key.2) {
+    match row_at(look, table, key.1, key.2) {
         Some(row) => wider_for(widths, &row),
         None => widths,
     }
@@ -168,10 +159,10 @@ fn push_try_headings(screen: &mut Screen) -> Result<(), AllocError>
 }
 
 /// Adds the line of the recipient with this key, if it is queued.
-fn push_row_at<D: Disk>(
+fn push_row_at(
     screen: &mut Screen,
     cell: &mut Screen,
-    records: &Records<D>,
+    look: &Look,
     table: &Table,
     key: Key,
     widths: Widths,
@@ -179,9 +170,9 @@ fn push_row_at<D: Disk>(
     now: Moment,
 ) -> Result<(), AllocError>
     ensures { OnOk result ((time : List ℕ)
-        × (screen.new ≡ screen.old ++ row_line widths now table.now records.now.queue (key, time))) }
+        × (screen.new ≡ screen.old ++ row_line widths now table.now look.now.queue (key, time))) }
 {
-    match row_at(records, table, key.1, key.2) {
+    match row_at(look, table, key.1, key.2) {
         Some(row) => push_row(screen, cell, &row, widths, zone, now),
         None => Ok(()),
     }
@@ -287,8 +278,8 @@ pub(crate) fn push_tries_in_words(screen: &mut Screen, tries: u8) -> Result<(), 
 }
 
 /// Returns the sums of these recipients, of which those of one message stand together.
-fn totals_of<D: Disk>(records: &Records<D>, keys: &[Key], now: Moment) -> Totals
-    ensures { AreTotals now records.now.queue keys.now result }
+fn totals_of(look: &Look, keys: &[Key], now: Moment) -> Totals
+    ensures { AreTotals now look.now.queue keys.now result }
 {
     let mut sums = Sums {
         messages: 0,
@@ -296,7 +287,7 @@ fn totals_of<D: Disk>(records: &Records<D>, keys: &[Key], now: Moment) -> Totals
         last: None,
     };
     for key in keys {
-        sums = sums_with(sums, records, key.1);
+        sums = sums_with(sums, look, key.1);
     }
     Totals {
         messages: sums.messages,
@@ -307,10 +298,10 @@ fn totals_of<D: Disk>(records: &Records<D>, keys: &[Key], now: Moment) -> Totals
 }
 
 /// Returns sums with one more recipient of the message of this number, which counts unless it was the last one.
-fn sums_with<D: Disk>(sums: Sums, records: &Records<D>, number: u64) -> Sums
-    ensures { result ≡ sums_with records.now.queue sums number }
+fn sums_with(sums: Sums, look: &Look, number: u64) -> Sums
+    ensures { result ≡ sums_with look.now.queue sums number }
 {
-    let size = size_of(records, number);
+    let size = size_of(look, number);
     if is_last(sums.last, number) {
         return sums;
     }
@@ -342,11 +333,11 @@ pub(crate) fn age_of_first(keys: &[Key], now: Moment) -> Option<u64>
 }
 
 /// Returns how many octets a message has.
-fn size_of<D: Disk>(records: &Records<D>, number: u64) -> u64
-    ensures { result ≡ size_at records.now.queue number }
+fn size_of(look: &Look, number: u64) -> u64
+    ensures { result ≡ size_at look.now.queue number }
 {
-    match records.message(number) {
-        Some(message) => message.accept.stored_text.len() as u64,
+    match look.outline(number) {
+        Some(outline) => length_in(outline.accept.stored_text.as_slice()),
         None => 0,
     }
 }

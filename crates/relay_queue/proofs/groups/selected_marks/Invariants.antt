@@ -5,6 +5,6 @@ use Rattle.relay_queue.specs.Selection.{is_selected, mark_if}
 use Rattle.relay_queue.proofs.groups.selected_marks.Given as goal
 
 abbrev pub invariant-loop-mark : goal.invariant-loop-mark
-invariant-loop-mark g l =
+invariant-loop-mark l =
     l.marks.items
-    ≡ flat_map (mark_if (is_selected l.selection l.now l.table l.records.queue)) (take l.mark-index l.mark-items)
+    ≡ flat_map (mark_if (is_selected l.selection l.now l.table l.look.queue)) (take l.mark-index l.mark-items)

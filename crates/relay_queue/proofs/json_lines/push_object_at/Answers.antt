@@ -6,12 +6,12 @@ use Rattle.relay_listing.specs.Object.{object_line}
 use Rattle.relay_queue.proofs.json_lines.push_object_at.Goals as goal
 
 pub returns-in-Some : goal.returns-in-Some
-returns-in-Some g c =
+returns-in-Some c =
     on_ok_weaker c.push_object.result
     (λ added. added ∙ ap (λ queued. c.args.screen.now ++ option_map_or (object_line c.args.now) queued []) c.in-Some.ensures)
     c.push_object.ensures
 
 pub returns-in-None : goal.returns-in-None
-returns-in-None g c =
+returns-in-None c =
     sym (append-nil c.args.screen.now)
     ∙ ap (λ queued. c.args.screen.now ++ option_map_or (object_line c.args.now) queued []) c.in-None.ensures

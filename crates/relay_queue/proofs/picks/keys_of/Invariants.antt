@@ -4,5 +4,5 @@ use Rattle.relay_queue.specs.Picks.{keys_at}
 use Rattle.relay_queue.proofs.picks.keys_of.Given as goal
 
 abbrev pub invariant-loop-mark : goal.invariant-loop-mark
-invariant-loop-mark g l =
-    l.keys.items ≡ flat_map (keys_at l.filter l.now l.table l.records.queue) (take l.mark-index l.mark-items)
+invariant-loop-mark l =
+    l.keys.items ≡ flat_map (keys_at l.filter l.now l.table l.look.queue) (take l.mark-index l.mark-items)

@@ -6,7 +6,7 @@ use Rattle.relay_queue.specs.Table.{row_text}
 use Rattle.relay_queue.proofs.table.push_row_at.Goals as goal
 
 pub returns-in-Some : goal.returns-in-Some
-returns-in-Some g c =
+returns-in-Some c =
     on_ok_weaker c.push_row.result
     (λ added. (
       added.0,
@@ -16,5 +16,5 @@ returns-in-Some g c =
     c.push_row.ensures
 
 pub returns-in-None : goal.returns-in-None
-returns-in-None g c =
+returns-in-None c =
     ([], sym (append-nil c.args.screen.now) ∙ ap (λ queued. c.args.screen.now ++ option_map_or (row_text c.args.widths c.args.now []) queued []) c.in-None.ensures)

@@ -8,24 +8,24 @@ use Rattle.relay_queue.proofs.RowLemmas.{rows_more}
 use Rattle.relay_queue.proofs.table.table_text.Goals as goal
 
 pub loop-key-init : goal.loop-key-init
-loop-key-init g c = ([], refl, sym (append-nil _))
+loop-key-init c = ([], refl, sym (append-nil _))
 
 pub loop-key-preserved : goal.loop-key-preserved
-loop-key-preserved g c =
+loop-key-preserved c =
     let more : c.loop-key.key-index < length c.args.keys.now = search rules in
     let pushed = c.in_ok-push_row_at.ensures in
-    rows_more (row_line c.widths_of-widths.result c.args.now c.args.table.now c.args.records.now.queue) c.args.keys.now c.loop-key.key-index _ _ c.loop-key.screen _
+    rows_more (row_line c.widths_of-widths.result c.args.now c.args.table.now c.args.look.now.queue) c.args.keys.now c.loop-key.key-index _ _ c.loop-key.screen _
     pushed.0 more c.loop-key.invariant pushed.1
 
 pub returns : goal.returns
-returns g c =
+returns c =
     let all : length c.args.keys.now ≤ c.loop-key.key-index = search rules in
     let rows = c.loop-key.invariant in
     let totals : Totals = c.totals_of.result in
     let widths : Widths = c.widths_of-widths.result in
     let text : List ℕ = c.push_totals.new.screen in
     let IsText : Widths → Type 0 =
-    λ widths. text ≡ heading_of widths c.args.keys.now ++ rows_text widths c.args.now c.args.table.now c.args.records.now.queue rows.0 ++ totals_text totals
+    λ widths. text ≡ heading_of widths c.args.keys.now ++ rows_text widths c.args.now c.args.table.now c.args.look.now.queue rows.0 ++ totals_text totals
     in
     let heading = c.in_ok-push_heading_of.ensures ∙ ap (λ (l : List ℕ). l ++ heading_of widths c.args.keys.now) c.new-screen.ensures in
     record {
@@ -36,5 +36,5 @@ returns g c =
       text_is =
           subst IsText c.widths_of-widths.ensures
           (c.in_ok-push_totals.ensures ∙ ap (λ (l : List ℕ). l ++ totals_text totals)
-          (rows.2 ∙ ap (λ (l : List ℕ). l ++ rows_text widths c.args.now c.args.table.now c.args.records.now.queue rows.0) heading));
+          (rows.2 ∙ ap (λ (l : List ℕ). l ++ rows_text widths c.args.now c.args.table.now c.args.look.now.queue rows.0) heading));
     }

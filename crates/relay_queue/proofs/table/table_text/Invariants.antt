@@ -5,5 +5,5 @@ use Rattle.relay_queue.proofs.RowLemmas.{AreRows}
 use Rattle.relay_queue.proofs.table.table_text.Given as goal
 
 abbrev pub invariant-loop-key : goal.invariant-loop-key
-invariant-loop-key g l =
-    AreRows (row_line l.widths l.now l.table l.records.queue) (take l.key-index l.keys) l.initial.screen l.screen
+invariant-loop-key l =
+    AreRows (row_line l.widths l.now l.table l.look.queue) (take l.key-index l.keys) l.initial.screen l.screen

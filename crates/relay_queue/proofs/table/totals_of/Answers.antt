@@ -4,17 +4,17 @@ use Rattle.relay_queue.proofs.TotalLemmas.{all_so_far, more_so_far, none_so_far}
 use Rattle.relay_queue.proofs.table.totals_of.Goals as goal
 
 pub loop-key-init : goal.loop-key-init
-loop-key-init g c = none_so_far c.args.records.now.queue c.args.keys.now
+loop-key-init c = none_so_far c.args.look.now.queue c.args.keys.now
 
 pub loop-key-preserved : goal.loop-key-preserved
-loop-key-preserved g c =
-    more_so_far c.args.records.now.queue c.args.keys.now c.loop-key.key-index _ c.loop-key.sums _ c.loop-key-test.true
+loop-key-preserved c =
+    more_so_far c.args.look.now.queue c.args.keys.now c.loop-key.key-index _ c.loop-key.sums _ c.loop-key-test.true
     c.loop-key.invariant c.sums_with-sums.ensures
 
 pub returns : goal.returns
-returns g c =
+returns c =
     let all : length c.args.keys.now ≤ c.loop-key.key-index = search rules in
-    let sums = all_so_far c.args.records.now.queue c.args.keys.now c.loop-key.key-index c.loop-key.sums all c.loop-key.invariant in
+    let sums = all_so_far c.args.look.now.queue c.args.keys.now c.loop-key.key-index c.loop-key.sums all c.loop-key.invariant in
     record {
       messages = sums.0;
       recipients = refl;

@@ -4,4 +4,4 @@ use Rattle.relay_queue.specs.Table.{queued_of, widths_for}
 use Rattle.relay_queue.proofs.table.widths_of.Given as goal
 
 abbrev pub invariant-loop-key : goal.invariant-loop-key
-invariant-loop-key g l = l.widths ≡ widths_for (queued_of l.table l.records.queue (take l.key-index l.keys))
+invariant-loop-key l = l.widths ≡ widths_for (queued_of l.table l.look.queue (take l.key-index l.keys))
