@@ -12,9 +12,9 @@ mod AnsweredLemmas
 mod HearingLemmas
 mod CircleLemmas
 mod HearsLemmas
-mod RenewalLemmas
 mod ShareLemmas
 mod LeftLemmas
+mod DeadlineLemmas
 mod TableLemmas
 mod RefusalLemmas
 mod HeaderFrontLemmas

@@ -1,8 +1,9 @@
 -- What callers see of a connection.
-use Rattle.std.specs.Prelude.{◌≡◌, ℕ, List, Bool, Option, Some}
+use Rattle.std.specs.Prelude.{◌≡◌, ◌≢◌, ◌<◌, ◌||◌, ℕ, List, Bool, true, false, Option, None, Some}
 use Rattle.std.specs.Io.KnownBytes.{IsAtEnd, append_known, prepend_known}
 use Rattle.relay_connections.specs.declared.channel.Channel.{Channel}
-use Rattle.relay_connections.specs.declared.channel.End.TheVariants.{Input}
+use Rattle.relay_connections.specs.declared.channel.End.TheVariants.{Broken, Input}
+use Rattle.relay_connections.specs.declared.channel.Readiness.{Readiness}
 
 -- what was read of it and isn't used yet
 abbrev pub unread_of : {S : Type 0} → Channel S → List ℕ
@@ -12,6 +13,10 @@ unread_of channel = channel.block
 abbrev pub held_of : {S : Type 0} → Channel S → List ℕ
 held_of channel = channel.held
 
+-- it counts as ready to be read
+abbrev pub is_readable : {S : Type 0} → Channel S → Bool
+is_readable channel = channel.ready.reads
+
 -- it counts as ready to be written to
 abbrev pub is_writable : {S : Type 0} → Channel S → Bool
 is_writable channel = channel.ready.writes
@@ -19,6 +24,33 @@ is_writable channel = channel.ready.writes
 -- its write side is shut down
 abbrev pub is_shut : {S : Type 0} → Channel S → Bool
 is_shut channel = channel.is_shut
+
+-- octets may be written to it at once: the system has said so, and it is neither shut down nor broken
+pub record MayWrite {S : Type 0} (channel : Channel S) : Type 0 where
+  pub ready : is_writable channel ≡ true
+  pub unshut : is_shut channel ≡ false
+  pub whole : channel.end ≢ Some Broken
+
+-- A stream had this many tries at writing and has had that many since, if they are counted: at least one more.
+abbrev pub WasTried : Option ℕ → Option ℕ → Type 0
+WasTried None after = Unit {0}
+WasTried (Some before) None = ⊥
+WasTried (Some before) (Some after) = before < after
+
+-- A stream is registered under this token, as far as that is known.
+abbrev pub IsUnder : ℕ → Option ℕ → Type 0
+IsUnder token None = Unit {0}
+IsUnder token (Some known) = known ≡ token
+
+-- the connection after the system has reported what it may be ready for: this too, and nothing else has changed
+abbrev pub noted : {S : Type 0} → Readiness → Channel S → Channel S
+noted reported channel = record channel {
+  ready = record {
+    reads = channel.ready.reads || reported.reads;
+    writes = channel.ready.writes || reported.writes;
+    ends = channel.ready.ends || reported.ends;
+  };
+}
 
 -- what was read and isn't used, what is held back, and the stream are the same
 pub record KeepsOctets {S : Type 0} (old new : Channel S) : Type 0 where

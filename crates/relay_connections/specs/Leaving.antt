@@ -5,9 +5,11 @@ use Rattle.std.specs.Global.{Global}
 use Rattle.std.specs.Io.KnownBytes.{Keeps, append_known}
 use Rattle.relay_slots.specs.Slots.{slot_at}
 use Rattle.relay_connections.specs.Carried.{GetsDialogue, Setting, setup_at}
-use Rattle.relay_connections.specs.Channel.{held_of, output_of}
+use Rattle.relay_connections.specs.Channel.{held_of, noted, output_of}
+use Rattle.relay_connections.specs.Renewal.{tick_after}
 use Rattle.relay_connections.specs.declared.channel.Channel.{Channel}
 use Rattle.relay_connections.specs.declared.channel.End.TheVariants.{Broken, Input}
+use Rattle.relay_connections.specs.declared.channel.Readiness.{Readiness}
 use Rattle.relay_connections.specs.declared.leaving.Leaver.{Leaver}
 use Rattle.relay_connections.specs.declared.leaving.Leaving.{Leaving}
 
@@ -31,6 +33,26 @@ HasGone leaver = (leaver.outbox ≡ []) × (held_of leaver.channel ≡ [])
 -- profile: the tick until which a connection is read after its last octets were written: a second later
 abbrev pub read_until : ℕ → ℕ
 read_until tick = min (tick + 1000) (2 ^ 64 - 1)
+
+-- its last octets may take this many seconds from a tick on; or they are written, and it is read for a second
+abbrev pub IsTimed : {S : Type 0} → ℕ → ℕ → Leaver S → Type 0
+IsTimed seconds tick leaver =
+    (leaver.deadline ≡ tick_after tick seconds) ⊎ (HasGone leaver × (leaver.deadline ≡ read_until tick))
+
+-- the tick at which it is closed at the latest
+abbrev pub closes_at : {S : Type 0} → Box (Leaver S) Global → ℕ
+closes_at leaver = leaver.value.deadline
+
+-- a connection after the system has reported this of it: nothing else has changed
+abbrev pub noted_leaver : {S : Type 0} → Readiness → Leaver S → Leaver S
+noted_leaver reported leaver = record leaver { channel = noted reported leaver.channel }
+
+-- the connection in a slot, if any, after that
+abbrev pub HasNotedLeaver
+    : {S : Type 0} → Readiness → Option (Box (Leaver S) Global) → Option (Box (Leaver S) Global) → Type 0
+HasNotedLeaver reported None new = new ≡ None
+HasNotedLeaver reported (Some leaver) None = ⊥
+HasNotedLeaver reported (Some leaver) (Some later) = later.value ≡ noted_leaver reported leaver.value
 
 -- Nothing is left to do at this tick: the connection is broken, or its last octets are written and its input has ended,
 -- or its time is over.

@@ -1,4 +1,5 @@
 pub mod Table
+pub mod Deadlines
 pub mod Channel
 pub mod Sessions
 pub mod Renewal

@@ -1,5 +1,6 @@
 -- When the time begins anew for which a client may be idle.
-use Rattle.std.specs.Prelude.{◌≡◌, ◌≤◌, ◌<◌, ◌+◌, ◌-◌, ◌*◌, ◌^◌, ◌⊎◌, ℕ, min, length, Option, None, Some}
+use Rattle.std.specs.Prelude.{◌≡◌, ◌≢◌, ◌≤◌, ◌<◌, ◌+◌, ◌-◌, ◌*◌, ◌^◌, ◌⊎◌, ℕ, true, false, min, length}
+use Rattle.std.specs.Prelude.{Option, None, Some}
 use Rattle.relay_loop.specs.Outboxes.{unwritten_at}
 use Rattle.relay_loop.specs.Relay.{RelayState}
 use Rattle.relay_connections.specs.Channel.{held_of, unread_of}
@@ -15,6 +16,25 @@ untaken_count relay session channel = length (held_of channel) + length (unwritt
 -- the tick this many seconds after another one, or the last tick
 abbrev pub tick_after : ℕ → ℕ → ℕ
 tick_after tick seconds = min (tick + seconds * 1000) (2 ^ 64 - 1)
+
+-- profile: the tick at which a session ends that begins, or whose client's mail is accepted, at this tick, unless more
+-- mail is accepted: half an hour later
+abbrev pub session_end : ℕ → ℕ
+session_end tick = tick_after tick (30 * 60)
+
+-- A client has just connected: its session begins at this tick, none of its mail was accepted, and nothing that was
+-- read of it is unanswered.
+pub record IsFresh {S : Type 0} (tick : ℕ) (client : Client S) : Type 0 where
+  pub session : client.session_deadline ≡ session_end tick
+  pub accepted : client.has_accepted ≡ false
+  pub unanswered : client.unanswered ≡ 0
+
+-- The session's time begins anew at this tick if a change was added, which has this number: mail of its client was
+-- accepted. Else it goes on.
+pub record RenewsSession {S : Type 0} (tick : ℕ) (change : Option ℕ) (before after : Client S) : Type 0 where
+  pub anew : change ≢ None → (after.session_deadline ≡ session_end tick) × (after.has_accepted ≡ true)
+  pub on : change ≡ None → (after.session_deadline ≡ before.session_deadline)
+      × (after.has_accepted ≡ before.has_accepted)
 
 -- The client's idle time begins at this tick: it is cut off after the timeout, or after ten seconds while few places
 -- are left.

@@ -1,6 +1,7 @@
 -- Ending a client's session, because its connection has ended or the relay cuts it off.
-use Rattle.std.specs.Prelude.{◌≡◌, ◌⊎◌, ℕ, ◌≤◌, ◌<◌, Bool, false, List, [], Option, None, Some, MatchOption}
+use Rattle.std.specs.Prelude.{◌≡◌, ◌≢◌, ◌⊎◌, ℕ, ◌≤◌, ◌<◌, Bool, false, List, [], Option, None, Some, Box, MatchOption}
 use Rattle.std.specs.Prelude.{◌==◌, if◌then◌else◌, min}
+use Rattle.std.specs.Global.{Global}
 use Rattle.relay_slots.specs.Slots.{slot_at}
 use Rattle.relay_loop.specs.declared.closing.Closing.{Closing}
 use Rattle.relay_loop.specs.declared.closing.Closing.TheVariants.{Stopping, Timeout, TooMany}
@@ -10,6 +11,7 @@ use Rattle.relay_loop.specs.Outboxes.{unwritten_at}
 use Rattle.relay_loop.specs.Relay.{OnlyClient, RelayState}
 use Rattle.relay_node.specs.Seats.{in_transaction_at}
 use Rattle.relay_connections.specs.Channel.{held_of}
+use Rattle.relay_connections.specs.Readiness.{clients_of}
 use Rattle.relay_connections.specs.declared.channel.Channel.{Channel}
 use Rattle.relay_connections.specs.declared.client.Client.{Client}
 use Rattle.relay_connections.specs.declared.clients.Clients.{Clients}
@@ -76,6 +78,22 @@ pub record IsBetweenMail {D S : Type 0} (relay : RelayState D) (session : ℕ) (
 abbrev pub Retires : {D S : Type 0} → Clients S → RelayState D → ℕ → Channel S → ℕ → Type 0
 Retires clients relay session channel tick =
     MatchOption clients.retires_at ⊥ (λ end. (end ≤ tick) ⊎ IsBetweenMail relay session channel)
+
+-- The session of this number may be ended at once: the sessions are ended, and it is between mail transactions.
+pub record MayRetire {D S : Type 0} (clients : Clients S) (relay : RelayState D) (number : ℕ) : Type 0 where
+  pub client : Box (Client S) Global
+  pub there : slot_at (clients_of clients) number ≡ Some client
+  pub ends : clients.retires_at ≢ None
+  pub between : IsBetweenMail relay number client.value.channel
+
+-- a deadline, or the tick, if any, at which all sessions that are left are ended, if that is earlier
+abbrev pub ended_by : Option ℕ → ℕ → ℕ
+ended_by None deadline = deadline
+ended_by (Some end) deadline = min deadline end
+
+-- the tick at which a client is cut off at the latest as things are
+abbrev pub cut_tick : {S : Type 0} → Clients S → Box (Client S) Global → ℕ
+cut_tick clients client = ended_by clients.retires_at (deadline_of clients.is_crowded client.value)
 
 -- why a client is cut off at this tick, if it is: it is late, or else the sessions are ended
 abbrev pub IsCutFor : {D S : Type 0} → Clients S → RelayState D → ℕ → Client S → ℕ → Option Closing → Type 0

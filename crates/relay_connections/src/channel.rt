@@ -1,8 +1,11 @@
-ghost use Rattle.std.specs.Prelude.{◌≡◌, ◌≢◌, ◌≤◌, ◌↔◌, ◌||◌, [], ◌++◌, IsTrue, Some, drop, false, length, take, true};
-ghost use Rattle.std.specs.Prelude.{MatchResult};
+ghost use Rattle.std.specs.Prelude.{◌≡◌, ◌≢◌, ◌≤◌, ◌↔◌, ◌||◌, [], ◌++◌, IfOk, IsTrue, MatchResult, Some, drop, false};
+ghost use Rattle.std.specs.Prelude.{length, take, true};
 ghost use Rattle.std.specs.Io.KnownBytes.{Appends, IsAtEnd, Keeps};
 ghost use Rattle.relay_connections.specs.Channel.{IsEndTrue, KeepsInput, KeepsOctets, KeepsOutput, held_of, input_left};
-ghost use Rattle.relay_connections.specs.Channel.{is_shut, is_writable, output_of, unread_of};
+ghost use Rattle.relay_connections.specs.Channel.{IsUnder, MayWrite, WasTried, is_readable, is_shut, is_writable};
+ghost use Rattle.relay_connections.specs.Channel.{noted, output_of, unread_of};
+ghost use Rattle.relay_connections.specs.Readiness.{readiness_of};
+ghost use Rattle.relay_connections.specs.declared.block.TheConstants.{BLOCK_SIZE};
 
 use crate::block::{BLOCK_SIZE, Block};
 use crate::held::Held;
@@ -25,7 +28,9 @@ pub struct Readiness {
 
 impl Readiness {
     /// Returns the readiness in an event.
-    pub fn of(event: &Event) -> Self {
+    pub fn of(event: &Event) -> Self
+        ensures { result ≡ readiness_of event.now }
+    {
         Readiness {
             reads: event.is_readable() || event.is_read_closed() || event.is_error(),
             writes: event.is_writable() || event.is_write_closed() || event.is_error(),
@@ -114,6 +119,7 @@ impl<S: Stream> Channel<S> {
     /// Registers it with the poll under this token; what it is ready for already is reported too. Fails if the system
     /// refuses.
     pub fn register(&mut self, registry: &S::Registry, token: usize) -> io::Result<()>
+        ensures under { IfOk result (λ _. IsUnder token (S.registered self.new.stream)) }
         ensures input { KeepsInput S.remaining S.contents self.old self.new }
         ensures output { KeepsOutput S.remaining S.contents self.old self.new }
         ensures writes { is_writable self.new ≡ is_writable self.old }
@@ -133,6 +139,7 @@ impl<S: Stream> Channel<S> {
         ensures octets { KeepsOctets self.old self.new }
         ensures end { self.new.end ≡ self.old.end }
         ensures writes { is_writable self.new ≡ is_writable self.old || ready.writes }
+        ensures all { self.new ≡ noted ready self.old }
     {
         self.ready.reads |= ready.reads;
         self.ready.writes |= ready.writes;
@@ -152,6 +159,8 @@ impl<S: Stream> Channel<S> {
     pub fn end(&self) -> Option<End>
         ensures used { result ≡ Some End.Input → unread_of self.now ≡ [] }
         ensures end { (end : End) → result ≡ Some end → self.now.end ≡ Some end }
+        ensures broken { self.now.end ≡ Some End.Broken → result ≡ Some End.Broken }
+        ensures input { self.now.end ≡ Some End.Input → unread_of self.now ≡ [] → result ≡ Some End.Input }
     {
         match self.end {
             Some(End::Broken) => Some(End::Broken),
@@ -213,6 +222,8 @@ impl<S: Stream> Channel<S> {
         ensures input { Keeps (input_left S.remaining S.contents self.old)
             (input_left S.remaining S.contents self.new) }
         ensures came { unread_of self.old ≡ [] → IsTrue result ↔ (unread_of self.new ≢ []) }
+        ensures full { BLOCK_SIZE ≤ length (unread_of self.new) → is_readable self.new ≡ is_readable self.old }
+        ensures ending { self.old.ready.ends ≡ true → result ≡ true → is_readable self.new ≡ is_readable self.old }
         ensures end { IsEndTrue S.remaining S.contents self.old → IsEndTrue S.remaining S.contents self.new }
         ensures output { KeepsOutput S.remaining S.contents self.old self.new }
     {
@@ -285,6 +296,7 @@ impl<S: Stream> Channel<S> {
         ensures input { KeepsInput S.remaining S.contents self.old self.new }
         ensures shut { is_shut self.new ≡ is_shut self.old }
         ensures silent { is_shut self.old ≡ true → S.contents self.new.stream ≡ S.contents self.old.stream }
+        ensures none { held_of self.old ≡ [] → held_of self.new ≡ [] }
     {
         if self.held.is_empty() {
             return self.write_now(octets);
@@ -301,13 +313,16 @@ impl<S: Stream> Channel<S> {
     }
 
     /// Writes as much of what is held back as the stream takes at once.
-    fn write_held(&mut self)
+    pub(crate) fn write_held(&mut self)
         ensures output { Keeps (output_of S.remaining S.contents self.old) (output_of S.remaining S.contents self.new) }
         ensures input { KeepsInput S.remaining S.contents self.old self.new }
         ensures shut { is_shut self.new ≡ is_shut self.old }
         ensures silent { is_shut self.old ≡ true → self.new ≡ self.old }
+        ensures none { held_of self.old ≡ [] → self.new ≡ self.old }
+        ensures tried { held_of self.old ≢ [] → MayWrite self.old
+            → WasTried (S.tries self.old.stream) (S.tries self.new.stream) }
     {
-        if !self.can_write() {
+        if self.held.is_empty() || !self.can_write() {
             return;
         }
         let answer = self.stream.try_write(self.held.as_slice());
@@ -325,6 +340,8 @@ impl<S: Stream> Channel<S> {
         ensures held { held_of self.new ≡ held_of self.old }
         ensures shut { is_shut self.new ≡ is_shut self.old }
         ensures silent { is_shut self.old ≡ true → self.new ≡ self.old }
+        ensures tried { octets.now ≢ [] → MayWrite self.old
+            → WasTried (S.tries self.old.stream) (S.tries self.new.stream) }
     {
         if octets.is_empty() || !self.can_write() {
             return 0;
@@ -333,8 +350,10 @@ impl<S: Stream> Channel<S> {
         self.written(answer)
     }
 
+    /// Returns whether octets may be written to it at once.
     fn can_write(&self) -> bool
-        ensures { is_shut self.now ≡ true → result ≡ false }
+        ensures shut { is_shut self.now ≡ true → result ≡ false }
+        ensures may { IsTrue result ↔ MayWrite self.now }
     {
         self.ready.writes && !self.is_shut && self.end != Some(End::Broken)
     }

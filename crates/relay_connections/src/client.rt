@@ -1,14 +1,18 @@
 //! The connection of a client, and what a turn does with it.
-ghost use Rattle.std.specs.Prelude.{◌≡◌, ◌≢◌, ◌↔◌, ℕ, List, [], None, Some, Ok, Err, IfErr, IfOk, IsTrue, false, true};
+ghost use Rattle.std.specs.Prelude.{◌≡◌, ◌≢◌, ◌≤◌, ◌<◌, ◌+◌, ◌↔◌, ℕ, List, [], None, Some, Ok, Err, IfErr, IfOk};
+ghost use Rattle.std.specs.Prelude.{IsTrue, false, length, true};
 ghost use Rattle.std.specs.Io.KnownBytes.{Keeps};
 ghost use Rattle.relay_loop.specs.Outboxes.{unwritten_at};
-ghost use Rattle.relay_connections.specs.Channel.{KeepsInput, KeepsOutput, held_of, output_of, unread_of};
+ghost use Rattle.relay_connections.specs.Channel.{KeepsInput, KeepsOutput, MayWrite, WasTried, held_of, output_of};
+ghost use Rattle.relay_connections.specs.Channel.{unread_of};
 ghost use Rattle.relay_connections.specs.Exchange.{Hands, IsHanded, IsRead, Uses};
 ghost use Rattle.relay_connections.specs.Served.{StaysOrEnds, StaysSaid};
 ghost use Rattle.relay_connections.specs.Hears.{MayHear};
-ghost use Rattle.relay_connections.specs.Renewal.{KeepsWaiting, RenewsIfTaken, RenewsUnlessOver, WaitsAnew};
+ghost use Rattle.relay_connections.specs.Renewal.{IsFresh, KeepsWaiting, RenewsIfTaken, RenewsSession};
+ghost use Rattle.relay_connections.specs.Renewal.{RenewsUnlessOver, WaitsAnew};
 ghost use Rattle.relay_connections.specs.Renewal.{WaitsAnewOrOn, WaitsOn, untaken_count};
 ghost use Rattle.relay_connections.specs.Sessions.{EndsAlone, IsBetweenMail, deadline_of};
+ghost use Rattle.relay_connections.specs.declared.client.TheConstants.{PART_SIZE};
 
 use crate::channel::{Channel, End};
 use crate::clocks::Now;
@@ -115,6 +119,7 @@ impl<S: Stream> Client<S> {
         ensures channel { result.channel ≡ channel }
         ensures peer { result.peer ≡ peer }
         ensures waits { WaitsAnew timeout now.now.tick result }
+        ensures fresh { IsFresh now.now.tick result }
     {
         Client {
             channel,
@@ -195,6 +200,7 @@ impl<S: Stream> Client<S> {
         ensures keeps { KeepsWaiting self.old self.new }
         ensures nothing { untaken_count relay.old session self.old.channel ≡ 0
             → (self.new ≡ self.old) × (relay.new ≡ relay.old) }
+        ensures none { held_of self.old.channel ≡ [] → held_of self.new.channel ≡ [] }
     {
         let before = self.untaken(relay, session);
         if before == 0 {
@@ -214,6 +220,7 @@ impl<S: Stream> Client<S> {
         ensures peer { self.new.peer ≡ self.old.peer }
         ensures waits { WaitsOn self.old self.new }
         ensures keeps { KeepsWaiting self.old self.new }
+        ensures none { held_of self.old.channel ≡ [] → held_of self.new.channel ≡ [] }
     {
         for _ in 0..WRITE_LIMIT {
             if !self.write(relay, session) {
@@ -229,6 +236,7 @@ impl<S: Stream> Client<S> {
         ensures peer { self.new.peer ≡ self.old.peer }
         ensures waits { WaitsOn self.old self.new }
         ensures keeps { KeepsWaiting self.old self.new }
+        ensures none { held_of self.old.channel ≡ [] → held_of self.new.channel ≡ [] }
     {
         let before = self.untaken(relay, session);
         let count = self.channel.write(relay.to_client(session));
@@ -270,6 +278,9 @@ impl<S: Stream> Client<S> {
         ensures peer { self.new.peer ≡ self.old.peer }
         ensures renews { RenewsIfTaken timeout now.now.tick session relay.old relay.new self.old self.new }
         ensures keeps { KeepsWaiting self.old self.new }
+        ensures used { unread_of self.old.channel ≡ [] → held_of self.old.channel ≡ [] → held_of self.new.channel ≡ [] }
+        ensures late { deadline_of true self.new ≤ now.now.tick → held_of self.old.channel ≡ []
+            → held_of self.new.channel ≡ [] }
     {
         if self.channel.is_used() || self.deadline(true) <= now.tick {
             self.flush(relay, session, timeout, now);
@@ -307,8 +318,11 @@ impl<S: Stream> Client<S> {
         ensures input { KeepsInput S.remaining S.contents self.old.channel self.new.channel }
         ensures peer { self.new.peer ≡ self.old.peer }
         ensures waits { WaitsOn self.old self.new }
+        ensures none { held_of self.old.channel ≡ [] → self.new ≡ self.old }
+        ensures tried { held_of self.old.channel ≢ [] → MayWrite self.old.channel
+            → WasTried (S.tries self.old.channel.stream) (S.tries self.new.channel.stream) }
     {
-        let _none = self.channel.write(&[]);
+        self.channel.write_held();
     }
 
     /// Writes unwritten octets, and reads a block if there are none left and the last block is used. Returns what
@@ -330,6 +344,8 @@ impl<S: Stream> Client<S> {
             (RenewsUnlessOver timeout now.now.tick session relay.old relay.new self.old self.new) }
         ensures hears { MayHear relay.old session self.old.channel
             → (result ≡ Ok None) × (self.new.channel ≡ self.old.channel) × (relay.new ≡ relay.old) }
+        ensures taken { result ≡ Ok None → (held_of self.new.channel ≡ [])
+            × (unwritten_at relay.new.clients session ≡ []) }
     {
         self.flush(relay, session, timeout, now);
         if self.channel.end() == Some(End::Broken) {
@@ -351,7 +367,12 @@ impl<S: Stream> Client<S> {
     }
 
     /// Returns whether there are octets that its session may hear.
-    pub(crate) fn has_more<D: Disk>(&self, relay: &Relay<D>, session: usize) -> bool {
+    pub(crate) fn has_more<D: Disk>(&self, relay: &Relay<D>, session: usize) -> bool
+        ensures more { result ≡ true → (unread_of self.now.channel ≢ [])
+            × (unwritten_at relay.now.clients session ≡ []) }
+        ensures all { unread_of self.now.channel ≢ [] → unwritten_at relay.now.clients session ≡ []
+            → result ≡ true }
+    {
         !self.channel.is_used() && relay.to_client(session).is_empty()
     }
 
@@ -361,6 +382,8 @@ impl<S: Stream> Client<S> {
         ensures peer { self.new.peer ≡ self.old.peer }
         ensures waits { WaitsAnewOrOn timeout now.now.tick self.old self.new }
         ensures first { self.old.unanswered ≡ 0 → WaitsAnew timeout now.now.tick self.new }
+        ensures part { self.old.unanswered ≢ 0
+            → self.old.unanswered + length (unread_of self.old.channel) < PART_SIZE → WaitsOn self.old self.new }
     {
         let piece = self.channel.piece();
         self.record.read(piece.len());
@@ -402,6 +425,11 @@ impl<S: Stream> Client<S> {
         ensures peer { self.new.peer ≡ self.old.peer }
         ensures renews { IfOk heard (λ heard. heard.last ≡ None
             → RenewsIfTaken timeout now.now.tick session relay.old relay.new self.old self.new) }
+        ensures session { IfOk heard (λ heard. heard.last ≡ None
+            → RenewsSession now.now.tick heard.change self.old self.new) }
+        ensures held { holds ≡ false → held_of self.old.channel ≡ [] → held_of self.new.channel ≡ [] }
+        ensures late { deadline_of true self.new ≤ now.now.tick → held_of self.old.channel ≡ []
+            → held_of self.new.channel ≡ [] }
     {
         let Heard { used, change, last } = match heard {
             Ok(heard) => heard,
@@ -413,26 +441,58 @@ impl<S: Stream> Client<S> {
             }
         };
         self.channel.used(used);
+        self.note_replies(relay, session);
+        self.note_change(relay, change, now, log);
+        let Some(outbox) = last else {
+            log.replied(
+                self.peer,
+                relay.to_client(session),
+                &mut self.record,
+                now.tick,
+            );
+            if holds {
+                self.hold(relay, session, timeout, now);
+                return Ok(Next::Stays);
+            }
+            self.flush(relay, session, timeout, now);
+            return Ok(Next::Stays);
+        };
+        log.replied(self.peer, outbox.as_slice(), &mut self.record, now.tick);
+        Ok(Next::Leaves(outbox))
+    }
+
+    /// Notes the replies of its session, if there are any: only what was read after them is unanswered.
+    fn note_replies<D: Disk>(&mut self, relay: &Relay<D>, session: usize)
+        ensures channel { self.new.channel ≡ self.old.channel }
+        ensures peer { self.new.peer ≡ self.old.peer }
+        ensures waits { WaitsOn self.old self.new }
+        ensures accepted { self.new.has_accepted ≡ self.old.has_accepted }
+        ensures session { self.new.session_deadline ≡ self.old.session_deadline }
+    {
         if !relay.to_client(session).is_empty() {
             self.unanswered = self.channel.piece().len();
             self.has_line_end = false;
         }
+    }
+
+    /// Notes the change that its octets have added, if any: mail was accepted, and its session has time anew.
+    fn note_change<D: Disk>(
+        &mut self,
+        relay: &Relay<D>,
+        change: Option<u64>,
+        now: &Now,
+        log: &mut Log<'_, Vec<u8>>,
+    )
+        ensures channel { self.new.channel ≡ self.old.channel }
+        ensures peer { self.new.peer ≡ self.old.peer }
+        ensures waits { WaitsOn self.old self.new }
+        ensures session { RenewsSession now.now.tick change self.old self.new }
+    {
         if let Some(number) = change {
             self.session_deadline = now.after(SESSION_SECONDS);
             self.has_accepted = true;
             tell_accepted(relay, self.peer, number, &mut self.record, log);
         }
-        let (peer, record) = (self.peer, &mut self.record);
-        match &last {
-            Some(outbox) => log.replied(peer, outbox.as_slice(), record, now.tick),
-            None => log.replied(peer, relay.to_client(session), record, now.tick),
-        }
-        match last {
-            Some(outbox) => return Ok(Next::Leaves(outbox)),
-            None if holds => self.hold(relay, session, timeout, now),
-            None => self.flush(relay, session, timeout, now),
-        }
-        Ok(Next::Stays)
     }
 }
 

@@ -3,14 +3,15 @@ ghost use Rattle.std.specs.Net.Addr.{ipv4_octets};
 ghost use Rattle.std.specs.Net.Socket.{v4_ip};
 ghost use Rattle.relay_book.specs.declared.change.Change.{Change};
 ghost use Rattle.relay_loop.specs.Outboxes.{unwritten_at};
-ghost use Rattle.relay_slots.specs.Slots.{AreFree};
+ghost use Rattle.relay_slots.specs.Slots.{AreFree, slot_at};
 ghost use Rattle.relay_connections.specs.Carried.{Begins, Setting};
 ghost use Rattle.relay_connections.specs.Matched.{AreMatched, IsGreeted, Opens};
-ghost use Rattle.relay_connections.specs.Readiness.{IsLeftClient, IsNoted, clients_of};
+ghost use Rattle.relay_connections.specs.Deadlines.{IsEarliest};
+ghost use Rattle.relay_connections.specs.Readiness.{HasNoted, IsLeftClient, IsNoted, clients_of};
 ghost use Rattle.relay_connections.specs.Replies.{LeavesMail};
 ghost use Rattle.relay_connections.specs.Room.{HasRoom, is_at};
 ghost use Rattle.relay_connections.specs.Served.{AreServed, StaysSaid, opened};
-ghost use Rattle.relay_connections.specs.Sessions.{IsCutFor};
+ghost use Rattle.relay_connections.specs.Sessions.{IsCutFor, MayRetire, cut_tick, deadline_of, ended_by};
 ghost use Rattle.relay_connections.specs.Table.{count_of, count_of_such, is_such};
 ghost use Rattle.relay_connections.specs.Welcome.{IsRefusedFor, KeepsRules, MayConnect, allowed_of, reconfigured};
 ghost use Rattle.relay_connections.specs.Welcome.{retiring, staying, stopped};
@@ -256,6 +257,8 @@ impl<S: Stream + Drop> Clients<S> {
     /// Notes what the connection of a number may be ready for, as the system reports it.
     pub fn note(&mut self, number: usize, ready: Readiness)
         ensures noted { IsNoted number (clients_of self.old) (clients_of self.new) }
+        ensures reported { HasNoted ready (slot_at (clients_of self.old) number)
+            (slot_at (clients_of self.new) number) }
         ensures rules { KeepsRules self.old self.new }
     {
         if let Some(taken) = self.clients.take(number) {
@@ -297,7 +300,9 @@ impl<S: Stream + Drop> Clients<S> {
     }
 
     /// Returns whether the sessions are ended, and one is between mail transactions.
-    fn may_retire_one<D: Disk>(&self, relay: &Relay<D>) -> bool {
+    fn may_retire_one<D: Disk>(&self, relay: &Relay<D>) -> bool
+        ensures { (number : ℕ) → MayRetire self.now relay.now number → result ≡ true }
+    {
         if self.retires_at.is_none() {
             return false;
         }
@@ -334,7 +339,9 @@ impl<S: Stream + Drop> Clients<S> {
     }
 
     /// Returns the tick at which a client is cut off at the latest as things are.
-    fn cut_deadline(&self, client: &Client<S>) -> u64 {
+    fn cut_deadline(&self, client: &Client<S>) -> u64
+        ensures { result ≡ ended_by self.now.retires_at (deadline_of self.now.is_crowded client.now) }
+    {
         let deadline = client.deadline(self.is_crowded);
         match self.retires_at {
             Some(end) => deadline.min(end),
@@ -344,7 +351,8 @@ impl<S: Stream + Drop> Clients<S> {
 
     /// Returns the tick at which the next of them is cut off, or `otherwise` if that is earlier.
     pub fn next_deadline(&self, otherwise: u64) -> u64
-        ensures { result ≤ otherwise }
+        ensures within { result ≤ otherwise }
+        ensures next { IsEarliest (cut_tick self.now) otherwise (clients_of self.now) result }
     {
         let mut next = otherwise;
         for slot in self.clients.standing() {

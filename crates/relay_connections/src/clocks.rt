@@ -1,8 +1,10 @@
 //! The clocks of a turn.
-ghost use Rattle.std.specs.Prelude.{◌≡◌, ◌+◌, ◌-◌, ◌*◌, ◌^◌, min};
+ghost use Rattle.std.specs.Prelude.{◌≡◌, ◌+◌, ◌-◌, ◌*◌, ◌/◌, ◌^◌, min};
+ghost use Rattle.std.specs.Duration.{as_nanos};
 
 use relay_trace::{Moment, clock_moment};
 use std::rt::Clock;
+use std::time::Duration;
 
 /// The times of both clocks. Mail is due by the wall clock, which may be set; timeouts are by the monotonic clock.
 #[derive(Drop)]
@@ -41,10 +43,14 @@ impl Now {
 /// Reads the monotonic clock, in milliseconds; 0, at which no timeout expires, if it can't be read.
 pub fn tick_of<C: Clock>(clock: &C) -> u64 {
     match clock.monotonic() {
-        Ok(time) => time
-            .as_secs()
-            .saturating_mul(1_000)
-            .saturating_add(u64::from(time.subsec_millis())),
+        Ok(time) => ticks_of(time),
         Err(_) => 0,
     }
+}
+
+/// Returns how many whole milliseconds a time has, at most 2^64 - 1.
+fn ticks_of(time: Duration) -> u64
+    ensures { result ≡ min (as_nanos time / 1_000_000) (2 ^ 64 - 1) }
+{
+    time.as_millis().min(u128::from(u64::MAX)) as u64
 }

@@ -1,11 +1,13 @@
 //! Connections whose session or attempt has ended: their last octets are written, and what the peer still sends is read
 //! and dropped for a short time. Otherwise the system would reset the connection, and the last octets might be lost.
-ghost use Rattle.std.specs.Prelude.{◌≡◌, ◌≤◌, ◌<◌, ◌+◌, ◌⊎◌, ◌↔◌, ℕ, None, IfOk, IsTrue, false, true};
+ghost use Rattle.std.specs.Prelude.{◌≡◌, ◌≤◌, ◌<◌, ◌+◌, ◌⊎◌, ◌↔◌, ℕ, None, IfOk, IfSome, IsTrue, false, true};
 ghost use Rattle.std.specs.Prelude.{if◌then◌else◌};
 ghost use Rattle.relay_slots.specs.Slots.{AreFree, OthersStay, slot_at};
-ghost use Rattle.relay_connections.specs.Channel.{held_of};
-ghost use Rattle.relay_connections.specs.declared.leaving.TheConstants.{MOST_STRANGERS};
-ghost use Rattle.relay_connections.specs.Leaving.{GoesOn, HasGone, IsOneOf, IsOver, MayTake, Stays, StaysOrCloses};
+ghost use Rattle.relay_connections.specs.Channel.{IsUnder, held_of};
+ghost use Rattle.relay_connections.specs.declared.leaving.TheConstants.{FIRST_TOKEN, MOST_STRANGERS};
+ghost use Rattle.relay_connections.specs.Deadlines.{IsEarliest};
+ghost use Rattle.relay_connections.specs.Leaving.{GoesOn, HasGone, HasNotedLeaver, IsOneOf, IsOver, IsTimed, MayTake};
+ghost use Rattle.relay_connections.specs.Leaving.{Stays, StaysOrCloses, closes_at};
 ghost use Rattle.relay_connections.specs.Leaving.{goes_to, leavers_of, read_until, whole_output};
 ghost use Rattle.relay_connections.specs.Table.{count_of, count_of_such, is_such};
 
@@ -90,7 +92,8 @@ impl Leaving {
 impl<S: Stream + Drop> Leaving<S> {
     /// Returns an empty table; last octets may take `seconds` to be written. Fails if memory runs out.
     pub fn new(alloc: Global, seconds: u64) -> Result<Self, AllocError>
-        ensures { IfOk result (λ leaving. AreFree (leavers_of leaving)) }
+        ensures free { IfOk result (λ leaving. AreFree (leavers_of leaving)) }
+        ensures seconds { IfOk result (λ leaving. leaving.seconds ≡ seconds) }
     {
         Ok(Leaving {
             alloc,
@@ -101,7 +104,8 @@ impl<S: Stream + Drop> Leaving<S> {
 
     /// From now on, last octets may take `seconds` to be written.
     pub fn set_timeout(&mut self, seconds: u64)
-        ensures { leavers_of self.new ≡ leavers_of self.old }
+        ensures leavers { leavers_of self.new ≡ leavers_of self.old }
+        ensures seconds { self.new.seconds ≡ seconds }
     {
         self.seconds = seconds;
     }
@@ -117,8 +121,15 @@ impl<S: Stream + Drop> Leaving<S> {
         place: Option<usize>,
         now: &Now,
     )
-        ensures { (number : ℕ) → MayTake S.remaining S.contents channel outbox place
+        ensures taken { (number : ℕ) → MayTake S.remaining S.contents channel outbox place
             (slot_at (leavers_of self.old) number) (slot_at (leavers_of self.new) number) }
+        ensures time { (number : ℕ) → slot_at (leavers_of self.old) number ≡ None
+            → IfSome (slot_at (leavers_of self.new) number)
+            (λ leaver. IsTimed self.old.seconds now.now.tick leaver.value) }
+        ensures token { (number : ℕ) → slot_at (leavers_of self.old) number ≡ None
+            → IfSome (slot_at (leavers_of self.new) number)
+            (λ leaver. IsUnder (FIRST_TOKEN + number) (S.registered leaver.value.channel.stream)) }
+        ensures seconds { self.new.seconds ≡ self.old.seconds }
     {
         let mut leaver = Leaver {
             channel,
@@ -182,6 +193,8 @@ impl<S: Stream + Drop> Leaving<S> {
     pub fn note(&mut self, number: usize, ready: Readiness)
         ensures stays { Stays S.remaining S.contents (slot_at (leavers_of self.old) number)
             (slot_at (leavers_of self.new) number) }
+        ensures reported { HasNotedLeaver ready (slot_at (leavers_of self.old) number)
+            (slot_at (leavers_of self.new) number) }
         ensures others { OthersStay (leavers_of self.old) (leavers_of self.new) number }
     {
         if let Some(taken) = self.leavers.take(number) {
@@ -243,7 +256,8 @@ impl<S: Stream + Drop> Leaving<S> {
 
     /// Returns the tick at which the next of them is closed, or `otherwise` if that is earlier.
     pub fn next_deadline(&self, otherwise: u64) -> u64
-        ensures { result ≤ otherwise }
+        ensures within { result ≤ otherwise }
+        ensures next { IsEarliest closes_at otherwise (leavers_of self.now) result }
     {
         let mut next = otherwise;
         for slot in self.leavers.standing() {

@@ -1,6 +1,7 @@
 //! A system's stream, without waiting.
-ghost use Rattle.std.specs.Prelude.{◌≡◌};
+ghost use Rattle.std.specs.Prelude.{◌≡◌, true};
 ghost use Rattle.std.specs.Io.{ReadsAtMost, WritesAtMost};
+ghost use Rattle.mio.specs.Interest.{is_readable, is_writable};
 
 use mio::net::TcpStream;
 use mio::{Interest, Registry, Token};
@@ -13,6 +14,8 @@ pub trait Stream {
     ghost use Rattle.std.specs.Prelude.{◌≡◌, ℕ, List, Option, None};
     ghost use Rattle.std.specs.Io.{ReadsAtMost, WritesAtMost};
     ghost use Rattle.std.specs.Io.KnownBytes.{ReadConsumes, WriteAppends};
+    ghost use Rattle.relay_connections.specs.Channel.{IsUnder, WasTried};
+    ghost use Rattle.std.specs.Prelude.{IfOk};
 
     /// What reports its readiness.
     type Registry;
@@ -22,6 +25,12 @@ pub trait Stream {
 
     // the octets that writes have taken so far, if they are known
     ghost contents: { Self → Option (List ℕ) } = { λ _. None };
+
+    // how often it was tried to write to it, if that is counted
+    ghost tries: { Self → Option ℕ } = { λ _. None };
+
+    // the token under which the system reports of it, if it is known
+    ghost registered: { Self → Option ℕ } = { λ _. None };
 
     /// Reads the next octets into a buffer, and returns how many; 0 means the end of the input. Fails if it would have
     /// to wait, or the connection is broken.
@@ -35,6 +44,7 @@ pub trait Stream {
     fn try_write(&mut self, octets: &[u8]) -> io::Result<usize>
         ensures bound { WritesAtMost result octets.now }
         ensures bytes { WriteAppends (contents self.old) (contents self.new) result octets.now }
+        ensures tried { WasTried (tries self.old) (tries self.new) }
         ensures remaining { remaining self.new ≡ remaining self.old };
 
     /// Disables Nagle's algorithm, so that octets are sent at once.
@@ -53,6 +63,7 @@ pub trait Stream {
     /// Registers the stream under this token; what it is ready for already is reported too. `again` says that it was
     /// registered before. Fails if the system refuses.
     fn register(&mut self, registry: &Self::Registry, token: usize, again: bool) -> io::Result<()>
+        ensures under { IfOk result (λ _. IsUnder token (registered self.new)) }
         ensures remaining { remaining self.new ≡ remaining self.old }
         ensures contents { contents self.new ≡ contents self.old };
 
@@ -103,6 +114,10 @@ impl Stream for TcpStream {
     }
 }
 
-fn both_ways() -> Interest {
+/// Returns what a stream is registered for: that it may be read, and that it may be written to.
+fn both_ways() -> Interest
+    ensures reads { is_readable result ≡ true }
+    ensures writes { is_writable result ≡ true }
+{
     Interest::READABLE | Interest::WRITABLE
 }

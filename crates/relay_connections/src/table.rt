@@ -64,6 +64,7 @@ impl<T: Drop> Table<T> {
     pub fn free(&self) -> Option<usize>
         ensures least { MatchOption result (IsFull self.now) (IsLeastFree self.now) }
         ensures within { MatchOption result (Unit {0}) (λ number. number < length self.now) }
+        ensures low { MatchOption result (Unit {0}) (λ number. number < SLOT_COUNT) }
     {
         self.slots.free()
     }

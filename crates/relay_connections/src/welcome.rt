@@ -1,5 +1,5 @@
 //! A client that has come: a session is opened for it, or it gets one line that says why not.
-ghost use Rattle.std.specs.Prelude.{◌≡◌, List, None, Ok, Some, IfErr, IfOk, IfSome, false};
+ghost use Rattle.std.specs.Prelude.{◌≡◌, ◌≢◌, ◌≤◌, List, None, Ok, Some, IfErr, IfOk, IfSome, false};
 ghost use Rattle.std.specs.Net.Addr.{ipv4_octets};
 ghost use Rattle.std.specs.Net.Socket.{v4_ip};
 ghost use Rattle.relay_book.specs.declared.change.Change.{Change};
@@ -10,6 +10,8 @@ ghost use Rattle.relay_connections.specs.Matched.{AreMatched, Opens};
 ghost use Rattle.relay_connections.specs.Readiness.{clients_of};
 ghost use Rattle.relay_connections.specs.Replies.{LeavesMail};
 ghost use Rattle.relay_connections.specs.Served.{AreServed, opened};
+ghost use Rattle.relay_connections.specs.Table.{count_of};
+ghost use Rattle.relay_connections.specs.declared.leaving.TheConstants.{MOST_STRANGERS};
 ghost use Rattle.relay_connections.specs.Welcome.{AreAllowed, IsRefusedFor, KeepsRules, LeavesWith, allowed_of};
 ghost use Rattle.relay_connections.specs.Welcome.{refusal_of};
 
@@ -56,6 +58,8 @@ impl<S: Stream + Drop> Clients<S> {
             (opened S.remaining S.contents setting (clients_of self.old) peer stream) (clients_of self.new) relay.new) }
         ensures fault { IfErr result (λ fault. (fault ≡ NodeFault.Stopped)
             × IsRefusedFor (ipv4_octets (v4_ip peer)) self.old None) }
+        ensures crowd { IfOk result (λ found. found ≢ None → MOST_STRANGERS ≤ count_of (leavers_of leaving.old)
+            → leaving.new ≡ leaving.old) }
         ensures mail { LeavesMail relay.old relay.new }
         ensures rules { KeepsRules self.old self.new }
         ensures allowed { AreAllowed self.old relay.old → AreAllowed self.new relay.new }
@@ -81,8 +85,9 @@ fn turn_away<S: Stream + Drop>(
     why: Refusal,
     now: &Now,
 )
-    ensures { LeavesWith S.remaining S.contents stream (refusal_of host.now why)
+    ensures line { LeavesWith S.remaining S.contents stream (refusal_of host.now why)
         (leavers_of leaving.old) (leavers_of leaving.new) }
+    ensures crowd { MOST_STRANGERS ≤ count_of (leavers_of leaving.old) → leaving.new ≡ leaving.old }
 {
     let Ok(line) = refusal_line(alloc, host, why) else {
         return;

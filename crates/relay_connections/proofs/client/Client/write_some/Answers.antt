@@ -7,3 +7,10 @@ returns-then-not-write-clause-said g c = λ changes address said has.
 
 pub returns-clause-said : goal.returns-clause-said
 returns-clause-said g c = c.loop.invariant.2
+
+-- What was empty before a write is empty after it.
+pub returns-then-not-write-clause-none : goal.returns-then-not-write-clause-none
+returns-then-not-write-clause-none g c = λ none. c.write.ensures.none (c.loop.invariant.5 none)
+
+pub returns-clause-none : goal.returns-clause-none
+returns-clause-none g c = c.loop.invariant.5

@@ -1,5 +1,7 @@
--- so far what waited went on, nothing was read, the session has said what it had, and its client's idle time goes on
-use Rattle.std.proofs.Common.{◌≡◌}
+-- so far what waited went on, nothing was read, the session has said what it had, its client's idle time goes on, and
+-- nothing is held back if nothing was
+use Rattle.std.proofs.Common.{◌≡◌, []}
+use Rattle.relay_connections.specs.Channel.{held_of}
 use Rattle.relay_connections.specs.Exchange.{Hands}
 use Rattle.relay_connections.specs.Renewal.{KeepsWaiting, WaitsOn}
 use Rattle.relay_connections.specs.Served.{StaysSaid}
@@ -12,3 +14,4 @@ invariant-loop g l =
     × StaysSaid l.fn.session l.fn.relay l.relay
     × WaitsOn l.fn.self l.self
     × KeepsWaiting l.fn.self l.self
+    × (held_of l.fn.self.channel ≡ [] → held_of l.self.channel ≡ [])

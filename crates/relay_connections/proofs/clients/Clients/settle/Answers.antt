@@ -23,7 +23,7 @@ returns-in-Leaves-clause-serves g c = λ changes setting works within free has.
     next in
     let same : c.into_channel-channel.result ≡ c.args.client.value.channel = search rules in
     let carries = subst (λ channel. CarriesLast g.S.Stream.remaining g.S.Stream.contents (setup_at setting c.args.number) (setting.beginnings c.args.number) 0 channel c.in-Leaves.outbox) (sym same) so.1 in
-    (so.0, leaves_join g.S.Stream.remaining g.S.Stream.contents setting c.args.number c.into_channel-channel.result c.in-Leaves.outbox c.args.leaving.now.leavers c.take.new.self.leavers carries c.take.ensures)
+    (so.0, leaves_join g.S.Stream.remaining g.S.Stream.contents setting c.args.number c.into_channel-channel.result c.in-Leaves.outbox c.args.leaving.now.leavers c.take.new.self.leavers carries c.take.ensures.taken)
 
 pub returns-in-Gone-clause-serves : goal.returns-in-Gone-clause-serves
 returns-in-Gone-clause-serves g c = λ changes setting works within free has.
