@@ -8,8 +8,8 @@ use relay_book::Withdrawal;
 use relay_control::{End, Named, push_end, push_line};
 use std::alloc::{AllocError, Global};
 
-/// The octets of an answer; an error if there was no memory for one.
-pub(crate) type Answer = Result<Vec<u8>, AllocError>;
+/// The octets of an answer of the control socket; an error if there was no memory for one.
+pub type Answer = Result<Vec<u8>, AllocError>;
 
 /// Returns the answer to a request that was done.
 pub(crate) fn done(alloc: Global, line: &[u8]) -> Answer

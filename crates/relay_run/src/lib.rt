@@ -32,6 +32,7 @@ mod waiting;
 mod withdrawing;
 
 pub use acceptor::LISTENER_TOKEN;
+pub use answers::Answer;
 pub use device::Device;
 pub use documents::Documents;
 pub use journal::Journal;

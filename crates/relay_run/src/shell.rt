@@ -125,6 +125,7 @@ impl<S: Stream + Drop, D: Disk + Drop, F: Disk + Drop> Shell<S, D, F> {
         ensures rest { (self.new.relay ≡ self.old.relay) × (self.new.clients ≡ self.old.clients)
             × (self.new.next_hops ≡ self.old.next_hops) × (self.new.leaving ≡ self.old.leaving)
             × (self.new.acceptor ≡ self.old.acceptor) × (self.new.steering ≡ self.old.steering) }
+        ensures room { self.new.room ≡ self.old.room }
     {
         self.known = Known::of(&self.relay);
     }

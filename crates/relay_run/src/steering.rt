@@ -133,11 +133,7 @@ impl<S: Stream + Drop, D: Disk + Drop, F: Disk + Drop> Shell<S, D, F> {
         let Some((caller, request)) = self.steering.socket.serve(registry, now) else {
             return Ok(());
         };
-        if let Ok(line) = write_request(self.steering.alloc, &request) {
-            if let Some(text) = line.as_slice().strip_suffix(b"\n") {
-                log.steered(text);
-            }
-        }
+        log_request(self.steering.alloc, &request, log);
         if let Some(answer) = self.obey(files, caller, request, now, log)? {
             self.steering.socket.answer(caller, answer);
         }
@@ -146,7 +142,7 @@ impl<S: Stream + Drop, D: Disk + Drop, F: Disk + Drop> Shell<S, D, F> {
 
     /// Does what a caller asks for, and returns its answer; `None` for a drain and for a reload, which are answered
     /// when they are done. Fails only if the device has failed.
-    fn obey<O: Documents>(
+    pub(crate) fn obey<O: Documents>(
         &mut self,
         files: &O,
         caller: usize,
@@ -339,6 +335,15 @@ impl<S: Stream + Drop, D: Disk + Drop, F: Disk + Drop> Shell<S, D, F> {
                 Some(_) => None,
                 None => Some(not_queued(alloc, *number)),
             },
+        }
+    }
+}
+
+/// Logs a request. If memory runs out, it isn't logged.
+pub(crate) fn log_request(alloc: Global, request: &Request, log: &mut Log<'_, Vec<u8>>) {
+    if let Ok(line) = write_request(alloc, request) {
+        if let Some(text) = line.as_slice().strip_suffix(b"\n") {
+            log.steered(text);
         }
     }
 }
