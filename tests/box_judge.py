@@ -143,8 +143,7 @@ class Judge:
     def end_all(self):
         """Ends all connections, since the relay is stopped or its device has failed."""
         for talk in self.talks.values():
-            self.doubt_offers(talk)
-            talk.count_untold(self.minutes, talk.skipped, talk.skipped + len(talk.untold))
+            self.forget_talk(talk)
             talk.offers.clear()
             talk.is_closed = talk.is_ended = True
         for link in self.links.values():
@@ -156,6 +155,13 @@ class Judge:
         self.talks, self.arrivals, self.links, self.peers = {}, {}, {}, {}
         self.paces = Paces()
         self.waits.forget()
+
+    def forget_talk(self, talk):
+        """Notes what isn't known of a client whose connection is closed: whether its last messages were recorded, if the
+        device has failed; and how many of its refusals have no line, if there is none for its end."""
+        self.doubt_offers(talk)
+        least = max(talk.skipped, talk.refused - talk.told)
+        talk.count_untold(self.minutes, least, talk.skipped + len(talk.untold))
 
     def doubt_offers(self, talk):
         """Notes that messages of a client may have been recorded in this turn, if the device has failed in it."""
@@ -368,7 +374,7 @@ class Judge:
             if isinstance(stream, Talk):
                 stream.require(self.ends_all or not stream.is_greeted or stream.ended is not None,
                                "it was closed, and the log has no line for its end")
-                self.doubt_offers(stream)
+                self.forget_talk(stream)
                 self.talks.pop(number, None)
                 self.peers.pop(stream.address, None)
             elif isinstance(stream, Arrival):
