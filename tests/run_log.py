@@ -51,9 +51,10 @@ def text_of(size):
 
 
 def its_log_begins_with_the_address_at_which_it_listens(field):
-    """The line is there before `ready` is printed."""
+    """A thread writes the log, so the line may come after `ready`."""
     relay = field.relay(more=own_route(field))
     with relay.running():
+        until("a line", lambda: told(relay, ""))
         same("the log", told(relay, ""), [f"relayd: listening addr=127.0.0.1:{relay.port}"])
 
 
