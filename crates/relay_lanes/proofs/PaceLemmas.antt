@@ -1,10 +1,10 @@
 -- How many attempts run, where the paces of lanes change.
-use Rattle.std.proofs.Common.{◌≡◌, ◌≢◌, ℕ, ◌+◌, ◌-◌, ◌^◌, min, zero, suc, List, [], ◌∷◌, ◌++◌, Option, None, Some, option_map, refl, sym, ap, ◌∙◌}
+use Rattle.std.proofs.Common.{◌≡◌, ◌≢◌, ◌⊎◌, inl, inr, ℕ, ◌+◌, ◌-◌, ◌^◌, min, zero, suc, List, [], ◌∷◌, ◌++◌, Option, None, Some, option_map, refl, sym, ap, ◌∙◌}
 use Rattle.std.specs.Prelude.{slice_get, slice_set}
 use Rattle.std.specs.Option.{option_map_or}
 use Rattle.relay_limits.specs.declared.pace.Pace.{Pace}
 use Rattle.relay_limits.specs.Pace.{unknown_pace}
-use Rattle.relay_lanes.specs.Paces.{HasLane, RunAsBefore, RunsOneLess, RunsOneMore, begun, changed_at, ended, put_at, running_at}
+use Rattle.relay_lanes.specs.Paces.{AddsUnknown, HasLane, RunAsBefore, RunsOneLess, RunsOneMore, begun, changed_at, ended, put_at, running_at}
 
 -- of a lane that is new none runs
 pub runs_none_more : (paces : List Pace) (number : ℕ) → running_at (paces ++ unknown_pace ∷ []) number ≡ running_at paces number
@@ -72,3 +72,25 @@ less_then_same lane old between new less same = record {
   own = same lane ∙ less.own;
   others = λ number apart. same number ∙ less.others number apart;
 }
+
+-- of lanes that were added nothing is known
+pub adds_none : (paces : List Pace) → AddsUnknown paces paces
+adds_none paces number = inl refl
+
+-- one lane more was added
+pub adds_one : (paces : List Pace) (number : ℕ) → (slice_get (paces ++ unknown_pace ∷ []) number ≡ slice_get paces number) ⊎ ((slice_get paces number ≡ None) × (slice_get (paces ++ unknown_pace ∷ []) number ≡ Some unknown_pace))
+adds_one [] zero = inr (refl, refl)
+adds_one [] (suc number) = inl refl
+adds_one (pace ∷ paces) zero = inl refl
+adds_one (pace ∷ paces) (suc number) = adds_one paces number
+
+pub adds_then : (old between new : List Pace) → AddsUnknown old between → AddsUnknown between new → AddsUnknown old new
+adds_then old between new one other number = by (one number) (other number) where
+  Adds : List Pace → List Pace → Type 0
+  Adds old new = (slice_get new number ≡ slice_get old number) ⊎ ((slice_get old number ≡ None) × (slice_get new number ≡ Some unknown_pace))
+
+  by : Adds old between → Adds between new → Adds old new
+  by (inl first) (inl second) = inl (second ∙ first)
+  by (inl first) (inr second) = inr (sym first ∙ second.0, second.1)
+  by (inr first) (inl second) = inr (first.0, second ∙ first.1)
+  by (inr first) (inr second) = absurd (cc (first.1, second.0))

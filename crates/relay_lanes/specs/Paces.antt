@@ -1,9 +1,9 @@
 -- The paces of lanes by number, and how many attempts each is running.
-use Rattle.std.specs.Prelude.{◌≡◌, ◌≢◌, ℕ, ◌+◌, ◌-◌, ◌^◌, min, max, Bool, false, List, Option, None, Some, MatchOption}
-use Rattle.std.specs.Prelude.{option_map, slice_get, slice_set}
+use Rattle.std.specs.Prelude.{◌≡◌, ◌≢◌, ◌⊎◌, ℕ, ◌+◌, ◌-◌, ◌^◌, min, max, Bool, false, List, Option, None, Some}
+use Rattle.std.specs.Prelude.{MatchOption, option_map, slice_get, slice_set}
 use Rattle.std.specs.Option.{option_map_or}
 use Rattle.relay_limits.specs.declared.pace.Pace.{Pace}
-use Rattle.relay_limits.specs.Pace.{IsHeld, MayBegin, standing, with_limit, with_running}
+use Rattle.relay_limits.specs.Pace.{IsHeld, MayBegin, standing, unknown_pace, with_limit, with_running}
 
 -- the paces, with another one under a number, if there is one
 abbrev pub put_at : List Pace → ℕ → Option Pace → List Pace
@@ -45,6 +45,15 @@ IsHeldAt tick paces number = MatchOption (slice_get paces number) ⊥ (λ pace. 
 -- each lane is running as many attempts as before
 abbrev pub RunAsBefore : List Pace → List Pace → Type 0
 RunAsBefore old new = (number : ℕ) → running_at new number ≡ running_at old number
+
+-- each lane keeps its pace, and nothing is known of the next hops of those that were added
+abbrev pub AddsUnknown : List Pace → List Pace → Type 0
+AddsUnknown old new = (number : ℕ) → (slice_get new number ≡ slice_get old number)
+    ⊎ ((slice_get old number ≡ None) × (slice_get new number ≡ Some unknown_pace))
+
+-- how many connections of the lane of a number are leaving: none if there is no such lane
+abbrev pub leaving_at : List Pace → ℕ → ℕ
+leaving_at paces number = option_map_or (λ pace. pace.leaving) (slice_get paces number) 0
 
 -- there is a lane of this number
 abbrev pub HasLane : List Pace → ℕ → Type 0

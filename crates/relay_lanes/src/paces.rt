@@ -1,7 +1,7 @@
 //! The pace of each lane: how many of its attempts are running, and whether it is on hold.
 ghost use Rattle.std.specs.Prelude.{◌≡◌, ◌↔◌, [], IsTrue, option_copied, option_map, slice_get};
 ghost use Rattle.relay_limits.specs.Pace.{answered_pace, held_from, next_hold, probed, with_leaving};
-ghost use Rattle.relay_lanes.specs.Paces.{IsHeldAt, MayBeginAt, RunAsBefore, begun, changed_at, ended};
+ghost use Rattle.relay_lanes.specs.Paces.{AddsUnknown, IsHeldAt, MayBeginAt, RunAsBefore, begun, changed_at, ended};
 ghost use Rattle.relay_lanes.specs.Paces.{refused, welcomed};
 
 use relay_limits::Pace;
@@ -42,7 +42,8 @@ impl Paces {
     /// Adds lanes without running attempts, up to `count`. Fails if memory runs out.
     #[tactic(auto, using(crate::proofs::PaceLemmas::runs_none_more))]
     pub fn grow(&mut self, count: usize) -> Result<(), AllocError>
-        ensures { RunAsBefore self.old self.new }
+        ensures runs { RunAsBefore self.old self.new }
+        ensures adds { AddsUnknown self.old self.new }
     {
         for _ in self.paces.len()..count {
             self.paces.push(Pace::new())?;
