@@ -8,13 +8,13 @@ use Rattle.std.proofs.lemmas.List.{length-set}
 use Rattle.relay_routes.specs.declared.config.Config.{Config}
 use Rattle.relay_slots.specs.Slots.{slot_at}
 use Rattle.relay_node.specs.Node.{SeatHasSaid, greeted_by}
+use Rattle.relay_loop.specs.Calls.{AcceptSays}
 use Rattle.relay_loop.specs.Clients.{TalksTo}
 use Rattle.relay_loop.specs.Outboxes.{octets_of, unwritten_at}
 use Rattle.relay_loop.specs.Relay.{RelayState}
 use Rattle.relay_world.specs.declared.link.Link.{Link}
 use Rattle.relay_world.specs.Steps.{HasOpened, IsPutAt}
 use Rattle.relay_world.specs.World.{Host, World, link_at}
-use Rattle.relay_daemon.specs.Calls.{AcceptSays}
 use Rattle.relay_daemon.specs.Events.{AcceptingOpens, greeted_link, opened}
 use Rattle.relay_daemon.specs.Runs.{ReachesHop, RunsAt, ServesClient, host_with}
 use Rattle.relay_daemon.proofs.MoveLemmas.{client_beside, hop_beside, not_both}

@@ -7,6 +7,10 @@ use Rattle.relay_lines.specs.Reply.{one_line}
 use Rattle.relay_slots.specs.Slots.{slot_at}
 use Rattle.relay_book.specs.declared.change.Change.{Change}
 use Rattle.relay_records.specs.ListLaws.{NoneIsAwaited}
+use Rattle.relay_loop.specs.Called.{Accepts, Call, Compacts, CutsOff, Does, Drops, Ends, Forgets, GivesUp, Hears}
+use Rattle.relay_loop.specs.Called.{HearsOne, IsRefused, Loses, Reads, Starts, Trims, Withdraws, Writes, WritesToHop}
+use Rattle.relay_loop.specs.Called.{told_of, untold}
+use Rattle.relay_loop.specs.Calls.{GiveUpSays, HearSays, LoseSays, ReplySays, StartSays, WithdrawSays}
 use Rattle.relay_loop.specs.Closing.{text_of}
 use Rattle.relay_loop.specs.GroupCalls.{HearsGroup}
 use Rattle.relay_loop.specs.Relay.{RelayState}
@@ -18,18 +22,16 @@ use Rattle.relay_world.specs.Once.{HappenAsking, Happens, Hears as HearsBy, Hear
 use Rattle.relay_world.specs.Once.{Starts as StartsBy, asked_at}
 use Rattle.relay_world.specs.Promise.{KeepsPromise, PromiseIsKept}
 use Rattle.relay_world.specs.World.{Host, World}
-use Rattle.relay_daemon.specs.Calls.{GiveUpSays, HearSays, LoseSays, ReplySays, StartSays, WithdrawSays}
 use Rattle.relay_daemon.specs.Elsewhere.{Elsewhere, IsOfOther}
 use Rattle.relay_daemon.specs.Events.{LeadsToHop, begun_attempt}
-use Rattle.relay_daemon.specs.Runs.{RunsAt, told_of, untold}
-use Rattle.relay_daemon.specs.Sequences.{Accepts, Call, CallsKeepThePromise, Compacts, CutsOff, Does, Drops}
-use Rattle.relay_daemon.specs.Sequences.{Ends, GivesUp, Hears, HearsOne, IsEvent, IsKept, IsRefused, Loses, Meets, Reads}
-use Rattle.relay_daemon.specs.Sequences.{Stands, Starts, Trims, Withdraws, Writes, WritesToHop}
+use Rattle.relay_daemon.specs.Runs.{RunsAt}
+use Rattle.relay_daemon.specs.Sequences.{CallsKeepThePromise, IsEvent, IsKept, Meets, Stands}
 use Rattle.relay_daemon.proofs.AcceptLemmas.{accepting}
 use Rattle.relay_daemon.proofs.AloneLemmas.{alone_runs_on}
 use Rattle.relay_daemon.proofs.DropLemmas.{dropping}
 use Rattle.relay_daemon.proofs.EachLemmas.{hearing_all}
 use Rattle.relay_daemon.proofs.EndLemmas.{cutting_off, ending}
+use Rattle.relay_daemon.proofs.ForgetLemmas.{forgetting}
 use Rattle.relay_daemon.proofs.GiveLemmas.{giving_up, withdrawing}
 use Rattle.relay_daemon.proofs.HearOneLemmas.{hearing_one}
 use Rattle.relay_daemon.proofs.HereLemmas.{attempt_here, session_here, some_slot}
@@ -101,6 +103,8 @@ module _ {D : Type 0} (honest : Type 0) (words : DiskWords D) where
       (λ other off same. off
       (sym (session_here world serves.number node session serves.link is.0.ends.of serves.link_is serves.has) ∙ same))
       is.1
+  leads awaits (Forgets session) world lists node old after runs bound does meets =
+      none world node after (forgetting honest words world lists node session old after runs bound does)
   leads awaits (Writes session count) world lists node old after runs bound does meets =
       none world node after (writing_out world node session count old after runs does)
   leads awaits (HearsOne session octets now heard) world lists node old after runs bound does meets =

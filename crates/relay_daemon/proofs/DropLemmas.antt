@@ -4,12 +4,12 @@ use Rattle.std.specs.Prelude.{slice_get}
 use Rattle.std.proofs.lemmas.Bool.Decides.{eqb_tells}
 use Rattle.std.proofs.lemmas.List.{length-set}
 use Rattle.relay_slots.specs.Slots.{slot_at}
+use Rattle.relay_loop.specs.Calls.{DropSays}
 use Rattle.relay_loop.specs.Relay.{RelayState}
 use Rattle.relay_world.specs.declared.attempt.Attempt.{Attempt}
 use Rattle.relay_world.specs.declared.attempt.Fate.TheVariants.{Dropped}
 use Rattle.relay_world.specs.Steps.{DropsAttempt, IsPut}
 use Rattle.relay_world.specs.World.{Host, World}
-use Rattle.relay_daemon.specs.Calls.{DropSays}
 use Rattle.relay_daemon.specs.Events.{RefusingDrops, dropped_in}
 use Rattle.relay_daemon.specs.Runs.{ReachesHop, RunsAt, host_with}
 use Rattle.relay_daemon.proofs.LoseLemmas.{one_running}

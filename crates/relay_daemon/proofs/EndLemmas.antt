@@ -6,12 +6,12 @@ use Rattle.std.proofs.lemmas.List.{length-set}
 use Rattle.relay_slots.specs.Slots.{slot_at}
 use Rattle.relay_lines.specs.Reply.{Reply, one_line}
 use Rattle.relay_loop.proofs.Theorems.{closing_is_reply}
+use Rattle.relay_loop.specs.Calls.{EndSays}
 use Rattle.relay_loop.specs.Closing.{text_of}
 use Rattle.relay_loop.specs.Relay.{RelayState}
 use Rattle.relay_world.specs.declared.link.Link.{Link}
 use Rattle.relay_world.specs.Steps.{EndsWith, IsPut, IsPutAt, ended_link}
 use Rattle.relay_world.specs.World.{Host, World}
-use Rattle.relay_daemon.specs.Calls.{EndSays}
 use Rattle.relay_daemon.specs.Events.{CuttingOffCloses, EndingEnds, ended}
 use Rattle.relay_daemon.specs.Runs.{RunsAt, ServesClient, host_with}
 use Rattle.relay_daemon.proofs.MoveLemmas.{client_beside, hop_moved, not_both, one_session}

@@ -6,13 +6,14 @@ use Rattle.relay_book.specs.declared.change.Change.{Change}
 use Rattle.relay_records.specs.declared.noted.Noted.{Noted}
 use Rattle.relay_records.specs.Records.{Keeps}
 use Rattle.relay_report.specs.Report.{reporter_of}
+use Rattle.relay_loop.specs.Called.{untold}
+use Rattle.relay_loop.specs.Calls.{SameConnections, SameRest}
 use Rattle.relay_loop.specs.Relay.{RelayState}
 use Rattle.relay_world.specs.GivingUp.{AddsGivenUp, AreFree, NoHop, Postmaster, Reason}
 use Rattle.relay_world.specs.Steps.{HasGivenUp}
 use Rattle.relay_world.specs.World.{Host, World}
-use Rattle.relay_daemon.specs.Calls.{SameConnections, SameRest}
 use Rattle.relay_daemon.specs.Events.{GivesUpThere, GivingUpIsAnEvent, WithdrawingIsAnEvent, lines_given_up, recorded}
-use Rattle.relay_daemon.specs.Runs.{RunsAt, host_with_note, untold}
+use Rattle.relay_daemon.specs.Runs.{RunsAt, host_with_note}
 use Rattle.relay_daemon.proofs.KeepLemmas.{its_changes, its_keeps}
 use Rattle.relay_daemon.proofs.PutLemmas.{value_put}
 use Rattle.relay_daemon.proofs.StayLemmas.{runs_on}

@@ -14,6 +14,8 @@ use Rattle.relay_records.specs.Records.{Kept}
 use Rattle.relay_node.specs.declared.receive.Received.{Received}
 use Rattle.relay_node.specs.Node.{Makes, Receives, SessionGoesOn}
 use Rattle.relay_loop.specs.declared.clients.Heard.{Heard}
+use Rattle.relay_loop.specs.Called.{told_of}
+use Rattle.relay_loop.specs.Calls.{HearSays}
 use Rattle.relay_loop.specs.Relay.{RelayState}
 use Rattle.relay_world.specs.declared.line.Line.{Line}
 use Rattle.relay_world.specs.declared.line.Line.TheVariants.{Accepted}
@@ -21,10 +23,9 @@ use Rattle.relay_world.specs.declared.link.Link.{Link}
 use Rattle.relay_world.specs.Bound.{IsBound}
 use Rattle.relay_world.specs.Steps.{HasHeard, IsPut, IsPutAt, RecordsHeard, SessionOf, heard_link, session_after}
 use Rattle.relay_world.specs.World.{Host, Up, World}
-use Rattle.relay_daemon.specs.Calls.{HearSays}
 use Rattle.relay_daemon.specs.Events.{HearingHears}
 use Rattle.relay_daemon.specs.Given.{ClientWrote}
-use Rattle.relay_daemon.specs.Runs.{ReachesHop, RunsAt, ServesClient, host_with, host_with_note, told_of}
+use Rattle.relay_daemon.specs.Runs.{ReachesHop, RunsAt, ServesClient, host_with, host_with_note}
 use Rattle.relay_daemon.proofs.HearLemmas.{after_open, set_closed, set_open, whole_written}
 use Rattle.relay_daemon.proofs.KeepLemmas.{its_changes, its_keeps}
 use Rattle.relay_daemon.proofs.MoveLemmas.{client_beside, hop_moved, one_session}

@@ -5,6 +5,7 @@ mod CallLemmas
 mod DropLemmas
 mod EachLemmas
 mod EndLemmas
+mod ForgetLemmas
 mod GiveLemmas
 mod GrownLemmas
 mod HearLemmas

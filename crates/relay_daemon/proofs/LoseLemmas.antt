@@ -13,6 +13,8 @@ use Rattle.relay_records.specs.Records.{Keeps}
 use Rattle.relay_attempts.specs.Reply.{Told}
 use Rattle.relay_node.specs.Attempts.{Tells}
 use Rattle.relay_node.specs.Node.{NodeState}
+use Rattle.relay_loop.specs.Called.{untold}
+use Rattle.relay_loop.specs.Calls.{LoseSays}
 use Rattle.relay_loop.specs.Relay.{RelayState}
 use Rattle.relay_world.specs.declared.attempt.Attempt.{Attempt}
 use Rattle.relay_world.specs.declared.attempt.Fate.{Fate}
@@ -21,9 +23,8 @@ use Rattle.relay_world.specs.declared.line.Line.{Line}
 use Rattle.relay_world.specs.Bound.{HasFate, IsBound, NodeKeeps, StateKeeps, told_by}
 use Rattle.relay_world.specs.Steps.{AttemptOf, HasLost, IsPut}
 use Rattle.relay_world.specs.World.{Down, Host, HostState, Up, World}
-use Rattle.relay_daemon.specs.Calls.{LoseSays}
 use Rattle.relay_daemon.specs.Events.{LosesThere, LosingIsAnEvent, fated, lines_ended}
-use Rattle.relay_daemon.specs.Runs.{ReachesHop, RunsAt, host_with_note, untold}
+use Rattle.relay_daemon.specs.Runs.{ReachesHop, RunsAt, host_with_note}
 use Rattle.relay_daemon.proofs.KeepLemmas.{its_changes, its_keeps, its_stand}
 use Rattle.relay_daemon.proofs.MoveLemmas.{not_both}
 use Rattle.relay_daemon.proofs.PutLemmas.{value_put}

@@ -21,10 +21,10 @@ use Rattle.relay_node.specs.declared.seat.Seat.{Seat}
 use Rattle.relay_node.specs.Node.{NodeState, RefusesToConnect}
 use Rattle.relay_loop.specs.declared.group.Piece.{Piece}
 use Rattle.relay_loop.specs.declared.replying.ReplyPiece.{ReplyPiece}
+use Rattle.relay_loop.specs.Calls.{SameConnections, SameRest, StartSays}
 use Rattle.relay_loop.specs.Groups.{RefusesToReadAll}
 use Rattle.relay_loop.specs.Hops.{StartsTo, StartsToAtMost}
 use Rattle.relay_loop.specs.Relay.{OnlyHop, RelayState}
-use Rattle.relay_daemon.specs.Calls.{SameConnections, SameRest, StartSays}
 
 -- a prefix that is shorter than it may be is the whole
 take_short : (most : ℕ) (xs : List ℕ) → length (take most xs) < most → take most xs ≡ xs

@@ -16,6 +16,8 @@ use Rattle.relay_attempts.specs.Reply.{IsItsCourse, Makes, Told, told_more}
 use Rattle.relay_node.specs.Attempts.{Tells}
 use Rattle.relay_node.specs.Attempts as node_words
 use Rattle.relay_loop.specs.declared.hops.Answered.{Answered}
+use Rattle.relay_loop.specs.Called.{told_of}
+use Rattle.relay_loop.specs.Calls.{ReplySays}
 use Rattle.relay_loop.specs.Hops.{HandsTo, RepliesBy}
 use Rattle.relay_loop.specs.Outboxes.{octets_of, unwritten_at}
 use Rattle.relay_loop.specs.Relay.{RelayState}
@@ -26,9 +28,8 @@ use Rattle.relay_world.specs.declared.link.Link.{Link}
 use Rattle.relay_world.specs.Ledger.{left_lines, report_told}
 use Rattle.relay_world.specs.Steps.{AttemptOf, HasRead, IsPut, IsPutAt, RecordsRead, read_link, waiting_down}
 use Rattle.relay_world.specs.World.{Host, Up, World, link_at}
-use Rattle.relay_daemon.specs.Calls.{ReplySays}
 use Rattle.relay_daemon.specs.Events.{ReplyingReads}
-use Rattle.relay_daemon.specs.Runs.{ReachesHop, RunsAt, host_with, host_with_note, told_of}
+use Rattle.relay_daemon.specs.Runs.{ReachesHop, RunsAt, host_with, host_with_note}
 use Rattle.relay_daemon.proofs.HearLemmas.{whole_written}
 use Rattle.relay_daemon.proofs.LoseLemmas.{TellsThere, one_running, tells_there}
 use Rattle.relay_daemon.proofs.MoveLemmas.{client_moved, hop_beside, not_both}

@@ -8,13 +8,13 @@ use Rattle.relay_disk.specs.Device.{DiskWords}
 use Rattle.relay_routes.specs.declared.config.Config.{Config}
 use Rattle.relay_slots.specs.Slots.{slot_at}
 use Rattle.relay_attempts.specs.declared.start.Started.{Started}
+use Rattle.relay_loop.specs.Calls.{StartSays}
 use Rattle.relay_loop.specs.Relay.{RelayState}
 use Rattle.relay_world.specs.declared.attempt.Attempt.{Attempt}
 use Rattle.relay_world.specs.declared.link.Link.{Link}
 use Rattle.relay_world.specs.HopLinks.{IsLinkedToHop, LeadsTo}
 use Rattle.relay_world.specs.Steps.{HasStarted, IsBlank, IsPut, IsPutAt}
 use Rattle.relay_world.specs.World.{Host, World, link_at}
-use Rattle.relay_daemon.specs.Calls.{StartSays}
 use Rattle.relay_daemon.specs.Events.{LeadsToHop, StartingStarts, begun, begun_attempt}
 use Rattle.relay_daemon.specs.Runs.{ReachesHop, RunsAt, ServesClient, host_with}
 use Rattle.relay_daemon.proofs.AcceptLemmas.{not_next}

@@ -4,12 +4,12 @@ use Rattle.std.specs.Prelude.{slice_get}
 use Rattle.std.proofs.lemmas.List.{length-set}
 use Rattle.relay_disk.specs.Device.{DiskWords}
 use Rattle.relay_slots.specs.Slots.{slot_at}
+use Rattle.relay_loop.specs.Calls.{CompactSays, TrimSays}
 use Rattle.relay_loop.specs.Relay.{RelayState}
 use Rattle.relay_world.specs.declared.attempt.Attempt.{Attempt}
 use Rattle.relay_world.specs.declared.link.Link.{Link}
 use Rattle.relay_world.specs.Stops.{StaysUp}
 use Rattle.relay_world.specs.World.{Host, Up, World, link_at}
-use Rattle.relay_daemon.specs.Calls.{CompactSays, TrimSays}
 use Rattle.relay_daemon.specs.Events.{CompactingIsAnEvent, TrimmingGoesOn, moved}
 use Rattle.relay_daemon.specs.Runs.{ReachesHop, RunsAt, ServesClient, host_with}
 use Rattle.relay_daemon.proofs.PutLemmas.{value_put}

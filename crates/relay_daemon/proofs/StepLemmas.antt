@@ -21,6 +21,7 @@ use Rattle.relay_loop.specs.declared.clients.Heard.{Heard}
 use Rattle.relay_loop.specs.declared.group.Piece.{Piece}
 use Rattle.relay_loop.specs.declared.hops.Answered.{Answered}
 use Rattle.relay_loop.specs.declared.replying.ReplyPiece.{ReplyPiece}
+use Rattle.relay_loop.specs.Calls.{DropSays, EndSays}
 use Rattle.relay_loop.specs.GroupCalls.{HearsPiece, LeavesPiece, LeavesReply, ReadsReply, RefusesPiece, RefusesReply}
 use Rattle.relay_loop.specs.GroupCalls.{TakesPiece, TakesReply}
 use Rattle.relay_loop.specs.Relay.{OnlyClient, OnlyHop, RelayState}
@@ -29,7 +30,6 @@ use Rattle.relay_world.specs.Groups.{AttemptDropped, HasHeardEach, HasTurnedTo, 
 use Rattle.relay_world.specs.Groups.{OutcomeInto, Piece as Carried, Read as ReadBy, SessionEnded}
 use Rattle.relay_world.specs.Steps.{AttemptOf, ended_link, heard_link, read_link, unless_broken}
 use Rattle.relay_world.specs.World.{Up, World}
-use Rattle.relay_daemon.specs.Calls.{DropSays, EndSays}
 use Rattle.relay_daemon.specs.Events.{dropped_in, ended}
 use Rattle.relay_daemon.specs.Given.{ClientWrote, HopWrote}
 use Rattle.relay_daemon.specs.Runs.{RunsAt}

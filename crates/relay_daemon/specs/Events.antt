@@ -19,6 +19,9 @@ use Rattle.relay_loop.specs.declared.group.Group.{Group}
 use Rattle.relay_loop.specs.declared.group.Piece.{Piece}
 use Rattle.relay_loop.specs.declared.hops.Answered.{Answered}
 use Rattle.relay_loop.specs.declared.replying.ReplyPiece.{ReplyPiece}
+use Rattle.relay_loop.specs.Called.{told_of, untold}
+use Rattle.relay_loop.specs.Calls.{AcceptSays, CompactSays, DropSays, EndSays, GiveUpSays, HearSays, LoseSays}
+use Rattle.relay_loop.specs.Calls.{ReplySays, StartSays, TrimSays, WithdrawSays, WroteHopSays, WroteSays}
 use Rattle.relay_loop.specs.Clients.{TalksTo}
 use Rattle.relay_loop.specs.Closing.{text_of}
 use Rattle.relay_loop.specs.GroupCalls.{Adds, HearsGroup, TakesPiece, TakesReply}
@@ -37,12 +40,9 @@ use Rattle.relay_world.specs.Steps.{CutsOff, DropsAttempt, EndsSession, HasGiven
 use Rattle.relay_world.specs.Steps.{HasRead, HasStarted, IsBlank, IsPutAt, ended_link, waiting_down}
 use Rattle.relay_world.specs.Stops.{HasCompacted, StaysUp}
 use Rattle.relay_world.specs.World.{Host, Up, World}
-use Rattle.relay_daemon.specs.Calls.{AcceptSays, CompactSays, DropSays, EndSays, GiveUpSays, HearSays, LoseSays}
-use Rattle.relay_daemon.specs.Calls.{ReplySays, StartSays, TrimSays, WithdrawSays, WroteHopSays, WroteSays}
 use Rattle.relay_daemon.specs.Given.{ClientWrote, ClientsWrote, HaveOnePiece, HaveOneReply, HopWrote, HopsWrote}
 use Rattle.relay_daemon.specs.Given.{KnowsAttempt, KnowsSession}
-use Rattle.relay_daemon.specs.Runs.{ReachesHop, RunsAt, ServesClient, host_with, host_with_note, told_of}
-use Rattle.relay_daemon.specs.Runs.{untold, with_host}
+use Rattle.relay_daemon.specs.Runs.{ReachesHop, RunsAt, ServesClient, host_with, host_with_note, with_host}
 
 module _ {D : Type 0} (world : World D) (node : ℕ) (old new : RelayState D) (runs : RunsAt world node old) where
   -- the world in which the host of a running relay has the relay's node as it is now

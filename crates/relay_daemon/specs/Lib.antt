@@ -1,5 +1,4 @@
 pub mod Runs
-pub mod Calls
 pub mod Given
 pub mod Events
 pub mod Elsewhere

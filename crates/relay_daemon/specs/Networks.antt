@@ -2,13 +2,14 @@
 -- call.
 use Rattle.std.specs.Prelude.{◌≡◌, ℕ, List, [], ◌∷◌, ◌++◌, Some, slice_get, slice_set}
 use Rattle.relay_disk.specs.Device.{DiskWords}
+use Rattle.relay_loop.specs.Called.{Call, Does}
 use Rattle.relay_loop.specs.Relay.{RelayState}
 use Rattle.relay_world.specs.GivingUp.{Withdrawing}
 use Rattle.relay_world.specs.Once.{HappenAsking}
 use Rattle.relay_world.specs.World.{World}
 use Rattle.relay_daemon.specs.Elsewhere.{LeavesAlone}
 use Rattle.relay_daemon.specs.Runs.{RunsAt}
-use Rattle.relay_daemon.specs.Sequences.{Call, Does, IsEvent, IsKept, Meets}
+use Rattle.relay_daemon.specs.Sequences.{IsEvent, IsKept, Meets}
 
 -- a call of the relay of a node
 pub record CallOf : Type 0 where

@@ -1,6 +1,6 @@
 -- A relay that runs in a world: it is the node of a host there, each of its connections is an end of a link, and what
 -- is still to be written to a connection is the end of what that end of the link has written.
-use Rattle.std.specs.Prelude.{◌≡◌, ℕ, false, List, ◌∷◌, [], ◌++◌, Option, Some, None, slice_get, slice_set}
+use Rattle.std.specs.Prelude.{◌≡◌, ℕ, false, List, ◌∷◌, [], ◌++◌, Some, None, slice_get, slice_set}
 use Rattle.relay_slots.specs.Slots.{slot_at}
 use Rattle.relay_records.specs.declared.noted.Noted.{Noted}
 use Rattle.relay_node.specs.Node.{NodeState}
@@ -49,15 +49,6 @@ module _ {D : Type 0} (world : World D) (node : ℕ) where
     pub hops : (slot : ℕ) (waiting : List ℕ) → slot_at relay.hops slot ≡ Some waiting → ReachesHop slot waiting
     pub seats : (session : ℕ) → slot_at relay.clients session ≡ None → slot_at relay.node.seats session ≡ None
     pub runs : (slot : ℕ) → slot_at relay.hops slot ≡ None → slot_at relay.node.attempts slot ≡ None
-
--- the relay, after the note of its last change was taken
-abbrev pub untold : {D : Type 0} → RelayState D → RelayState D
-untold relay = record relay { node = without_note relay.node }
-
--- the relay after a call that has added the change of this number, whose note was taken, or none
-abbrev pub told_of : {D : Type 0} → Option ℕ → RelayState D → RelayState D
-told_of None relay = relay
-told_of (Some change) relay = untold relay
 
 -- the world with this host at the index
 abbrev pub with_host : {D : Type 0} → World D → ℕ → Host D → World D

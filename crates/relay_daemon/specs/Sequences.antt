@@ -2,18 +2,9 @@
 -- promise for mail is kept after each of them.
 use Rattle.std.specs.Prelude.{◌≡◌, ◌≢◌, ◌≤◌, ℕ, List, [], ◌∷◌, ◌++◌, length, Some, slice_get}
 use Rattle.relay_disk.specs.Device.{DiskWords}
-use Rattle.relay_envelope.specs.HostName.{IsHostName}
 use Rattle.relay_slots.specs.Slots.{slot_at}
 use Rattle.relay_book.specs.declared.change.Change.{Change}
-use Rattle.relay_book.specs.declared.change.Withdrawal.{Withdrawal}
-use Rattle.relay_attempts.specs.declared.start.Started.{Started}
-use Rattle.relay_loop.specs.declared.clients.Heard.{Heard}
-use Rattle.relay_loop.specs.declared.closing.Closing.{Closing}
-use Rattle.relay_loop.specs.declared.group.Group.{Group}
-use Rattle.relay_loop.specs.declared.group.Piece.{Piece}
-use Rattle.relay_loop.specs.declared.hops.Answered.{Answered}
-use Rattle.relay_loop.specs.declared.replying.ReplyPiece.{ReplyPiece}
-use Rattle.relay_loop.specs.GroupCalls.{HearsGroup}
+use Rattle.relay_loop.specs.Called.{Call, Does, DoesEach, GivesUp, Hears, HearsOne, Loses, Reads, Starts, Withdraws}
 use Rattle.relay_loop.specs.Relay.{RelayState}
 use Rattle.relay_world.specs.declared.link.Link.{Link}
 use Rattle.relay_world.specs.Bound.{IsBound}
@@ -22,66 +13,10 @@ use Rattle.relay_world.specs.Once.{HappenAsking}
 use Rattle.relay_world.specs.Promise.{KeepsPromise}
 use Rattle.relay_world.specs.Steps.{IsBlank, IsPutAt}
 use Rattle.relay_world.specs.World.{Host, World}
-use Rattle.relay_daemon.specs.Calls.{AcceptSays, CompactSays, DropSays, EndSays, GiveUpSays, HearSays, LoseSays}
-use Rattle.relay_daemon.specs.Calls.{ReplySays, StartSays, TrimSays, WithdrawSays, WroteHopSays, WroteSays}
 use Rattle.relay_daemon.specs.Elsewhere.{Elsewhere, LeavesAlone}
 use Rattle.relay_daemon.specs.Events.{LeadsToHop}
 use Rattle.relay_daemon.specs.Given.{ClientWrote, ClientsWrote, HaveOnePiece, HaveOneReply, HopWrote, HopsWrote}
-use Rattle.relay_daemon.specs.Runs.{RunsAt, told_of, untold}
-
--- A call of a relay that has succeeded, with its arguments and its result. `HearsOne` is a call for one client, `Hears`
--- one for several clients and next hops; `Drops` is a reply or a loss that a live node has refused for lack of memory
--- or of room; `IsRefused` is any call that was refused and has changed nothing.
-pub data Call : Type 0 where
-  Accepts : (peer : List ℕ) (session : ℕ) → Call
-  Ends : (session : ℕ) (last : List ℕ) → Call
-  CutsOff : (session : ℕ) (last : List ℕ) (why : Closing) → Call
-  Writes : (session count : ℕ) → Call
-  HearsOne : (session : ℕ) (octets : List ℕ) (now : ℕ) (heard : Heard) → Call
-  Hears : (pieces : List Piece) (replies : List ReplyPiece) (now : ℕ) (group : Group) → Call
-  Starts : (message : ℕ) (hop : List ℕ) (now : ℕ) (started : Started) → Call
-  Reads : (slot : ℕ) (octets : List ℕ) (now : ℕ) (answered : Answered) → Call
-  WritesToHop : (slot count : ℕ) → Call
-  Loses : (slot now change : ℕ) → Call
-  Drops : (slot : ℕ) → Call
-  GivesUp : (message now change : ℕ) → Call
-  Withdraws : (message : ℕ) (places : List ℕ) (withdrawal : Withdrawal) (now change : ℕ) → Call
-  Compacts : Call
-  Trims : Call
-  IsRefused : Call
-
-module _ {D : Type 0} (honest : Type 0) (words : DiskWords D) where
-  -- The relay did what the contract of the call says. If the call has added a change, the note of it was taken.
-  abbrev pub Does : Call → RelayState D → RelayState D → Type 0
-  Does (Accepts peer session) old new = AcceptSays old new peer session
-  Does (Ends session last) old new = EndSays old new session last
-  Does (CutsOff session last why) old new = IsHostName old.node.config.host × EndSays old new session last
-  Does (Writes session count) old new = WroteSays old new session count
-  Does (HearsOne session octets now heard) old new =
-      (after : RelayState D) × HearSays honest words old after now session octets heard
-      × (new ≡ told_of heard.change after)
-  Does (Hears pieces replies now group) old new = HearsGroup honest words now pieces replies old new group
-  Does (Starts message hop now started) old new = StartSays honest words old new message hop now started
-  Does (Reads slot octets now answered) old new =
-      (after : RelayState D) × ReplySays honest words old after now slot octets answered
-      × (new ≡ told_of answered.change after)
-  Does (WritesToHop slot count) old new = WroteHopSays old new slot count
-  Does (Loses slot now change) old new =
-      (after : RelayState D) × LoseSays honest words old after now slot change × (new ≡ untold after)
-  Does (Drops slot) old new = DropSays old new slot
-  Does (GivesUp message now change) old new =
-      (after : RelayState D) × GiveUpSays honest words old after now message change × (new ≡ untold after)
-  Does (Withdraws message places withdrawal now change) old new =
-      (after : RelayState D) × WithdrawSays honest words old after withdrawal places now message change
-      × (new ≡ untold after)
-  Does Compacts old new = CompactSays honest words old new
-  Does Trims old new = TrimSays honest words old new
-  Does IsRefused old new = new ≡ old
-
-  -- these calls were made, one after another
-  abbrev pub DoesEach : List Call → RelayState D → RelayState D → Type 0
-  DoesEach [] old new = new ≡ old
-  DoesEach (call ∷ calls) old new = (next : RelayState D) × Does call old next × DoesEach calls next new
+use Rattle.relay_daemon.specs.Runs.{RunsAt}
 
 module _ {D : Type 0} (world : World D) (node : ℕ) where
   -- a link on which no client has written leads to the hop of this name, and an attempt may have it

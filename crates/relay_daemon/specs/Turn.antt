@@ -2,8 +2,8 @@
 use Rattle.std.specs.Prelude.{ℕ, List, [], ◌∷◌}
 use Rattle.relay_loop.specs.declared.group.Piece.{Piece}
 use Rattle.relay_loop.specs.declared.replying.ReplyPiece.{ReplyPiece}
+use Rattle.relay_loop.specs.Called.{Accepts, Call, Hears, Writes, WritesToHop}
 use Rattle.relay_daemon.specs.declared.turn.Turn.{Turn}
-use Rattle.relay_daemon.specs.Sequences.{Accepts, Call, Hears, Writes, WritesToHop}
 
 -- a client was accepted, and its greeting written; clients were heard and replies of hops read in one call, and what
 -- follows was written to a hop

@@ -1,9 +1,9 @@
 //! The calls of a relay, each with what its event rests on as a clause: so the premises of the laws are what the
 //! contracts say. Some have a second clause: if the call is refused, nothing has changed.
 ghost use Rattle.std.specs.Prelude.{◌≡◌, ◌≢◌, ◌≤◌, ◌<◌, ◌^◌, ℕ, IfErr, IfOk, List, OnOk, Some, [], length, true};
-ghost use Rattle.relay_daemon.specs.Calls.{AcceptSays, CompactSays, DropSays, EndSays, GiveUpSays, HearSays, IsShort};
-ghost use Rattle.relay_daemon.specs.Calls.{LoseSays, ReplySays, StartSays, TrimSays, WithdrawSays, WroteHopSays};
-ghost use Rattle.relay_daemon.specs.Calls.{WroteSays};
+ghost use Rattle.relay_loop.specs.Calls.{AcceptSays, CompactSays, DropSays, EndSays, GiveUpSays, HearSays, IsShort};
+ghost use Rattle.relay_loop.specs.Calls.{LoseSays, ReplySays, StartSays, TrimSays, WithdrawSays, WroteHopSays};
+ghost use Rattle.relay_loop.specs.Calls.{WroteSays};
 ghost use Rattle.relay_loop.specs.GroupCalls.{HearsGroup};
 ghost use Rattle.relay_loop.specs.Outboxes.{unwritten_at};
 ghost use Rattle.relay_slots.specs.Slots.{slot_at};

@@ -1,8 +1,8 @@
 //! The calls of a relay that may add a change, each with the note of that change taken.
 ghost use Rattle.std.specs.Prelude.{◌≡◌, ◌≢◌, [], IfErr, IfOk, Some, true};
-ghost use Rattle.relay_daemon.specs.Calls.{IsShort};
-ghost use Rattle.relay_daemon.specs.Runs.{told_of, untold};
-ghost use Rattle.relay_daemon.specs.Sequences.{Does, Drops, GivesUp, HearsOne, IsRefused, Loses, Reads, Withdraws};
+ghost use Rattle.relay_loop.specs.Called.{Does, Drops, GivesUp, HearsOne, IsRefused, Loses, Reads, Withdraws, told_of};
+ghost use Rattle.relay_loop.specs.Called.{untold};
+ghost use Rattle.relay_loop.specs.Calls.{IsShort};
 ghost use Rattle.relay_slots.specs.Slots.{slot_at};
 
 use crate::calls;

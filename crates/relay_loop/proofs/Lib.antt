@@ -17,3 +17,4 @@ mod HopBecomesLemmas
 mod GroupHopLemmas
 pub mod Theorems
 mod ClosingLemmas
+mod CalledLemmas

@@ -9,6 +9,8 @@ pub mod GroupReplies
 pub mod Groups
 pub mod GroupCalls
 pub mod Withdrawing
+pub mod Calls
+pub mod Called
 pub mod Laws
 pub mod GroupLaws
 pub mod GroupHopLaws

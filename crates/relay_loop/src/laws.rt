@@ -1,4 +1,5 @@
 //! Laws of a relay's connections, whatever calls are made.
+ghost use Rattle.relay_loop.specs.Called.{CallsAreAmong, CallsFollow, NothingIsNoCall, OneIsCalled};
 ghost use Rattle.relay_loop.specs.Closing.{ClosingIsReply};
 ghost use Rattle.relay_loop.specs.GroupHopLaws.{GroupsHand, GroupsLeaveHops};
 ghost use Rattle.relay_loop.specs.GroupLaws.{GroupsTalk};
@@ -61,4 +62,24 @@ pub fn groups_leave_hops<D: Disk>()
 /// The text with which the relay closes a connection unasked is one reply.
 pub fn closing_is_reply()
     ensures { ClosingIsReply }
+{}
+
+/// A relay to which nothing was done has no call.
+pub fn nothing_is_no_call<D: Disk>()
+    ensures { NothingIsNoCall D.honest D.words }
+{}
+
+/// A call alone is a list of calls.
+pub fn one_is_called<D: Disk>()
+    ensures { OneIsCalled D.honest D.words }
+{}
+
+/// Calls, and then calls, are calls.
+pub fn calls_follow<D: Disk>()
+    ensures { CallsFollow D.honest D.words }
+{}
+
+/// Calls of a sort are calls of each sort that has them all.
+pub fn calls_are_among<D: Disk>()
+    ensures { CallsAreAmong D.honest D.words }
 {}

@@ -1,6 +1,6 @@
 -- What the contracts of a relay's calls say, if they succeed. Each record has the clauses of one call that its event
 -- rests on, as they stand there.
-use Rattle.std.specs.Prelude.{◌≡◌, ◌≢◌, ◌⊎◌, ℕ, ◌≤◌, ◌<◌, ◌^◌, List, [], None, Some, drop, length}
+use Rattle.std.specs.Prelude.{◌≡◌, ◌≢◌, ◌⊎◌, ℕ, ◌≤◌, ◌<◌, ◌^◌, false, List, [], None, Some, drop, length}
 use Rattle.std.specs.Option.{option_map}
 use Rattle.relay_disk.specs.Device.{DiskWords}
 use Rattle.relay_slots.specs.Slots.{IsLeastFree, OthersStay, slot_at}
@@ -15,7 +15,7 @@ use Rattle.relay_attempts.specs.Outcomes.{AddsUnroutable}
 use Rattle.relay_attempts.specs.Withdrawals.{AddsWithdrawal, EndsWithdrawal}
 use Rattle.relay_node.specs.Attempts.{IsDropped, Tells}
 use Rattle.relay_node.specs.Node.{greeted_by}
-use Rattle.relay_loop.specs.Clients.{HearsClient, TalksTo}
+use Rattle.relay_loop.specs.Clients.{HearsClient, IsUnknown, TalksTo}
 use Rattle.relay_attempts.specs.Reply.{IsLost, Told}
 use Rattle.relay_loop.specs.declared.clients.Heard.{Heard}
 use Rattle.relay_loop.specs.declared.hops.Answered.{Answered}
@@ -54,6 +54,15 @@ module _ {D : Type 0} (old new : RelayState D) where
     pub seat : slot_at new.node.seats session ≡ None
     pub only : OnlyClient old new session
     pub records : new.node.records ≡ old.node.records
+
+  -- `Relay::end_client` of this session, which was refused: there is none, or the node is stopped; the connection alone
+  -- is gone
+  pub record ForgetSays (session : ℕ) : Type 0 where
+    pub why : IsUnknown old session ⊎ (old.node.records.spool.live ≡ false)
+    pub gone : slot_at new.clients session ≡ None
+    pub others : OthersStay old.clients new.clients session
+    pub node : new.node ≡ old.node
+    pub hops : new.hops ≡ old.hops
 
   -- `Relay::wrote_to_client` of this many octets, and `Relay::wrote_to_hop`
   pub record WroteSays (session count : ℕ) : Type 0 where
