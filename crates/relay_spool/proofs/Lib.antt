@@ -12,6 +12,7 @@ mod BlockLemmas
 mod HeadLemmas
 mod ChainLemmas
 mod CursorLemmas
+mod PartLemmas
 mod ReadingLemmas
 mod RenewalLemmas
 mod PairLemmas

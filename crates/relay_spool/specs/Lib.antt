@@ -9,3 +9,4 @@ pub mod Opening
 pub mod Spool
 pub mod Trim
 pub mod Cursor
+pub mod Part

@@ -10,6 +10,8 @@ ghost use Rattle.relay_spool.specs.Run.{EachOnlyReads, FailsBy as DiskFailsBy, O
 ghost use Rattle.relay_spool.specs.Run.{PassesAny as DiskPassesAny, RefusesToRead};
 ghost use Rattle.relay_spool.specs.Spool.{FailsBy, MakesSome, PassesAny, RefusesToOpen};
 
+mod part;
+
 use crate::chain::{SIZE_LIMIT, next_body};
 use crate::head::{HEAD_SIZE, read_head};
 use crate::heads::Choice;
