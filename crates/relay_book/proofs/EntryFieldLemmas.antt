@@ -110,23 +110,6 @@ module _ (version : SnapshotVersion) where
         out.none _ _ spelled.stored_fits same.1;
   }
 
-  pub entry_spelled : (text : List ℕ) (number : ℕ) (after : List ℕ) (at : ℕ) (more path : List ℕ) (ret : ℕ) (envid last : List ℕ) (recipients : List Recipient) (places : List Place)
-      (end stored rest : List ℕ) → text ≡ octets_8 number ++ after → number < 2 ^ 64 → after ≡ octets_8 at ++ more → at < 2 ^ 64 → SpellsFields more path ret envid last
-      → ReadsPlaced version last recipients places end → end ≡ sized_4 stored ++ rest → length stored < 2 ^ 32
-      → SpellsEntry version text number at path ret envid recipients places stored rest
-  entry_spelled text number after at more path ret envid last recipients places end stored rest is small then less fields reads ends fits = record {
-    text_is = is ∙ ap (λ (l : List ℕ). octets_8 number ++ l) (then ∙ ap (λ (l : List ℕ). octets_8 at ++ l) fields.text_is)
-        ∙ ap (λ (l : List ℕ). octets_8 number ++ (octets_8 at ++ (sized_2 path ++ (ret ∷ (sized_2 envid ++ l)))))
-        (reads.text_is ∙ ap (λ (l : List ℕ). counted (placed_octets version) (zip recipients places) ++ l) ends);
-    number_fits = small;
-    at_fits = less;
-    path_fits = fields.first_fits;
-    envid_fits = fields.second_fits;
-    as_many = reads.as_many;
-    are_placed = reads.are;
-    stored_fits = fits;
-  }
-
   -- where a field is not as it may be
   pub bad_mail : (text : List ℕ) (number at : ℕ) (path : List ℕ) (ret : ℕ) (envid : List ℕ) (recipients : List Recipient) (places : List Place) (stored after : List ℕ)
       → SpellsEntry version text number at path ret envid recipients places stored after → IsNoMail path ret envid → HasNone (IsQueuedBy version) (entry_octets version) text

@@ -40,6 +40,8 @@ mod SnapshotWriteLemmas
 mod FirstLemmas
 mod OutlineLemmas
 mod OutlineReadLemmas
+mod EntryHeadLemmas
+mod FirstOutlineLemmas
 mod StandLemmas
 mod MarkRowLemmas
 mod LeavingLemmas

@@ -13,6 +13,7 @@ use Rattle.relay_book.specs.Queue.{Queue, FitsMessage, FitsQueue, accepted, is_h
 use Rattle.relay_book.specs.Record.{IsAccept, IsChange, IsOutcome, encode, is_null, octets_8, report_limit, stored_text_limit, text_limit}
 use Rattle.relay_book.specs.StandsFor.{ReadsNoBody}
 use Rattle.relay_book.specs.Outline.{OutlineFinds, OutlineFits, OutlineHolds, OutlineSteps, OutlineTells, ReadsOutline}
+use Rattle.relay_book.specs.FirstOutline.{outline_of_length}
 use Rattle.relay_book.specs.Outline.{length_in, outline_accept, outline_change, outline_entry, outline_message, outline_of, outline_outcome, outline_text}
 use Rattle.relay_book.proofs.FirstLemmas.{no_fit}
 
@@ -30,6 +31,11 @@ not_nothing n is =
     let long = eight n in
     let none = length_nothing (octets_8 n) is in
     omega (arith, long, none)
+
+-- what stands in for a text is told by its length
+pub outline_by_length : (text : List ℕ) → outline_of_length (length text) ≡ outline_text text
+outline_by_length [] = refl
+outline_by_length (octet ∷ text) = refl
 
 outline_short : (text : List ℕ) → length (outline_text text) ≤ 8
 outline_short [] = omega arith

@@ -18,7 +18,7 @@ after_first front first rest is =
     omega (arith, all, parts)
 
 -- what is left when a first part is let go
-rest_is : (front first rest : List ℕ) → front ≡ first ++ rest → drop (length front - length rest) front ≡ rest
+pub rest_is : (front first rest : List ℕ) → front ≡ first ++ rest → drop (length front - length rest) front ≡ rest
 rest_is front first rest is =
     let all = ap length is in
     let parts = length-append first rest in

@@ -75,11 +75,11 @@ module _ (version : SnapshotVersion) where
       }
 
   -- the octets of a message in front of a rest, from the left to the right
-  pub fields_octets : ℕ → ℕ → List ℕ → ℕ → List ℕ → List (Recipient × Place) → List ℕ → List ℕ
+  unfoldable pub fields_octets : ℕ → ℕ → List ℕ → ℕ → List ℕ → List (Recipient × Place) → List ℕ → List ℕ
   fields_octets number at path ret envid placed last =
       octets_8 number ++ (octets_8 at ++ (sized_2 path ++ (ret ∷ (sized_2 envid ++ (counted (placed_octets version) placed ++ last)))))
 
-  fields_joined : (number at : ℕ) (path : List ℕ) (ret : ℕ) (envid : List ℕ) (placed : List (Recipient × Place)) (last rest : List ℕ)
+  pub fields_joined : (number at : ℕ) (path : List ℕ) (ret : ℕ) (envid : List ℕ) (placed : List (Recipient × Place)) (last rest : List ℕ)
       → fields_octets number at path ret envid placed last ++ rest ≡ fields_octets number at path ret envid placed (last ++ rest)
   unfolding fields_octets
   fields_joined number at path ret envid placed last rest =

@@ -81,7 +81,7 @@ pub may_be : (version : SnapshotVersion) (octets : List ℕ) (next count : ℕ) 
 may_be version octets next count rest spelled = record { version = version; next = next; count = count; rest = rest; begins = spelled }
 
 -- a snapshot spells its head
-spells_snapshot : (version : SnapshotVersion) (octets : List ℕ) (queue : Queue) → IsSnapshotBy version octets queue
+pub spells_snapshot : (version : SnapshotVersion) (octets : List ℕ) (queue : Queue) → IsSnapshotBy version octets queue
     → SpellsSnapshot version octets queue.next (length queue.messages) (flat_map (entry_octets version) queue.messages)
 unfolding snapshot_by
 spells_snapshot version octets queue is = record { octets_are = is.octets_are; next_fits = next_fits queue is.valid; count_fits = is.few }
@@ -105,6 +105,21 @@ kinds_are_one WithoutDelay WithoutDelay e = refl
 kinds_are_one WithDelay WithDelay e = refl
 kinds_are_one WithoutDelay WithDelay e = absurd (omega (arith, e))
 kinds_are_one WithDelay WithoutDelay e = absurd (omega (arith, e))
+
+-- two heads that begin the same octets
+pub record AreOneHead (version version2 : SnapshotVersion) (next next2 count count2 : ℕ) (rest rest2 : List ℕ) : Type 0 where
+  pub version_is : version2 ≡ version
+  pub next_is : next ≡ next2
+  pub count_is : count ≡ count2
+  pub rest_is : rest ≡ rest2
+
+pub heads_are_one : (version version2 : SnapshotVersion) (octets : List ℕ) (next next2 count count2 : ℕ) (rest rest2 : List ℕ) → SpellsSnapshot version octets next count rest
+    → SpellsSnapshot version2 octets next2 count2 rest2 → AreOneHead version version2 next next2 count count2 rest rest2
+heads_are_one version version2 octets next next2 count count2 rest rest2 one two =
+    let first = same_head (snapshot_kind version) (snapshot_kind version2) _ _ (sym one.octets_are ∙ two.octets_are) in
+    let second = code_8 next next2 _ _ one.next_fits two.next_fits first.1 in
+    let third = code_4 count count2 rest rest2 one.count_fits two.count_fits second.1 in
+    record { version_is = kinds_are_one version version2 first.0; next_is = second.0; count_is = third.0; rest_is = third.1 }
 
 -- what begins as a snapshot of a version is one of that version, if it is one
 by_version : (version : SnapshotVersion) (octets : List ℕ) (next count : ℕ) (rest : List ℕ) (queue : Queue) → SpellsSnapshot version octets next count rest
@@ -197,7 +212,7 @@ module _ (version : SnapshotVersion) where
       }
 
   -- a row that begins with the octets of others begins with these
-  begins_so : (done values : List (ℕ × Message)) (after rest : List ℕ) → length done ≤ length values → AllByRecursion (IsQueuedBy version) done → AllByRecursion (IsQueuedBy version) values
+  pub begins_so : (done values : List (ℕ × Message)) (after rest : List ℕ) → length done ≤ length values → AllByRecursion (IsQueuedBy version) done → AllByRecursion (IsQueuedBy version) values
       → flat_map (entry_octets version) done ++ after ≡ flat_map (entry_octets version) values ++ rest
       → (more : List (ℕ × Message)) × (values ≡ done ++ more) × (after ≡ flat_map (entry_octets version) more ++ rest)
   begins_so [] values after rest fewer all also e = (values, refl, e)

@@ -93,6 +93,22 @@ pub record SpellsEntry (version : SnapshotVersion) (text : List ℕ) (number at 
   pub are_placed : AreSome (IsPlacedBy version) (zip recipients places)
   pub stored_fits : length stored < 2 ^ 32
 
+-- the fields of a message up to its places begin the text; its stored text follows
+pub record SpellsEntryHead (version : SnapshotVersion) (text : List ℕ) (number at : ℕ) (path : List ℕ) (ret : ℕ)
+    (envid : List ℕ) (recipients : List Recipient) (places : List Place) (rest : List ℕ) : Type 0 where
+  pub text_is : text
+      ≡ octets_8 number
+      ++ (octets_8 at
+      ++ (sized_2 path
+      ++ (ret
+      ∷ (sized_2 envid ++ (counted (placed_octets version) (zip recipients places) ++ rest)))))
+  pub number_fits : number < 2 ^ 64
+  pub at_fits : at < 2 ^ 64
+  pub path_fits : length path < 2 ^ 16
+  pub envid_fits : length envid < 2 ^ 16
+  pub as_many : length places ≡ length recipients
+  pub are_placed : AreSome (IsPlacedBy version) (zip recipients places)
+
 -- a message beside its number
 abbrev pub numbered : Message → ℕ × Message
 numbered message = (message.number, message)

@@ -10,6 +10,7 @@ ghost use Rattle.relay_book.specs.Fields.{SpellsNoOutcome, SpellsNoneOf, SpellsO
 
 mod entry;
 mod mail;
+mod outlined;
 mod placed;
 mod recipient;
 mod ruling;
@@ -23,13 +24,14 @@ use crate::limits::{REPORT_LIMIT, may_be_hop, text_limit};
 use crate::version::Version;
 pub(crate) use entry::next_entry;
 use mail::mail_of;
+pub(crate) use outlined::next_outlined;
 use recipient::{read_fields, read_recipients};
 use relay_envelope::{Envelope, Recipients};
 use relay_octets::Octets;
 use relay_trace::Moment;
 use ruling::read_rulings;
 use std::alloc::Global;
-use tail::after;
+pub(crate) use tail::after;
 
 /// Returns the change of which these octets are the record, with one copy of each text. It fails with `BadRecord`
 /// exactly if they are no record of a change, and if memory runs out. Memory is wanted first for the recipients or the

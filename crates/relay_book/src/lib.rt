@@ -22,7 +22,7 @@ pub mod record_laws;
 mod retry;
 mod version;
 
-pub use book::Book;
+pub use book::{Book, FirstOutline};
 pub use change::{Accept, Change, Outcome, Ruling, Rulings, Verdict, Withdrawal};
 pub use decode::{decode_change, decode_record};
 pub use due_report::DueReport;

@@ -1,6 +1,7 @@
 //! The outline of a change: its text is replaced by its length.
 ghost use Rattle.std.specs.Prelude.{◌≡◌, [], IfOk};
 ghost use Rattle.relay_book.specs.Outline.{outline_accept, outline_change, outline_message, outline_outcome};
+ghost use Rattle.relay_book.specs.FirstOutline.{outline_of_length};
 ghost use Rattle.relay_book.specs.Outline.{length_in, outline_text};
 
 use crate::change::{Accept, Change, Outcome};
@@ -19,17 +20,22 @@ pub fn length_in(octets: &[u8]) -> u64
 }
 
 /// Returns what stands in for a text: its length in eight octets, and nothing for an empty text.
-#[tactic(auto, unfolding(crate::specs::Record::octets_8))]
+#[tactic(auto, using(crate::proofs::OutlineLemmas::outline_by_length))]
 fn outline_text(alloc: Global, text: &[u8]) -> Result<Octets, AllocError>
     ensures { IfOk result (λ outline. outline ≡ outline_text text.now) }
 {
-    match text {
-        [] => Ok(Octets::new(Vec::new(alloc))),
-        [_, ..] => {
-            let length = text.len() as u64;
-            Octets::from_slice(alloc, &length.to_be_bytes())
-        }
+    outline_of_length(alloc, text.len() as u64)
+}
+
+/// Returns the same for a text of this length.
+#[tactic(auto, unfolding(crate::specs::Record::octets_8))]
+pub(crate) fn outline_of_length(alloc: Global, length: u64) -> Result<Octets, AllocError>
+    ensures { IfOk result (λ outline. outline ≡ outline_of_length length) }
+{
+    if length == 0 {
+        return Ok(Octets::new(Vec::new(alloc)));
     }
+    Octets::from_slice(alloc, &length.to_be_bytes())
 }
 
 /// Outlines the text of an accept.

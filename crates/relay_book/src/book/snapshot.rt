@@ -26,7 +26,7 @@ use relay_pieces::Pieces;
 use std::alloc::{AllocError, Global};
 
 /// The octets of a snapshot in front of its messages: that of its kind, the next number, and their count.
-const HEAD_LENGTH: usize = 13;
+pub(super) const HEAD_LENGTH: usize = 13;
 
 impl Book {
     /// Returns the snapshot of the queue by the second version, from which `decode_snapshot` makes the same queue, with
@@ -122,7 +122,7 @@ pub(super) fn next_head(octets: &mut Pieces) -> Result<(SnapshotVersion, u64, u3
 /// Returns the version of a snapshot, by its first octet, the next number, the count of messages, and what follows
 /// them.
 #[tactic(auto, using(crate::proofs::SnapshotReadLemmas::snapshot_heads))]
-fn read_head(octets: &[u8]) -> Option<(SnapshotVersion, u64, u32, &[u8])>
+pub(super) fn read_head(octets: &[u8]) -> Option<(SnapshotVersion, u64, u32, &[u8])>
     ensures { MatchOption result (SpellsNoSnapshot octets.now)
         (λ parts. SpellsSnapshot parts.0 octets.now parts.1 parts.2 parts.3.now) }
 {

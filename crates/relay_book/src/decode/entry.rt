@@ -3,7 +3,7 @@ ghost use Rattle.std.specs.Prelude.{◌≡◌, ◌++◌, ◌≤◌, ◌<◌, IfO
 ghost use Rattle.relay_pieces.specs.Pieces.{text_of};
 ghost use Rattle.relay_book.specs.Fields.{HasNone};
 ghost use Rattle.relay_book.specs.Snapshot.{IsQueuedBy, entry_octets};
-ghost use Rattle.relay_book.specs.SnapshotFields.{IsQueuedIn, SpellsEntry, numbered};
+ghost use Rattle.relay_book.specs.SnapshotFields.{IsQueuedIn, SpellsEntry, SpellsEntryHead, numbered};
 
 use super::mail::mail_of;
 use super::placed::read_placed;
@@ -34,14 +34,26 @@ type EntryFields<'a> = (
     &'a [u8],
 );
 
-/// Cuts a message into its fields.
-fn split_entry(
+/// The fields of a message up to its places, and what follows them.
+pub(super) type EntryHead<'a> = (
+    u64,
+    u64,
+    &'a [u8],
+    u8,
+    &'a [u8],
+    Recipients,
+    Places,
+    &'a [u8],
+);
+
+/// Cuts off the fields of a message in front of its stored text.
+pub(super) fn split_head(
     alloc: Global,
     version: SnapshotVersion,
     text: &[u8],
-) -> Result<EntryFields<'_>, BookFault>
-    ensures fields { IfOk result (λ parts. SpellsEntry
-        version text.now parts.0 parts.1 parts.2.now parts.3 parts.4.now parts.5 parts.6 parts.7.now parts.8.now) }
+) -> Result<EntryHead<'_>, BookFault>
+    ensures fields { IfOk result (λ parts. SpellsEntryHead
+        version text.now parts.0 parts.1 parts.2.now parts.3 parts.4.now parts.5 parts.6 parts.7.now) }
     ensures bad { IsErrOf result BookFault.BadRecord → HasNone (IsQueuedBy version) (entry_octets version) text.now }
 {
     let Some((number, rest)) = read_8(text) else {
@@ -54,6 +66,22 @@ fn split_entry(
         return Err(BookFault::BadRecord);
     };
     let (recipients, places, rest) = read_placed(alloc, version, rest)?;
+    Ok((number, at, path, ret, envid, recipients, places, rest))
+}
+
+/// Cuts a message into its fields.
+fn split_entry(
+    alloc: Global,
+    version: SnapshotVersion,
+    text: &[u8],
+) -> Result<EntryFields<'_>, BookFault>
+    ensures fields { IfOk result (λ parts. SpellsEntry
+        version text.now parts.0 parts.1 parts.2.now parts.3 parts.4.now parts.5 parts.6 parts.7.now parts.8.now) }
+    ensures bad { IsErrOf result BookFault.BadRecord → HasNone (IsQueuedBy version) (entry_octets version) text.now }
+{
+    let (number, at, path, ret, envid, recipients, places, rest) = split_head(
+        alloc, version, text,
+    )?;
     match read_sized_4(rest) {
         Some((stored_text, rest)) => Ok((
             number,

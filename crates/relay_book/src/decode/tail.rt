@@ -6,7 +6,7 @@ use std::collections::VecDeque;
 /// Returns what is after this many octets. Allocates nothing: in a ring the octets before it go after it and are cut
 /// off, and it moves down at once.
 #[tactic(auto, using(crate::proofs::TailLemmas::cut_turned))]
-pub(super) fn after(text: Vec<u8>, count: usize) -> Vec<u8>
+pub(crate) fn after(text: Vec<u8>, count: usize) -> Vec<u8>
     requires { count ≤ length text.items }
     ensures { result.items ≡ drop count text.items }
 {
