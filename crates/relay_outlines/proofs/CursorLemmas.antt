@@ -14,15 +14,16 @@ use Rattle.relay_spool.specs.declared.fault.SpoolFault.{SpoolFault}
 use Rattle.relay_spool.specs.declared.fault.SpoolFault.TheVariants.{Device, NotASpool, Damaged, NoMemory, NotEmpty}
 use Rattle.relay_spool.specs.declared.fault.SpoolFault.TheVariants.{Full, NoSecond}
 use Rattle.relay_spool.proofs.Theorems.{each_kept_on}
-use Rattle.relay_book.specs.Outline.{outline_of}
+use Rattle.relay_book.specs.Outline.{ReadsOutline, outline_of}
 use Rattle.relay_book.specs.Queue.{Queue, empty_queue}
-use Rattle.relay_book.specs.StandsFor.{ReadsAll, ReadsBody, ReadsFirst, ReadsQueue}
+use Rattle.relay_book.specs.StandsFor.{ReadsAll, ReadsBody, ReadsFirst, ReadsNoBody, ReadsQueue}
 use Rattle.relay_book.proofs.Theorems.{bodies_leave_one, one_more_read}
 use Rattle.relay_records.specs.declared.fault.Cause.{Cause}
 use Rattle.relay_records.specs.declared.fault.Cause.TheVariants.{Spool, BadRecord}
 use Rattle.relay_records.specs.Open.{IsBadRecord, RefusesImage}
 use Rattle.relay_records.specs.Reading.{ReadsAt, ReadsNoneAt}
-use Rattle.relay_outlines.specs.Reading.{HasMore, HasOutline, OutlinesAt}
+use Rattle.relay_outlines.specs.Reading.{HasFirst, HasMore, HasOutline}
+use Rattle.relay_outlines.proofs.ReadLemmas.{next_at, none_next}
 
 -- the cursor goes on from the old one: there is more to read, on the same disk, and no call has failed
 pub record Goes {D : Type 0} (honest : Type 0) (words : DiskWords D) (old new : AtGate D) : Type 0 where
@@ -212,7 +213,7 @@ all_last (first ∷ front) body left reads =
     (after.0, (reads.0, reads.1, after.1), after.2)
 
 -- a body leaves no queue
-is_bad : (front : List (List ℕ)) (body : List ℕ) (rest bodies : List (List ℕ)) (number : ℕ) (queue : Queue)
+pub is_bad : (front : List (List ℕ)) (body : List ℕ) (rest bodies : List (List ℕ)) (number : ℕ) (queue : Queue)
     → ReadsAll front queue
     → bodies ≡ front ++ body ∷ rest → number ≡ length front + 1 → ReadsNoneAt (length front) queue body
     → IsBadRecord number bodies
@@ -238,6 +239,7 @@ pub record Outlining {D : Type 0} (honest : Type 0) (words : DiskWords D) (old n
   pub queue : Queue
   pub reads : ReadsAll bodies queue
   pub outline_is : outline ≡ outline_of queue
+  pub some : 1 ≤ before
   pub counted : before ≡ length bodies
   pub within : before ≤ now.place
   pub has : honest → HasRead (seen_of words old.disk) old.side now.place bodies
@@ -252,19 +254,22 @@ pub outline_more : {D : Type 0} (honest : Type 0) (words : DiskWords D) (old mid
     (outline left : Queue) (body : List ℕ)
     → (so_far : Outlining honest words old mid before outline) → Goes honest words old new → mid.place < new.place
     → (honest → HasRead (seen_of words mid.disk) mid.side new.place (so_far.bodies ++ body ∷ []))
-    → OutlinesAt before so_far.queue body left → Outlining honest words old new (before + 1) left
+    → ReadsOutline so_far.queue body left → Outlining honest words old new (before + 1) left
 outline_more honest words old mid new before outline left body so_far goes moves has outlines =
     let long = length-append so_far.bodies (body ∷ []) in
     let counted = so_far.counted in
     let within = so_far.within in
+    let some = so_far.some in
     record {
       goes = goes;
       bodies = so_far.bodies ++ body ∷ [];
       queue = outlines.left;
       reads =
           all_more so_far.bodies body so_far.queue outlines.left so_far.reads
-          (subst (λ (n : ℕ). ReadsAt n so_far.queue body outlines.left) counted outlines.reads);
+          (next_at (length so_far.bodies) so_far.queue body outlines.left (omega (arith, some, counted))
+          outlines.reads);
       outline_is = outlines.outline_is;
+      some = omega (arith, some);
       counted = omega (arith, long, counted);
       within = omega (arith, within, moves);
       has = λ h. read_there honest words old mid new.place (so_far.bodies ++ body ∷ []) so_far.goes h (has h);
@@ -299,20 +304,22 @@ outline_to_end honest words old now before outline size found so_far none next =
       (reads_end (seen_of words now.disk) now.side so_far.bodies size found none (next h so_far.bodies here));
 }
 
-pub outlines_none : {D : Type 0} (honest : Type 0) (words : DiskWords D) (old : AtGate D) (outline : Queue)
+-- the first body was read
+pub outlines_first : {D : Type 0} (honest : Type 0) (words : DiskWords D) (old : AtGate D) (outline : Queue)
     → (honest → (disk : D) (image : List ℕ) → words.left_since disk (words.moment disk) image
     → words.may_leave disk image)
-    → old.live ≡ true → outline ≡ empty_queue → (honest → HasRead (seen_of words old.disk) old.side old.place [])
-    → Outlining honest words old old 0 outline
-outlines_none honest words old outline only live empty has = record {
+    → old.live ≡ true → 1 ≤ old.place → HasFirst honest (seen_of words old.disk) old.side old.place outline
+    → Outlining honest words old old 1 outline
+outlines_first honest words old outline only live some first = record {
   goes = goes_nowhere honest words old only live;
-  bodies = [];
-  queue = empty_queue;
-  reads = refl;
-  outline_is = empty;
+  bodies = first.body ∷ [];
+  queue = first.reads.left;
+  reads = (first.reads.left, first.reads.reads, refl);
+  outline_is = first.reads.outline_is;
+  some = omega arith;
   counted = refl;
-  within = omega arith;
-  has = has;
+  within = some;
+  has = first.has;
 }
 
 -- a body that leaves no queue, and those that follow it
@@ -320,7 +327,7 @@ pub bad_there : {D : Type 0} (honest : Type 0) (words : DiskWords D) (old mid no
     (outline : Queue) (body : List ℕ) (number : ℕ)
     → (so_far : Outlining honest words old mid before outline) → Goes honest words old now
     → (honest → HasRead (seen_of words mid.disk) mid.side now.place (so_far.bodies ++ body ∷ []))
-    → ReadsNoneAt before so_far.queue body → number ≡ before + 1
+    → ReadsNoBody so_far.queue body → number ≡ before + 1
     → (honest → (bodies : List (List ℕ)) → HasRead (seen_of words now.disk) now.side now.place bodies
     → HasMore (seen_of words now.disk) bodies)
     → honest → HasBodies (IsBadRecord number) (seen_of words old.disk)
@@ -330,6 +337,7 @@ bad_there honest words old mid now before outline body number so_far goes has no
     let here = read_here honest words old now now.place (front ++ body ∷ []) goes h there in
     let more = rest h (front ++ body ∷ []) here in
     let counted = so_far.counted in
+    let some = so_far.some in
     let image : IsImageOf (seen_of words old.disk) ((front ++ body ∷ []) ++ more.more) =
     subst (λ (images : Images). IsImageOf images ((front ++ body ∷ []) ++ more.more))
     (seen_alike words old.disk now.disk (goes.kept h)) more.is_image in (
@@ -337,7 +345,8 @@ bad_there honest words old mid now before outline body number so_far goes has no
       image,
       is_bad front body more.more ((front ++ body ∷ []) ++ more.more) number so_far.queue so_far.reads
           (append_assoc front (body ∷ []) more.more)
-          (omega (arith, number_is, counted)) (subst (λ (n : ℕ). ReadsNoneAt n so_far.queue body) counted none),
+          (omega (arith, number_is, counted))
+          (none_next (length front) so_far.queue body (omega (arith, some, counted)) none),
     )
 
 -- the body that the cursor read last stands after those before

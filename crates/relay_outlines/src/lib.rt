@@ -1,6 +1,7 @@
 //! Looks at a queue: a spool read body by body into the outline of its queue, without the texts of messages.
 #![tactic(auto)]
 
+mod first;
 pub mod laws;
 mod look;
 mod open;

@@ -22,8 +22,8 @@ pub struct Looked<D> {
 }
 
 /// Returns a look at the queue that disks hold. The disks are synced and read, and not written. They are refused
-/// exactly as [`Records::open`](relay_records::Records::open) refuses them. It needs memory for the longest body, a
-/// block and the outline of the queue.
+/// exactly as [`Records::open`](relay_records::Records::open) refuses them. It needs memory for a block, the outline of
+/// the queue, and the longest body that isn't a snapshot: of a snapshot it holds no stored text.
 pub fn look_at<D: Disk>(alloc: Global, disk: Disks<D>) -> Result<Looked<D>, NotOpened<D>>
     ensures shows { IfOk result (λ looked. (queue : Queue) × Shows D.honest D.words disk looked.look queue) }
     ensures refused { IfErr result (λ refused. RefusesImage D.honest (seen_of D.words disk) refused.cause) }

@@ -1,7 +1,7 @@
 -- the bodies so far were read into an outline
 use Rattle.std.proofs.Common.{◌-◌}
 use Rattle.relay_outlines.proofs.CursorLemmas.{Outlining}
-use Rattle.relay_outlines.proofs.reading.read_outline.Given as goal
+use Rattle.relay_outlines.proofs.reading.read_others.Given as goal
 
 abbrev pub invariant-loop-book : goal.invariant-loop-book
 invariant-loop-book g l = Outlining g.D.Disk.honest g.D.Disk.words l.fn.cursor l.cursor l.before l.book.queue
