@@ -37,8 +37,8 @@ module _ {D : Type 0} (honest : Type 0) (words : DiskWords D) where
       unseated : slot_at old.node.seats session ≡ None
       unseated =
           elim says.why [
-            | inl unknown ↦ elim unknown.1 [ inl none ↦ runs.seats session none.1 | inr none ↦ none.1 ]
-            | inr stopped ↦ absurd (live stopped.1)
+            | inl unknown ↦ elim unknown [ inl none ↦ runs.seats session none | inr none ↦ none ]
+            | inr stopped ↦ absurd (live stopped)
           ]
 
       there : (other : ℕ) (waiting : List ℕ) → slot_at new.clients other ≡ Some waiting
