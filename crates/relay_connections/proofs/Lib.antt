@@ -15,6 +15,7 @@ mod HearsLemmas
 mod ShareLemmas
 mod LeftLemmas
 mod DeadlineLemmas
+mod WaitLemmas
 mod TableLemmas
 mod RefusalLemmas
 mod HeaderFrontLemmas

@@ -1,9 +1,11 @@
 -- Connections of balancers, each of which begins with a header of the PROXY protocol: how long its header is waited
 -- for, and what becomes of it then.
-use Rattle.std.specs.Prelude.{◌≡◌, ◌≢◌, ◌≤◌, ◌+◌, ◌-◌, ◌*◌, ◌^◌, ◌||◌, ℕ, min, Bool, true, List, [], Option, None, Some}
+use Rattle.std.specs.Prelude.{◌≡◌, ◌≢◌, ◌≤◌, ◌+◌, ◌-◌, ◌*◌, ◌^◌, ◌||◌, ℕ, min, Bool, true, false, List, [], Option, None, Some}
 use Rattle.std.specs.Prelude.{Box, Result, Ok, Err}
 use Rattle.std.specs.Global.{Global}
 use Rattle.std.specs.Io.KnownBytes.{Consumes}
+use Rattle.std.specs.declared.io.ErrorKind.{ErrorKind}
+use Rattle.std.specs.declared.io.ErrorKind.TheVariants.{Interrupted, WouldBlock}
 use Rattle.std.specs.declared.net.socket_addr.SocketAddrV4.{SocketAddrV4}
 use Rattle.relay_log.specs.declared.client_line.HeaderFault.{HeaderFault}
 use Rattle.relay_log.specs.declared.client_line.HeaderFault.TheVariants.{Missing, Late, OtherProtocol, NoRoom, NoMemory}
@@ -50,6 +52,14 @@ pub record IsNotedArrival {S : Type 0} (reads : Bool) (old new : Arrival S) : Ty
   pub header : new.header ≡ old.header
   pub reads_is : new.reads ≡ old.reads || reads
   pub deadline : new.deadline ≡ old.deadline
+
+-- The connection after a read of its header has failed in this way, and whether it stays open: a read that would
+-- have to wait waits until the system reports that there is more, one that a signal interrupted can be repeated, and
+-- after any other it is closed.
+pub record FailsHeader {S : Type 0} (kind : ErrorKind) (old new : Arrival S) (stays : Bool) : Type 0 where
+  pub waits : kind ≡ WouldBlock → (new ≡ record old { reads = false }) × (stays ≡ true)
+  pub again : kind ≡ Interrupted → (new ≡ old) × (stays ≡ true)
+  pub breaks : kind ≢ WouldBlock → kind ≢ Interrupted → (new ≡ old) × (stays ≡ false)
 
 -- a slot is the same, except for its connection's readiness
 abbrev pub IsNotedSlot

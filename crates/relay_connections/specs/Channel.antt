@@ -1,6 +1,8 @@
 -- What callers see of a connection.
 use Rattle.std.specs.Prelude.{◌≡◌, ◌≢◌, ◌<◌, ◌||◌, ℕ, List, Bool, true, false, Option, None, Some}
 use Rattle.std.specs.Io.KnownBytes.{IsAtEnd, append_known, prepend_known}
+use Rattle.std.specs.declared.io.ErrorKind.{ErrorKind}
+use Rattle.std.specs.declared.io.ErrorKind.TheVariants.{Interrupted, WouldBlock}
 use Rattle.relay_connections.specs.declared.channel.Channel.{Channel}
 use Rattle.relay_connections.specs.declared.channel.End.TheVariants.{Broken, Input}
 use Rattle.relay_connections.specs.declared.channel.Readiness.{Readiness}
@@ -51,6 +53,19 @@ noted reported channel = record channel {
     ends = channel.ready.ends || reported.ends;
   };
 }
+
+-- The connection after a read has failed in this way: one that would have to wait waits until the system reports that
+-- it can be read, one that a signal interrupted can be repeated, and after any other it is broken.
+pub record FailsReading {S : Type 0} (kind : ErrorKind) (old new : Channel S) : Type 0 where
+  pub waits : kind ≡ WouldBlock → new ≡ record old { ready = record old.ready { reads = false } }
+  pub again : kind ≡ Interrupted → new ≡ old
+  pub breaks : kind ≢ WouldBlock → kind ≢ Interrupted → new ≡ record old { end = Some Broken }
+
+-- the same after a write
+pub record FailsWriting {S : Type 0} (kind : ErrorKind) (old new : Channel S) : Type 0 where
+  pub waits : kind ≡ WouldBlock → new ≡ record old { ready = record old.ready { writes = false } }
+  pub again : kind ≡ Interrupted → new ≡ old
+  pub breaks : kind ≢ WouldBlock → kind ≢ Interrupted → new ≡ record old { end = Some Broken }
 
 -- what was read and isn't used, what is held back, and the stream are the same
 pub record KeepsOctets {S : Type 0} (old new : Channel S) : Type 0 where

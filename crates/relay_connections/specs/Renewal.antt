@@ -1,11 +1,15 @@
 -- When the time begins anew for which a client may be idle.
 use Rattle.std.specs.Prelude.{◌≡◌, ◌≢◌, ◌≤◌, ◌<◌, ◌+◌, ◌-◌, ◌*◌, ◌^◌, ◌⊎◌, ℕ, true, false, min, length}
-use Rattle.std.specs.Prelude.{Option, None, Some}
+use Rattle.std.specs.Prelude.{Option, None, Some, Box}
+use Rattle.std.specs.Global.{Global}
+use Rattle.relay_slots.specs.Slots.{slot_at}
 use Rattle.relay_loop.specs.Outboxes.{unwritten_at}
 use Rattle.relay_loop.specs.Relay.{RelayState}
 use Rattle.relay_connections.specs.Channel.{held_of, unread_of}
 use Rattle.relay_connections.specs.declared.channel.Channel.{Channel}
+use Rattle.relay_connections.specs.Readiness.{clients_of}
 use Rattle.relay_connections.specs.declared.client.Client.{Client}
+use Rattle.relay_connections.specs.declared.clients.Clients.{Clients}
 use Rattle.relay_connections.specs.declared.client.Next.{Next}
 use Rattle.relay_connections.specs.declared.client.Next.TheVariants.{Stays, Leaves, Gone}
 
@@ -56,6 +60,20 @@ pub record KeepsWaiting {S : Type 0} (before after : Client S) : Type 0 where
 -- the client's idle time begins at this tick, or goes on
 abbrev pub WaitsAnewOrOn : {S : Type 0} → ℕ → ℕ → Client S → Client S → Type 0
 WaitsAnewOrOn timeout tick before after = WaitsAnew timeout tick after ⊎ WaitsOn before after
+
+-- so it is of the client in a slot, if it stands before and after
+abbrev pub SlotWaits
+    : {S : Type 0} → ℕ → ℕ → Option (Box (Client S) Global) → Option (Box (Client S) Global) → Type 0
+SlotWaits timeout tick None after = Unit {0}
+SlotWaits timeout tick (Some before) None = Unit {0}
+SlotWaits timeout tick (Some before) (Some after) = WaitsAnewOrOn timeout tick before.value after.value
+
+-- so it is of all clients that stand before and after: each may be idle for as many seconds as the rules say, from this
+-- tick on, or for as long as before; and no client is new
+abbrev pub AllWait : {S : Type 0} → ℕ → Clients S → Clients S → Type 0
+AllWait tick old new = (number : ℕ)
+    → SlotWaits old.timeout tick (slot_at (clients_of old) number) (slot_at (clients_of new) number)
+    × (slot_at (clients_of old) number ≡ None → slot_at (clients_of new) number ≡ None)
 
 -- Below: a call at a tick, of the client of a session that may be idle for this many seconds.
 module _ {D S : Type 0} (timeout tick session : ℕ) (old new : RelayState D) (before after : Client S) where

@@ -31,6 +31,11 @@ use Rattle.relay_connections.specs.declared.client.Next.TheVariants.{Stays, Leav
 abbrev pub address_of : {S : Type 0} → Client S → List ℕ
 address_of client = ipv4_octets (v4_ip client.peer)
 
+-- a slot holds this client or none
+abbrev pub HoldsAtMost : {S : Type 0} → Box (Client S) Global → Option (Box (Client S) Global) → Type 0
+HoldsAtMost client None = Unit {0}
+HoldsAtMost client (Some held) = held ≡ client
+
 -- the session of this number, whose client is at this address, has had this exchange, of which some output is unwritten
 pub record HasSaid {D : Type 0} (changes : List Change) (relay : RelayState D) (number : ℕ) (address : List ℕ)
     (said : Said) : Type 0 where

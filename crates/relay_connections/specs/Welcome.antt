@@ -58,6 +58,22 @@ rules_of clients = record {
 abbrev pub KeepsRules : {S : Type 0} → Clients S → Clients S → Type 0
 KeepsRules old new = rules_of new ≡ rules_of old
 
+-- what holds throughout a turn: the rules, and whether few places are left
+pub record TurnRules : Type 0 where
+  pub rules : Rules
+  pub crowded : Bool
+
+abbrev pub turn_of : {S : Type 0} → Clients S → TurnRules
+turn_of clients = record { rules = rules_of clients; crowded = clients.is_crowded }
+
+-- they stay as they were
+abbrev pub KeepsTurn : {S : Type 0} → Clients S → Clients S → Type 0
+KeepsTurn old new = turn_of new ≡ turn_of old
+
+-- what was refused in this turn because the spool is full stays noted
+abbrev pub KeepsFull : {S : Type 0} → Clients S → Clients S → Type 0
+KeepsFull old new = old.intake.was_full ≡ true → new.intake.was_full ≡ true
+
 -- no more clients are served
 abbrev pub stopped : {S : Type 0} → Clients S → Clients S
 stopped clients = record clients { stops = true }

@@ -1,7 +1,7 @@
 //! A balancer's connection whose PROXY protocol header isn't complete yet.
 ghost use Rattle.std.specs.Prelude.{◌≡◌, ℕ, false};
 ghost use Rattle.relay_proxy.specs.Header.{IsBegun, IsHeader};
-ghost use Rattle.relay_connections.specs.Arrivals.{ReadsOn, HasArrived, HasProgressed, IsNew};
+ghost use Rattle.relay_connections.specs.Arrivals.{FailsHeader, HasArrived, HasProgressed, IsNew, ReadsOn};
 
 use crate::clocks::Now;
 use crate::header_octets::HeaderOctets;
@@ -119,14 +119,21 @@ impl<S: Stream + Drop> Arrival<S> {
     {
         match self.header.fill(&mut self.stream, count) {
             Ok(came) => 0 < came,
-            Err(error) => match error.kind() {
-                ErrorKind::WouldBlock => {
-                    self.reads = false;
-                    true
-                }
-                ErrorKind::Interrupted => true,
-                _ => false,
-            },
+            Err(error) => self.note_fault(error.kind()),
+        }
+    }
+
+    /// Notes that a read has failed. Returns whether the connection is still open.
+    fn note_fault(&mut self, kind: ErrorKind) -> bool
+        ensures { FailsHeader kind self.old self.new result }
+    {
+        match kind {
+            ErrorKind::WouldBlock => {
+                self.reads = false;
+                true
+            }
+            ErrorKind::Interrupted => true,
+            _ => false,
         }
     }
 

@@ -2,7 +2,8 @@ ghost use Rattle.std.specs.Prelude.{◌≡◌, ◌≢◌, ◌≤◌, ◌↔◌, 
 ghost use Rattle.std.specs.Prelude.{length, take, true};
 ghost use Rattle.std.specs.Io.KnownBytes.{Appends, IsAtEnd, Keeps};
 ghost use Rattle.relay_connections.specs.Channel.{IsEndTrue, KeepsInput, KeepsOctets, KeepsOutput, held_of, input_left};
-ghost use Rattle.relay_connections.specs.Channel.{IsUnder, MayWrite, WasTried, is_readable, is_shut, is_writable};
+ghost use Rattle.relay_connections.specs.Channel.{FailsReading, FailsWriting, IsUnder, MayWrite, WasTried, is_readable};
+ghost use Rattle.relay_connections.specs.Channel.{is_shut, is_writable};
 ghost use Rattle.relay_connections.specs.Channel.{noted, output_of, unread_of};
 ghost use Rattle.relay_connections.specs.Readiness.{readiness_of};
 ghost use Rattle.relay_connections.specs.declared.block.TheConstants.{BLOCK_SIZE};
@@ -251,6 +252,7 @@ impl<S: Stream> Channel<S> {
     }
 
     fn note_read_fault(&mut self, kind: ErrorKind)
+        ensures fails { FailsReading kind self.old self.new }
         ensures octets { KeepsOctets self.old self.new }
         ensures end { IsEndTrue S.remaining S.contents self.old → IsEndTrue S.remaining S.contents self.new }
     {
@@ -378,6 +380,7 @@ impl<S: Stream> Channel<S> {
     }
 
     fn note_write_fault(&mut self, kind: ErrorKind)
+        ensures fails { FailsWriting kind self.old self.new }
         ensures octets { KeepsOctets self.old self.new }
         ensures end { IsEndTrue S.remaining S.contents self.old → IsEndTrue S.remaining S.contents self.new }
     {

@@ -344,6 +344,7 @@ impl<S: Stream> Client<S> {
             (RenewsUnlessOver timeout now.now.tick session relay.old relay.new self.old self.new) }
         ensures hears { MayHear relay.old session self.old.channel
             → (result ≡ Ok None) × (self.new.channel ≡ self.old.channel) × (relay.new ≡ relay.old) }
+        ensures waits { WaitsAnewOrOn timeout now.now.tick self.old self.new }
         ensures taken { result ≡ Ok None → (held_of self.new.channel ≡ [])
             × (unwritten_at relay.new.clients session ≡ []) }
     {
@@ -427,6 +428,7 @@ impl<S: Stream> Client<S> {
             → RenewsIfTaken timeout now.now.tick session relay.old relay.new self.old self.new) }
         ensures session { IfOk heard (λ heard. heard.last ≡ None
             → RenewsSession now.now.tick heard.change self.old self.new) }
+        ensures waits { WaitsAnewOrOn timeout now.now.tick self.old self.new }
         ensures held { holds ≡ false → held_of self.old.channel ≡ [] → held_of self.new.channel ≡ [] }
         ensures late { deadline_of true self.new ≤ now.now.tick → held_of self.old.channel ≡ []
             → held_of self.new.channel ≡ [] }

@@ -1,7 +1,8 @@
 //! A turn of the clients: their sessions hear what was read, all in one call, and the replies are written.
 ghost use Rattle.std.specs.Global.{Global};
 ghost use Rattle.std.specs.List.{zip};
-ghost use Rattle.std.specs.Prelude.{◌≡◌, ◌≢◌, ◌<◌, ℕ, List, None, Ok, Some, Box, IfErr, IfOk, IfSome, false, true};
+ghost use Rattle.std.specs.Prelude.{◌≡◌, ◌≢◌, ◌<◌, ◌↔◌, ℕ, List, None, Ok, Some, Box, IfErr, IfOk, IfSome};
+ghost use Rattle.std.specs.Prelude.{IsTrue, false, true};
 ghost use Rattle.relay_book.specs.declared.change.Change.{Change};
 ghost use Rattle.relay_slots.specs.Slots.{slot_at};
 ghost use Rattle.relay_slots.specs.declared.slots.TheConstants.{SLOT_COUNT};
@@ -13,10 +14,13 @@ ghost use Rattle.relay_connections.specs.Leaving.{ClientsJoin, leavers_of};
 ghost use Rattle.relay_connections.specs.Readiness.{clients_of};
 ghost use Rattle.relay_connections.specs.Replies.{HearRepliesIf, LeavesMail};
 ghost use Rattle.relay_connections.specs.Served.{ActsOn, AreServed, AreServedAfter, HasAnswered, HasNext};
-ghost use Rattle.relay_connections.specs.Served.{HaveAnswered, LeavesRest, Serves, WorksWith, address_of};
+ghost use Rattle.relay_connections.specs.Served.{HaveAnswered, HoldsAtMost, LeavesRest, Serves, WorksWith, address_of};
 ghost use Rattle.relay_connections.specs.Sessions.{EndsCut, IsCutOffAfter};
 ghost use Rattle.relay_loop.specs.declared.closing.Closing.{Closing};
-ghost use Rattle.relay_connections.specs.Welcome.{KeepsRules};
+ghost use Rattle.relay_connections.specs.Renewal.{AllWait};
+ghost use Rattle.relay_connections.specs.Table.{count_of};
+ghost use Rattle.relay_connections.specs.Welcome.{KeepsFull, KeepsRules, KeepsTurn};
+ghost use Rattle.relay_connections.specs.declared.serving.TheConstants.{CROWD};
 
 use crate::channel::End;
 use crate::client::{Client, Intake, Next, was_full};
@@ -63,6 +67,9 @@ impl<S: Stream + Drop> Clients<S> {
             replies.now now.now.moment relay.old end.1) }
         ensures config { relay.new.node.config ≡ relay.old.node.config }
         ensures rules { KeepsRules self.old self.new }
+        ensures crowd { IsTrue self.new.is_crowded ↔ CROWD < count_of (clients_of self.old) }
+        ensures waits { IfOk result (λ _. AllWait now.now.tick self.old self.new) }
+        ensures intake { IfOk result (λ end. end.0 ≡ self.new.intake) }
         ensures fault { IfErr result (λ fault. fault ≡ NodeFault.Stopped) }
     {
         let turn = Turn { registry, now };
@@ -99,7 +106,8 @@ impl<S: Stream + Drop> Clients<S> {
         ensures none { IfOk result (λ _. (number : ℕ) → slot_at (clients_of self.old) number ≡ None
             → slot_at (clients_of self.new) number ≡ None) }
         ensures mail { LeavesMail relay.old relay.new }
-        ensures rules { KeepsRules self.old self.new }
+        ensures turn { KeepsTurn self.old self.new }
+        ensures waits { IfOk result (λ _. AllWait turn.entry.now.now.tick self.old self.new) }
         ensures fault { IfErr result (λ fault. fault ≡ NodeFault.Stopped) }
     {
         let mut hears = false;
@@ -139,7 +147,9 @@ impl<S: Stream + Drop> Clients<S> {
             → IfOk result (λ told. told.1 ≡ None → LosesOne (clients_of self.old) (clients_of self.new)) }
         ensures nobody { IfOk result (λ told. told.1 ≡ None → told.0 ≡ false) }
         ensures config { relay.new.node.config ≡ relay.old.node.config }
-        ensures rules { KeepsRules self.old self.new }
+        ensures turn { KeepsTurn self.old self.new }
+        ensures waits { IfOk result (λ _. AllWait turn.entry.now.now.tick self.old self.new) }
+        ensures full { KeepsFull self.old self.new }
         ensures fault { IfErr result (λ fault. fault ≡ NodeFault.Stopped) }
     {
         let clients = self.clients.standing();
@@ -177,7 +187,9 @@ impl<S: Stream + Drop> Clients<S> {
             (clients_of self.new) relay.new
             × ClientsJoin S.remaining S.contents setting (leavers_of leaving.old) (leavers_of leaving.new)) }
         ensures mail { LeavesMail relay.old relay.new }
-        ensures rules { KeepsRules self.old self.new }
+        ensures turn { KeepsTurn self.old self.new }
+        ensures waits { IfOk result (λ _. AllWait turn.entry.now.now.tick self.old self.new) }
+        ensures full { KeepsFull self.old self.new }
         ensures fault { IfErr result (λ fault. fault ≡ NodeFault.Stopped) }
     {
         let mut hears = false;
@@ -209,7 +221,8 @@ impl<S: Stream + Drop> Clients<S> {
             × IsToHear number client.value.channel relay.old relay.new (clients_of self.new) }
         ensures none { slot_at (clients_of self.old) number ≡ None → slot_at (clients_of self.new) number ≡ None }
         ensures mail { LeavesMail relay.old relay.new }
-        ensures rules { KeepsRules self.old self.new }
+        ensures turn { KeepsTurn self.old self.new }
+        ensures waits { IfOk result (λ _. AllWait turn.entry.now.now.tick self.old self.new) }
         ensures fault { IfErr result (λ fault. fault ≡ NodeFault.Stopped) }
     {
         let Some(taken) = self.clients.take(number) else {
@@ -248,7 +261,9 @@ impl<S: Stream + Drop> Clients<S> {
             (slot_at (clients_of self.new) number)
             × ClientsJoin S.remaining S.contents setting (leavers_of leaving.old) (leavers_of leaving.new)) }
         ensures mail { LeavesMail relay.old relay.new }
-        ensures rules { KeepsRules self.old self.new }
+        ensures turn { KeepsTurn self.old self.new }
+        ensures waits { IfOk result (λ _. AllWait turn.entry.now.now.tick self.old self.new) }
+        ensures full { KeepsFull self.old self.new }
         ensures fault { IfErr result (λ fault. fault ≡ NodeFault.Stopped) }
     {
         let Some(taken) = self.clients.take(number) else {
@@ -285,7 +300,9 @@ impl<S: Stream + Drop> Clients<S> {
         ensures closes { (number : ℕ) → hears_at (clients_of self.old) number ≡ true
             → IfOk result (λ _. LosesOne (clients_of self.old) (clients_of self.new)) }
         ensures mail { LeavesMail relay.old relay.new }
-        ensures rules { KeepsRules self.old self.new }
+        ensures turn { KeepsTurn self.old self.new }
+        ensures waits { IfOk result (λ _. AllWait now.now.tick self.old self.new) }
+        ensures full { KeepsFull self.old self.new }
         ensures fault { IfErr result (λ fault. fault ≡ NodeFault.Stopped) }
     {
         let first = turned(self.first, 0, SLOT_COUNT);
@@ -327,7 +344,10 @@ impl<S: Stream + Drop> Clients<S> {
             (slot_at (clients_of self.new) number)
             × ClientsJoin S.remaining S.contents setting (leavers_of leaving.old) (leavers_of leaving.new)) }
         ensures mail { LeavesMail relay.old relay.new }
-        ensures rules { KeepsRules self.old self.new }
+        ensures turn { KeepsTurn self.old self.new }
+        ensures stands { IfOk result (λ _. slot_at (clients_of self.old) number ≡ None → number < SLOT_COUNT
+            → HoldsAtMost client (slot_at (clients_of self.new) number)) }
+        ensures full { self.new.intake.was_full ≡ self.old.intake.was_full }
         ensures fault { IfErr result (λ fault. fault ≡ NodeFault.Stopped) }
     {
         let next = self.cut_off_late(number, &client, next, relay, turn.now, log)?;

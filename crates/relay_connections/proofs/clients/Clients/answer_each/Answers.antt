@@ -11,6 +11,7 @@ use Rattle.relay_connections.specs.Served.{HasAnswered, HasAnsweredOr, HaveAnswe
 use Rattle.relay_connections.proofs.AnsweredLemmas.{answer_first, answered_end, answered_on}
 use Rattle.relay_connections.proofs.CarriedLemmas.{more_join, none_join}
 use Rattle.relay_connections.proofs.RepliesLemmas.{mail_same, mail_then}
+use Rattle.relay_connections.proofs.WaitLemmas.{all_same, all_then}
 use Rattle.relay_connections.proofs.clients.Clients.answer_each.Goals as goal
 
 pub loop-session-init : goal.loop-session-init
@@ -29,7 +30,9 @@ loop-session-init g c =
       first = search rules;
       second = search rules;
       mail = mail_same c.args.relay.now;
-      rules = refl;
+      turn = refl;
+      waits = all_same c.args.turn.now.now.tick c.args.self.now;
+      full = λ is. is;
     }
 
 pub loop-session-preserved : goal.loop-session-preserved
@@ -58,7 +61,9 @@ loop-session-preserved g c =
       first = omega (arith, i.first, ap (λ (l : List ℕ). length l) one.0, one.1);
       second = omega (arith, i.second, ap (λ (l : List (Result Heard NodeFault)). length l) other.0, other.1);
       mail = mail_then c.args.relay.now c.loop-session.relay c.answer_one.new.relay i.mail c.in_ok-hears.ensures.mail;
-      rules = c.in_ok-hears.ensures.rules ∙ i.rules;
+      turn = c.in_ok-hears.ensures.turn ∙ i.turn;
+      waits = all_then c.args.turn.now.now.tick c.args.self.now c.loop-session.self c.answer_one.new.self i.turn i.waits c.in_ok-hears.ensures.waits;
+      full = λ is. c.in_ok-hears.ensures.full (i.full is);
     }
 
 pub returns-clause-served : goal.returns-clause-served

@@ -9,7 +9,8 @@ use Rattle.relay_connections.specs.Leaving.{ClientsJoin, leavers_of}
 use Rattle.relay_connections.specs.Readiness.{clients_of}
 use Rattle.relay_connections.specs.Replies.{LeavesMail}
 use Rattle.relay_connections.specs.Served.{HaveAnswered}
-use Rattle.relay_connections.specs.Welcome.{KeepsRules}
+use Rattle.relay_connections.specs.Renewal.{AllWait}
+use Rattle.relay_connections.specs.Welcome.{KeepsFull, KeepsTurn}
 use Rattle.relay_connections.proofs.clients.Clients.answer_each.Given as goal
 
 abbrev pub invariant-loop-session : goal.invariant-loop-session
@@ -20,5 +21,7 @@ invariant-loop-session g l = record {
   first : length (into_iter_items (zip_first l.session-iterator)) ≡ into_iter_len (zip_first l.session-iterator);
   second : length (into_iter_items (zip_second l.session-iterator)) ≡ into_iter_len (zip_second l.session-iterator);
   mail : LeavesMail l.fn.relay l.relay;
-  rules : KeepsRules l.fn.self l.self;
+  turn : KeepsTurn l.fn.self l.self;
+  waits : AllWait l.fn.turn.now.now.tick l.fn.self l.self;
+  full : KeepsFull l.fn.self l.self;
 }

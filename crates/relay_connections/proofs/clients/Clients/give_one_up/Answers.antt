@@ -3,7 +3,7 @@ use Rattle.std.proofs.Common.{◌≡◌, Some, length, refl, sym, ap, subst, ◌
 use Rattle.relay_slots.specs.Slots.{slot_at}
 use Rattle.relay_connections.specs.Readiness.{clients_of}
 use Rattle.relay_connections.specs.Served.{AreServed, IsUnused, Serves, address_of}
-use Rattle.relay_connections.specs.Welcome.{KeepsRules}
+use Rattle.relay_connections.specs.Welcome.{KeepsFull, KeepsTurn}
 use Rattle.relay_connections.specs.Hearing.{hears, hears_at}
 use Rattle.relay_connections.proofs.CircleLemmas.{turned_is}
 use Rattle.relay_connections.proofs.ExchangeLemmas.{some_is_not_none}
@@ -18,7 +18,8 @@ pub loop-step-init : goal.loop-step-init
 loop-step-init g c = record {
   served = λ changes setting served. served;
   mail = mail_same c.args.relay.now;
-  rules = refl;
+  turn = refl;
+  full = λ is. is;
   same = λ number. refl;
   silent = λ step below. absurd (omega (arith, below));
   rest = λ number past. sym (c.standing-count.ensures.slots number) ∙ none_after c.standing-count.result.now number past;
@@ -33,9 +34,13 @@ loop-step-preserved g c = record {
         | in-None-3 w ↦ subst (λ self. AreServed g.D.Disk.honest g.D.Disk.words g.S.Stream.remaining g.S.Stream.contents changes setting (clients_of self) c.loop-step.relay) (sym w.self-is) so
       ];
   mail = c.loop-step.invariant.mail;
-  rules = elim c.match-client_at.branch [
-    | in-Some+else-deref w ↦ subst (KeepsRules c.args.self.now) (sym w.self-is) c.loop-step.invariant.rules
-    | in-None-3 w ↦ subst (KeepsRules c.args.self.now) (sym w.self-is) c.loop-step.invariant.rules
+  turn = elim c.match-client_at.branch [
+    | in-Some+else-deref w ↦ subst (KeepsTurn c.args.self.now) (sym w.self-is) c.loop-step.invariant.turn
+    | in-None-3 w ↦ subst (KeepsTurn c.args.self.now) (sym w.self-is) c.loop-step.invariant.turn
+  ];
+  full = elim c.match-client_at.branch [
+    | in-Some+else-deref w ↦ subst (KeepsFull c.args.self.now) (sym w.self-is) c.loop-step.invariant.full
+    | in-None-3 w ↦ subst (KeepsFull c.args.self.now) (sym w.self-is) c.loop-step.invariant.full
   ];
   same = elim c.match-client_at.branch [
     | in-Some+else-deref w ↦ λ number. ap (λ self. slot_at (clients_of self) number) w.self-is ∙ c.loop-step.invariant.same number

@@ -5,13 +5,15 @@ use Rattle.relay_connections.specs.Leaving.{ClientsJoin, leavers_of}
 use Rattle.relay_connections.specs.Readiness.{clients_of}
 use Rattle.relay_connections.specs.Replies.{LeavesMail}
 use Rattle.relay_connections.specs.Served.{AreServed}
-use Rattle.relay_connections.specs.Welcome.{KeepsRules}
+use Rattle.relay_connections.specs.Renewal.{AllWait}
+use Rattle.relay_connections.specs.Welcome.{KeepsTurn}
 use Rattle.relay_connections.proofs.CarriedLemmas.{more_join, none_join}
 use Rattle.relay_connections.proofs.HearsLemmas.{AllStay, SeenHear, all_hear, all_stay, hears_one, none_on, none_there, or_second, seen_free, seen_more, stays_first, still_reads}
 use Rattle.relay_connections.proofs.CircleLemmas.{turned_is}
 use Rattle.relay_connections.proofs.LeftLemmas.{none_after}
 use Rattle.relay_connections.proofs.RepliesLemmas.{mail_same, mail_then}
 use Rattle.relay_connections.proofs.ServedLemmas.{served_on, served_works}
+use Rattle.relay_connections.proofs.WaitLemmas.{all_same, all_then}
 use Rattle.relay_connections.proofs.clients.Clients.read_each.Goals as goal
 use Rattle.relay_connections.proofs.clients.Clients.read_each.Goals.{then-holds+in_ok-hears, else-holds}
 
@@ -19,7 +21,8 @@ pub loop-step-init : goal.loop-step-init
 loop-step-init g c = record {
   served = λ changes setting served. (served, none_join g.S.Stream.remaining g.S.Stream.contents setting c.args.leaving.now.leavers);
   mail = mail_same c.args.relay.now;
-  rules = refl;
+  turn = refl;
+  waits = all_same c.args.turn.now.now.tick c.args.self.now;
   stays = stays_first c.args.relay.now c.args.self.now.clients;
   seen = λ step below. absurd (omega (arith, below));
   none = λ number is. is;
@@ -52,9 +55,14 @@ loop-step-preserved g c =
         | then-holds+in_ok-hears w ↦ subst (LeavesMail c.args.relay.now) (sym w.relay-is) (mail_then c.args.relay.now c.loop-step.relay w.read_one.new.relay c.loop-step.invariant.mail w.in_ok-hears.ensures.mail)
         | else-holds w ↦ subst (LeavesMail c.args.relay.now) (sym w.relay-is) c.loop-step.invariant.mail
       ];
-      rules = elim c.if-holds.branch [
-        | then-holds+in_ok-hears w ↦ subst (KeepsRules c.args.self.now) (sym w.self-is) (w.in_ok-hears.ensures.rules ∙ c.loop-step.invariant.rules)
-        | else-holds w ↦ subst (KeepsRules c.args.self.now) (sym w.self-is) c.loop-step.invariant.rules
+      turn = elim c.if-holds.branch [
+        | then-holds+in_ok-hears w ↦ subst (KeepsTurn c.args.self.now) (sym w.self-is) (w.in_ok-hears.ensures.turn ∙ c.loop-step.invariant.turn)
+        | else-holds w ↦ subst (KeepsTurn c.args.self.now) (sym w.self-is) c.loop-step.invariant.turn
+      ];
+      waits = elim c.if-holds.branch [
+        | then-holds+in_ok-hears w ↦ subst (AllWait c.args.turn.now.now.tick c.args.self.now) (sym w.self-is)
+            (all_then c.args.turn.now.now.tick c.args.self.now c.loop-step.self w.read_one.new.self c.loop-step.invariant.turn c.loop-step.invariant.waits w.in_ok-hears.ensures.waits)
+        | else-holds w ↦ subst (AllWait c.args.turn.now.now.tick c.args.self.now) (sym w.self-is) c.loop-step.invariant.waits
       ];
       stays = elim c.if-holds.branch [
         | then-holds+in_ok-hears w ↦ subst (λ self. AllStay c.args.relay.now c.args.self.now.clients c.if-holds.relay (clients_of self)) (sym w.self-is)

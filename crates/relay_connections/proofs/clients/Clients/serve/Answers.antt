@@ -1,15 +1,18 @@
 -- All are served after each call of the turn.
-use Rattle.std.proofs.Common.{◌≡◌, [], ◌++◌, None, sym, ◌∙◌, subst}
+use Rattle.std.proofs.Common.{◌≡◌, [], ◌++◌, None, sym, ap, ◌∙◌, subst}
 use Rattle.std.proofs.lemmas.Bool.{false≢true}
 use Rattle.relay_connections.specs.Hears.{LosesOne, OneMayHear}
 use Rattle.relay_connections.specs.Leaving.{ClientsJoin, leavers_of}
 use Rattle.relay_connections.specs.Readiness.{clients_of}
 use Rattle.relay_connections.specs.Replies.{HearRepliesIf}
 use Rattle.relay_connections.specs.Served.{AreServedAfter}
+use Rattle.relay_connections.specs.Renewal.{AllWait}
+use Rattle.relay_connections.specs.Welcome.{rules_of}
 use Rattle.relay_connections.proofs.CarriedLemmas.{more_join}
 use Rattle.relay_connections.proofs.HearsLemmas.{loses_one, one_is_heard, them_if}
 use Rattle.relay_connections.proofs.RepliesLemmas.{heard_after, heard_before, heard_none, only_mail}
 use Rattle.relay_connections.proofs.ServedLemmas.{served_at_once, served_after}
+use Rattle.relay_connections.proofs.WaitLemmas.{all_then}
 use Rattle.relay_connections.proofs.clients.Clients.serve.Goals as goal
 use Rattle.relay_connections.proofs.clients.Clients.serve.Goals.{then-hears+in_ok-_none+in-Some-1, then-hears+in_ok-_none+in-None-1, else-hears}
 
@@ -83,3 +86,25 @@ returns-clause-hears g c =
       | then-hears+in_ok-_none+in-None-1 w ↦ λ one. absurd (false≢true (sym (c.in_ok-hears-2.ensures.nobody none) ∙ w.if-hears.true))
       | else-hears w ↦ λ one. subst (λ self. LosesOne c.args.self.now.clients (clients_of self)) (sym w.self-is) (silent none one)
     ])
+
+-- The rules stay in each part of a turn, and so does whether few places are left.
+pub returns-clause-rules : goal.returns-clause-rules
+returns-clause-rules g c =
+    let first = c.in_ok-hears-2.ensures.turn ∙ c.in_ok-hears.ensures.turn in
+    elim c.if-hears.branch [
+      | then-hears+in_ok-_none+in-Some-1 w ↦ ap (λ self. rules_of self) w.self-is ∙ ap (λ turn. turn.rules) (w.in_ok-_none.ensures.turn ∙ first)
+      | then-hears+in_ok-_none+in-None-1 w ↦ ap (λ self. rules_of self) w.self-is ∙ ap (λ turn. turn.rules) (w.in_ok-_none.ensures.turn ∙ first)
+      | else-hears w ↦ ap (λ self. rules_of self) w.self-is ∙ ap (λ turn. turn.rules) first
+    ]
+
+-- How long each client may be idle from then on.
+pub returns-clause-waits : goal.returns-clause-waits
+returns-clause-waits g c =
+    let tick = c.args.now.now.tick in
+    let turn = c.in_ok-hears-2.ensures.turn ∙ c.in_ok-hears.ensures.turn in
+    let first = all_then tick (record c.args.self.now { is_crowded = _ }) c.read_each.new.self c.hear.new.self c.in_ok-hears.ensures.turn c.in_ok-hears.ensures.waits c.in_ok-hears-2.ensures.waits in
+    elim c.if-hears.branch [
+      | then-hears+in_ok-_none+in-Some-1 w ↦ subst (AllWait tick c.args.self.now) (sym w.self-is) (all_then tick (record c.args.self.now { is_crowded = _ }) c.hear.new.self w.hear-then-hears.new.self turn first w.in_ok-_none.ensures.waits)
+      | then-hears+in_ok-_none+in-None-1 w ↦ subst (AllWait tick c.args.self.now) (sym w.self-is) (all_then tick (record c.args.self.now { is_crowded = _ }) c.hear.new.self w.hear-then-hears.new.self turn first w.in_ok-_none.ensures.waits)
+      | else-hears w ↦ subst (AllWait tick c.args.self.now) (sym w.self-is) first
+    ]
