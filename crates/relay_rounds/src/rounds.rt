@@ -1,5 +1,5 @@
 //! A round: links served concurrently, on a thread each, over one shared node.
-ghost use Rattle.std.specs.Prelude.{◌≡◌, ◌≤◌, [], List, length, vec_len, vec_capacity, IfErr, IfOk};
+ghost use Rattle.std.specs.Prelude.{◌≡◌, ◌≤◌, [], List, vec_len, vec_capacity, IfErr, IfOk};
 ghost use Rattle.relay_book.specs.declared.change.Change.{Change};
 ghost use Rattle.relay_records.specs.Records.{Keeps};
 ghost use Rattle.relay_rounds.specs.declared.served.Served.{Served};
@@ -206,6 +206,23 @@ fn words(alloc: Global, count: usize) -> Result<Vec<AtomicBool>, AllocError>
     Ok(words)
 }
 
+/// Takes back the node and the passes of all links. Returns them, and whether the receipts are exactly what the node has
+/// accepted.
+fn close<D: Disk, J: Opening>(hub: Hub<D, J>, passes: Vec<Pass<J>>) -> (Node<D>, Vec<Pass<J>>, bool)
+    requires { vec_len passes ≡ J.parts }
+    ensures passes { result.1.items ≡ passes.items }
+    ensures run { (changes : List Change) → J.starts changes
+        → HasRun D.honest D.words changes passes.items result.0.records result.2 }
+{
+    match hub.close(passes) {
+        Ok((node, passes)) => (node, passes, true),
+        Err(mismatch) => {
+            let (node, passes) = mismatch.into_parts();
+            (node, passes, false)
+        }
+    }
+}
+
 impl<J: Opening + Send + Sync, R: Read + Send + Drop, W: Write + Send + Drop> Room<J, R, W> {
     /// Serves the links, and compares their receipts with what the node has accepted.
     fn run<D: Disk + Drop + Send, T: Threads + Wait + Sync>(
@@ -236,20 +253,11 @@ impl<J: Opening + Send + Sync, R: Read + Send + Drop, W: Write + Send + Drop> Ro
             };
             self.serve(&shop, passes, links)
         };
-        match hub.close(passes) {
-            Ok((node, passes)) => Ended {
-                node,
-                links: put_together(passes, rests, served),
-                agrees: true,
-            },
-            Err(mismatch) => {
-                let (node, passes) = mismatch.into_parts();
-                Ended {
-                    node,
-                    links: put_together(passes, rests, served),
-                    agrees: false,
-                }
-            }
+        let (node, passes, agrees) = close(hub, passes);
+        Ended {
+            node,
+            links: put_together(passes, rests, served),
+            agrees,
         }
     }
 
