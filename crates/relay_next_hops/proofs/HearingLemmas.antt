@@ -1,6 +1,6 @@
 -- How the connections that have something to hear are gone over, number by number.
-use Rattle.std.proofs.Common.{◌≡◌, ◌≢◌, ◌⊎◌, inl, inr, ℕ, ◌+◌, ◌-◌, ◌%◌, ◌<◌, ◌≤◌, suc, List, [], ◌∷◌, ◌++◌, length, drop, Option, None, Some, Result, Ok, Err, IfOk, IfSome, MatchOption, OnOk, refl, sym, ap, subst, ◌∙◌, arith, append_assoc}
-use Rattle.std.specs.Prelude.{slice_set}
+use Rattle.std.proofs.Common.{◌≡◌, ◌≢◌, ◌⊎◌, inl, inr, Bool, true, false, if◌then◌else◌, ℕ, ◌+◌, ◌-◌, ◌%◌, ◌<◌, ◌≤◌, suc, List, [], ◌∷◌, ◌++◌, length, drop, Option, None, Some, Result, Ok, Err, IfOk, IfSome, MatchOption, OnOk, refl, sym, ap, subst, ◌∙◌, arith, append_assoc}
+use Rattle.std.specs.Prelude.{option_and_then, slice_set}
 use Rattle.std.specs.List.{cons_option, filter_map}
 use Rattle.std.proofs.lemmas.List.{append-nil}
 use Rattle.relay_slots.specs.Slots.{OthersStay, slot_at}
@@ -13,7 +13,7 @@ use Rattle.relay_files.specs.declared.fault.Fault.{Fault}
 use Rattle.relay_connections.specs.Hearing.{turned}
 use Rattle.relay_connections.specs.Channel.{unread_of}
 use Rattle.relay_next_hops.specs.Deliveries.{KeepsDelivery, left_of}
-use Rattle.relay_next_hops.specs.Hearing.{AnswersEach, AnswersOne, IsAnswered, IsCourse, IsLate, UsesOwn, WasLeft, hearing_at}
+use Rattle.relay_next_hops.specs.Hearing.{AnswersEach, AnswersOne, IsAnswered, IsCourse, IsLate, UsesOwn, WasLeft, hearing_at, hearing_of}
 use Rattle.relay_next_hops.specs.declared.delivery.Course.{Course}
 use Rattle.relay_next_hops.specs.declared.delivery.Course.TheVariants.{Stays, Ended, Lost, TurnedAway, Void}
 use Rattle.relay_next_hops.proofs.SlotLemmas.{none_taken, set_beside}
@@ -146,3 +146,14 @@ if_some P found value is holds = subst (λ (found : Option _). IfSome found P) (
 pub on_ok : {T E : Type 0} (P : Type 0) (result : Result T E) → P → OnOk result P
 on_ok P (Ok value) holds = holds
 on_ok P (Err fault) holds = tt
+
+-- the attempt of a connection that has something to hear
+pub hears_as : {S : Type 0} (hops : List (Option (Hop S))) (number : ℕ) (hop : Hop S) → Some hop ≡ slot_at hops number → hearing_at hops number ≢ None → (attempt : ℕ) × (hop.attempt ≡ Some attempt) × (hearing_at hops number ≡ Some attempt)
+hears_as {S} hops number hop there some = by hop.hears hop.attempt refl refl where
+  here : hearing_at hops number ≡ hearing_of hop
+  here = ap (option_and_then hearing_of) (sym there)
+
+  by : (hears : Bool) (attempt : Option ℕ) → hop.hears ≡ hears → hop.attempt ≡ attempt → (attempt : ℕ) × (hop.attempt ≡ Some attempt) × (hearing_at hops number ≡ Some attempt)
+  by false attempt quiet is = absurd (some (here ∙ ap (λ (hears : Bool). if hears then hop.attempt else None) quiet))
+  by true None heard is = absurd (some (here ∙ ap (λ (hears : Bool). if hears then hop.attempt else None) heard ∙ is))
+  by true (Some attempt) heard is = (attempt, is, here ∙ ap (λ (hears : Bool). if hears then hop.attempt else None) heard ∙ is)

@@ -16,3 +16,6 @@ mod LeaveLemmas
 mod LossLemmas
 mod TaskLemmas
 mod TellingLemmas
+mod WaitingLemmas
+mod TriedLemmas
+mod NotedLemmas

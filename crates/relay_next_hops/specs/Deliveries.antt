@@ -15,7 +15,9 @@ use Rattle.relay_loop.specs.Relay.{OnlyHop, RelayState}
 use Rattle.relay_log.specs.declared.hop_link.Loss.{Loss}
 use Rattle.relay_log.specs.declared.hop_link.Loss.TheVariants.{Refused, Unreachable, Silent, Cut}
 use Rattle.relay_connections.specs.Channel.{held_of, is_shut, unread_of}
+use Rattle.relay_connections.specs.Leaving.{MayTake, leavers_of}
 use Rattle.relay_connections.specs.declared.channel.Channel.{Channel}
+use Rattle.relay_connections.specs.declared.leaving.Leaving.{Leaving}
 use Rattle.relay_lanes.specs.Portions.{Shares, halved_for}
 use Rattle.relay_next_hops.specs.declared.delivery.Aim.{Aim}
 use Rattle.relay_next_hops.specs.declared.delivery.Course.{Course}
@@ -109,6 +111,14 @@ pub record IsOpenedTo {S : Type 0} (leads_to : S → SocketAddrV4 → Type 0) (r
   pub unread : unread_of channel ≡ []
   pub held : held_of channel ≡ []
   pub shut : is_shut channel ≡ false
+
+-- Each slot for connections that leave is as before; one that was free may have this connection, which leads to a next
+-- hop of this lane, and these are its last octets.
+abbrev pub MayLeave : {S : Type 0} → (S → Option (List ℕ)) → (S → Option (List ℕ)) → Channel S → List ℕ → ℕ → Leaving S
+    → Leaving S → Type 0
+MayLeave remaining contents channel last lane old new = (number : ℕ)
+    → MayTake remaining contents channel last (Some lane) (slot_at (leavers_of old) number)
+    (slot_at (leavers_of new) number)
 
 -- A connection for this message and next hop is under a number; it was opened to the address of its aim. Its attempt
 -- hasn't begun.

@@ -4,6 +4,8 @@ pub mod Deliveries
 pub mod Counts
 pub mod Hearing
 pub mod Telling
+pub mod Waiting
+pub mod Holds
 pub mod Losses
 pub mod GoingOn
 pub mod Starting

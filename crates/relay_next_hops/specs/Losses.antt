@@ -1,5 +1,5 @@
 -- How the loss of a connection to a next hop is recorded at the node.
-use Rattle.std.specs.Prelude.{◌≡◌, ◌⊎◌, ℕ, Bool, true, List, Option, None, Some, Err}
+use Rattle.std.specs.Prelude.{◌≡◌, ◌⊎◌, ℕ, Bool, true, false, List, Option, None, Some, Err}
 use Rattle.relay_disk.specs.Device.{DiskWords}
 use Rattle.relay_slots.specs.Slots.{slot_at}
 use Rattle.relay_records.specs.declared.fault.NodeFault.{NodeFault}
@@ -11,7 +11,9 @@ use Rattle.relay_loop.specs.Relay.{RelayState}
 use Rattle.relay_limits.specs.declared.pace.Pace.{Pace}
 use Rattle.relay_connections.specs.declared.clocks.Now.{Now}
 use Rattle.relay_lanes.specs.Paces.{IsHeldAt}
+use Rattle.relay_next_hops.specs.Hearing.{hearing_at}
 use Rattle.relay_next_hops.specs.declared.delivery.Delivery.{Delivery}
+use Rattle.relay_next_hops.specs.declared.hop.Hop.{Hop}
 use Rattle.relay_report.specs.Report.{reporter_of}
 
 -- Below: a call at a time, of a relay on a disk with these words.
@@ -94,6 +96,14 @@ abbrev pub LosesRunning : {D : Type 0} → DiskWords D → ℕ → ℕ → Relay
 LosesRunning {D} words at attempt old new =
     ((between : RelayState D) × LosesAttempt words at old between attempt × TakesNote between new)
     ⊎ RefusesLoss words at old new attempt
+
+-- The attempt of a connection that had octets to hear is lost: that is recorded, or refused. Or there is none, and
+-- nothing changes.
+abbrev pub LosesOne
+    : {D S : Type 0} → DiskWords D → ℕ → List (Option (Hop S)) → RelayState D → RelayState D → Bool → Type 0
+LosesOne words at hops old new true =
+    (number : ℕ) × (attempt : ℕ) × (hearing_at hops number ≡ Some attempt) × LosesRunning words at attempt old new
+LosesOne words at hops old new false = new ≡ old
 
 -- A delivery has ended as lost: that is recorded, or refused. If its attempt hasn't begun, and its next hop is on hold,
 -- it stays due instead, and nothing changes.

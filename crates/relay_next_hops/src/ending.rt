@@ -3,8 +3,9 @@ ghost use Rattle.std.specs.Prelude.{◌≡◌, ◌≢◌, ℕ, None, Ok, OnOk, O
 ghost use Rattle.relay_loop.specs.declared.outbox.Outbox.{Outbox};
 ghost use Rattle.relay_records.specs.declared.noted.Noted.{Noted};
 ghost use Rattle.relay_connections.specs.Served.{LeavesClients};
-ghost use Rattle.relay_next_hops.specs.Deliveries.{portions_after};
+ghost use Rattle.relay_next_hops.specs.Deliveries.{MayLeave, portions_after};
 ghost use Rattle.relay_next_hops.specs.GoingOn.{ComesNext};
+ghost use Rattle.relay_next_hops.specs.Holds.{HoldsFrom, HoldsIfSilent};
 ghost use Rattle.relay_next_hops.specs.Lanes.{KeepsCounts, KeepsPlaces, OnlyLane};
 ghost use Rattle.relay_next_hops.specs.Losses.{EndsLost, EndsLostOrTurnedAway, IsRecordedOrRefused, Loses};
 ghost use Rattle.relay_next_hops.specs.Losses.{LosesAttempt, LosesNot, LosesRunning, RefusesLoss, StartsAndLoses};
@@ -41,6 +42,8 @@ pub(crate) fn conclude<S: Stream + Drop, D: Disk>(
         ≡ portions_after course ended.1.attempt ended.1.is_closed ended.1.message portions.old }
     ensures next { (outbox : Outbox) (noted : Option Noted) → course ≡ Course.Ended outbox noted
         → ComesNext turn.entry.now.now.moment ended.1 relay.new lanes.new }
+    ensures handed { (outbox : Outbox) (noted : Option Noted) → course ≡ Course.Ended outbox noted
+        → MayLeave S.remaining S.contents ended.0 outbox ended.1.aim.lane leaving.old leaving.new }
     ensures lost { (loss : Loss) (attempt : ℕ) → course ≡ Course.Lost loss → ended.1.attempt ≡ Some attempt
         → OnOk result (LosesRunning D.words turn.entry.now.now.moment attempt relay.old relay.new) }
     ensures same { ((loss : Loss) → course ≢ Course.Lost loss) → relay.new ≡ relay.old }
@@ -85,6 +88,8 @@ fn finish<S: Stream + Drop, D: Disk>(
     ensures counts { KeepsCounts lanes.old lanes.new }
     ensures next { (outbox : Outbox) (noted : Option Noted) → course ≡ Course.Ended outbox noted
         → ComesNext turn.entry.now.now.moment ended.1 relay.new lanes.new }
+    ensures handed { (outbox : Outbox) (noted : Option Noted) → course ≡ Course.Ended outbox noted
+        → MayLeave S.remaining S.contents ended.0 outbox ended.1.aim.lane leaving.old leaving.new }
     ensures lost { (loss : Loss) → course ≡ Course.Lost loss → OnOk result
         (EndsLostOrTurnedAway D.words turn.entry.now.now ended.1 is_shared lanes.old.paces relay.old relay.new) }
     ensures same { ((loss : Loss) → course ≢ Course.Lost loss) → relay.new ≡ relay.old }
@@ -127,6 +132,7 @@ fn end_well<S: Stream + Drop>(
     noted: Option<Noted>,
     log: &mut Log<'_, Vec<u8>>,
 )
+    ensures handed { MayLeave S.remaining S.contents channel outbox delivery.now.aim.lane leaving.old leaving.new }
     ensures counts { KeepsCounts lanes.old lanes.new }
 {
     let lane = delivery.aim.lane;
@@ -170,6 +176,7 @@ pub(crate) fn lose<D: Disk>(
     log: &mut Log<'_, Vec<u8>>,
 ) -> Result<bool, Fault>
     ensures lost { OnOk result (EndsLost D.words now.now delivery.now lanes.old.paces relay.old relay.new) }
+    ensures held { OnOk result (HoldsIfSilent now.now.tick delivery.now lanes.old.paces lanes.new.paces) }
     ensures counts { KeepsCounts lanes.old lanes.new }
     ensures only { OnlyLane delivery.now.aim.lane lanes.old lanes.new }
     ensures tasks { lanes.new.lanes ≡ lanes.old.lanes }
@@ -231,6 +238,7 @@ fn record_and_note<D: Disk>(
 
 /// Puts the next hop of a delivery's lane on hold, because its connection has failed for this reason.
 fn hold(lanes: &mut Lanes, delivery: &Delivery, loss: Loss, log: &mut Log<'_, Vec<u8>>, now: &Now)
+    ensures held { HoldsFrom now.now.tick delivery.now.aim.lane lanes.old.paces lanes.new.paces }
     ensures counts { KeepsCounts lanes.old lanes.new }
     ensures only { OnlyLane delivery.now.aim.lane lanes.old lanes.new }
     ensures tasks { lanes.new.lanes ≡ lanes.old.lanes }

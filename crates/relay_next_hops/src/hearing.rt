@@ -1,11 +1,13 @@
 //! What attempts hear in a turn: the octets that were read from their own next hop.
-ghost use Rattle.std.specs.Prelude.{◌≡◌, ◌↔◌, ◌<◌, ◌≤◌, ◌%◌, IfOk, IfSome, IsTrue, List, OnOk, map, option_map};
+ghost use Rattle.std.specs.Prelude.{◌≡◌, ◌≢◌, ◌↔◌, ◌<◌, ◌≤◌, ◌%◌, IfOk, IfSome, IsTrue, List, None, OnOk, map};
+ghost use Rattle.std.specs.Prelude.{option_map};
 ghost use Rattle.relay_routes.specs.Routes.{Route};
 ghost use Rattle.relay_connections.specs.Served.{LeavesClients};
 ghost use Rattle.relay_next_hops.specs.Counts.{CountsMatch};
 ghost use Rattle.relay_next_hops.specs.Deliveries.{AreAimed};
 ghost use Rattle.relay_next_hops.specs.Hearing.{AnswersEach, AnswersOne, WasLeft, hearing_at, order_of, replies_of};
 ghost use Rattle.relay_next_hops.specs.Hearing.{reply_at, told_of};
+ghost use Rattle.relay_next_hops.specs.Losses.{LosesOne};
 
 use crate::delivery::Course;
 use crate::hops::{Attended, Hops};
@@ -185,6 +187,7 @@ impl<S: Stream + Drop> Hops<S> {
         leaving: &mut Leaving<S>,
         log: &mut Log<'_, Vec<u8>>,
     ) -> Result<bool, Fault>
+        ensures lost { IfOk result (LosesOne D.words turn.entry.now.now.moment self.old.hops relay.old relay.new) }
         ensures counts { CountsMatch self.old.hops lanes.old.paces
             → OnOk result (CountsMatch self.new.hops lanes.new.paces) }
         ensures aimed { (routes : List Route) → AreAimed routes self.old.hops → AreAimed routes self.new.hops }
@@ -205,7 +208,9 @@ impl<S: Stream + Drop> Hops<S> {
     }
 
     /// Returns the number of the first connection whose attempt may hear something.
-    fn first_hearing(&self) -> Option<usize> {
+    fn first_hearing(&self) -> Option<usize>
+        ensures { IfSome result (λ number. hearing_at self.now.hops number ≢ None) }
+    {
         let count = self.hops.standing().len();
         let first = self.first_of(count);
         for step in 0..count {

@@ -8,6 +8,7 @@ ghost use Rattle.relay_trace.specs.DateTime.{last_second};
 ghost use Rattle.relay_next_hops.specs.Deliveries.{KeepsDelivery, StartsFor, closes, last_due, starting_moment};
 ghost use Rattle.relay_next_hops.specs.Hearing.{IsLate, hearing_of};
 ghost use Rattle.relay_next_hops.specs.Telling.{HasTold, HasToldAll};
+ghost use Rattle.relay_next_hops.specs.Waiting.{BeginsToWait, IsInTime, WaitsToConnect};
 ghost use Rattle.relay_log.specs.Talk.{HasHeard};
 
 use crate::delivery::{Aim, Course, Delivery};
@@ -93,6 +94,7 @@ impl<S: Stream> Hop<S> {
         ensures delivery { (result.message ≡ message) × (result.name ≡ name) }
         ensures none { (result.attempt ≡ None) × (result.hears ≡ false) }
         ensures silent { HasHeard result.talk [] }
+        ensures waits { BeginsToWait now.now.tick Phase.Connecting result }
     {
         Hop {
             channel,
@@ -158,8 +160,10 @@ impl<S: Stream> Hop<S> {
 
     /// Returns whether it is for this message and next hop, in this lane.
     pub(crate) fn is_for(&self, message: u64, lane: usize, name: &HostName) -> bool
-        ensures { result ≡ true → (self.now.message ≡ message) × (self.now.aim.lane ≡ lane)
+        ensures its { result ≡ true → (self.now.message ≡ message) × (self.now.aim.lane ≡ lane)
             × (self.now.name ≡ name.now) }
+        ensures other { result ≡ false → self.now.message ≡ message → self.now.aim.lane ≡ lane
+            → self.now.name ≢ name.now }
     {
         self.message == message && self.aim.lane == lane && self.name.as_slice() == name.as_slice()
     }
@@ -233,6 +237,7 @@ impl<S: Stream> Hop<S> {
         ensures stays { course ≡ Course.Stays
             → (result ≡ Course.Stays) ⊎ ((result ≡ Course.Lost Loss.Silent) × IsLate now.now.tick self.now) }
         ensures other { course ≢ Course.Stays → result ≡ course }
+        ensures in_time { result ≡ Course.Stays → IsInTime now.now.tick self.now }
     {
         match course {
             Course::Stays if self.deadline() <= now.tick => Course::Lost(Loss::Silent),
@@ -257,6 +262,7 @@ impl<S: Stream> Hop<S> {
         ensures delivery { KeepsDelivery self.old self.new }
         ensures attempt { self.new.attempt ≡ self.old.attempt }
         ensures talk { self.new.talk ≡ self.old.talk }
+        ensures waits { WaitsToConnect now.now.tick self.old self.new }
     {
         if !self.channel.may_write() {
             return Course::Stays;

@@ -1,5 +1,5 @@
 ghost use Rattle.std.specs.Prelude.{◌≡◌, ◌≢◌, ◌<◌, ◌≤◌, ℕ, IfErr, IfOk, List, MatchOption, None, OnOk, Some, length};
-ghost use Rattle.std.specs.Prelude.{true};
+ghost use Rattle.std.specs.Prelude.{false, min, true};
 ghost use Rattle.relay_routes.specs.Routes.{Route};
 ghost use Rattle.relay_slots.specs.Slots.{AreFree, IsFull, IsLeastFree, OthersStay, slot_at};
 ghost use Rattle.relay_connections.specs.Table.{count_of, is_such};
@@ -8,17 +8,17 @@ ghost use Rattle.relay_limits.specs.declared.pace.Pace.{Pace};
 ghost use Rattle.relay_next_hops.specs.Counts.{CountsMatch, CountsMatchWith, is_unanswered, unanswered_of};
 ghost use Rattle.relay_next_hops.specs.Deliveries.{AreAimed, IsAimed, IsOpenedTo, PutsFor, StartsFor};
 ghost use Rattle.relay_next_hops.specs.Deliveries.{closes, left_of, portions_after};
-ghost use Rattle.relay_next_hops.specs.Lanes.{KeepsCounts};
 ghost use Rattle.relay_next_hops.specs.Listing.{HasConnection};
 ghost use Rattle.relay_lanes.specs.Portions.{fresh, portion_of};
 ghost use Rattle.relay_next_hops.specs.Losses.{LosesRunning};
-ghost use Rattle.relay_next_hops.specs.Readiness.{IsLeftHop};
+ghost use Rattle.relay_next_hops.specs.Readiness.{IsLeftHop, IsNoted};
 
 use crate::delivery::{Aim, Course};
 use crate::dial::Dial;
 use crate::ending::conclude;
 use crate::hop::Hop;
 use crate::lanes::Lanes;
+use crate::spoken::note_spoken;
 use relay_connections::{Channel, Leaving, Now, Readiness, Stream, Table, Turn, holds, turned};
 use relay_disk::Disk;
 use relay_files::Fault;
@@ -102,7 +102,8 @@ impl<S: Stream + Drop> Hops<S> {
 
     /// Returns whether there is a connection for this message and next hop, in this lane.
     pub(crate) fn is_tried(&self, message: u64, lane: usize, name: &HostName) -> bool
-        ensures { result ≡ true → HasConnection self.now.hops message name.now lane }
+        ensures tried { result ≡ true → HasConnection self.now.hops message name.now lane }
+        ensures other { result ≡ false → ¬ HasConnection self.now.hops message name.now lane }
     {
         for slot in self.hops.standing() {
             if let Some(hop) = slot {
@@ -183,6 +184,8 @@ impl<S: Stream + Drop> Hops<S> {
     pub(crate) fn note(&mut self, number: usize, ready: Readiness)
         ensures counts { (paces : List Pace) → CountsMatch self.old.hops paces → CountsMatch self.new.hops paces }
         ensures aimed { (routes : List Route) → AreAimed routes self.old.hops → AreAimed routes self.new.hops }
+        ensures noted { IsNoted ready (slot_at self.old.hops number) (slot_at self.new.hops number) }
+        ensures others { OthersStay self.old.hops self.new.hops number }
     {
         if let Some(taken) = self.hops.take(number) {
             let mut hop = taken;
@@ -325,7 +328,9 @@ impl<S: Stream + Drop> Hops<S> {
 
     /// Returns the tick at which the next of them is lost, or `otherwise` if that is earlier.
     pub(crate) fn next_deadline(&self, otherwise: u64) -> u64
-        ensures { result ≤ otherwise }
+        ensures otherwise { result ≤ otherwise }
+        ensures each { (number : ℕ) (hop : Hop S) → slot_at self.now.hops number ≡ Some hop
+            → result ≤ min hop.idle_deadline hop.answer_deadline }
     {
         let mut next = otherwise;
         for slot in self.hops.standing() {
@@ -364,35 +369,5 @@ fn is_unanswered<S>(slot: &Option<Hop<S>>, lanes: &Lanes) -> bool
     match slot {
         Some(hop) => !lanes.has_answered(hop.aim.lane),
         None => false,
-    }
-}
-
-/// Notes if the next hop of a connection has answered for the first time, and its last reply of this turn.
-fn note_spoken<S>(
-    hop: &Hop<S>,
-    had_spoken: bool,
-    lanes: &mut Lanes,
-    now: &Now,
-    log: &mut Log<'_, Vec<u8>>,
-)
-    ensures counts { KeepsCounts lanes.old lanes.new }
-{
-    if hop.has_spoken && !had_spoken {
-        tell_back(hop, lanes, now, log);
-        lanes.answered(hop.aim.lane);
-    }
-    if let Some(reply) = &hop.heard.last {
-        // If memory runs out, the one before stays.
-        let _ = lanes
-            .last_replies
-            .note_reply(hop.name.as_slice(), reply, now.moment);
-    }
-}
-
-/// Logs that the next hop of a connection has answered, if it was put on hold and hadn't answered since.
-fn tell_back<S>(hop: &Hop<S>, lanes: &Lanes, now: &Now, log: &mut Log<'_, Vec<u8>>) {
-    if let Some(outage) = lanes.outage(hop.aim.lane) {
-        let seconds = now.tick.saturating_sub(outage.since) / 1_000;
-        log.came_back(hop.name.as_slice(), hop.aim.at, seconds, outage.failures);
     }
 }

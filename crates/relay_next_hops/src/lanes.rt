@@ -2,6 +2,7 @@
 ghost use Rattle.std.specs.Prelude.{◌≡◌, ◌+◌, ◌≤◌, ◌↔◌, ◌++◌, [], IfSome, IsTrue, None};
 ghost use Rattle.std.specs.Prelude.{false, length, option_to_list, slice_get, true};
 ghost use Rattle.relay_control.specs.Held.{HoldsNothing};
+ghost use Rattle.relay_next_hops.specs.Holds.{HoldsFrom, is_shared, standing_at};
 ghost use Rattle.relay_next_hops.specs.Lanes.{IsNew, IsPutBack, KeepsCounts, KeepsPlaces};
 ghost use Rattle.relay_next_hops.specs.Lanes.{OnlyLane, closed, tasks_at};
 ghost use Rattle.relay_next_hops.specs.Tasks.{KeepsTasks};
@@ -296,7 +297,9 @@ impl Lanes {
     }
 
     /// Returns how many connections a lane has.
-    pub(crate) fn standing(&self, number: usize) -> usize {
+    pub(crate) fn standing(&self, number: usize) -> usize
+        ensures { result ≡ standing_at self.now.paces number }
+    {
         match self.paces.get(number) {
             Some(pace) => pace.standing(),
             None => 0,
@@ -305,7 +308,9 @@ impl Lanes {
 
     /// Returns whether a lane has, or had when a connection was begun, others beside it: if it is refused, it may have
     /// been one too many.
-    pub(crate) fn is_shared(&self, aim: &Aim) -> bool {
+    pub(crate) fn is_shared(&self, aim: &Aim) -> bool
+        ensures { result ≡ is_shared self.now.paces aim.now }
+    {
         aim.beside || 1 < self.standing(aim.lane)
     }
 
@@ -378,6 +383,7 @@ impl Lanes {
 
     /// Puts a lane on hold, and returns for how many seconds, unless it is already.
     pub(crate) fn hold(&mut self, number: usize, now: &Now) -> Option<u64>
+        ensures held { HoldsFrom now.now.tick number self.old.paces self.new.paces }
         ensures counts { KeepsCounts self.old self.new }
         ensures only { OnlyLane number self.old self.new }
         ensures tasks { self.new.lanes ≡ self.old.lanes }

@@ -21,6 +21,7 @@ mod scripted;
 mod sockets;
 mod sorting;
 mod spare_descriptors;
+mod spoken;
 mod starting;
 mod steering;
 mod turning;

@@ -2,6 +2,8 @@
 use Rattle.std.proofs.Common.{refl}
 use Rattle.relay_next_hops.specs.Deliveries.{KeepsDelivery}
 use Rattle.relay_next_hops.specs.declared.hop.Hop.{Hop}
+use Rattle.relay_log.specs.declared.hop_link.Loss.TheVariants.{Cut}
+use Rattle.relay_next_hops.proofs.HearingLemmas.{hears_as}
 use Rattle.relay_next_hops.proofs.LeaveLemmas.{leaves_same}
 use Rattle.relay_next_hops.proofs.SlotLemmas.{out_aim, out_aimed, out_counts, out_free, out_low}
 use Rattle.relay_next_hops.proofs.hops.Hops.lose_one.Goals as goal
@@ -39,3 +41,8 @@ returns-in_err-settle-clause-aimed g c = λ routes aimed.
     c.settle.ensures.aimed routes
     (out_aim hops c.take.new.self c.in-Some.number hop hop c.in-Some-take.ensures.taken c.take.ensures.rest (same hop) routes aimed)
     (out_aimed hops c.take.new.self c.in-Some.number hop hop c.in-Some-take.ensures.taken c.take.ensures.rest (same hop) routes aimed)
+
+pub returns-clause-lost : goal.returns-clause-lost
+returns-clause-lost g c =
+    let its = hears_as c.args.self.now.hops c.in-Some.number c.in-Some-take.hop c.in-Some-take.ensures.taken c.in-Some.ensures in
+    (c.in-Some.number, its.0, its.2, c.in_ok-settle.ensures.lost Cut its.0 refl its.1)
