@@ -18,7 +18,7 @@ returns-in-Some-clause-aimed g c = λ routes.
 pub returns-in-Some-clause-noted : goal.returns-in-Some-clause-noted
 returns-in-Some-clause-noted g c =
     noted_there c.args.ready c.args.self.now.hops c.take.new.self c.put.new.self c.args.number c.in-Some.taken c.note.new.self
-    c.in-Some.ensures.taken c.take.ensures.rest c.put.ensures.stands c.note.ensures.octets c.note.ensures.end c.note.ensures.writes
+    c.in-Some.ensures.taken c.take.ensures.rest c.put.ensures.stands c.note.ensures.all
 
 pub returns-in-Some-clause-others : goal.returns-in-Some-clause-others
 returns-in-Some-clause-others g c = λ other apart. c.put.ensures.others other apart ∙ c.take.ensures.others other apart
