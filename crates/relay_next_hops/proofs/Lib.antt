@@ -16,6 +16,7 @@ mod LeaveLemmas
 mod LossLemmas
 mod TaskLemmas
 mod TellingLemmas
+mod SendingLemmas
 mod WaitingLemmas
 mod TriedLemmas
 mod NotedLemmas

@@ -1,13 +1,22 @@
 -- What attempts hear in a turn: the octets that were read from their own next hop's connection, and none of them twice.
 use Rattle.std.specs.Prelude.{◌≡◌, ◌≢◌, ◌⊎◌, ℕ, ◌%◌, ◌≤◌, List, [], ◌∷◌, Option, None, Some, Result, Ok, Err}
-use Rattle.std.specs.Prelude.{MatchOption, drop, if◌then◌else◌, min, option_and_then, option_map}
+use Rattle.std.specs.Prelude.{IfOk, MatchOption, drop, if◌then◌else◌, min, option_and_then, option_map}
 use Rattle.std.specs.List.{filter_map}
+use Rattle.relay_disk.specs.Device.{DiskWords}
 use Rattle.relay_slots.specs.Slots.{OthersStay, slot_at}
+use Rattle.relay_book.specs.declared.change.Change.{Change}
+use Rattle.relay_records.specs.Records.{Keeps}
 use Rattle.relay_records.specs.declared.fault.NodeFault.{NodeFault}
+use Rattle.relay_attempts.specs.Reply.{Told}
+use Rattle.relay_loop.specs.Hops.{HandsTo, RefusesHop, Replies}
+use Rattle.relay_loop.specs.Outboxes.{unwritten_at}
+use Rattle.relay_loop.specs.Relay.{RelayState}
 use Rattle.relay_loop.specs.declared.hops.Answered.{Answered}
 use Rattle.relay_loop.specs.declared.replying.ReplyPiece.{ReplyPiece}
 use Rattle.relay_connections.specs.Channel.{unread_of}
 use Rattle.relay_connections.specs.Hearing.{turned}
+use Rattle.relay_connections.specs.Served.{LeavesClients}
+use Rattle.relay_connections.specs.declared.clocks.Now.{Now}
 use Rattle.relay_log.specs.declared.hop_link.Loss.TheVariants.{Silent}
 use Rattle.relay_records.specs.declared.noted.Noted.{Noted}
 use Rattle.relay_next_hops.specs.Deliveries.{KeepsDelivery}
@@ -66,6 +75,22 @@ IsCourse tick (Ok answered) old new course =
     ((unread_of new.channel ≡ drop answered.used (unread_of old.channel))
     × ((course ≡ Stays) ⊎ ((course ≡ Lost Silent) × IsLate tick new)))
     (λ outbox. (noted : Option Noted) × (course ≡ Ended outbox noted))
+
+-- In a call of its own, the attempt of a connection has heard all that was read from the connection and not used yet.
+-- This is the course of the connection after the result. What follows leaves clients alone.
+pub record HearsOwn {D S : Type 0} (honest : Type 0) (words : DiskWords D) (now : Now) (attempt : ℕ)
+    (relay_old relay_new : RelayState D) (old new : Hop S) (course : Course)
+    : Type 0 where
+  pub answer : Result Answered NodeFault
+  pub between : RelayState D
+  pub replies : (changes : List Change) (told : Told) (written : List ℕ)
+      → Keeps honest words relay_old.node.records changes → HandsTo changes relay_old attempt told written
+      → unwritten_at relay_old.hops attempt ≡ []
+      → IfOk answer (Replies honest words changes attempt now.moment told written (unread_of old.channel) relay_old
+      between)
+  pub refused : RefusesHop words attempt relay_old between answer
+  pub course_is : IsCourse now.tick answer old new course
+  pub meanwhile : LeavesClients honest words between relay_new
 
 -- A connection stays for its delivery, without the used octets. If none was used, its attempt may hear them in a call
 -- of its own, and then some are used.

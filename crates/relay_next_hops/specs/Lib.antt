@@ -5,6 +5,8 @@ pub mod Counts
 pub mod Hearing
 pub mod Telling
 pub mod Waiting
+pub mod Sending
+pub mod Greeting
 pub mod Holds
 pub mod Losses
 pub mod GoingOn

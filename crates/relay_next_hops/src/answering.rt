@@ -1,10 +1,13 @@
 //! The connection to a next hop after its attempt has heard replies.
-ghost use Rattle.std.specs.Prelude.{◌≡◌, ◌++◌, ℕ, IfOk, List, OnOk, Some, drop, false, take};
+ghost use Rattle.std.specs.Prelude.{◌≡◌, ◌++◌, ℕ, IfOk, List, Ok, OnOk, Some, drop, false, take};
+ghost use Rattle.std.specs.Io.KnownBytes.{Keeps};
 ghost use Rattle.relay_connections.specs.Channel.{unread_of};
 ghost use Rattle.relay_connections.specs.Served.{LeavesClients};
 ghost use Rattle.relay_next_hops.specs.Deliveries.{KeepsDelivery, left_of};
-ghost use Rattle.relay_next_hops.specs.Hearing.{IsAnswered, IsCourse};
+ghost use Rattle.relay_next_hops.specs.Hearing.{HearsOwn, IsAnswered, IsCourse};
+ghost use Rattle.relay_next_hops.specs.Sending.{sent_by};
 ghost use Rattle.relay_next_hops.specs.Telling.{HasTold, used_of};
+ghost use Rattle.relay_next_hops.specs.Waiting.{IdlesFrom, IsInTime, writes_to};
 
 use crate::delivery::Course;
 use crate::hearing::{has_ended, was_left};
@@ -29,6 +32,7 @@ impl<S: Stream> Hop<S> {
         ensures delivery { KeepsDelivery self.old self.new }
         ensures uses { IfOk result (λ course. IsAnswered now.now.tick answer (Some self.old)
             (left_of course self.new)) }
+        ensures in_time { result ≡ Ok Course.Stays → IsInTime now.now.tick self.new }
         ensures told { OnOk result ((used : List ℕ) → HasTold self.old used → (count : ℕ)
             × HasTold self.new (used ++ take count (unread_of self.old.channel))) }
         ensures leaves { OnOk result (LeavesClients D.honest D.words relay.old relay.new) }
@@ -54,6 +58,10 @@ impl<S: Stream> Hop<S> {
         ensures attempt { self.new.attempt ≡ self.old.attempt }
         ensures hears { self.new.hears ≡ false }
         ensures course { IsCourse now.now.tick answered self.old self.new result }
+        ensures in_time { result ≡ Course.Stays → IsInTime now.now.tick self.new }
+        ensures waits { result ≡ Course.Stays → IdlesFrom now.now.tick (writes_to relay.new attempt) self.new }
+        ensures sends { Keeps (sent_by S.remaining S.contents attempt relay.old self.old.channel)
+            (sent_by S.remaining S.contents attempt relay.new self.new.channel) }
         ensures told { (used : List ℕ) → HasTold self.old used
             → HasTold self.new (used ++ take (used_of answered) (unread_of self.old.channel)) }
         ensures leaves { LeavesClients D.honest D.words relay.old relay.new }
@@ -90,6 +98,8 @@ impl<S: Stream> Hop<S> {
         ensures attempt { self.new.attempt ≡ self.old.attempt }
         ensures used { IfOk result (λ course. course ≡ Course.Stays → (used : ℕ)
             × (unread_of self.new.channel ≡ drop used (unread_of self.old.channel))) }
+        ensures heard { IfOk result (HearsOwn D.honest D.words now.now attempt relay.old relay.new self.old self.new) }
+        ensures in_time { result ≡ Ok Course.Stays → IsInTime now.now.tick self.new }
         ensures told { OnOk result ((used : List ℕ) → HasTold self.old used → (count : ℕ)
             × HasTold self.new (used ++ take count (unread_of self.old.channel))) }
         ensures leaves { OnOk result (LeavesClients D.honest D.words relay.old relay.new) }

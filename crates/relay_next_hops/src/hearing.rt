@@ -88,6 +88,8 @@ impl<S: Stream + Drop> Hops<S> {
         ensures heard { IfSome replied (λ replied. OnOk result
             (AnswersEach turn.entry.now.now.tick (order_of self.old) replied.answered.items self.old.hops
             self.new.hops)) }
+        ensures lost { replied ≡ None
+            → IfOk result (LosesOne D.words turn.entry.now.now.moment self.old.hops relay.old relay.new) }
         ensures counts { CountsMatch self.old.hops lanes.old.paces
             → OnOk result (CountsMatch self.new.hops lanes.new.paces) }
         ensures aimed { (routes : List Route) → AreAimed routes self.old.hops → AreAimed routes self.new.hops }

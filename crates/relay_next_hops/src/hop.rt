@@ -1,11 +1,12 @@
 //! The connection to a next hop, and what a turn does with it.
-ghost use Rattle.std.specs.Prelude.{◌≡◌, ◌≢◌, ◌⊎◌, ℕ, [], List, None, OnOk, Some, false, min, true};
+ghost use Rattle.std.specs.Prelude.{◌≡◌, ◌≢◌, ◌⊎◌, ℕ, [], IfOk, List, None, Ok, OnOk, Some, false, min, true};
 ghost use Rattle.relay_loop.specs.Outboxes.{unwritten_at};
 ghost use Rattle.relay_connections.specs.Channel.{unread_of};
 ghost use Rattle.relay_connections.specs.Served.{LeavesClients};
 ghost use Rattle.relay_book.specs.Queue.{message_of};
 ghost use Rattle.relay_trace.specs.DateTime.{last_second};
 ghost use Rattle.relay_next_hops.specs.Deliveries.{KeepsDelivery, StartsFor, closes, last_due, starting_moment};
+ghost use Rattle.relay_next_hops.specs.Greeting.{BeginsOrIsVoid, IsTurnedAway};
 ghost use Rattle.relay_next_hops.specs.Hearing.{IsLate, hearing_of};
 ghost use Rattle.relay_next_hops.specs.Telling.{HasTold, HasToldAll};
 ghost use Rattle.relay_next_hops.specs.Waiting.{BeginsToWait, IsInTime, WaitsToConnect};
@@ -15,7 +16,7 @@ use crate::delivery::{Aim, Course, Delivery};
 use crate::heard::Heard;
 use crate::phase::Phase;
 use relay_book::Place;
-use relay_connections::{Channel, End, Now, Stream};
+use relay_connections::{Channel, Now, Stream};
 use relay_disk::Disk;
 use relay_files::Fault;
 use relay_log::{Loss, Talk};
@@ -26,10 +27,7 @@ use relay_trace::Moment;
 use std::alloc::Global;
 
 /// How many seconds a next hop may take for its answer, however often it sends an octet.
-const ANSWER_SECONDS: u64 = 30 * 60;
-
-/// The most writes on a connection in one turn, if each takes a part only.
-const WRITE_LIMIT: usize = 16;
+pub(crate) const ANSWER_SECONDS: u64 = 30 * 60;
 
 /// The connection to a next hop for a message. Its attempt begins when the greeting arrives.
 pub(crate) struct Hop<S> {
@@ -51,9 +49,9 @@ pub(crate) struct Hop<S> {
     /// What it waits for.
     pub(crate) phase: Phase,
     /// The tick at which it is lost, unless an octet is read or written before.
-    idle_deadline: u64,
+    pub(crate) idle_deadline: u64,
     /// The tick at which it is lost, unless an octet is written before.
-    answer_deadline: u64,
+    pub(crate) answer_deadline: u64,
 }
 
 // Written out, so that the proof of a caller that drops it stops at this function.
@@ -191,6 +189,9 @@ impl<S: Stream> Hop<S> {
         ensures starts { self.old.attempt ≡ None → self.new.attempt ≢ None
             → StartsFor self.old.aim.early now.now.moment most self.old.message self.old.name self.new.attempt
             relay.old relay.new }
+        ensures idle { self.old.attempt ≡ None → self.new.attempt ≡ None → relay.new ≡ relay.old }
+        ensures turned { result ≡ Ok Course.TurnedAway → IsTurnedAway is_shared self.new }
+        ensures in_time { result ≡ Ok Course.Stays → self.new.hears ≡ false → IsInTime now.now.tick self.new }
         ensures leaves { OnOk result (LeavesClients D.honest D.words relay.old relay.new) }
     {
         self.hears = false;
@@ -216,6 +217,8 @@ impl<S: Stream> Hop<S> {
         ensures starts { self.old.attempt ≡ None → self.new.attempt ≢ None
             → StartsFor self.old.aim.early now.now.moment most self.old.message self.old.name self.new.attempt
             relay.old relay.new }
+        ensures idle { self.old.attempt ≡ None → self.new.attempt ≡ None → relay.new ≡ relay.old }
+        ensures turned { result ≡ Ok Course.TurnedAway → IsTurnedAway is_shared self.new }
         ensures leaves { OnOk result (LeavesClients D.honest D.words relay.old relay.new) }
     {
         match self.attempt {
@@ -238,6 +241,7 @@ impl<S: Stream> Hop<S> {
             → (result ≡ Course.Stays) ⊎ ((result ≡ Course.Lost Loss.Silent) × IsLate now.now.tick self.now) }
         ensures other { course ≢ Course.Stays → result ≡ course }
         ensures in_time { result ≡ Course.Stays → IsInTime now.now.tick self.now }
+        ensures turned { result ≡ Course.TurnedAway → course ≡ Course.TurnedAway }
     {
         match course {
             Course::Stays if self.deadline() <= now.tick => Course::Lost(Loss::Silent),
@@ -263,6 +267,7 @@ impl<S: Stream> Hop<S> {
         ensures attempt { self.new.attempt ≡ self.old.attempt }
         ensures talk { self.new.talk ≡ self.old.talk }
         ensures waits { WaitsToConnect now.now.tick self.old self.new }
+        ensures turned { result ≢ Course.TurnedAway }
     {
         if !self.channel.may_write() {
             return Course::Stays;
@@ -296,6 +301,9 @@ impl<S: Stream> Hop<S> {
             → StartsFor self.old.aim.early now.now.moment most self.old.message self.old.name self.new.attempt
             relay.old relay.new }
         ensures told { self.old.attempt ≡ None → HasHeard self.old.talk [] → HasToldAll self.new [] }
+        ensures idle { self.old.attempt ≡ None → self.new.attempt ≡ None → relay.new ≡ relay.old }
+        ensures turned { result ≡ Ok Course.TurnedAway → IsTurnedAway is_shared self.new }
+        ensures deferred { self.old.attempt ≡ None → IsTurnedAway is_shared self.new → self.new.attempt ≡ None }
         ensures leaves { OnOk result (LeavesClients D.honest D.words relay.old relay.new) }
     {
         if !self.channel.fill() {
@@ -326,6 +334,11 @@ impl<S: Stream> Hop<S> {
             → StartsFor self.old.aim.early now.now.moment most self.old.message self.old.name self.new.attempt
             relay.old relay.new }
         ensures told { self.old.attempt ≡ None → HasHeard self.old.talk [] → HasToldAll self.new [] }
+        ensures begins { self.old.attempt ≡ None → IfOk result (BeginsOrIsVoid self.old.aim.early now.now.moment most
+            self.old.message self.old.name self.new.attempt relay.old relay.new) }
+        ensures idle { self.old.attempt ≡ None → self.new.attempt ≡ None → relay.new ≡ relay.old }
+        ensures turned { result ≢ Ok Course.TurnedAway }
+        ensures channel { self.new.channel ≡ self.old.channel }
         ensures leaves { OnOk result (LeavesClients D.honest D.words relay.old relay.new) }
     {
         let at = self.start_moment(relay, now);
@@ -352,77 +365,6 @@ impl<S: Stream> Hop<S> {
         match relay.node().message(self.message) {
             Some(message) if self.aim.early => last_due(message.places.as_slice(), now.moment),
             _ => now.moment,
-        }
-    }
-
-    /// Writes, or, if nothing is unwritten, reads what its attempt may hear.
-    fn exchange<D: Disk>(&mut self, relay: &mut Relay<D>, attempt: usize, now: &Now) -> Course
-        ensures delivery { KeepsDelivery self.old self.new }
-        ensures attempt { self.new.attempt ≡ self.old.attempt }
-        ensures told { (used : List ℕ) → HasTold self.old used → HasTold self.new used }
-        ensures leaves { LeavesClients D.honest D.words relay.old relay.new }
-    {
-        self.flush(relay, attempt, now);
-        if self.channel.end() == Some(End::Broken) {
-            return Course::Lost(Loss::Cut);
-        }
-        if !relay.to_hop(attempt).is_empty() {
-            return Course::Stays;
-        }
-        self.read(relay, attempt, now);
-        if !self.channel.piece().is_empty() {
-            self.hears = true;
-            return Course::Stays;
-        }
-        match self.channel.end() {
-            Some(_) => Course::Lost(Loss::Cut),
-            None => Course::Stays,
-        }
-    }
-
-    /// Reads octets, if all that were read are used, and shows them to the log and the page.
-    fn read<D: Disk>(&mut self, relay: &Relay<D>, attempt: usize, now: &Now)
-        ensures delivery { KeepsDelivery self.old self.new }
-        ensures attempt { self.new.attempt ≡ self.old.attempt }
-        ensures told { (used : List ℕ) → HasTold self.old used → HasTold self.new used }
-    {
-        if !self.channel.fill() {
-            return;
-        }
-        self.has_spoken = true;
-        self.wait_on(relay, attempt, now);
-        self.talk.hear(self.channel.piece());
-        self.heard.hear(self.channel.piece());
-    }
-
-    /// Renews its deadlines, by what it waits for now.
-    pub(crate) fn wait_on<D: Disk>(&mut self, relay: &Relay<D>, attempt: usize, now: &Now)
-        ensures delivery { KeepsDelivery self.old self.new }
-        ensures attempt { self.new.attempt ≡ self.old.attempt }
-        ensures channel { (self.new.channel ≡ self.old.channel) × (self.new.hears ≡ self.old.hears) }
-        ensures talk { self.new.talk ≡ self.old.talk }
-    {
-        let writes = !relay.to_hop(attempt).is_empty();
-        self.idle_deadline = now.after(self.phase.seconds(writes));
-    }
-
-    /// Writes as many unwritten octets as the next hop takes at once.
-    pub(crate) fn flush<D: Disk>(&mut self, relay: &mut Relay<D>, attempt: usize, now: &Now)
-        ensures delivery { KeepsDelivery self.old self.new }
-        ensures attempt { self.new.attempt ≡ self.old.attempt }
-        ensures unread { unread_of self.new.channel ≡ unread_of self.old.channel }
-        ensures hears { self.new.hears ≡ self.old.hears }
-        ensures talk { self.new.talk ≡ self.old.talk }
-        ensures leaves { LeavesClients D.honest D.words relay.old relay.new }
-    {
-        for _ in 0..WRITE_LIMIT {
-            let count = self.channel.write(relay.to_hop(attempt));
-            if count == 0 || relay.to_hop(attempt).len() < count {
-                return;
-            }
-            relay.wrote_to_hop(attempt, count);
-            self.wait_on(relay, attempt, now);
-            self.answer_deadline = now.after(ANSWER_SECONDS);
         }
     }
 }

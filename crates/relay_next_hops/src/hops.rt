@@ -1,7 +1,8 @@
-ghost use Rattle.std.specs.Prelude.{◌≡◌, ◌≢◌, ◌<◌, ◌≤◌, ℕ, IfErr, IfOk, List, MatchOption, None, OnOk, Some, length};
-ghost use Rattle.std.specs.Prelude.{false, min, true};
+ghost use Rattle.std.specs.Prelude.{◌≡◌, ◌≢◌, ◌<◌, ◌≤◌, ◌+◌, ℕ, IfErr, IfOk, IfSome, List, MatchOption, None};
+ghost use Rattle.std.specs.Prelude.{OnOk, Some, false, length, min, true};
 ghost use Rattle.relay_routes.specs.Routes.{Route};
 ghost use Rattle.relay_slots.specs.Slots.{AreFree, IsFull, IsLeastFree, OthersStay, slot_at};
+ghost use Rattle.relay_connections.specs.Channel.{IsUnder};
 ghost use Rattle.relay_connections.specs.Table.{count_of, is_such};
 ghost use Rattle.relay_connections.specs.Served.{LeavesClients};
 ghost use Rattle.relay_limits.specs.declared.pace.Pace.{Pace};
@@ -12,6 +13,9 @@ ghost use Rattle.relay_next_hops.specs.Listing.{HasConnection};
 ghost use Rattle.relay_lanes.specs.Portions.{fresh, portion_of};
 ghost use Rattle.relay_next_hops.specs.Losses.{LosesRunning};
 ghost use Rattle.relay_next_hops.specs.Readiness.{IsLeftHop, IsNoted};
+ghost use Rattle.relay_next_hops.specs.Waiting.{HearsOrIsInTime};
+ghost use Rattle.relay_slots.specs.declared.slots.TheConstants.{SLOT_COUNT};
+ghost use Rattle.relay_next_hops.specs.declared.hops.TheConstants.{FIRST_TOKEN};
 
 use crate::delivery::{Aim, Course};
 use crate::dial::Dial;
@@ -165,6 +169,8 @@ impl<S: Stream + Drop> Hops<S> {
         ensures made { number < length self.old.hops
             → OnOk result (PutsFor (IsOpenedTo N.leads_to S.remaining S.contents) aim.now task.message task.hop
             number self.old.hops self.new.hops) }
+        ensures under { number < SLOT_COUNT → OnOk result (IfSome (slot_at self.new.hops number)
+            (λ hop. IsUnder (FIRST_TOKEN + number) (S.registered hop.channel.stream))) }
         ensures failed { IfErr result (λ refused. (refused.0 ≡ task) × (self.new ≡ self.old)) }
         ensures kept { N.spares dial.new ≡ N.spares dial.old }
     {
@@ -245,6 +251,10 @@ impl<S: Stream + Drop> Hops<S> {
             → slot_at self.new.hops number ≡ Some new → old.attempt ≡ None → new.attempt ≢ None
             → StartsFor old.aim.early turn.entry.now.now.moment (portion_of self.old.portions old.message) old.message
             old.name new.attempt relay.old relay.new) }
+        ensures idle { OnOk result ((old new : Hop S) → slot_at self.old.hops number ≡ Some old
+            → slot_at self.new.hops number ≡ Some new → old.attempt ≡ None → new.attempt ≡ None
+            → relay.new ≡ relay.old) }
+        ensures in_time { OnOk result (HearsOrIsInTime turn.entry.now.now.tick self.new.hops number) }
         ensures leaves { OnOk result (LeavesClients D.honest D.words relay.old relay.new) }
     {
         let Some(taken) = self.hops.take(number) else {
@@ -351,6 +361,7 @@ fn connecting<S: Stream + Drop, N: Dial<Stream = S>>(
     at: SocketAddrV4,
 ) -> io::Result<Channel<S>>
     ensures opened { IfOk result (IsOpenedTo N.leads_to S.remaining S.contents at) }
+    ensures under { IfOk result (λ channel. IsUnder token (S.registered channel.stream)) }
     ensures kept { N.spares dial.new ≡ N.spares dial.old }
 {
     let mut stream = dial.connect(at)?;

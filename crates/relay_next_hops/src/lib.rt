@@ -6,6 +6,7 @@ mod answering;
 mod delivery;
 mod dial;
 mod ending;
+mod exchanging;
 mod giving_up;
 mod going_on;
 mod heard;
