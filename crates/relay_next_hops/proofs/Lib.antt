@@ -2,6 +2,9 @@ mod SlotLemmas
 mod HearingLemmas
 mod OrderLemmas
 mod ListingLemmas
+mod KnownLemmas
+mod HoldLemmas
+mod RecountLemmas
 mod OverdueLemmas
 mod StartLemmas
 mod SteeringLemmas

@@ -7,9 +7,9 @@ use Rattle.relay_control.specs.declared.held.Held.{Held}
 use Rattle.relay_control.specs.declared.scope.Scope.{Scope}
 use Rattle.relay_routes.specs.declared.hop.Hop.{Hop as NextHop}
 use Rattle.relay_node.specs.Node.{NodeState}
-use Rattle.relay_next_hops.specs.Lanes.{ListsMore}
+use Rattle.relay_next_hops.specs.Lanes.{HoldsNoMore, ListsMore}
 use Rattle.relay_next_hops.specs.Listing.{HasEarlyTurn, KeepsListed}
-use Rattle.relay_next_hops.specs.Steering.{IsFlushed, hop_of_mark, is_flushed}
+use Rattle.relay_next_hops.specs.Steering.{EndsHold, IsFlushed, IsOffHold, hop_of_mark, is_flushed}
 use Rattle.relay_next_hops.specs.declared.hop.Hop.{Hop}
 use Rattle.relay_next_hops.specs.declared.lanes.Lanes.{Lanes}
 use Rattle.relay_next_hops.proofs.ListingLemmas.{early_kept, same_found}
@@ -42,6 +42,26 @@ module _ {D S : Type 0} (node : NodeState D) (hops : List (Option (Hop S))) (old
     by : (step < n) ⊎ (n ≤ step) → IsFlushed node hops other new
     by (inl low) = flushed_kept other (before step other low there flushed)
     by (inr high) = subst (λ (mark : ℕ × ℕ). is_flushed node held scope mark ≡ true → IsFlushed node hops mark new) same own flushed where
+      place : n ≡ step
+      place = omega (arith, below, high)
+
+      same : mark ≡ other
+      same = same_found (slice_get marks n) mark other is (ap (slice_get marks) place ∙ there)
+
+-- A lane that isn't on hold stays so, where none is that wasn't.
+module _ {D : Type 0} (node : NodeState D) (tick : ℕ) (old new : Lanes) (more : ListsMore old new) (holds : HoldsNoMore old new) where
+  pub off_kept : (mark : ℕ × ℕ) → EndsHold node tick mark old → EndsHold node tick mark new
+  off_kept mark off = by (hop_of_mark node mark) off where
+    by : (hop : Option NextHop) → MatchOption hop ⊥ (λ hop. IsOffHold tick hop.at old) → MatchOption hop ⊥ (λ hop. IsOffHold tick hop.at new)
+    by None off = off
+    by (Some hop) off = (off.0, more.places off.0 hop.at off.1, λ held. off.2 (holds tick off.0 held))
+
+  -- one more was gone over
+  pub off_next : (held : Held) (scope : Option Scope) (marks : List (ℕ × ℕ)) (n : ℕ) (mark : ℕ × ℕ) → slice_get marks n ≡ Some mark → (is_flushed node held scope mark ≡ true → EndsHold node tick mark new) → ((step : ℕ) (other : ℕ × ℕ) → step < n → slice_get marks step ≡ Some other → is_flushed node held scope other ≡ true → EndsHold node tick other old) → (step : ℕ) (other : ℕ × ℕ) → step < n + 1 → slice_get marks step ≡ Some other → is_flushed node held scope other ≡ true → EndsHold node tick other new
+  off_next held scope marks n mark is own before step other below there flushed = by (cases_lt step n) where
+    by : (step < n) ⊎ (n ≤ step) → EndsHold node tick other new
+    by (inl low) = off_kept other (before step other low there flushed)
+    by (inr high) = subst (λ (mark : ℕ × ℕ). is_flushed node held scope mark ≡ true → EndsHold node tick mark new) same own flushed where
       place : n ≡ step
       place = omega (arith, below, high)
 

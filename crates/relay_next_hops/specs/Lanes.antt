@@ -1,11 +1,12 @@
 -- The due mail at next hops, by lanes: the address of each lane, its running attempts, and its tasks.
-use Rattle.std.specs.Prelude.{◌≡◌, ◌≢◌, ◌⊎◌, ◌==◌, ◌+◌, ℕ, false, true, List, [], Option, None, Some}
+use Rattle.std.specs.Prelude.{◌≡◌, ◌≢◌, ◌⊎◌, ◌==◌, ◌+◌, ◌-◌, ◌^◌, ℕ, false, true, List, [], Option, None, Some}
 use Rattle.std.specs.Prelude.{Contains, slice_get}
 use Rattle.std.specs.List.{list_any}
 use Rattle.std.specs.Option.{option_map_or}
 use Rattle.std.specs.declared.net.socket_addr.SocketAddrV4.{SocketAddrV4}
 use Rattle.relay_lanes.specs.Lane.{tasks_of, with_first}
-use Rattle.relay_lanes.specs.Paces.{RunAsBefore, has_answered_at}
+use Rattle.relay_lanes.specs.Numbers.{no_numbers}
+use Rattle.relay_lanes.specs.Paces.{IsHeldAt, RunAsBefore, has_answered_at}
 use Rattle.relay_lanes.specs.declared.lane.Task.{Task}
 use Rattle.relay_next_hops.specs.declared.lanes.Lanes.{Lanes}
 use Rattle.relay_next_hops.specs.declared.next_hops.NextHops.{NextHops}
@@ -32,7 +33,8 @@ pub record KeepsCounts (old new : Lanes) : Type 0 where
   pub held : new.held ≡ old.held
   pub runs : RunAsBefore old.paces new.paces
 
--- no address is known, nothing is listed, and a listing is requested
+-- No address is known, nothing is listed, and a listing is requested, which asks the node for all numbers. No lane is
+-- on hold.
 pub record IsNew (most : ℕ) (lanes : Lanes) : Type 0 where
   pub limit : lanes.most ≡ most
   pub places : lanes.places ≡ []
@@ -40,8 +42,12 @@ pub record IsNew (most : ℕ) (lanes : Lanes) : Type 0 where
   pub tasks : lanes.lanes.items ≡ []
   pub unroutable : lanes.unroutable.items ≡ []
   pub first_listing : lanes.next_number ≡ 0
+  pub no_walk : lanes.queued ≡ no_numbers
+  pub idle : lanes.is_listing ≡ false
+  pub unknown : lanes.knows_all ≡ false
   pub stale : lanes.is_stale ≡ true
   pub opened : lanes.is_open ≡ true
+  pub unheld : lanes.next_hold_end ≡ 2 ^ 64 - 1
 
 -- No lane loses its address, and each has as many running attempts as before; lanes may have been added. A postmaster
 -- holds the same mail.
@@ -50,6 +56,15 @@ pub record ListsMore (old new : Lanes) : Type 0 where
   pub places : (number : ℕ) (place : SocketAddrV4) → slice_get old.places number ≡ Some place
       → slice_get new.places number ≡ Some place
   pub runs : RunAsBefore old.paces new.paces
+
+-- no lane is on hold at any tick that wasn't before
+abbrev pub HoldsNoMore : Lanes → Lanes → Type 0
+HoldsNoMore old new = (tick lane : ℕ) → IsHeldAt tick new.paces lane → IsHeldAt tick old.paces lane
+
+-- lanes are open, or each has the tasks that it had, and they are open as before
+abbrev pub OpensForMore : Lanes → Lanes → Type 0
+OpensForMore old new = (new.is_open ≡ true)
+    ⊎ ((new.is_open ≡ old.is_open) × ((lane : ℕ) → tasks_at new lane ≡ tasks_at old lane))
 
 -- the message waits to be given up, or all due mail is to be listed again
 abbrev pub IsListedUnroutable : ℕ → Lanes → Type 0

@@ -1,5 +1,7 @@
 pub mod Lanes
 pub mod Listing
+pub mod Known
+pub mod Waking
 pub mod Deliveries
 pub mod Counts
 pub mod Hearing

@@ -1,5 +1,5 @@
 -- The results for tasks: connections that begin for them, and messages that are lost or given up without one.
-use Rattle.std.specs.Prelude.{◌≡◌, ◌⊎◌, ◌<◌, ◌≤◌, ◌+◌, ℕ, Bool, true, false, List, [], ◌∷◌, Option}
+use Rattle.std.specs.Prelude.{◌≡◌, ◌⊎◌, ◌<◌, ◌≤◌, ◌+◌, ◌-◌, ◌^◌, ℕ, min, Bool, true, false, List, [], ◌∷◌, Option}
 use Rattle.std.specs.Prelude.{None, Some, length}
 use Rattle.std.specs.declared.net.socket_addr.SocketAddrV4.{SocketAddrV4}
 use Rattle.relay_disk.specs.Device.{DiskWords}
@@ -111,6 +111,14 @@ IsDone tick hops lanes lane = MayBeginAt lanes.most tick lanes.paces lane
 -- those that were kept.
 abbrev pub IsTriedOut : ℕ → Lanes → Lanes → ℕ → Type 0
 IsTriedOut spares old new lane = length (tasks_at new lane) + SLOT_COUNT ≤ length (tasks_at old lane) + spares
+
+-- profile: no connection begins for one second after the system had no descriptor or no memory for one
+abbrev pub paused_after : Begun → ℕ → ℕ → ℕ
+paused_after AllDone tick until = until
+paused_after Crowded tick until = until
+paused_after HasMore tick until = until
+paused_after Full tick until = until
+paused_after Wanting tick until = min (tick + 1000) (2 ^ 64 - 1)
 
 -- a task is put back if the system has no descriptor for its connection
 abbrev pub back_of : Tried → ℕ

@@ -2,6 +2,7 @@
 use Rattle.std.specs.Prelude.{◌≡◌, ◌&&◌, ◌==◌, ℕ, Bool, true, false, not, List, Option, None, Some}
 use Rattle.std.specs.Prelude.{MatchOption, bytes_eq, count_by, slice_get}
 use Rattle.std.specs.Option.{option_and_then, option_map_or}
+use Rattle.std.specs.declared.net.socket_addr.SocketAddrV4.{SocketAddrV4}
 use Rattle.relay_routes.specs.declared.hop.Hop.{Hop as NextHop}
 use Rattle.relay_book.specs.Queue.{message_of}
 use Rattle.relay_control.specs.Held.{holds}
@@ -11,6 +12,7 @@ use Rattle.relay_control.specs.declared.scope.Scope.TheVariants.{Hop as ForHop, 
 use Rattle.relay_files.specs.declared.fault.Fault.{Fault}
 use Rattle.relay_files.specs.declared.fault.Fault.TheVariants.{Device, NoMemory}
 use Rattle.relay_node.specs.Node.{NodeState}
+use Rattle.relay_lanes.specs.Paces.{IsHeldAt}
 use Rattle.relay_next_hops.specs.Listing.{HasEarlyTurn, route_of}
 use Rattle.relay_next_hops.specs.declared.hop.Hop.{Hop}
 use Rattle.relay_next_hops.specs.declared.lanes.Lanes.{Lanes}
@@ -57,6 +59,20 @@ pub record FlushesEach {D S : Type 0} (node : NodeState D) (hops : List (Option 
   pub count_is : count ≡ count_by (is_flushed node held scope) marks
   pub each : (step : ℕ) (mark : ℕ × ℕ) → slice_get marks step ≡ Some mark → is_flushed node held scope mark ≡ true
       → IsFlushed node hops mark lanes
+
+-- the lane of this address isn't on hold at a tick
+abbrev pub IsOffHold : ℕ → SocketAddrV4 → Lanes → Type 0
+IsOffHold tick at lanes =
+    (lane : ℕ) × (slice_get lanes.places lane ≡ Some at) × (IsHeldAt tick lanes.paces lane → ⊥)
+
+-- the next hop of this held place isn't on hold
+abbrev pub EndsHold : {D : Type 0} → NodeState D → ℕ → ℕ × ℕ → Lanes → Type 0
+EndsHold node tick mark lanes = MatchOption (hop_of_mark node mark) ⊥ (λ hop. IsOffHold tick hop.at lanes)
+
+-- no next hop is on hold of those of these places that a flush lists
+abbrev pub EndsHolds : {D : Type 0} → NodeState D → ℕ → Held → Option Scope → List (ℕ × ℕ) → Lanes → Type 0
+EndsHolds node tick held scope marks lanes = (step : ℕ) (mark : ℕ × ℕ) → slice_get marks step ≡ Some mark
+    → is_flushed node held scope mark ≡ true → EndsHold node tick mark lanes
 
 -- not all was flushed, for this reason: the device has failed before, or memory ran out
 abbrev pub CantFlush : {D : Type 0} → NodeState D → Fault → Type 0

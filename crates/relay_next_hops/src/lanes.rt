@@ -1,16 +1,18 @@
 //! The due mail by the addresses of next hops, and which of it may begin.
 ghost use Rattle.std.specs.Prelude.{◌≡◌, ◌+◌, ◌≤◌, ◌↔◌, ◌++◌, [], IfSome, IsTrue, None};
-ghost use Rattle.std.specs.Prelude.{false, length, option_to_list, slice_get, true};
+ghost use Rattle.std.specs.Prelude.{false, length, min, option_to_list, slice_get, true};
 ghost use Rattle.relay_control.specs.Held.{HoldsNothing};
+ghost use Rattle.relay_connections.specs.Renewal.{tick_after};
 ghost use Rattle.relay_next_hops.specs.Holds.{HoldsFrom, is_shared, standing_at};
 ghost use Rattle.relay_next_hops.specs.Lanes.{IsNew, IsPutBack, KeepsCounts, KeepsPlaces};
 ghost use Rattle.relay_next_hops.specs.Lanes.{OnlyLane, closed, tasks_at};
 ghost use Rattle.relay_next_hops.specs.Tasks.{KeepsTasks};
+ghost use Rattle.relay_next_hops.specs.Waking.{WakesForHolds};
 ghost use Rattle.relay_lanes.specs.Paces.{HasLane, IsHeldAt, MayBeginAt, RunsOneLess, RunsOneMore};
 ghost use Rattle.relay_lanes.specs.Paces.{has_answered_at};
 
 use crate::delivery::Aim;
-use relay_connections::{Leaving, Now, Stream};
+use relay_connections::Now;
 use relay_control::Held;
 use relay_lanes::{Lane, Numbers, Paces, Places, Task};
 use relay_limits::Outage;
@@ -314,32 +316,6 @@ impl Lanes {
         aim.beside || 1 < self.standing(aim.lane)
     }
 
-    /// Notes how many connections of a lane are leaving.
-    pub(crate) fn note_leaving_of<S: Stream + Drop>(&mut self, number: usize, leaving: &Leaving<S>)
-        ensures counts { KeepsCounts self.old self.new }
-    {
-        self.paces.note_leaving(number, leaving.count_to(number));
-    }
-
-    /// Notes that leaving connections were closed: lanes at the limit of their next hop may begin more.
-    pub(crate) fn note_leaving<S: Stream + Drop>(&mut self, leaving: &Leaving<S>)
-        ensures counts { KeepsCounts self.old self.new }
-    {
-        for number in 0..self.lanes.len() {
-            if self.has_leaving(number) {
-                self.note_leaving_of(number, leaving);
-                self.is_open = true;
-            }
-        }
-    }
-
-    fn has_leaving(&self, number: usize) -> bool {
-        match self.paces.get(number) {
-            Some(pace) => pace.has_leaving(),
-            None => false,
-        }
-    }
-
     /// Returns whether the next hop of a lane has answered since it was last put on hold.
     pub(crate) fn has_answered(&self, number: usize) -> bool
         ensures { result ≡ has_answered_at self.now.paces number }
@@ -362,6 +338,8 @@ impl Lanes {
     /// one back in front.
     pub(crate) fn turn_away(&mut self, number: usize, task: Task)
         ensures counts { KeepsCounts self.old self.new }
+        ensures back { IsPutBack number task self.old self.new }
+        ensures kept { KeepsTasks number self.old self.new }
     {
         self.paces.lower_limit(number);
         self.put_back(number, task);
@@ -387,6 +365,9 @@ impl Lanes {
         ensures counts { KeepsCounts self.old self.new }
         ensures only { OnlyLane number self.old self.new }
         ensures tasks { self.new.lanes ≡ self.old.lanes }
+        ensures ends { IfSome result (λ seconds. self.new.next_hold_end
+            ≡ min self.old.next_hold_end (tick_after now.now.tick seconds)) }
+        ensures wakes { WakesForHolds now.now.tick self.old → WakesForHolds now.now.tick self.new }
     {
         if self.is_held(number, now) {
             return None;
@@ -394,24 +375,5 @@ impl Lanes {
         let seconds = self.paces.hold(number, now.tick)?;
         self.next_hold_end = self.next_hold_end.min(now.after(seconds));
         Some(seconds)
-    }
-
-    /// Returns the tick at which something is to be done, or `otherwise` if that is earlier. It is never later than the
-    /// tick at which the node's next work is due.
-    pub(crate) fn next_deadline(&self, otherwise: u64) -> u64
-        ensures otherwise { result ≤ otherwise }
-        ensures due { result ≤ self.now.next_due }
-        ensures hold { result ≤ self.now.next_hold_end }
-        ensures minute { result ≤ self.now.next_minute }
-    {
-        let next = otherwise
-            .min(self.next_due)
-            .min(self.next_hold_end)
-            .min(self.next_minute);
-        if self.is_stale {
-            next.min(self.next_listing)
-        } else {
-            next
-        }
     }
 }

@@ -3,6 +3,7 @@
 #![tactic(auto)]
 
 mod answering;
+mod arriving;
 mod delivery;
 mod dial;
 mod ending;
@@ -18,6 +19,7 @@ mod listing;
 mod next_hops;
 mod overdue;
 mod phase;
+mod recounting;
 mod scripted;
 mod sockets;
 mod sorting;
@@ -26,6 +28,7 @@ mod spoken;
 mod starting;
 mod steering;
 mod turning;
+mod waking;
 
 pub use dial::Dial;
 pub use next_hops::NextHops;

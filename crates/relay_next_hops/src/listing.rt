@@ -6,19 +6,24 @@
 //! message that was queued then is looked at once, when the walk comes to it. It is listed as it is at that time,
 //! except for next hops to which a connection for it exists. Before that nothing of it is listed: a task that a next
 //! hop turns away isn't put back. Messages that arrive later are listed when they arrive, and the walk skips them.
-ghost use Rattle.std.specs.Prelude.{◌≡◌, ◌<◌, OnOk, true};
-ghost use Rattle.relay_next_hops.specs.Lanes.{KeepsCounts, ListsMore};
+ghost use Rattle.std.specs.Prelude.{◌≡◌, ◌<◌, ℕ, [], IfOk, OnOk, false, if◌then◌else◌, true};
+ghost use Rattle.relay_book.specs.Queue.{message_of};
+ghost use Rattle.relay_lanes.specs.Numbers.{with_passed};
+ghost use Rattle.relay_next_hops.specs.Known.{AreKnown, IsUnderWay, KeepsNumbers, KnowsQueue, LearnsQueue};
+ghost use Rattle.relay_next_hops.specs.Known.{NotesNumber, gathered};
+ghost use Rattle.relay_next_hops.specs.Lanes.{KeepsCounts, ListsMore, OpensForMore};
 ghost use Rattle.relay_next_hops.specs.Listing.{AreListedFrom, IsListed, KeepsListed, ListsPart};
+ghost use Rattle.relay_next_hops.specs.Waking.{NotesNextDue};
 
 use crate::hops::Hops;
 use crate::lanes::Lanes;
+use crate::waking::LISTING_SECONDS;
 use relay_connections::{Now, Stream, tick_of};
 use relay_disk::Disk;
 use relay_files::Fault;
 use relay_lanes::Numbers;
 use relay_loop::Relay;
 use relay_node::NodeFault;
-use relay_trace::Moment;
 use std::rt::Clock;
 
 /// The least number of milliseconds between two listings.
@@ -29,9 +34,6 @@ const LISTING_SHARE: u64 = 10;
 
 /// How many messages are looked at in one part.
 const PART_SIZE: usize = 512;
-
-/// After this many seconds a listing begins even if nothing has changed: the wall clock may have been set.
-const LISTING_SECONDS: u64 = 60;
 
 impl Lanes {
     /// Lists the messages that have arrived. Also lists a part of all due mail, if a listing is in progress, or if mail
@@ -46,6 +48,9 @@ impl Lanes {
         ensures more { ListsMore self.old self.new }
         ensures part { self.old.is_listing ≡ true
             → OnOk result (ListsPart hops.now.hops now.now.moment relay.now.node self.old self.new) }
+        ensures next { self.new.next_number ≡ relay.now.node.records.queue.next }
+        ensures known { 0 < relay.now.node.records.queue.next → KnowsQueue relay.now.node self.old
+            → OnOk result (KnowsQueue relay.now.node self.new) }
     {
         self.take_new(relay, hops, now);
         self.note_time(hops, now);
@@ -68,8 +73,16 @@ impl Lanes {
         ensures more { ListsMore self.old self.new }
         ensures part { self.old.is_listing ≡ true
             → OnOk result (ListsPart hops.now.hops now.now.moment relay.now.node self.old self.new) }
+        ensures next { self.new.next_number ≡ self.old.next_number }
+        ensures goes_on { IsUnderWay self.old → OnOk result (IsUnderWay self.new) }
+        ensures known { (next : ℕ) → IsUnderWay self.old → AreKnown relay.now.node next self.old
+            → OnOk result (AreKnown relay.now.node next self.new) }
     {
-        if !self.is_listing && !self.begin_listing(relay, now)? {
+        if self.is_listing {
+            self.list_part(relay, hops, now);
+            return Ok(());
+        }
+        if !self.begin_listing(relay, now)? {
             return Ok(());
         }
         self.list_part(relay, hops, now);
@@ -88,6 +101,12 @@ impl Lanes {
         ensures kept { KeepsListed self.old self.new }
         ensures listed { 0 < self.old.next_number → AreListedFrom hops.now.hops now.now.moment relay.now.node
             self.old.next_number relay.now.node.records.queue.next self.new }
+        ensures opens { OpensForMore self.old self.new }
+        ensures next { self.new.next_number ≡ relay.now.node.records.queue.next }
+        ensures known { 0 < relay.now.node.records.queue.next → KnowsQueue relay.now.node self.old
+            → KnowsQueue relay.now.node self.new }
+        ensures due { self.old.is_unsure ≡ true → OnOk result (self.new.is_unsure ≡ false
+            → NotesNextDue now.now relay.now.node self.new) }
     {
         self.is_fresh = self.take_new(relay, hops, now);
         if self.is_listing || self.is_stale || !self.is_unsure || self.has_waiting(hops) {
@@ -103,151 +122,16 @@ impl Lanes {
         }
     }
 
-    /// Notes that a minute has passed, mail is due, or a hold has ended.
-    fn note_time<S: Stream + Drop>(&mut self, hops: &Hops<S>, now: &Now)
-        ensures counts { KeepsCounts self.old self.new }
-        ensures kept { KeepsListed self.old self.new }
-        ensures walk { (self.new.queued ≡ self.old.queued) × (self.new.is_listing ≡ self.old.is_listing) }
-    {
-        self.note_due(hops, now);
-        self.note_hold_end(now);
-    }
-
-    /// Notes that a minute has passed, or mail is due.
-    fn note_due<S: Stream + Drop>(&mut self, hops: &Hops<S>, now: &Now)
-        ensures counts { KeepsCounts self.old self.new }
-        ensures kept { KeepsListed self.old self.new }
-        ensures walk { (self.new.queued ≡ self.old.queued) × (self.new.is_listing ≡ self.old.is_listing) }
-    {
-        if self.next_minute <= now.tick {
-            self.next_minute = now.after(LISTING_SECONDS);
-            self.is_unsure = true;
-            // The node says only that waiting mail is due, and nothing of what is due later. A walk also drops the
-            // numbers of messages that have left.
-            self.is_stale = self.is_stale || self.has_waiting(hops) || self.queued.has_grown();
-        }
-        if self.next_due <= now.tick {
-            self.next_due = u64::MAX;
-            self.is_stale = true;
-        }
-    }
-
-    /// When a hold has ended, computes when the next one ends.
-    fn note_hold_end(&mut self, now: &Now)
-        ensures counts { KeepsCounts self.old self.new }
-        ensures kept { KeepsListed self.old self.new }
-        ensures walk { (self.new.queued ≡ self.old.queued) × (self.new.is_listing ≡ self.old.is_listing) }
-    {
-        if self.next_hold_end <= now.tick {
-            self.is_open = true;
-            self.next_hold_end = self.hold_end(now);
-        }
-    }
-
-    /// Returns the tick at which the next hold ends.
-    fn hold_end(&self, now: &Now) -> u64 {
-        let mut end = u64::MAX;
-        for pace in self.paces.as_slice() {
-            if let Some(until) = pace.held_until(now.tick) {
-                end = end.min(until);
-            }
-        }
-        end
-    }
-
-    /// Returns whether a task waits, or a connection is being opened for one.
-    fn has_waiting<S: Stream + Drop>(&self, hops: &Hops<S>) -> bool {
-        self.keeps
-            || !self.unroutable.is_empty()
-            || hops.is_any_connecting()
-            || self.lanes.as_slice().iter().any(|lane| !lane.is_empty())
-    }
-
-    /// Notes when mail is next due.
-    fn note_next(&mut self, next: Option<Moment>, now: &Now)
-        ensures counts { KeepsCounts self.old self.new }
-        ensures kept { KeepsListed self.old self.new }
-    {
-        match next {
-            Some(moment) if moment.seconds() <= now.moment.seconds() => self.is_stale = true,
-            Some(moment) => self.next_due = now.tick_at(moment),
-            None => self.next_due = u64::MAX,
-        }
-    }
-
-    /// Lists the due mail of the messages that have arrived, reports included. Returns whether there was a change.
-    fn take_new<S: Stream + Drop, D: Disk>(
-        &mut self,
-        relay: &Relay<D>,
-        hops: &Hops<S>,
-        now: &Now,
-    ) -> bool
-        ensures more { ListsMore self.old self.new }
-        ensures kept { KeepsListed self.old self.new }
-        ensures listed { 0 < self.old.next_number → AreListedFrom hops.now.hops now.now.moment relay.now.node
-            self.old.next_number relay.now.node.records.queue.next self.new }
-        ensures walk { (self.new.queued.left ≡ self.old.queued.left) × (self.new.is_listing ≡ self.old.is_listing) }
-    {
-        let next_number = relay.node().next_number();
-        if self.next_number == next_number {
-            return false;
-        }
-        self.take_up_to(relay, hops, next_number, now);
-        self.next_number = next_number;
-        self.is_unsure = true;
-        true
-    }
-
-    /// Lists the due mail of the messages that have arrived, before this number.
-    fn take_up_to<S: Stream + Drop, D: Disk>(
-        &mut self,
-        relay: &Relay<D>,
-        hops: &Hops<S>,
-        next_number: u64,
-        now: &Now,
-    )
-        ensures more { ListsMore self.old self.new }
-        ensures kept { KeepsListed self.old self.new }
-        ensures listed { 0 < self.old.next_number → AreListedFrom hops.now.hops now.now.moment relay.now.node
-            self.old.next_number next_number self.new }
-        ensures walk { (self.new.queued.left ≡ self.old.queued.left) × (self.new.is_listing ≡ self.old.is_listing) }
-    {
-        // The messages from before the start are listed as a whole.
-        if self.next_number == 0 {
-            return;
-        }
-        for number in self.next_number..next_number {
-            self.take_one(relay, hops, number, now);
-        }
-    }
-
-    /// Lists the due mail of a message that has arrived. If there is no memory for its number, the next listing asks
-    /// the node.
-    fn take_one<S: Stream + Drop, D: Disk>(
-        &mut self,
-        relay: &Relay<D>,
-        hops: &Hops<S>,
-        number: u64,
-        now: &Now,
-    )
-        ensures more { ListsMore self.old self.new }
-        ensures kept { KeepsListed self.old self.new }
-        ensures listed { IsListed hops.now.hops now.now.moment relay.now.node number self.new }
-        ensures walk { (self.new.queued.left ≡ self.old.queued.left) × (self.new.is_listing ≡ self.old.is_listing) }
-    {
-        if !self.add(relay, hops, number, now) {
-            return;
-        }
-        if self.queued.push(number).is_err() {
-            self.knows_all = false;
-        }
-    }
-
     /// Begins to list all due mail, with nothing listed, and returns whether there was memory for that.
     fn begin_listing<D: Disk>(&mut self, relay: &Relay<D>, now: &Now) -> Result<bool, Fault>
         ensures counts { KeepsCounts self.old self.new }
+        ensures next { self.new.next_number ≡ self.old.next_number }
+        ensures begins { IfOk result (λ begun. begun ≡ true → self.new.is_listing ≡ true) }
+        ensures idle { self.old.queued.left ≡ [] → IfOk result (λ begun. begun ≡ false → self.new.queued.left ≡ []) }
+        ensures known { (next : ℕ) → self.old.queued.left ≡ [] → AreKnown relay.now.node next self.old
+            → OnOk result (AreKnown relay.now.node next self.new) }
     {
-        if !self.knows_all && !self.gather(relay)? {
+        if !self.learn_queue(relay)? {
             return Ok(false);
         }
         if self.queued.begin().is_err() {
@@ -272,17 +156,38 @@ impl Lanes {
     pub(crate) fn prepare<D: Disk>(&mut self, relay: &Relay<D>) -> Result<(), Fault>
         ensures counts { KeepsCounts self.old self.new }
         ensures due { self.new.next_due ≡ self.old.next_due }
+        ensures learns { OnOk result (LearnsQueue relay.now.node.records.queue self.old self.new) }
     {
-        if self.gather(relay)? {
-            self.next_number = relay.node().next_number();
+        if !self.gather(relay)? {
+            return Ok(());
         }
+        self.next_number = relay.node().next_number();
         Ok(())
+    }
+
+    /// Asks the node which messages are queued, unless all are known. Returns whether all are known then: if not,
+    /// memory ran out.
+    fn learn_queue<D: Disk>(&mut self, relay: &Relay<D>) -> Result<bool, Fault>
+        ensures counts { KeepsCounts self.old self.new }
+        ensures rest { (self.new.next_number ≡ self.old.next_number) × (self.new.is_listing ≡ self.old.is_listing) }
+        ensures left { self.old.queued.left ≡ [] → OnOk result (self.new.queued.left ≡ []) }
+        ensures all { IfOk result (λ knows. knows ≡ true → self.new.knows_all ≡ true) }
+        ensures known { (next : ℕ) → AreKnown relay.now.node next self.old
+            → OnOk result (AreKnown relay.now.node next self.new) }
+    {
+        if self.knows_all {
+            return Ok(true);
+        }
+        self.gather(relay)
     }
 
     /// Asks the node which messages are queued, and returns whether there was memory for that.
     fn gather<D: Disk>(&mut self, relay: &Relay<D>) -> Result<bool, Fault>
         ensures counts { KeepsCounts self.old self.new }
         ensures due { self.new.next_due ≡ self.old.next_due }
+        ensures gathers { IfOk result (λ knows. self.new
+            ≡ (if knows then gathered relay.now.node.records.queue self.old else self.old)) }
+        ensures rest { (self.new.next_number ≡ self.old.next_number) × (self.new.is_listing ≡ self.old.is_listing) }
     {
         let places = match relay.node().marks(self.alloc) {
             Ok(places) => places,
@@ -303,6 +208,9 @@ impl Lanes {
     fn list_part<S: Stream + Drop, D: Disk>(&mut self, relay: &Relay<D>, hops: &Hops<S>, now: &Now)
         ensures more { ListsMore self.old self.new }
         ensures part { ListsPart hops.now.hops now.now.moment relay.now.node self.old self.new }
+        ensures next { self.new.next_number ≡ self.old.next_number }
+        ensures listing { self.new.is_listing ≡ self.old.is_listing }
+        ensures known { (next : ℕ) → AreKnown relay.now.node next self.old → AreKnown relay.now.node next self.new }
     {
         self.let_go();
         self.list_next(relay, hops, now);
@@ -313,6 +221,8 @@ impl Lanes {
         ensures counts { KeepsCounts self.old self.new }
         ensures kept { KeepsListed self.old self.new }
         ensures walk { self.new.queued ≡ self.old.queued }
+        ensures numbers { KeepsNumbers self.old self.new }
+        ensures listing { self.new.is_listing ≡ self.old.is_listing }
     {
         for number in 0..self.lanes.len() {
             self.let_go_of(number);
@@ -323,6 +233,8 @@ impl Lanes {
         ensures counts { KeepsCounts self.old self.new }
         ensures kept { KeepsListed self.old self.new }
         ensures walk { self.new.queued ≡ self.old.queued }
+        ensures numbers { KeepsNumbers self.old self.new }
+        ensures listing { self.new.is_listing ≡ self.old.is_listing }
     {
         if let Some(lane) = self.lanes.get_mut(number) {
             lane.let_go(PART_SIZE);
@@ -333,6 +245,9 @@ impl Lanes {
     fn list_next<S: Stream + Drop, D: Disk>(&mut self, relay: &Relay<D>, hops: &Hops<S>, now: &Now)
         ensures more { ListsMore self.old self.new }
         ensures part { ListsPart hops.now.hops now.now.moment relay.now.node self.old self.new }
+        ensures next { self.new.next_number ≡ self.old.next_number }
+        ensures listing { self.new.is_listing ≡ self.old.is_listing }
+        ensures known { (next : ℕ) → AreKnown relay.now.node next self.old → AreKnown relay.now.node next self.new }
     {
         for _ in 0..PART_SIZE {
             let Some(number) = self.queued.next() else {
@@ -355,6 +270,11 @@ impl Lanes {
         ensures kept { KeepsListed self.old self.new }
         ensures listed { IsListed hops.now.hops now.now.moment relay.now.node number self.new }
         ensures walk { self.new.queued.left ≡ self.old.queued.left }
+        ensures opens { OpensForMore self.old self.new }
+        ensures next { self.new.next_number ≡ self.old.next_number }
+        ensures noted { NotesNumber (with_passed number) (message_of relay.now.node.records.queue.messages number)
+            self.old self.new }
+        ensures listing { self.new.is_listing ≡ self.old.is_listing }
     {
         if !self.add(relay, hops, number, now) {
             return;
@@ -369,6 +289,8 @@ impl Lanes {
         ensures counts { KeepsCounts self.old self.new }
         ensures kept { KeepsListed self.old self.new }
         ensures walk { self.new.queued ≡ self.old.queued }
+        ensures numbers { KeepsNumbers self.old self.new }
+        ensures goes_on { IsUnderWay self.old → IsUnderWay self.new }
     {
         self.took = self.took.saturating_add(ended.saturating_sub(begun));
         if self.queued.is_over() {

@@ -1,11 +1,13 @@
-ghost use Rattle.std.specs.Prelude.{◌≡◌, ◌<◌, ◌≤◌, ◌∷◌, ℕ, IfOk, IfSome, List, OnOk, map, true};
+ghost use Rattle.std.specs.Prelude.{◌≡◌, ◌<◌, ◌≤◌, ◌∷◌, ℕ, IfOk, IfSome, List, OnOk, false, map, true};
 ghost use Rattle.relay_routes.specs.Routes.{Route};
 ghost use Rattle.relay_slots.specs.Slots.{AreFree};
 ghost use Rattle.relay_control.specs.Held.{HoldsNothing};
 ghost use Rattle.relay_connections.specs.Table.{count_of};
 ghost use Rattle.relay_connections.specs.Served.{LeavesClients};
+ghost use Rattle.relay_next_hops.specs.Counts.{RecountsLeaving};
 ghost use Rattle.relay_next_hops.specs.Hearing.{AnswersEach, order_of, replies_of, told_of};
-ghost use Rattle.relay_next_hops.specs.Lanes.{IsNew, next_due_of};
+ghost use Rattle.relay_next_hops.specs.Known.{KnowsQueue, LearnsQueue};
+ghost use Rattle.relay_next_hops.specs.Lanes.{IsNew, OpensForMore, next_due_of};
 ghost use Rattle.relay_next_hops.specs.Listing.{AreListedFrom, KeepsListed, ListsPart};
 ghost use Rattle.relay_lanes.specs.Portions.{fresh};
 ghost use Rattle.relay_next_hops.specs.Readiness.{IsLeftHop, hops_of};
@@ -13,6 +15,7 @@ ghost use Rattle.relay_next_hops.specs.Starting.{HasGivenUp, OpensUnheld};
 ghost use Rattle.relay_next_hops.specs.Tables.{TablesMatch};
 ghost use Rattle.relay_next_hops.specs.Tasks.{DropsNone, KeepsConnections};
 ghost use Rattle.relay_next_hops.specs.Turns.{BeginsAll};
+ghost use Rattle.relay_next_hops.specs.Waking.{NotesNextDue};
 
 use crate::dial::Dial;
 use crate::giving_up::give_up_next;
@@ -62,6 +65,7 @@ impl<S: Stream + Drop> NextHops<S> {
         ensures portions { IfOk result (λ next_hops. next_hops.hops.portions
             ≡ fresh limits.now.recipients_per_attempt) }
         ensures held { IfOk result (λ next_hops. HoldsNothing next_hops.lanes.held) }
+        ensures lanes { IfOk result (λ next_hops. IsNew limits.now.attempts_per_hop next_hops.lanes) }
     {
         Ok(NextHops {
             hops: Hops::new(alloc, usize::from(limits.recipients_per_attempt))?,
@@ -112,6 +116,7 @@ impl<S: Stream + Drop> NextHops<S> {
     pub fn prepare<D: Disk>(&mut self, relay: &Relay<D>) -> Result<(), Fault>
         ensures matches { (routes : List Route) → TablesMatch routes self.old → TablesMatch routes self.new }
         ensures due { next_due_of self.new ≡ next_due_of self.old }
+        ensures learns { OnOk result (LearnsQueue relay.now.node.records.queue self.old.lanes self.new.lanes) }
     {
         self.lanes.prepare(relay)
     }
@@ -175,7 +180,9 @@ impl<S: Stream + Drop> NextHops<S> {
 
     /// Notes that leaving connections were closed: a next hop at its limit may accept another one.
     pub fn note_leaving(&mut self, leaving: &Leaving<S>)
-        ensures { (routes : List Route) → TablesMatch routes self.old → TablesMatch routes self.new }
+        ensures matches { (routes : List Route) → TablesMatch routes self.old → TablesMatch routes self.new }
+        ensures recounts { RecountsLeaving leaving.now self.old.lanes self.new.lanes }
+        ensures hops { self.new.hops ≡ self.old.hops }
     {
         self.lanes.note_leaving(leaving);
     }
@@ -193,6 +200,9 @@ impl<S: Stream + Drop> NextHops<S> {
         ensures hops { hops_of self.new ≡ hops_of self.old }
         ensures matches { (routes : List Route) → TablesMatch routes self.old → TablesMatch routes self.new }
         ensures held { self.new.lanes.held ≡ self.old.lanes.held }
+        ensures next { self.new.lanes.next_number ≡ relay.now.node.records.queue.next }
+        ensures known { 0 < relay.now.node.records.queue.next → KnowsQueue relay.now.node self.old.lanes
+            → OnOk result (KnowsQueue relay.now.node self.new.lanes) }
     {
         self.lanes.refresh(clock, relay, &self.hops, now)
     }
@@ -206,6 +216,12 @@ impl<S: Stream + Drop> NextHops<S> {
         ensures hops { hops_of self.new ≡ hops_of self.old }
         ensures matches { (routes : List Route) → TablesMatch routes self.old → TablesMatch routes self.new }
         ensures held { self.new.lanes.held ≡ self.old.lanes.held }
+        ensures next { self.new.lanes.next_number ≡ relay.now.node.records.queue.next }
+        ensures known { 0 < relay.now.node.records.queue.next → KnowsQueue relay.now.node self.old.lanes
+            → KnowsQueue relay.now.node self.new.lanes }
+        ensures opens { OpensForMore self.old.lanes self.new.lanes }
+        ensures due { self.old.lanes.is_unsure ≡ true → OnOk result (self.new.lanes.is_unsure ≡ false
+            → NotesNextDue now.now relay.now.node self.new.lanes) }
     {
         self.lanes.look_ahead(relay, &self.hops, now)
     }

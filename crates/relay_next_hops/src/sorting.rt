@@ -1,6 +1,10 @@
 //! Where the due mail of a message is listed: in the lane of each next hop's address, or as unroutable.
-ghost use Rattle.std.specs.Prelude.{◌≡◌, ℕ, IfSome, Some, false, length, option_copied, slice_get, true};
-ghost use Rattle.relay_next_hops.specs.Lanes.{IsListedUnroutable, KeepsCounts, ListsMore, tasks_at};
+ghost use Rattle.std.specs.Prelude.{◌≡◌, ℕ, IfSome, MatchOption, Some, false, length, option_copied, slice_get};
+ghost use Rattle.std.specs.Prelude.{true};
+ghost use Rattle.relay_book.specs.Queue.{message_of};
+ghost use Rattle.relay_next_hops.specs.Known.{KeepsNumbers};
+ghost use Rattle.relay_next_hops.specs.Lanes.{HoldsNoMore, IsListedUnroutable, KeepsCounts, ListsMore, OpensForMore};
+ghost use Rattle.relay_next_hops.specs.Lanes.{tasks_at};
 ghost use Rattle.relay_next_hops.specs.Listing.{ArePlacesListed, HasEarlyTurn, HasTurn, IsListed, IsListedFor};
 ghost use Rattle.relay_next_hops.specs.Listing.{IsPlaceListed, KeepsListed, route_of};
 
@@ -30,6 +34,10 @@ impl Lanes {
         ensures kept { KeepsListed self.old self.new }
         ensures listed { IsListed hops.now.hops now.now.moment relay.now.node number self.new }
         ensures walk { (self.new.queued ≡ self.old.queued) × (self.new.is_listing ≡ self.old.is_listing) }
+        ensures numbers { KeepsNumbers self.old self.new }
+        ensures opens { OpensForMore self.old self.new }
+        ensures found { MatchOption (message_of relay.now.node.records.queue.messages number) (result ≡ false)
+            (λ message. result ≡ true) }
     {
         let Some(message) = relay.node().message(number) else {
             return false;
@@ -62,6 +70,8 @@ impl Lanes {
         ensures listed { ArePlacesListed hops.now.hops now.now.moment routes.now number recipients.now places.now
             (length places.now) self.new }
         ensures walk { (self.new.queued ≡ self.old.queued) × (self.new.is_listing ≡ self.old.is_listing) }
+        ensures numbers { KeepsNumbers self.old self.new }
+        ensures opens { OpensForMore self.old self.new }
     {
         for (index, place) in places.iter().enumerate() {
             self.add_place(hops, number, routes, recipients, index, *place, now);
@@ -85,6 +95,8 @@ impl Lanes {
         ensures listed { IsPlaceListed hops.now.hops now.now.moment routes.now number recipients.now index place
             self.new }
         ensures walk { (self.new.queued ≡ self.old.queued) × (self.new.is_listing ≡ self.old.is_listing) }
+        ensures numbers { KeepsNumbers self.old self.new }
+        ensures opens { OpensForMore self.old self.new }
     {
         if !place.held {
             return;
@@ -114,6 +126,8 @@ impl Lanes {
         ensures kept { KeepsListed self.old self.new }
         ensures listed { IsListedFor hops.now.hops message name.now at self.new }
         ensures walk { (self.new.queued ≡ self.old.queued) × (self.new.is_listing ≡ self.old.is_listing) }
+        ensures numbers { KeepsNumbers self.old self.new }
+        ensures opens { OpensForMore self.old self.new }
     {
         if !self.sort_in(hops, message, at, name, false) {
             self.is_stale = true;
@@ -135,6 +149,9 @@ impl Lanes {
         ensures turn { early ≡ false → result ≡ true → HasTurn hops.now.hops message name.now at self.new }
         ensures early { early ≡ true → result ≡ true → HasEarlyTurn hops.now.hops message name.now at self.new }
         ensures walk { (self.new.queued ≡ self.old.queued) × (self.new.is_listing ≡ self.old.is_listing) }
+        ensures numbers { KeepsNumbers self.old self.new }
+        ensures opens { OpensForMore self.old self.new }
+        ensures holds { HoldsNoMore self.old self.new }
     {
         let Some(number) = self.number_of(at) else {
             return false;
@@ -165,6 +182,8 @@ impl Lanes {
         ensures kept { KeepsListed self.old self.new }
         ensures more { ListsMore self.old self.new }
         ensures walk { (self.new.queued ≡ self.old.queued) × (self.new.is_listing ≡ self.old.is_listing) }
+        ensures numbers { KeepsNumbers self.old self.new }
+        ensures tasks { (self.new.is_open ≡ self.old.is_open) × (self.new.lanes ≡ self.old.lanes) }
     {
         match self.unroutable.back() {
             Some(last) if *last == message => {}
@@ -183,6 +202,10 @@ impl Lanes {
         ensures more { ListsMore self.old self.new }
         ensures kept { KeepsListed self.old self.new }
         ensures walk { (self.new.queued ≡ self.old.queued) × (self.new.is_listing ≡ self.old.is_listing) }
+        ensures numbers { KeepsNumbers self.old self.new }
+        ensures tasks { (lane : ℕ) → tasks_at self.new lane ≡ tasks_at self.old lane }
+        ensures open { self.new.is_open ≡ self.old.is_open }
+        ensures holds { HoldsNoMore self.old self.new }
     {
         let number = self.places.number_of(at)?;
         let count = number.checked_add(1)?;
@@ -195,6 +218,9 @@ impl Lanes {
         ensures tasks { (lane : ℕ) → tasks_at self.new lane ≡ tasks_at self.old lane }
         ensures rest { (self.new.unroutable ≡ self.old.unroutable) × (self.new.is_stale ≡ self.old.is_stale)
             × (self.new.queued ≡ self.old.queued) × (self.new.is_listing ≡ self.old.is_listing) }
+        ensures numbers { KeepsNumbers self.old self.new }
+        ensures open { self.new.is_open ≡ self.old.is_open }
+        ensures holds { HoldsNoMore self.old self.new }
     {
         if self.paces.grow(count).is_err() {
             return false;

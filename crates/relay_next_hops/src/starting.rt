@@ -8,7 +8,7 @@ ghost use Rattle.relay_next_hops.specs.Deliveries.{AreAimed, IsOpenedTo};
 ghost use Rattle.relay_next_hops.specs.Lanes.{OnlyLane, tasks_at};
 ghost use Rattle.relay_lanes.specs.Paces.{HasLane};
 ghost use Rattle.relay_next_hops.specs.Starting.{IsBegun, IsEndOf, IsStep};
-ghost use Rattle.relay_next_hops.specs.Starting.{IsTried, OpensUnheld, back_of, step_after};
+ghost use Rattle.relay_next_hops.specs.Starting.{IsTried, OpensUnheld, back_of, paused_after, step_after};
 ghost use Rattle.relay_next_hops.specs.Tasks.{DropsNone, KeepsConnections, KeepsTasks};
 
 use crate::delivery::{Aim, Delivery};
@@ -47,7 +47,9 @@ impl Starts {
     }
 
     /// None is begun for a while, where the system has no descriptor or no memory for another.
-    pub(crate) fn pause(&mut self, begun: Begun, now: &Now) {
+    pub(crate) fn pause(&mut self, begun: Begun, now: &Now)
+        ensures { self.new.paused_until ≡ paused_after begun now.now.tick self.old.paused_until }
+    {
         if begun == Begun::Wanting {
             self.paused_until = now.tick.saturating_add(WANT_PAUSE);
         }

@@ -5,11 +5,11 @@ ghost use Rattle.relay_book.specs.Queue.{held_of};
 ghost use Rattle.relay_control.specs.Held.{HoldsSame, Sets, holds, holds_scope};
 ghost use Rattle.relay_limits.specs.Pace.{probed};
 ghost use Rattle.relay_routes.specs.Routes.{Route};
-ghost use Rattle.relay_next_hops.specs.Lanes.{KeepsCounts, ListsMore};
+ghost use Rattle.relay_next_hops.specs.Lanes.{HoldsNoMore, KeepsCounts, ListsMore};
 ghost use Rattle.relay_next_hops.specs.Listing.{HasEarlyTurn, KeepsListed};
 ghost use Rattle.relay_lanes.specs.Paces.{changed_at};
-ghost use Rattle.relay_next_hops.specs.Steering.{CantFlush, FlushesEach, IsFlushed, is_asked, is_flushed, relisted};
-ghost use Rattle.relay_next_hops.specs.Steering.{with_held, with_lanes};
+ghost use Rattle.relay_next_hops.specs.Steering.{CantFlush, EndsHold, EndsHolds, FlushesEach, IsFlushed, IsOffHold};
+ghost use Rattle.relay_next_hops.specs.Steering.{is_asked, is_flushed, relisted, with_held, with_lanes};
 ghost use Rattle.relay_next_hops.specs.Tables.{TablesMatch};
 
 use crate::hops::Hops;
@@ -87,6 +87,8 @@ impl<S: Stream + Drop> NextHops<S> {
         ensures kept { ListsMore self.old.lanes self.new.lanes × KeepsListed self.old.lanes self.new.lanes }
         ensures hops { self.new.hops ≡ self.old.hops }
         ensures matches { (routes : List Route) → TablesMatch routes self.old → TablesMatch routes self.new }
+        ensures off_hold { OnOk result (EndsHolds relay.now.node now.now.tick self.old.lanes.held
+            (option_copied scope.entry) (held_of relay.now.node.records.queue) self.new.lanes) }
     {
         let marks = match relay.node().marks(self.lanes.alloc) {
             Ok(marks) => marks,
@@ -133,6 +135,8 @@ impl Lanes {
             (0 < count_by (is_flushed relay.now.node self.old.held (option_copied scope.entry)) marks.now) }
         ensures more { ListsMore self.old self.new }
         ensures kept { KeepsListed self.old self.new }
+        ensures off_hold { OnOk result (EndsHolds relay.now.node now.now.tick self.old.held
+            (option_copied scope.entry) marks.now self.new) }
     {
         let mut count = 0;
         for mark in marks {
@@ -162,6 +166,9 @@ impl Lanes {
             × (is_flushed relay.now.node self.old.held (option_copied scope.entry) mark ≡ true)) }
         ensures more { ListsMore self.old self.new }
         ensures kept { KeepsListed self.old self.new }
+        ensures off_hold { IfOk result (λ flushed. flushed ≡ true
+            → EndsHold relay.now.node now.now.tick mark self.new) }
+        ensures holds { HoldsNoMore self.old self.new }
     {
         let (number, place) = mark;
         let Some(message) = relay.node().message(number) else {
@@ -193,6 +200,8 @@ impl Lanes {
         ensures failed { IfErr result (λ fault. fault ≡ Fault.NoMemory) }
         ensures more { ListsMore self.old self.new }
         ensures kept { KeepsListed self.old self.new }
+        ensures off_hold { OnOk result (IsOffHold now.now.tick hop.now.at self.new) }
+        ensures holds { HoldsNoMore self.old self.new }
     {
         if !self.sort_in(hops, number, hop.at, &hop.name, true) {
             return Err(Fault::NoMemory);
@@ -210,6 +219,7 @@ impl Lanes {
         ensures paces { self.new.paces ≡ changed_at (probed now.now.tick) self.old.paces number }
         ensures kept { KeepsListed self.old self.new }
         ensures opened { self.new.is_open ≡ true }
+        ensures holds { HoldsNoMore self.old self.new }
     {
         self.paces.probe(number, now.tick);
         self.is_open = true;

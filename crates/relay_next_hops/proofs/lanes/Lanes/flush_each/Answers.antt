@@ -5,7 +5,7 @@ use Rattle.std.proofs.lemmas.List.{take_all}
 use Rattle.relay_next_hops.specs.Steering.{is_flushed}
 use Rattle.relay_next_hops.specs.declared.lanes.Lanes.{Lanes}
 use Rattle.relay_next_hops.proofs.ListingLemmas.{get_at, kept_then, more_then}
-use Rattle.relay_next_hops.proofs.SteeringLemmas.{counted_next, counts_some, each_next, flushed_same, if_err_at, low_of, on_err}
+use Rattle.relay_next_hops.proofs.SteeringLemmas.{counted_next, counts_some, each_next, flushed_same, if_err_at, low_of, off_next, on_err}
 use Rattle.relay_next_hops.proofs.lanes.Lanes.flush_each.Goals as goal
 use Rattle.relay_next_hops.proofs.lanes.Lanes.flush_each.Goals.{else-branch, then-branch}
 
@@ -26,6 +26,7 @@ loop-mark-preserved g c =
     let low = c.loop-mark-test.true in
     let flushed = flushed_same node scope _ held old.held c.in_ok-flush_place.field-0 before.more.held after.flushed in
     let each = each_next node hops old new after.more after.kept held scope marks index (slice_index_or marks index _) (get_at marks index _ low) (λ is. (after.listed (flushed ∙ is)).0) before.each in
+    let off_hold = off_next node c.args.now.now.tick old new after.more after.holds held scope marks index (slice_index_or marks index _) (get_at marks index _ low) (λ is. after.off_hold (flushed ∙ is)) before.off_hold in
     elim c.if-branch.branch [
       | then-branch w ↦ record {
         more = more;
@@ -33,6 +34,7 @@ loop-mark-preserved g c =
         few = omega (arith, before.few, w.count-is);
         counted = w.count-is ∙ counted_next (is_flushed node held scope) marks index c.loop-mark.count _ true low (sym w.if-branch.true ∙ flushed) before.counted;
         each = each;
+        off_hold = off_hold;
         opened = λ some. (after.listed w.if-branch.true).1;
       }
       | else-branch w ↦ record {
@@ -41,6 +43,7 @@ loop-mark-preserved g c =
         few = omega (arith, before.few, w.count-is);
         counted = w.count-is ∙ counted_next (is_flushed node held scope) marks index c.loop-mark.count _ false low (sym w.if-branch.false ∙ flushed) before.counted;
         each = each;
+        off_hold = off_hold;
         opened = λ some. ap (λ (lanes : Lanes). lanes.is_open) (after.left w.if-branch.false) ∙ before.opened (omega (arith, some, w.count-is));
       }
     ]
@@ -69,3 +72,7 @@ returns-in_err-flush_place-clause-needed g c =
     on_err _ _
     (counts_some test marks index (slice_index_or marks index _) (get_at marks index _ c.loop-mark-test.true)
     (sym (flushed_same c.args.relay.now.node (option_copied c.args.scope) _ c.args.self.now.held c.loop-mark.self.held true before.more.held (sym failed.1))))
+
+pub returns-clause-off_hold : goal.returns-clause-off_hold
+returns-clause-off_hold g c = λ step mark there is.
+    c.loop-mark.invariant.off_hold step mark (omega (arith, low_of c.args.marks.now step mark there, c.loop-mark-test.false)) there is

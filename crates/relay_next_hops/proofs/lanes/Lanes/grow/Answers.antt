@@ -13,6 +13,9 @@ loop-preserved c = (
   c.loop.invariant.5,
   c.loop.invariant.6,
   λ lane. tasks_grown c.loop.self.lanes.items c.push.new.self.items c.new.result _ c.new.ensures c.push.ensures.items lane ∙ c.loop.invariant.7 lane,
+  c.loop.invariant.8,
+  c.loop.invariant.9,
+  c.loop.invariant.10,
 )
 
 pub returns-then-is_err-2-clause-tasks : goal.returns-then-is_err-2-clause-tasks

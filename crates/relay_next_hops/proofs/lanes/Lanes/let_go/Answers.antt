@@ -11,5 +11,10 @@ loop-number-preserved c = record {
     runs = λ number. c.let_go_of.ensures.counts.runs number ∙ c.loop-number.invariant.counts.runs number;
   };
   kept = kept_then c.args.self.now c.loop-number.self c.let_go_of.new.self c.loop-number.invariant.kept c.let_go_of.ensures.kept;
+  numbers = record {
+    next = c.let_go_of.ensures.numbers.next ∙ c.loop-number.invariant.numbers.next;
+    all = c.let_go_of.ensures.numbers.all ∙ c.loop-number.invariant.numbers.all;
+  };
+  listing = c.let_go_of.ensures.listing ∙ c.loop-number.invariant.listing;
   walk = c.let_go_of.ensures.walk ∙ c.loop-number.invariant.walk;
 }

@@ -1,7 +1,8 @@
 -- The next message of the walk is listed.
-use Rattle.std.proofs.Common.{◌≡◌, ◌∷◌, ◌∙◌, ℕ, inr, sym, ap, drop, add-one, arith}
+use Rattle.std.proofs.Common.{◌≡◌, ◌∷◌, ◌∙◌, ℕ, inr, refl, sym, ap, drop, add-one, arith}
 use Rattle.relay_lanes.specs.Numbers.{Walk}
 use Rattle.relay_next_hops.proofs.ListingLemmas.{get_dropped, kept_then, left_dropped, more_then, walk_next}
+use Rattle.relay_next_hops.proofs.KnownLemmas.{known_passed, known_same}
 use Rattle.relay_next_hops.proofs.lanes.Lanes.list_next.Goals as goal
 
 pub returns-in_default-clause-part : goal.returns-in_default-clause-part
@@ -31,5 +32,12 @@ loop-preserved g c =
       listed = walk_next c.loop.self c.look_at.new.self (record { held = c.look_at.ensures.more.held; places = c.look_at.ensures.more.places; runs = c.look_at.ensures.more.runs }) (record { tasks = c.look_at.ensures.kept.tasks; unroutable = c.look_at.ensures.kept.unroutable; stale = c.look_at.ensures.kept.stale })
           c.args.hops.now.hops c.args.now.now.moment c.args.relay.now.node c.args.self.now.queued.left c.loop.counter c.in-Some.number
           (get_dropped c.args.self.now.queued.left c.loop.counter c.in-Some.number c.next.new.self.left split) before.listed c.look_at.ensures.listed;
+      next = c.look_at.ensures.next ∙ before.next;
+      listing = c.look_at.ensures.listing ∙ before.listing;
+      known = λ next known. known_passed c.args.relay.now.node next c.in-Some.number c.loop.self (record c.loop.self { queued = c.next.new.self }) c.look_at.new.self c.in-Some.ensures.next c.in-Some.ensures.rest refl c.look_at.ensures.noted (before.known next known);
       within = omega (arith, c.loop-test.true);
     }
+
+pub returns-in_default-clause-known : goal.returns-in_default-clause-known
+returns-in_default-clause-known g c = λ next before.
+    known_same c.args.relay.now.node next c.loop.self (record c.loop.self { queued = c.next.new.self }) (c.in_default.ensures.none c.in_default.ensures.next) refl (c.loop.invariant.known next before)

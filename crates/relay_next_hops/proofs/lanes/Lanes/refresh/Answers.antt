@@ -4,6 +4,7 @@ use Rattle.std.specs.Prelude.{slice_get}
 use Rattle.relay_lanes.specs.Numbers.{Walk}
 use Rattle.relay_next_hops.specs.declared.listing.TheConstants.{PART_SIZE}
 use Rattle.relay_next_hops.proofs.ListingLemmas.{kept_then, message_kept, more_of, more_then}
+use Rattle.relay_next_hops.proofs.KnownLemmas.{knows_listed, knows_same, knows_taken}
 use Rattle.relay_next_hops.proofs.lanes.Lanes.refresh.Goals as goal
 
 pub returns-clause-more : goal.returns-clause-more
@@ -29,3 +30,21 @@ returns-clause-part g c = λ listing.
           c.args.hops.now.hops c.args.now.now.moment c.args.relay.now.node number
           (part.listed step number low (ap (λ (left : List ℕ). slice_get left step) left ∙ there));
     }
+
+pub returns-then-now-self-clause-known : goal.returns-then-now-self-clause-known
+returns-then-now-self-clause-known g c = λ some before.
+    knows_same c.args.relay.now.node c.take_new.new.self c.note_time.new.self
+    c.note_time.ensures.walk.0 c.note_time.ensures.walk.1 c.note_time.ensures.numbers.next c.note_time.ensures.numbers.all
+    (knows_taken c.args.relay.now.node c.args.self.now c.take_new.new.self some
+    c.take_new.ensures.next c.take_new.ensures.walk.0 c.take_new.ensures.walk.1 c.take_new.ensures.known c.take_new.ensures.all before)
+
+pub returns-clause-known : goal.returns-clause-known
+returns-clause-known g c = λ some before.
+    knows_listed c.args.relay.now.node c.note_time.new.self c.list_more.new.self c.end_part.new.self some
+    (c.note_time.ensures.numbers.next ∙ c.take_new.ensures.next) c.list_more.ensures.next
+    c.in_ok-list_more.ensures.goes_on c.in_ok-list_more.ensures.known
+    c.end_part.ensures.walk c.end_part.ensures.numbers.next c.end_part.ensures.numbers.all c.end_part.ensures.goes_on
+    (knows_same c.args.relay.now.node c.take_new.new.self c.note_time.new.self
+    c.note_time.ensures.walk.0 c.note_time.ensures.walk.1 c.note_time.ensures.numbers.next c.note_time.ensures.numbers.all
+    (knows_taken c.args.relay.now.node c.args.self.now c.take_new.new.self some
+    c.take_new.ensures.next c.take_new.ensures.walk.0 c.take_new.ensures.walk.1 c.take_new.ensures.known c.take_new.ensures.all before))

@@ -8,3 +8,6 @@ pub returns-clause-listed : goal.returns-clause-listed
 returns-clause-listed g c = λ known.
     subst (λ (next : ℕ). AreListedFrom c.args.hops.now.hops c.args.now.now.moment c.args.relay.now.node c.args.self.now.next_number next c.take_up_to.new.self)
     (c.next_number-next_number.ensures.number ∙ ap (λ (node : NodeState _). node.records.queue.next) c.node.ensures) (c.take_up_to.ensures.listed known)
+
+pub returns-clause-known : goal.returns-clause-known
+returns-clause-known g c = λ started before. c.take_up_to.ensures.known started before
