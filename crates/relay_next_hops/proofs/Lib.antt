@@ -9,6 +9,7 @@ mod OverdueLemmas
 mod StartLemmas
 mod SteeringLemmas
 mod TurnLemmas
+mod PauseLemmas
 mod RoundLemmas
 mod DueLemmas
 mod GoingOnLemmas

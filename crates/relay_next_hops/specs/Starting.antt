@@ -120,6 +120,10 @@ paused_after HasMore tick until = until
 paused_after Full tick until = until
 paused_after Wanting tick until = min (tick + 1000) (2 ^ 64 - 1)
 
+-- the pause ends when it did, or one second from a tick
+abbrev pub PausesAtMost : ℕ → ℕ → ℕ → Type 0
+PausesAtMost tick old new = (new ≡ old) ⊎ (new ≡ min (tick + 1000) (2 ^ 64 - 1))
+
 -- a task is put back if the system has no descriptor for its connection
 abbrev pub back_of : Tried → ℕ
 back_of Connects = 0

@@ -11,7 +11,7 @@ ghost use Rattle.relay_next_hops.specs.Lanes.{IsNew, OpensForMore, next_due_of};
 ghost use Rattle.relay_next_hops.specs.Listing.{AreListedFrom, KeepsListed, ListsPart};
 ghost use Rattle.relay_lanes.specs.Portions.{fresh};
 ghost use Rattle.relay_next_hops.specs.Readiness.{IsLeftHop, hops_of};
-ghost use Rattle.relay_next_hops.specs.Starting.{HasGivenUp, OpensUnheld};
+ghost use Rattle.relay_next_hops.specs.Starting.{HasGivenUp, OpensUnheld, PausesAtMost};
 ghost use Rattle.relay_next_hops.specs.Tables.{TablesMatch};
 ghost use Rattle.relay_next_hops.specs.Tasks.{DropsNone, KeepsConnections};
 ghost use Rattle.relay_next_hops.specs.Turns.{BeginsAll};
@@ -253,6 +253,7 @@ impl<S: Stream + Drop> NextHops<S> {
         ensures held { self.new.lanes.held ≡ self.old.lanes.held }
         ensures config { relay.new.node.config ≡ relay.old.node.config }
         ensures leaves { OnOk result (LeavesClients D.honest D.words relay.old relay.new) }
+        ensures paused { PausesAtMost now.now.tick self.old.starts.paused_until self.new.starts.paused_until }
     {
         let gave_up = give_up_next(relay, &mut self.lanes, now, log)?;
         start_tasks(

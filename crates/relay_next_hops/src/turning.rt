@@ -4,7 +4,7 @@ ghost use Rattle.relay_connections.specs.Served.{LeavesClients};
 ghost use Rattle.relay_next_hops.specs.Counts.{CountsMatch};
 ghost use Rattle.relay_next_hops.specs.Deliveries.{AreAimed};
 ghost use Rattle.relay_next_hops.specs.Lanes.{IsNth, KeepsCounts, OnlyLane, tasks_at, turned_to};
-ghost use Rattle.relay_next_hops.specs.Starting.{IsDone, IsStoppedBy, OpensUnheld};
+ghost use Rattle.relay_next_hops.specs.Starting.{IsDone, IsStoppedBy, OpensUnheld, PausesAtMost};
 ghost use Rattle.relay_next_hops.specs.Tasks.{DropsNone, KeepsConnections, SettlesAll};
 ghost use Rattle.relay_next_hops.specs.Turns.{BeginsAll};
 
@@ -122,6 +122,7 @@ pub(crate) fn start_tasks<S: Stream + Drop, N: Dial<Stream = S>, D: Disk>(
     ensures held { lanes.new.held ≡ lanes.old.held }
     ensures config { relay.new.node.config ≡ relay.old.node.config }
     ensures leaves { OnOk result (LeavesClients D.honest D.words relay.old relay.new) }
+    ensures paused { PausesAtMost turn.entry.now.now.tick starts.old.paused_until starts.new.paused_until }
 {
     if !lanes.is_open() || turn.now.tick < starts.paused_until {
         return Ok(());

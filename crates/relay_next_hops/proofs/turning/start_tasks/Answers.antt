@@ -4,11 +4,12 @@ use Rattle.relay_connections.proofs.Theorems.{leaves_then}
 use Rattle.relay_next_hops.specs.Counts.{unanswered_of}
 use Rattle.relay_next_hops.specs.Deliveries.{AreAimed}
 use Rattle.relay_next_hops.specs.Lanes.{tasks_at}
-use Rattle.relay_next_hops.specs.Starting.{IsDone, IsStoppedBy}
+use Rattle.relay_next_hops.specs.Starting.{IsDone, IsStoppedBy, paused_after}
 use Rattle.relay_next_hops.specs.Tasks.{DropsNone}
 use Rattle.relay_next_hops.specs.Turns.{IsGoneOver}
 use Rattle.relay_next_hops.specs.declared.lanes.Lanes.{Lanes}
 use Rattle.relay_next_hops.proofs.LeaveLemmas.{leaves_same}
+use Rattle.relay_next_hops.proofs.PauseLemmas.{paused_one}
 use Rattle.relay_next_hops.proofs.RoundLemmas.{done_kept, done_own, fewer_then, gone_kept, gone_own, round_all, round_next, stopped}
 use Rattle.relay_next_hops.proofs.SlotLemmas.{counts_stay}
 use Rattle.relay_next_hops.proofs.StartLemmas.{same_unheld, unheld_then}
@@ -24,6 +25,7 @@ loop-step-init g c = record {
   aimed = λ aimed. aimed;
   unheld = same_unheld c.args.lanes.now.held c.args.hops.now.hops c.args.hops.now.hops refl;
   held = refl;
+  pause = refl;
   opened = refl;
   stale = λ is. is;
   unroutable = refl;
@@ -68,6 +70,7 @@ loop-step-preserved g c =
           (began.aimed (subst (λ config. AreAimed config.routes.routes hops_old) (sym same) (before.aimed aimed)));
       unheld = unheld_then start.held between.held c.args.hops.now.hops hops_old hops_new (lost.only.held ∙ before.held) before.unheld began.unheld;
       held = only.held ∙ before.held;
+      pause = before.pause;
       opened = only.opened ∙ before.opened;
       stale = λ is. only.stale (before.stale is);
       unroutable = only.unroutable ∙ before.unroutable;
@@ -127,6 +130,8 @@ returns-then-stops g c =
       stale = λ is. ap (λ (lanes : Lanes). lanes.is_stale) c.turn.ensures.rest ∙ only.stale (before.stale is);
       unheld = unheld_then start.held between.held c.args.hops.now.hops hops_old hops_new (lost.only.held ∙ before.held) before.unheld began.unheld;
       held = c.turn.ensures.counts.held ∙ only.held ∙ before.held;
+      paused = paused_one c.in_ok-begun.begun tick c.args.starts.now.paused_until c.pause.new.self.paused_until
+          (c.pause.ensures ∙ ap (paused_after c.in_ok-begun.begun tick) before.pause);
       config = began.config ∙ same;
       leaves = leaves_then g.D.Disk.honest g.D.Disk.words c.args.relay.now c.lose_once.new.relay c.start_lane.new.relay
           (leaves_then g.D.Disk.honest g.D.Disk.words c.args.relay.now c.loop-step.relay c.lose_once.new.relay before.leaves lost.leaves) began.leaves;
@@ -198,3 +203,16 @@ returns-then-has_lost-clause-leaves g c = c.loop-step.invariant.leaves
 
 pub returns-clause-leaves : goal.returns-clause-leaves
 returns-clause-leaves g c = c.loop-step.invariant.leaves
+
+-- Nothing was paused.
+pub returns-in_err-has_lost-clause-paused : goal.returns-in_err-has_lost-clause-paused
+returns-in_err-has_lost-clause-paused g c = inl c.loop-step.invariant.pause
+
+pub returns-in_err-begun-clause-paused : goal.returns-in_err-begun-clause-paused
+returns-in_err-begun-clause-paused g c = inl c.loop-step.invariant.pause
+
+pub returns-then-has_lost-clause-paused : goal.returns-then-has_lost-clause-paused
+returns-then-has_lost-clause-paused g c = inl c.loop-step.invariant.pause
+
+pub returns-clause-paused : goal.returns-clause-paused
+returns-clause-paused g c = inl c.loop-step.invariant.pause

@@ -19,6 +19,7 @@ invariant-loop-step g l = record {
       → AreAimed l.initial.relay.node.config.routes.routes l.hops.hops;
   unheld : OpensUnheld l.initial.lanes.held l.initial.hops.hops l.hops.hops;
   held : l.lanes.held ≡ l.initial.lanes.held;
+  pause : l.starts.paused_until ≡ l.initial.starts.paused_until;
   opened : l.lanes.is_open ≡ l.initial.lanes.is_open;
   stale : l.initial.lanes.is_stale ≡ true → l.lanes.is_stale ≡ true;
   unroutable : l.lanes.unroutable ≡ l.initial.lanes.unroutable;
