@@ -44,7 +44,7 @@ returns-clause-matches g c = λ matches.
     let noted : HopsMatch left.next_hops left.relay = elim c.if-serve-gt0.branch [
       | then-serve-gt0 w ↦
           hops_still w.note_leaving.new.self left.next_hops exchanged.relay left.relay (ap (λ (it : Shell _ _ _). it.next_hops) w.self-is) (ap (λ (it : Shell _ _ _). it.relay) w.self-is)
-          (w.note_leaving.ensures exchanged.relay.node.config.routes.routes heard)
+          (w.note_leaving.ensures.matches exchanged.relay.node.config.routes.routes heard)
       | else-serve-gt0 w ↦
           hops_still exchanged.next_hops left.next_hops exchanged.relay left.relay (ap (λ (it : Shell _ _ _). it.next_hops) w.self-is) (ap (λ (it : Shell _ _ _). it.relay) w.self-is) heard
     ] in
