@@ -21,7 +21,10 @@ from email.utils import parsedate_to_datetime
 sys.dont_write_bytecode = True
 
 from relay_program import PATIENCE, free_port, same, until
-from running_relay import SOON, TEXT, TIMES, Client, clients_of, hop_that, hop_that_hangs, lines_of, play_rows
+from running_relay import SOON, TEXT, TIMES, Client, Clocks, clients_of, hop_that, hop_that_hangs, lines_of, play_rows
+
+# Five of these after its acceptance mail expires; and how long before that a test looks, in seconds.
+DAY, EARLY = 86400, 6
 
 # Octets that a caller sends, and their answers.
 REFUSED = [
@@ -105,6 +108,13 @@ def returned_report(field):
     [report] = field.arrived(1, SOON)
     same("its envelope", (report.mail[:2], report.recipients), (b"<>", [b"<a@example.org>"]))
     same("its reason", b"\r\nDiagnostic-Code: X-Postmaster; returned by the postmaster\r\n" in report.content, True)
+
+
+def expired_report(field, within):
+    """Checks that one report arrives in this time and a short one more, which says that the mail has expired."""
+    [report] = field.arrived(1, within + SOON)
+    same("its envelope", (report.mail[:2], report.recipients), (b"<>", [b"<a@example.org>"]))
+    same("its action", b"\r\nAction: failed\r\n" in report.content, True)
 
 
 def takes_mail(arrived, pause=0.0):
@@ -195,6 +205,29 @@ def a_held_message_stays_and_others_leave(field):
             same("messages", len(arrived), 2)
         same("hold of one that isn't queued", relay.refused("hold", "--message", str(other)),
              (1, f"relayd: control: message {other} isn't queued"))
+
+
+def held_mail_expires_while_it_is_held(field):
+    """Five days after it was accepted, to the second, without an attempt. So does what is held when a relay starts."""
+    relay, _ = with_control(field, more={"example.net": ("away.example", free_port())})
+    clocks = Clocks(field, relay)
+    with relay.running():
+        relay.run("hold", "--hop", "away.example")
+        with clients_of(relay, 1) as [client]:
+            client.hand_in("c@example.net")
+        clocks.advance(5 * DAY - EARLY)
+        time.sleep(1)
+        same("the queue before its time", [row[2] for row in relay.held()], ["<c@example.net>"])
+        expired_report(field, EARLY)
+        until("an empty queue", lambda: relay.held() == [])
+        with clients_of(relay, 1) as [client]:
+            client.hand_in("d@example.net")
+    clocks.advance(5 * DAY)
+    with relay.running():
+        expired_report(field, SOON)
+        until("an empty queue again", lambda: relay.held() == [])
+    events = {line.partition("Z relayd: ")[2].split()[0] for line in lines_of(relay, " hop=away.example")}
+    same("events of the next hop", events, {"expired"})
 
 
 def what_is_no_request_is_refused(field):
@@ -628,6 +661,7 @@ ROWS = [
     a_flush_tries_what_was_put_off,
     a_held_hop_gets_nothing_up_to_its_release,
     a_held_message_stays_and_others_leave,
+    held_mail_expires_while_it_is_held,
     what_is_no_request_is_refused,
     silent_callers_hold_up_nobody,
     the_socket_is_its_users_own,

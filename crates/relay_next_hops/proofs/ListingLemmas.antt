@@ -8,17 +8,17 @@ use Rattle.std.proofs.lemmas.Bool.Decides.{eqb_tells}
 use Rattle.std.proofs.lemmas.Slice.Eq.{bytes_eq-Decides}
 use Rattle.std.proofs.lemmas.List.Folds.{list_any-append}
 use Rattle.std.specs.declared.net.socket_addr.SocketAddrV4.{SocketAddrV4}
-use Rattle.relay_envelope.specs.declared.envelope.Recipient.{Recipient}
 use Rattle.relay_routes.specs.Routes.{RouteTable}
 use Rattle.relay_routes.specs.declared.hop.Hop.{Hop as NextHop}
 use Rattle.relay_book.specs.Queue.{message_of}
+use Rattle.relay_book.specs.declared.change.Accept.{Accept as AcceptFields}
 use Rattle.relay_book.specs.declared.message.Message.{Message}
 use Rattle.relay_book.specs.declared.message.Place.{Place}
 use Rattle.relay_control.specs.Held.{holds}
 use Rattle.relay_node.specs.Node.{NodeState}
 use Rattle.relay_next_hops.specs.Lanes.{IsListedUnroutable, KeepsCounts, ListsMore, tasks_at}
 use Rattle.relay_lanes.specs.Lane.{tasks_of, with_last}
-use Rattle.relay_next_hops.specs.Listing.{ArePlacesListed, AreListedFrom, HasConnection, HasEarlyTurn, IsKept, IsListed, IsListedFor, IsPlaceListed, KeepsListed, Waits, WaitsEarly, route_of}
+use Rattle.relay_next_hops.specs.Listing.{ArePlacesListed, AreListedFrom, HasConnection, HasEarlyTurn, IsDueListed, IsListed, IsListedFor, IsPlaceListed, KeepsListed, Waits, WaitsEarly, route_of}
 use Rattle.relay_lanes.specs.Lane.{is_early_for, is_for}
 use Rattle.relay_next_hops.specs.declared.hop.Hop.{Hop}
 use Rattle.relay_lanes.specs.declared.lane.Lane.{Lane}
@@ -172,34 +172,36 @@ module _ (old new : Lanes) (more : ListsMore old new) (kept : KeepsListed old ne
     by (inl waits) = inl (kept.tasks (is_early_for message name) turn.0 waits)
     by (inr has) = inr has
 
-  pub place_kept : {S : Type 0} (hops : List (Option (Hop S))) (moment : ℕ) (table : RouteTable) (message : ℕ) (recipients : List Recipient) (index : ℕ) (place : Place) → IsPlaceListed hops moment table message recipients index place old → IsPlaceListed hops moment table message recipients index place new
-  place_kept hops moment table message recipients index place listed held = by (route_of table recipients index) (listed held) where
-    either : (hop : NextHop) → IsListedFor hops message hop.name hop.at old ⊎ IsKept message hop.name old → IsListedFor hops message hop.name hop.at new ⊎ IsKept message hop.name new
-    either hop (inl own) = inl (for_kept hops message hop.name hop.at own)
-    either hop (inr held) = inr (ap (holds hop.name message) more.held ∙ held)
+  pub place_kept : {S : Type 0} (hops : List (Option (Hop S))) (moment : ℕ) (table : RouteTable) (message : ℕ) (accept : AcceptFields) (index : ℕ) (place : Place) → IsPlaceListed hops moment table message accept index place old → IsPlaceListed hops moment table message accept index place new
+  place_kept hops moment table message accept index place listed held = by (route_of table accept.envelope.recipients index) (listed held) where
+    due_kept : (hop : NextHop) → IsDueListed hops moment message accept.at hop old → IsDueListed hops moment message accept.at hop new
+    due_kept hop listed = (
+      λ free. for_kept hops message hop.name hop.at (listed.0 (sym (ap (holds hop.name message) more.held) ∙ free)),
+      λ is over. kept.unroutable message (listed.1 (sym (ap (holds hop.name message) more.held) ∙ is) over),
+    )
 
-    by : (hop : Option NextHop) → MatchOption hop (IsListedUnroutable message old) (λ hop. place.due ≤ moment → IsListedFor hops message hop.name hop.at old ⊎ IsKept message hop.name old) → MatchOption hop (IsListedUnroutable message new) (λ hop. place.due ≤ moment → IsListedFor hops message hop.name hop.at new ⊎ IsKept message hop.name new)
+    by : (hop : Option NextHop) → MatchOption hop (IsListedUnroutable message old) (λ hop. place.due ≤ moment → IsDueListed hops moment message accept.at hop old) → MatchOption hop (IsListedUnroutable message new) (λ hop. place.due ≤ moment → IsDueListed hops moment message accept.at hop new)
     by None listed = kept.unroutable message listed
-    by (Some hop) listed = λ due. either hop (listed due)
+    by (Some hop) listed = λ due. due_kept hop (listed due)
 
-  pub places_kept : {S : Type 0} (hops : List (Option (Hop S))) (moment : ℕ) (table : RouteTable) (message : ℕ) (recipients : List Recipient) (places : List Place) (count : ℕ) → ArePlacesListed hops moment table message recipients places count old → ArePlacesListed hops moment table message recipients places count new
-  places_kept hops moment table message recipients places count listed index place low there =
-      place_kept hops moment table message recipients index place (listed index place low there)
+  pub places_kept : {S : Type 0} (hops : List (Option (Hop S))) (moment : ℕ) (table : RouteTable) (message : ℕ) (accept : AcceptFields) (places : List Place) (count : ℕ) → ArePlacesListed hops moment table message accept places count old → ArePlacesListed hops moment table message accept places count new
+  places_kept hops moment table message accept places count listed index place low there =
+      place_kept hops moment table message accept index place (listed index place low there)
 
   -- one place more is listed
-  pub places_next : {S : Type 0} (hops : List (Option (Hop S))) (moment : ℕ) (table : RouteTable) (message : ℕ) (recipients : List Recipient) (places : List Place) (index : ℕ) (place : Place) → slice_get places index ≡ Some place → ArePlacesListed hops moment table message recipients places index old → IsPlaceListed hops moment table message recipients index place new → ArePlacesListed hops moment table message recipients places (index + 1) new
-  places_next hops moment table message recipients places index place is before own other standing below there = by (cases_lt other index) where
-    by : (other < index) ⊎ (index ≤ other) → IsPlaceListed hops moment table message recipients other standing new
-    by (inl low) = place_kept hops moment table message recipients other standing (before other standing low there)
-    by (inr high) = subst (λ (other : ℕ). IsPlaceListed hops moment table message recipients other standing new) same (subst (λ (place : Place). IsPlaceListed hops moment table message recipients index place new) (same_found (slice_get places index) place standing is (ap (slice_get places) same ∙ there)) own) where
+  pub places_next : {S : Type 0} (hops : List (Option (Hop S))) (moment : ℕ) (table : RouteTable) (message : ℕ) (accept : AcceptFields) (places : List Place) (index : ℕ) (place : Place) → slice_get places index ≡ Some place → ArePlacesListed hops moment table message accept places index old → IsPlaceListed hops moment table message accept index place new → ArePlacesListed hops moment table message accept places (index + 1) new
+  places_next hops moment table message accept places index place is before own other standing below there = by (cases_lt other index) where
+    by : (other < index) ⊎ (index ≤ other) → IsPlaceListed hops moment table message accept other standing new
+    by (inl low) = place_kept hops moment table message accept other standing (before other standing low there)
+    by (inr high) = subst (λ (other : ℕ). IsPlaceListed hops moment table message accept other standing new) same (subst (λ (place : Place). IsPlaceListed hops moment table message accept index place new) (same_found (slice_get places index) place standing is (ap (slice_get places) same ∙ there)) own) where
       same : index ≡ other
       same = omega (arith, below, high)
 
   pub message_kept : {S D : Type 0} (hops : List (Option (Hop S))) (moment : ℕ) (node : NodeState D) (number : ℕ) → IsListed hops moment node number old → IsListed hops moment node number new
   message_kept hops moment node number listed = by (message_of node.records.queue.messages number) listed where
-    by : (message : Option Message) → MatchOption message (Unit {0}) (λ message. ArePlacesListed hops moment node.config.routes number message.accept.envelope.recipients message.places (length message.places) old) → MatchOption message (Unit {0}) (λ message. ArePlacesListed hops moment node.config.routes number message.accept.envelope.recipients message.places (length message.places) new)
+    by : (message : Option Message) → MatchOption message (Unit {0}) (λ message. ArePlacesListed hops moment node.config.routes number message.accept message.places (length message.places) old) → MatchOption message (Unit {0}) (λ message. ArePlacesListed hops moment node.config.routes number message.accept message.places (length message.places) new)
     by None listed = tt
-    by (Some message) listed = places_kept hops moment node.config.routes number message.accept.envelope.recipients message.places (length message.places) listed
+    by (Some message) listed = places_kept hops moment node.config.routes number message.accept message.places (length message.places) listed
 
   -- one message more is listed
   pub messages_next : {S D : Type 0} (hops : List (Option (Hop S))) (moment : ℕ) (node : NodeState D) (first number : ℕ) → AreListedFrom hops moment node first number old → IsListed hops moment node number new → AreListedFrom hops moment node first (number + 1) new

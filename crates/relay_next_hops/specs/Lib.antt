@@ -13,6 +13,7 @@ pub mod Holds
 pub mod Losses
 pub mod GoingOn
 pub mod Starting
+pub mod Expiry
 pub mod Steering
 pub mod Tasks
 pub mod Turns

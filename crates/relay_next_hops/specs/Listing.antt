@@ -1,6 +1,7 @@
 -- What is listed of a message: each due place that no postmaster holds, by a task in the lane of its next hop; and the
--- message as unroutable if one of its held places has no next hop.
-use Rattle.std.specs.Prelude.{◌≡◌, ◌⊎◌, ◌<◌, ◌≤◌, ℕ, Bool, true, List, [], Option, Some}
+-- message as one to be given up, if one of its queued places has no next hop, or is held by a postmaster and its time is
+-- over.
+use Rattle.std.specs.Prelude.{◌≡◌, ◌⊎◌, ◌+◌, ◌<◌, ◌≤◌, ℕ, Bool, true, false, List, [], Option, Some}
 use Rattle.std.specs.Prelude.{MatchOption, drop, length, slice_get}
 use Rattle.std.specs.List.{list_any}
 use Rattle.std.specs.Option.{option_and_then}
@@ -9,7 +10,9 @@ use Rattle.relay_slots.specs.Slots.{slot_at}
 use Rattle.relay_envelope.specs.declared.envelope.Recipient.{Recipient}
 use Rattle.relay_routes.specs.Routes.{RouteTable, hop_at}
 use Rattle.relay_routes.specs.declared.hop.Hop.{Hop as NextHop}
+use Rattle.relay_book.specs.DueReport.{patience}
 use Rattle.relay_book.specs.Queue.{message_of}
+use Rattle.relay_book.specs.declared.change.Accept.{Accept as AcceptFields}
 use Rattle.relay_book.specs.declared.message.Place.{Place}
 use Rattle.relay_control.specs.Held.{holds}
 use Rattle.relay_node.specs.Node.{NodeState}
@@ -59,10 +62,6 @@ pub record KeepsListed (old new : Lanes) : Type 0 where
 abbrev pub IsListedFor : {S : Type 0} → List (Option (Hop S)) → ℕ → List ℕ → SocketAddrV4 → Lanes → Type 0
 IsListedFor hops message name at lanes = HasTurn hops message name at lanes ⊎ (lanes.is_stale ≡ true)
 
--- a postmaster holds the mail of this message for this next hop
-abbrev pub IsKept : ℕ → List ℕ → Lanes → Type 0
-IsKept message name lanes = holds name message lanes.held ≡ true
-
 -- the next hop of a message's place, if it has one
 abbrev pub route_of : RouteTable → List Recipient → ℕ → Option NextHop
 route_of table recipients place =
@@ -70,25 +69,30 @@ route_of table recipients place =
 
 -- Below: at a time, with these connections to next hops.
 module _ {S : Type 0} (hops : List (Option (Hop S))) (moment : ℕ) where
-  -- A place of a message is listed: if it is held and has no next hop, its message is unroutable; if it is due, the
-  -- message is listed for its next hop, unless a postmaster holds it.
-  abbrev pub IsPlaceListed : RouteTable → ℕ → List Recipient → ℕ → Place → Lanes → Type 0
-  IsPlaceListed table message recipients index place lanes = place.held ≡ true
-      → MatchOption (route_of table recipients index) (IsListedUnroutable message lanes)
-      (λ hop. place.due ≤ moment
-      → IsListedFor hops message hop.name hop.at lanes ⊎ IsKept message hop.name lanes)
+  -- Due mail of a message for a next hop is listed there, unless a postmaster holds it. If one does, and the message was
+  -- accepted five days ago, or before, the message is listed as one to be given up.
+  abbrev pub IsDueListed : ℕ → ℕ → NextHop → Lanes → Type 0
+  IsDueListed message accepted hop lanes =
+      (holds hop.name message lanes.held ≡ false → IsListedFor hops message hop.name hop.at lanes)
+      × (holds hop.name message lanes.held ≡ true → accepted + patience ≤ moment → IsListedUnroutable message lanes)
+
+  -- A queued place of a message is listed: if it has no next hop, the message is to be given up; if it is due, it is
+  -- listed for its next hop so.
+  abbrev pub IsPlaceListed : RouteTable → ℕ → AcceptFields → ℕ → Place → Lanes → Type 0
+  IsPlaceListed table message accept index place lanes = place.held ≡ true
+      → MatchOption (route_of table accept.envelope.recipients index) (IsListedUnroutable message lanes)
+      (λ hop. place.due ≤ moment → IsDueListed message accept.at hop lanes)
 
   -- this many of its places are listed, from the first on
-  abbrev pub ArePlacesListed : RouteTable → ℕ → List Recipient → List Place → ℕ → Lanes → Type 0
-  ArePlacesListed table message recipients places count lanes = (index : ℕ) (place : Place) → index < count
-      → slice_get places index ≡ Some place → IsPlaceListed table message recipients index place lanes
+  abbrev pub ArePlacesListed : RouteTable → ℕ → AcceptFields → List Place → ℕ → Lanes → Type 0
+  ArePlacesListed table message accept places count lanes = (index : ℕ) (place : Place) → index < count
+      → slice_get places index ≡ Some place → IsPlaceListed table message accept index place lanes
 
   -- each place of a message is listed, if there is such a message
   abbrev pub IsListed : {D : Type 0} → NodeState D → ℕ → Lanes → Type 0
   IsListed node number lanes =
       MatchOption (message_of node.records.queue.messages number) (Unit {0})
-      (λ message. ArePlacesListed node.config.routes number message.accept.envelope.recipients message.places
-      (length message.places) lanes)
+      (λ message. ArePlacesListed node.config.routes number message.accept message.places (length message.places) lanes)
 
   -- each message from one number on, and before another, is listed
   abbrev pub AreListedFrom : {D : Type 0} → NodeState D → ℕ → ℕ → Lanes → Type 0

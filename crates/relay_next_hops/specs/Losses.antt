@@ -91,6 +91,11 @@ abbrev pub IsRecordedOrRefused : {D : Type 0} → DiskWords D → ℕ → Delive
 IsRecordedOrRefused words at delivery old new =
     IsRecorded words at delivery old new ⊎ LosesNot words at delivery old new delivery.attempt
 
+-- the loss of a delivery is recorded, or it isn't: the node refuses it
+abbrev pub IsRecordedIf : {D : Type 0} → DiskWords D → ℕ → Delivery → RelayState D → RelayState D → Bool → Type 0
+IsRecordedIf words at delivery old new true = IsRecorded words at delivery old new
+IsRecordedIf words at delivery old new false = LosesNot words at delivery old new delivery.attempt
+
 -- the loss of the running attempt of this number is recorded, and its note was taken; or the node refuses it
 abbrev pub LosesRunning : {D : Type 0} → DiskWords D → ℕ → ℕ → RelayState D → RelayState D → Type 0
 LosesRunning {D} words at attempt old new =

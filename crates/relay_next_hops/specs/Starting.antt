@@ -9,7 +9,6 @@ use Rattle.relay_attempts.specs.Outcomes.{EndsUnroutable, RefusesToGiveUp}
 use Rattle.relay_control.specs.Held.{holds}
 use Rattle.relay_control.specs.declared.held.Held.{Held}
 use Rattle.relay_loop.specs.Relay.{RelayState}
-use Rattle.relay_connections.specs.Served.{LeavesClients}
 use Rattle.relay_connections.specs.declared.channel.Channel.{Channel}
 use Rattle.relay_connections.specs.declared.clocks.Now.{Now}
 use Rattle.relay_limits.specs.declared.pace.Pace.{Pace}
@@ -91,14 +90,6 @@ IsGivenUp words at message old new lanes false =
     ⊎ RefusesToGiveUp words (reporter_of old.node.config) old.node.config.routes message at old.node.records
     new.node.records NotDue
     ⊎ (lanes.is_stale ≡ true)
-
--- The message was given up, by the first change of a call; or else for the same reasons it wasn't. The call left
--- clients alone up to then, and afterwards: so the changes that the node kept then are among those that it keeps now.
-abbrev pub HasGivenUp
-    : {D : Type 0} → Type 0 → DiskWords D → ℕ → ℕ → RelayState D → RelayState D → Lanes → Bool → Type 0
-HasGivenUp {D} honest words at message old new lanes gave_up = (between : RelayState D)
-    × LeavesClients honest words old between × IsGivenUp words at message old between lanes gave_up
-    × LeavesClients honest words between new
 
 -- No more may begin for a lane: its pace lets none begin, or no task is left, or its next hop hasn't answered yet and
 -- no more connections to such next hops may begin.

@@ -1,5 +1,5 @@
 //! What is left to be done where the connection to a next hop has ended.
-ghost use Rattle.std.specs.Prelude.{◌≡◌, ◌≢◌, ℕ, None, Ok, OnOk, Option, Some, false, true};
+ghost use Rattle.std.specs.Prelude.{◌≡◌, ◌≢◌, ℕ, IfOk, None, Ok, OnOk, Option, Some, false, true};
 ghost use Rattle.relay_loop.specs.declared.outbox.Outbox.{Outbox};
 ghost use Rattle.relay_records.specs.declared.noted.Noted.{Noted};
 ghost use Rattle.relay_connections.specs.Served.{LeavesClients};
@@ -7,7 +7,8 @@ ghost use Rattle.relay_next_hops.specs.Deliveries.{MayLeave, portions_after};
 ghost use Rattle.relay_next_hops.specs.GoingOn.{ComesNext};
 ghost use Rattle.relay_next_hops.specs.Holds.{HoldsFrom, HoldsIfSilent};
 ghost use Rattle.relay_next_hops.specs.Lanes.{KeepsCounts, KeepsPlaces, OnlyLane};
-ghost use Rattle.relay_next_hops.specs.Losses.{EndsLost, EndsLostOrTurnedAway, IsRecordedOrRefused, Loses};
+ghost use Rattle.relay_next_hops.specs.Losses.{EndsLost, EndsLostOrTurnedAway, IsRecordedIf, IsRecordedOrRefused};
+ghost use Rattle.relay_next_hops.specs.Losses.{Loses};
 ghost use Rattle.relay_next_hops.specs.Losses.{LosesAttempt, LosesNot, LosesRunning, RefusesLoss, StartsAndLoses};
 ghost use Rattle.relay_next_hops.specs.Losses.{StartsNothing};
 ghost use Rattle.relay_lanes.specs.Paces.{RunsOneLess};
@@ -200,23 +201,26 @@ pub(crate) fn lose<D: Disk>(
     Ok(is_recorded)
 }
 
-/// Records that a delivery is lost because its next hop is on hold.
+/// Records that a delivery is lost without a connection, for a reason if there is one for the log: its next hop is on
+/// hold, or a postmaster holds it and its time is over. Returns whether it is recorded.
 pub(crate) fn lose_held<D: Disk>(
     relay: &mut Relay<D>,
     delivery: Delivery,
+    loss: Option<Loss>,
     now: &Now,
     log: &mut Log<'_, Vec<u8>>,
-) -> Result<(), Fault>
+) -> Result<bool, Fault>
     ensures lost { OnOk result (IsRecordedOrRefused D.words now.now.moment delivery relay.old relay.new) }
+    ensures recorded { IfOk result (IsRecordedIf D.words now.now.moment delivery relay.old relay.new) }
     ensures config { relay.new.node.config ≡ relay.old.node.config }
     ensures leaves { OnOk result (LeavesClients D.honest D.words relay.old relay.new) }
 {
     let talk = log.talk_of(relay.node().message(delivery.message));
     let (is_recorded, noted) = record_and_note(relay, &delivery, now)?;
     if is_recorded {
-        tell(&delivery, Some(Loss::Unreachable), noted, &talk, now, log);
+        tell(&delivery, loss, noted, &talk, now, log);
     }
-    Ok(())
+    Ok(is_recorded)
 }
 
 /// Ends an attempt as lost, as [`record_loss`] does, and takes its note.
@@ -226,6 +230,8 @@ fn record_and_note<D: Disk>(
     now: &Now,
 ) -> Result<(bool, Option<Noted>), Fault>
     ensures lost { OnOk result (IsRecordedOrRefused D.words now.now.moment delivery.now relay.old relay.new) }
+    ensures recorded { IfOk result (λ told. IsRecordedIf D.words now.now.moment delivery.now relay.old relay.new
+        told.0) }
     ensures config { relay.new.node.config ≡ relay.old.node.config }
     ensures leaves { OnOk result (LeavesClients D.honest D.words relay.old relay.new) }
 {

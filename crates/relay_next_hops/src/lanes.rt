@@ -1,6 +1,6 @@
 //! The due mail by the addresses of next hops, and which of it may begin.
-ghost use Rattle.std.specs.Prelude.{◌≡◌, ◌+◌, ◌≤◌, ◌↔◌, ◌++◌, [], IfSome, IsTrue, None};
-ghost use Rattle.std.specs.Prelude.{false, length, min, option_to_list, slice_get, true};
+ghost use Rattle.std.specs.Prelude.{◌≡◌, ◌+◌, ◌≤◌, ◌↔◌, ◌++◌, ◌∷◌, [], ℕ, IfSome, IsTrue, List};
+ghost use Rattle.std.specs.Prelude.{None, Some, drop, false, length, min, option_to_list, slice_get, true};
 ghost use Rattle.relay_control.specs.Held.{HoldsNothing};
 ghost use Rattle.relay_connections.specs.Renewal.{tick_after};
 ghost use Rattle.relay_next_hops.specs.Holds.{HoldsFrom, is_shared, standing_at};
@@ -31,7 +31,7 @@ pub(crate) struct Lanes {
     pub(crate) paces: Paces,
     /// The tasks of each lane.
     pub(crate) lanes: Vec<Lane>,
-    /// The messages with places that have no hop.
+    /// The messages to be given up: with places that have no hop, or that a postmaster holds and whose time is over.
     pub(crate) unroutable: VecDeque<u64>,
     /// The most connections to one address.
     pub(crate) most: usize,
@@ -243,10 +243,18 @@ impl Lanes {
         self.places.get(number)
     }
 
-    /// Takes the next message with places that have no hop.
+    /// Returns the first message that is to be given up, and leaves it there.
+    pub(crate) fn first_unroutable(&self) -> Option<u64>
+        ensures first { (message : ℕ) (rest : List ℕ) → self.now.unroutable.items ≡ message ∷ rest
+            → result ≡ Some message }
+        ensures none { self.now.unroutable.items ≡ [] → result ≡ None }
+    {
+        self.unroutable.front().copied()
+    }
+
+    /// Takes the first message that is to be given up.
     pub(crate) fn next_unroutable(&mut self) -> Option<u64>
-        ensures next { self.old.unroutable.items ≡ option_to_list result ++ self.new.unroutable.items }
-        ensures none { result ≡ None → self.old.unroutable.items ≡ [] }
+        ensures rest { self.new.unroutable.items ≡ drop 1 self.old.unroutable.items }
         ensures counts { KeepsCounts self.old self.new }
         ensures tasks { (self.new.lanes ≡ self.old.lanes) × (self.new.is_open ≡ self.old.is_open) }
     {

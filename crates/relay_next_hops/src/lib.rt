@@ -8,6 +8,7 @@ mod delivery;
 mod dial;
 mod ending;
 mod exchanging;
+mod expiry;
 mod giving_up;
 mod going_on;
 mod heard;

@@ -5,13 +5,14 @@ ghost use Rattle.relay_control.specs.Held.{HoldsNothing};
 ghost use Rattle.relay_connections.specs.Table.{count_of};
 ghost use Rattle.relay_connections.specs.Served.{LeavesClients};
 ghost use Rattle.relay_next_hops.specs.Counts.{RecountsLeaving};
+ghost use Rattle.relay_next_hops.specs.Expiry.{HasEndedFirst};
 ghost use Rattle.relay_next_hops.specs.Hearing.{AnswersEach, order_of, replies_of, told_of};
 ghost use Rattle.relay_next_hops.specs.Known.{KnowsQueue, LearnsQueue};
 ghost use Rattle.relay_next_hops.specs.Lanes.{IsNew, OpensForMore, next_due_of};
 ghost use Rattle.relay_next_hops.specs.Listing.{AreListedFrom, KeepsListed, ListsPart};
 ghost use Rattle.relay_lanes.specs.Portions.{fresh};
 ghost use Rattle.relay_next_hops.specs.Readiness.{IsLeftHop, hops_of};
-ghost use Rattle.relay_next_hops.specs.Starting.{HasGivenUp, OpensUnheld, PausesAtMost};
+ghost use Rattle.relay_next_hops.specs.Starting.{OpensUnheld, PausesAtMost};
 ghost use Rattle.relay_next_hops.specs.Tables.{TablesMatch};
 ghost use Rattle.relay_next_hops.specs.Tasks.{DropsNone, KeepsConnections};
 ghost use Rattle.relay_next_hops.specs.Turns.{BeginsAll};
@@ -227,8 +228,9 @@ impl<S: Stream + Drop> NextHops<S> {
     }
 
     /// Begins listed attempts, as far as they may begin, with the spare file descriptors, but opens no connection for
-    /// mail that is held; and gives up the places of one message that have no next hop. Drops no task that was listed.
-    /// Returns whether it gave any up. Fails only if the device has failed.
+    /// mail that is held; and gives up the places of one message that have no next hop, or that a postmaster holds and
+    /// whose time is over. Drops no task that was listed. Returns whether it gave any up. Fails only if the device has
+    /// failed.
     pub fn begin<N: Dial<Stream = S>, D: Disk>(
         &mut self,
         dial: &mut N,
@@ -244,9 +246,8 @@ impl<S: Stream + Drop> NextHops<S> {
             self.new.lanes relay.old relay.new) }
         ensures stand { OnOk result (KeepsConnections (hops_of self.old) (hops_of self.new)) }
         ensures unroutable { (message : ℕ) (rest : List ℕ) → self.old.lanes.unroutable.items ≡ message ∷ rest
-            → IfOk result (HasGivenUp D.honest D.words now.now.moment message relay.old relay.new self.new.lanes) }
-        ensures others { (message : ℕ) (rest : List ℕ) → self.old.lanes.unroutable.items ≡ message ∷ rest
-            → OnOk result (self.new.lanes.unroutable.items ≡ rest) }
+            → IfOk result (HasEndedFirst D.honest D.words now.now.moment message rest self.old.lanes.held relay.old
+            relay.new self.new.lanes) }
         ensures matches { TablesMatch relay.old.node.config.routes.routes self.old
             → OnOk result (TablesMatch relay.old.node.config.routes.routes self.new) }
         ensures unheld { OnOk result (OpensUnheld self.old.lanes.held (hops_of self.old) (hops_of self.new)) }

@@ -26,7 +26,7 @@ use relay_connections::Now;
 use relay_disk::Disk;
 use relay_files::Fault;
 use relay_lanes::Task;
-use relay_log::Log;
+use relay_log::{Log, Loss};
 use relay_loop::Relay;
 
 /// How many seconds a message may be due at a next hop on hold before an attempt counts as lost without a connection.
@@ -77,7 +77,8 @@ pub(crate) fn lose_overdue<D: Disk>(
     let Some(aim) = aim_of(relay, lanes, &task, lane) else {
         return Ok(false);
     };
-    lose_held(relay, delivery_of(task, aim), now, log)?;
+    let delivery = delivery_of(task, aim);
+    lose_held(relay, delivery, Some(Loss::Unreachable), now, log)?;
     Ok(true)
 }
 

@@ -1,28 +1,31 @@
-//! Where the due mail of a message is listed: in the lane of each next hop's address, or as unroutable.
-ghost use Rattle.std.specs.Prelude.{◌≡◌, ℕ, IfSome, MatchOption, Some, false, length, option_copied, slice_get};
-ghost use Rattle.std.specs.Prelude.{true};
+//! Where the due mail of a message is listed: in the lane of each next hop's address, or among what is to be given up.
+ghost use Rattle.std.specs.Prelude.{◌≡◌, ◌+◌, ◌-◌, ◌<◌, ◌≤◌, ℕ, IfSome, MatchOption, Some, false, length, max};
+ghost use Rattle.std.specs.Prelude.{option_copied, slice_get, true};
+ghost use Rattle.relay_book.specs.DueReport.{patience};
 ghost use Rattle.relay_book.specs.Queue.{message_of};
+ghost use Rattle.relay_connections.specs.Renewal.{tick_after};
 ghost use Rattle.relay_next_hops.specs.Known.{KeepsNumbers};
 ghost use Rattle.relay_next_hops.specs.Lanes.{HoldsNoMore, IsListedUnroutable, KeepsCounts, ListsMore, OpensForMore};
 ghost use Rattle.relay_next_hops.specs.Lanes.{tasks_at};
-ghost use Rattle.relay_next_hops.specs.Listing.{ArePlacesListed, HasEarlyTurn, HasTurn, IsListed, IsListedFor};
-ghost use Rattle.relay_next_hops.specs.Listing.{IsPlaceListed, KeepsListed, route_of};
+ghost use Rattle.relay_next_hops.specs.Listing.{ArePlacesListed, HasEarlyTurn, HasTurn, IsDueListed, IsListed};
+ghost use Rattle.relay_next_hops.specs.Listing.{IsListedFor, IsPlaceListed, KeepsListed, route_of};
 
 use crate::hops::Hops;
 use crate::lanes::Lanes;
-use relay_book::Place;
+use relay_book::{Accept, PATIENCE, Place};
 use relay_connections::{Now, Stream};
 use relay_disk::Disk;
 use relay_envelope::Recipient;
 use relay_lanes::{Lane, Task};
 use relay_loop::Relay;
 use relay_routes::{Hop, HostName, Table};
+use relay_trace::Moment;
 use std::net::SocketAddrV4;
 
 impl Lanes {
     /// Lists the due mail of a message, except what a postmaster holds, and where a connection for it exists. Returns
-    /// whether the message exists. A message with a held place without a hop is listed as unroutable. If memory runs
-    /// out, all due mail is listed again.
+    /// whether the message exists. A message with a queued place that has no hop, or that a postmaster holds and whose
+    /// time is over, is listed among those to be given up. If memory runs out, all due mail is listed again.
     pub(crate) fn add<S: Stream + Drop, D: Disk>(
         &mut self,
         relay: &Relay<D>,
@@ -43,15 +46,8 @@ impl Lanes {
             return false;
         };
         let routes = &relay.node().config().routes;
-        let recipients = message.accept.envelope.recipients.as_slice();
-        self.add_places(
-            hops,
-            number,
-            routes,
-            recipients,
-            message.places.as_slice(),
-            now,
-        );
+        let places = message.places.as_slice();
+        self.add_places(hops, number, routes, &message.accept, places, now);
         true
     }
 
@@ -61,38 +57,38 @@ impl Lanes {
         hops: &Hops<S>,
         number: u64,
         routes: &Table,
-        recipients: &[Recipient],
+        accept: &Accept,
         places: &[Place],
         now: &Now,
     )
         ensures more { ListsMore self.old self.new }
         ensures kept { KeepsListed self.old self.new }
-        ensures listed { ArePlacesListed hops.now.hops now.now.moment routes.now number recipients.now places.now
+        ensures listed { ArePlacesListed hops.now.hops now.now.moment routes.now number accept.now places.now
             (length places.now) self.new }
         ensures walk { (self.new.queued ≡ self.old.queued) × (self.new.is_listing ≡ self.old.is_listing) }
         ensures numbers { KeepsNumbers self.old self.new }
         ensures opens { OpensForMore self.old self.new }
     {
         for (index, place) in places.iter().enumerate() {
-            self.add_place(hops, number, routes, recipients, index, *place, now);
+            self.add_place(hops, number, routes, accept, index, *place, now);
         }
     }
 
-    /// Lists a place of a message for its next hop, if it is due and no postmaster holds it; or lists the message as
-    /// unroutable, if the place is held and has no hop.
+    /// Lists a queued place of a message for its next hop, as [`Lanes::add_for`] does; or lists the message among those
+    /// to be given up, if the place has no hop.
     fn add_place<S: Stream + Drop>(
         &mut self,
         hops: &Hops<S>,
         number: u64,
         routes: &Table,
-        recipients: &[Recipient],
+        accept: &Accept,
         index: usize,
         place: Place,
         now: &Now,
     )
         ensures more { ListsMore self.old self.new }
         ensures kept { KeepsListed self.old self.new }
-        ensures listed { IsPlaceListed hops.now.hops now.now.moment routes.now number recipients.now index place
+        ensures listed { IsPlaceListed hops.now.hops now.now.moment routes.now number accept.now index place
             self.new }
         ensures walk { (self.new.queued ≡ self.old.queued) × (self.new.is_listing ≡ self.old.is_listing) }
         ensures numbers { KeepsNumbers self.old self.new }
@@ -101,15 +97,57 @@ impl Lanes {
         if !place.held {
             return;
         }
-        match hop_of_place(routes, recipients, index) {
-            Some(hop) => {
-                if self.is_kept(&hop.name, number) {
-                    self.keeps = true;
-                } else if place.due <= now.moment.seconds() {
-                    self.push(hops, number, hop.at, &hop.name);
-                }
-            }
+        match hop_of_place(routes, accept.envelope.recipients.as_slice(), index) {
+            Some(hop) => self.add_for(hops, number, accept.at, hop, place.due, now),
             None => self.push_unroutable(number),
+        }
+    }
+
+    /// Lists mail of a message for its next hop, if it is due and no postmaster holds it. If one does, the mail waits as
+    /// [`Lanes::add_kept`] says.
+    fn add_for<S: Stream + Drop>(
+        &mut self,
+        hops: &Hops<S>,
+        number: u64,
+        accepted: Moment,
+        hop: &Hop,
+        due: u64,
+        now: &Now,
+    )
+        ensures more { ListsMore self.old self.new }
+        ensures kept { KeepsListed self.old self.new }
+        ensures listed { due ≤ now.now.moment
+            → IsDueListed hops.now.hops now.now.moment number accepted hop.now self.new }
+        ensures walk { (self.new.queued ≡ self.old.queued) × (self.new.is_listing ≡ self.old.is_listing) }
+        ensures numbers { KeepsNumbers self.old self.new }
+        ensures opens { OpensForMore self.old self.new }
+    {
+        if self.is_kept(&hop.name, number) {
+            self.add_kept(number, accepted, due, now);
+        } else if due <= now.moment.seconds() {
+            self.push(hops, number, hop.at, &hop.name);
+        }
+    }
+
+    /// Lists a message with mail that a postmaster holds among those to be given up, if the time of that mail is over:
+    /// it is due, and was accepted five days ago, or before. If it isn't over, all due mail is listed when it is.
+    fn add_kept(&mut self, number: u64, accepted: Moment, due: u64, now: &Now)
+        ensures more { ListsMore self.old self.new }
+        ensures kept { KeepsListed self.old self.new }
+        ensures over { max due (accepted + patience) ≤ now.now.moment → IsListedUnroutable number self.new }
+        ensures wakes { now.now.moment < max due (accepted + patience) → self.new.next_due
+            ≤ tick_after now.now.tick (max due (accepted + patience) - now.now.moment) }
+        ensures walk { (self.new.queued ≡ self.old.queued) × (self.new.is_listing ≡ self.old.is_listing) }
+        ensures numbers { KeepsNumbers self.old self.new }
+        ensures opens { OpensForMore self.old self.new }
+    {
+        self.keeps = true;
+        let over = due.max(accepted.seconds() + PATIENCE);
+        let seconds = now.moment.seconds();
+        if over <= seconds {
+            self.push_unroutable(number);
+        } else {
+            self.next_due = self.next_due.min(now.after(over - seconds));
         }
     }
 
@@ -176,7 +214,7 @@ impl Lanes {
         })
     }
 
-    /// Lists a message that has places without a hop. If memory runs out, all due mail is listed again.
+    /// Lists a message among those to be given up. If memory runs out, all due mail is listed again.
     fn push_unroutable(&mut self, message: u64)
         ensures listed { IsListedUnroutable message self.new }
         ensures kept { KeepsListed self.old self.new }

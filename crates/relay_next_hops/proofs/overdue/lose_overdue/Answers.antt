@@ -42,8 +42,8 @@ returns-clause-tasks g c =
       after = c.lose_held.new.relay;
       first = leaves_same g.D.Disk.honest g.D.Disk.words c.args.relay.now;
       lost = record {
-        delivery = c.delivery_of.result;
-        of_task = record { message = c.delivery_of.ensures.1; name = c.delivery_of.ensures.2; none = c.delivery_of.ensures.3 };
+        delivery = c.delivery_of-delivery.result;
+        of_task = record { message = c.delivery_of-delivery.ensures.1; name = c.delivery_of-delivery.ensures.2; none = c.delivery_of-delivery.ensures.3 };
         lost = c.in_ok-lose_held.ensures.lost;
       };
       meanwhile = c.in_ok-lose_held.ensures.leaves;

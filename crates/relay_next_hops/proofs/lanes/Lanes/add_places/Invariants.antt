@@ -9,7 +9,7 @@ abbrev pub invariant-loop-index : goal.invariant-loop-index
 invariant-loop-index g l = record {
   more : ListsMore l.initial.self l.self;
   kept : KeepsListed l.initial.self l.self;
-  listed : ArePlacesListed l.hops.hops l.now.moment l.routes l.number l.recipients l.places l.index l.self;
+  listed : ArePlacesListed l.hops.hops l.now.moment l.routes l.number l.accept l.places l.index l.self;
   numbers : KeepsNumbers l.initial.self l.self;
   opens : OpensForMore l.initial.self l.self;
   walk : (l.self.queued ≡ l.initial.self.queued) × (l.self.is_listing ≡ l.initial.self.is_listing);

@@ -1,7 +1,7 @@
 -- What is given up, and the attempts that begin or are lost, leave clients alone.
-use Rattle.std.proofs.Common.{ap, ◌∙◌}
+use Rattle.std.proofs.Common.{◌∙◌}
 use Rattle.relay_connections.proofs.Theorems.{leaves_then}
-use Rattle.relay_next_hops.proofs.BeginningLemmas.{begins_from, given_later}
+use Rattle.relay_next_hops.proofs.BeginningLemmas.{begins_from, first_later}
 use Rattle.relay_next_hops.proofs.TaskLemmas.{drops_later}
 use Rattle.relay_next_hops.proofs.next_hops.NextHops.begin.Goals as goal
 
@@ -15,14 +15,10 @@ pub returns-clause-unroutable : goal.returns-clause-unroutable
 returns-clause-unroutable g c = λ message rest is. (
   c.give_up_next.new.relay,
   c.in_ok-gave_up.ensures.leaves,
-  given_later g.D.Disk.words c.args.now.now.moment message c.args.relay.now c.give_up_next.new.relay
-      c.give_up_next.new.lanes c.start_tasks.new.lanes c.in_ok-gave_up.gave_up c.in_ok-start_tasks.ensures.stale (c.in_ok-gave_up.ensures.first message rest is).0,
+  first_later g.D.Disk.words c.args.now.now.moment message rest c.args.self.now.lanes.held c.args.relay.now c.give_up_next.new.relay
+      c.give_up_next.new.lanes c.start_tasks.new.lanes c.in_ok-gave_up.gave_up c.in_ok-start_tasks.ensures.stale c.in_ok-start_tasks.ensures.unroutable (c.in_ok-gave_up.ensures.first message rest is),
   c.in_ok-start_tasks.ensures.leaves,
 )
-
-pub returns-clause-others : goal.returns-clause-others
-returns-clause-others g c = λ message rest is.
-    ap (λ queue. queue.items) c.in_ok-start_tasks.ensures.unroutable ∙ (c.in_ok-gave_up.ensures.first message rest is).1
 
 pub returns-clause-tasks : goal.returns-clause-tasks
 returns-clause-tasks g c =
